@@ -1,0 +1,9 @@
+pub mod Reading
+pub mod Ordering
+pub mod Triples
+pub mod Collecting
+pub mod Described
+pub mod Positions
+pub mod Places
+pub mod Ranges
+pub mod Matching

@@ -1,0 +1,54 @@
+-- Templates: what they hold, what they stand for, and which texts are templates.
+use Rattle.std.specs.Prelude.{ℕ, Bool, List, [], ◌∷◌, length, map, nat_lt, Result, Ok, Err, if◌then◌else◌}
+use Rattle.std.specs.Str.{chars}
+use Rattle.lic_norm.specs.Pieces.{piece_of}
+use Rattle.lic_norm.specs.Tokens.{tokens_of_input}
+use Rattle.lic_words.specs.Expressions.{Expression, letters, cat_all}
+use Rattle.lic_find.specs.declared.template.Part.{Part}
+use Rattle.lic_find.specs.declared.template.Part.TheVariants.{Text}
+use Rattle.lic_find.specs.declared.template.MarkupFault.{MarkupFault}
+use Rattle.lic_find.specs.declared.template.MarkupCause.{MarkupCause}
+use Rattle.lic_find.specs.declared.template.MarkupCause.TheVariants.{TooHeavy, NoLetter, TooLong, Memory}
+
+-- a template: its parts in order, its weight, and its text without markup
+pub record TemplateValue : Type 0 where
+  pub parts : List Part
+  pub weight : ℕ
+  pub original : List ℕ
+
+-- a text stands for its letters alone
+abbrev pub part_words : Part → Expression
+part_words (Text text) = letters (chars text)
+
+-- parts in a row stand for the concatenations
+abbrev pub parts_words : List Part → Expression
+parts_words parts = cat_all (map part_words parts)
+
+abbrev pub most_bytes : ℕ
+most_bytes = 1048576
+
+abbrev pub most_weight : ℕ
+most_weight = 131072
+
+-- how many letters a piece of text has, blanks included
+abbrev pub weight_of : List ℕ → ℕ
+weight_of text = length (chars text)
+
+abbrev pub has_token : List ℕ → Bool
+has_token text = nat_lt 0 (length (tokens_of_input text))
+
+abbrev pub at_front : MarkupCause → MarkupFault
+at_front cause = record { place = 0; cause = cause }
+
+abbrev pub out_of_memory : MarkupFault
+out_of_memory = at_front Memory
+
+-- The template that a text is, or why it is none: more bytes than a template may have come before a text
+-- without a token, and that before too many letters.
+unfoldable pub template_of : List ℕ → Result TemplateValue MarkupFault
+template_of text =
+    if nat_lt most_bytes (length text) then Err (at_front TooLong)
+    else (if has_token text then (
+    if nat_lt most_weight (weight_of (piece_of text)) then Err (at_front TooHeavy)
+    else Ok (record { parts = Text (piece_of text) ∷ []; weight = weight_of (piece_of text); original = text })
+    ) else Err (at_front NoLetter))

@@ -1,0 +1,13 @@
+//! Laws of the definitions, each the contract of a function that does nothing.
+
+ghost use Rattle.std.specs.Prelude.{◌≡◌, List, Option};
+ghost use Rattle.lic_norm.specs.Tokens.{TokenValue};
+ghost use Rattle.lic_find.specs.Sets.{Known};
+ghost use Rattle.lic_find.specs.Matches.{AreMatches};
+ghost use Rattle.lic_find.specs.declared.triple.Triple.{Triple};
+
+/// There is one list of the matches: which they are and in which order leaves no choice.
+pub fn matches_are_one_list()
+    ensures { (set : List Known) (tokens : List TokenValue) (after : Option Triple) (xs ys : List Triple)
+        → AreMatches set tokens after xs → AreMatches set tokens after ys → xs ≡ ys }
+{}

@@ -1,0 +1,27 @@
+ghost use Rattle.std.specs.Prelude.{◌≡◌};
+ghost use Rattle.lic_norm.specs.declared.fault.TextFault.TheVariants.{Memory};
+
+use std::alloc::AllocError;
+use thiserror::Error;
+
+/// Why an input is refused.
+#[derive(Clone, Copy, Debug, PartialEq, Eq, Error)]
+pub enum TextFault {
+    /// No UTF-8 text; `at` is the length in bytes of its longest front that is one.
+    #[error("X1 at {at}: not UTF-8")]
+    NotUtf8 { at: usize },
+    /// More than 67,108,864 bytes.
+    #[error("X2: more than 67108864 bytes")]
+    TooLong,
+    /// A growth was refused.
+    #[error("X3: out of memory")]
+    Memory,
+}
+
+impl From<AllocError> for TextFault {
+    ghost from_gives = { λ _ fault. fault ≡ Memory };
+
+    fn from(_: AllocError) -> TextFault {
+        TextFault::Memory
+    }
+}

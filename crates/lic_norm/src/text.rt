@@ -1,0 +1,98 @@
+ghost use Rattle.std.specs.Prelude.{◌≡◌, ◌<◌, ◌≤◌, ◌≢◌, length, slice_range, slice_index_or, IfOk, IfErr, OnOk, Some, None};
+
+use crate::fault::TextFault;
+use crate::refusal::accepted_text;
+use crate::scanning::entries_of;
+use crate::token::{Entry, Span, Token};
+use crate::words::Words;
+use std::alloc::Global;
+use std::marker::Model;
+
+/// A source and its tokens.
+#[derive(Debug, Drop)]
+pub struct Text {
+    source: Vec<u8>,
+    entries: Vec<Entry>,
+}
+
+impl Model for Text {
+    ghost use Rattle.std.specs.Prelude.{map};
+    ghost use Rattle.lic_norm.specs.Views.{TextValue, entry_value};
+    ghost use Rattle.lic_norm.specs.Spans.{AreSpans, AreWords};
+
+    ghost Value = { TextValue };
+
+    ghost view = { λ t. record { source = t.source.items; tokens = map entry_value t.entries.items } };
+
+    ghost invariant = { λ t. AreSpans t.source.items (map entry_value t.entries.items) × AreWords (map entry_value t.entries.items) };
+}
+
+impl Text {
+    ghost use Rattle.lic_norm.specs.Refusal.{refusal_of};
+    ghost use Rattle.lic_norm.specs.Tokens.{tokens_of_input};
+    ghost use Rattle.lic_norm.specs.Spans.{AreSpans, AreWords, IsWord};
+
+    /// Reads a source of at most 67,108,864 bytes of UTF-8.
+    ///
+    /// A token is a longest row of characters that are no white space (`char::is_whitespace`), with
+    /// ASCII letters in lower case (this project's profile of SPDX 2.3 Annex B, white space and
+    /// capitalization).
+    ///
+    /// # Errors
+    ///
+    /// `NotUtf8` where the bytes, or the first 67,108,864 of them, begin no UTF-8 text, or where no more
+    /// bytes than that end inside a character; otherwise `TooLong` where there are more bytes. `Memory`
+    /// where a growth was refused.
+    pub fn read(alloc: Global, source: Vec<u8>, words: &Words) -> Result<Text, TextFault>
+        ensures source { IfOk result (λ t. t.source ≡ source.items) }
+        ensures tokens { IfOk result (λ t. t.tokens ≡ tokens_of_input source.items) }
+        ensures spans { IfOk result (λ t. AreSpans t.source t.tokens) }
+        ensures words { IfOk result (λ t. AreWords t.tokens) }
+        ensures accepted { OnOk result (refusal_of source.items ≡ None) }
+        ensures refused { IfErr result (λ fault. fault ≢ TextFault.Memory → refusal_of source.items ≡ Some fault) }
+    {
+        let _ = words;
+        let text = accepted_text(source.as_slice())?;
+        let entries = entries_of(alloc, text)?;
+        Ok(Text { source, entries })
+    }
+
+    /// How many tokens there are.
+    pub fn len(&self) -> usize
+        ensures { result ≡ length self.now.tokens }
+    {
+        self.entries.len()
+    }
+
+    /// The token number `i`, from 0: its text, and its bytes of the source.
+    pub fn token(&self, i: usize) -> Token<'_>
+        requires { i < length self.now.tokens }
+        ensures text { (d : _) → result.text.now ≡ (slice_index_or self.now.tokens i d).text }
+        ensures span { (d : _) → result.span ≡ (slice_index_or self.now.tokens i d).span }
+        ensures word { IsWord result.text.now }
+        ensures order { result.span.start < result.span.end }
+        ensures within { result.span.end ≤ length self.now.source }
+    {
+        let entry = &self.entries[i];
+        Token {
+            text: entry.text.as_str(),
+            span: entry.span,
+        }
+    }
+
+    /// The bytes that were read.
+    pub fn source(&self) -> &[u8]
+        ensures { result.now ≡ self.now.source }
+    {
+        self.source.as_slice()
+    }
+
+    /// The bytes of the source from a span's start up to its end.
+    pub fn slice(&self, span: Span) -> &[u8]
+        requires order { span.start ≤ span.end }
+        requires within { span.end ≤ length self.now.source }
+        ensures { result.now ≡ slice_range self.now.source span.start span.end }
+    {
+        &self.source[span.start..span.end]
+    }
+}

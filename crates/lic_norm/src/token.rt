@@ -1,0 +1,20 @@
+/// Bytes of a source, from `start` up to `end`, which is left out.
+#[derive(Clone, Copy, Debug, PartialEq, Eq)]
+pub struct Span {
+    pub start: usize,
+    pub end: usize,
+}
+
+/// A token: its text, and the bytes of the source that it was made from.
+#[derive(Clone, Copy, Debug)]
+pub struct Token<'a> {
+    pub text: &'a str,
+    pub span: Span,
+}
+
+/// A token as it is kept.
+#[derive(Debug, Drop)]
+pub(crate) struct Entry {
+    pub(crate) text: String,
+    pub(crate) span: Span,
+}

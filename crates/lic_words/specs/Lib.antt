@@ -1,0 +1,6 @@
+pub mod Words
+pub mod Expressions
+pub mod Letters
+pub mod Spelling
+pub mod Describing
+pub mod Places

@@ -1,0 +1,52 @@
+//! Laws of the definitions, each the contract of a function that does nothing.
+
+ghost use Rattle.std.specs.Prelude.{◌≡◌, ◌↔◌, ◌++◌, ◌∷◌, [], ◌==◌, ℕ, List, map, not};
+ghost use Rattle.std.specs.List.{concat, filter};
+ghost use Rattle.lic_words.specs.Describing.{IsDescribed};
+ghost use Rattle.lic_words.specs.Expressions.{Expression, Language, alt, cat_all, empty, letters};
+ghost use Rattle.lic_words.specs.Spelling.{Spells};
+ghost use Rattle.lic_words.specs.Words.{Cat, blank};
+
+/// Letters stand for themselves alone.
+pub fn letters_stand_for_themselves()
+    ensures { (text w : List ℕ) → Language (letters text) w ↔ (w ≡ text) }
+{}
+
+/// Texts in a row stand for their letters one after another.
+pub fn texts_stand_for_their_letters()
+    ensures { (texts : List (List ℕ)) (w : List ℕ)
+        → Language (cat_all (map letters texts)) w ↔ (w ≡ concat texts) }
+{}
+
+/// Two rows of expressions together stand for a word of the first and then one of the second.
+pub fn rows_together_stand_for_both()
+    ensures { (xs ys : List Expression) (w : List ℕ)
+        → Language (cat_all (xs ++ ys)) w ↔ Cat (Language (cat_all xs)) (Language (cat_all ys)) w }
+{}
+
+/// An optional part that has only an optional part stands for what that part does.
+pub fn optional_twice_is_optional()
+    ensures { (a : Expression) (w : List ℕ)
+        → Language (alt empty (cat_all (alt empty a ∷ []))) w ↔ Language (alt empty a) w }
+{}
+
+/// No expression describes the empty list of tokens.
+pub fn nothing_describes_no_tokens()
+    ensures { (a : Expression) → ¬ (IsDescribed a []) }
+{}
+
+/// A word that spells tokens has their letters in order, blanks aside.
+pub fn a_spelling_has_the_letters()
+    ensures { (w : List ℕ) (ts : List (List ℕ)) → Spells w ts
+        → filter (λ c. not (c == blank)) w ≡ filter (λ c. not (c == blank)) (concat ts) }
+{}
+
+/// A blank at the beginning makes no difference.
+pub fn a_blank_before_is_free()
+    ensures { (w : List ℕ) (ts : List (List ℕ)) → Spells w ts ↔ Spells (blank ∷ w) ts }
+{}
+
+/// A blank at the end makes no difference.
+pub fn a_blank_behind_is_free()
+    ensures { (w : List ℕ) (ts : List (List ℕ)) → Spells w ts ↔ Spells (w ++ blank ∷ []) ts }
+{}
