@@ -1,5 +1,3 @@
-pub mod Reading
-pub mod Ordering
 pub mod Triples
 pub mod Collecting
 pub mod Described
@@ -7,3 +5,6 @@ pub mod Positions
 pub mod Places
 pub mod Ranges
 pub mod Matching
+pub mod Deciding
+pub mod Reading
+pub mod Ordering

@@ -3,6 +3,7 @@ use Rattle.std.proofs.Common.{◌≡◌, ℕ, ◌+◌, ◌<◌, ◌≤◌, ◌�
 use Rattle.std.specs.Global.{Global}
 use Rattle.std.specs.Bool.{IsTrue}
 use Rattle.std.specs.Option.{is_some}
+use Rattle.std.specs.Str.{chars}
 use Rattle.std.proofs.lemmas.List.{get_or-map, length-map, get_or-set_same, get_or-set_other, get_or_past, get_or-replicate, length-replicate}
 use Rattle.std.proofs.lemmas.Bool.{cases_lt, false≢true}
 use Rattle.lic_norm.specs.Tokens.{TokenValue}
@@ -12,7 +13,7 @@ use Rattle.lic_words.specs.declared.place.Place.{Place}
 use Rattle.lic_find.specs.Matches.{letters_between}
 use Rattle.lic_find.specs.Search.{letters_in, letters_at, letters_up_to, triple_at, IsSpelled, HasCome, HaveCome, Moves}
 use Rattle.lic_find.specs.declared.triple.Triple.{Triple}
-use Rattle.lic_find.proofs.Ranges.{letters_up_to-split}
+use Rattle.lic_find.proofs.Ranges.{letters_up_to-more, letters_up_to-split}
 
 pub letters_at-in : (letters : List (Vec ℕ Global)) (k : ℕ) (v : Vec ℕ Global) → k < length letters → v ≡ get_or letters k v →
     letters_at (letters_in letters) k ≡ v.items
@@ -104,6 +105,15 @@ HaveCome-start letters places start spells all ts none = record {
 }
 
 module _ (letters : List (List ℕ)) (tokens : List TokenValue) (places : List (Option Place)) (first last : ℕ) where
+  -- the places behind one more token of a text
+  pub HaveCome-more : (new : List (Option Place)) (d : TokenValue) → first ≤ last → last < length tokens → d.text ≡ (get_or tokens last d).text →
+      ((ts : List (List ℕ)) → HaveCome letters places ts → HaveCome letters new (ts ++ chars d.text ∷ [])) →
+      HaveCome letters places (letters_up_to tokens first last) → HaveCome letters new (letters_up_to tokens first (last + 1))
+  HaveCome-more new d order within text moves come =
+      subst (HaveCome letters new)
+      (ap (λ x. letters_up_to tokens first last ++ chars x ∷ []) text ∙ sym (letters_up_to-more tokens first last d order within))
+      (moves (letters_up_to tokens first last) come)
+
   -- a range that ends here is spelled where its place is at the end
   pub IsSpelled-here : first ≤ last → last < length tokens → HaveCome letters places (letters_between tokens first last) →
       (k : ℕ) → k < length letters → (w : List ℕ) → letters_at letters k ≡ w → (b : Bool) →

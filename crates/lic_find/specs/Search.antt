@@ -47,7 +47,7 @@ pub record IsSpelled (letters : List (List ℕ)) (tokens : List TokenValue) (t :
   pub number : t.template < length letters
   pub spelled : Spells (letters_at letters t.template) (letters_between tokens t.first t.last)
 
--- the first token with which a search begins
+-- the first token with which a range after the triple can begin
 abbrev pub IsBegin : Option Triple → ℕ → Type 0
 IsBegin None first = first ≡ 0
 IsBegin (Some after) first = first ≡ after.first

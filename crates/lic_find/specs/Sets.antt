@@ -14,24 +14,28 @@ pub record Known : Type 0 where
   pub id : List ℕ
   pub template : TemplateValue
 
+-- a template as it is kept
 abbrev pub known_of : Named → Known
 known_of n = record { id = string_bytes n.id; template = n.template }
 
+-- the templates of a set
 abbrev pub all_known : List Named → List Known
 all_known named = map known_of named
 
--- an identifier and a template that are handed in
+-- a template as it is handed in, behind its identifier
 abbrev pub pair_known : String Global × TemplateValue → Known
 pair_known p = record { id = string_bytes p.0; template = p.1 }
 
+-- the templates that are handed in
 abbrev pub pairs_known : List (String Global × TemplateValue) → List Known
 pairs_known pairs = map pair_known pairs
 
--- the bytes of each identifier come after those of the one before
+-- the bytes of each identifier come after those of the one before, and the first after these
 abbrev pub AscendFrom : List ℕ → List Known → Type 0
 AscendFrom id [] = Unit {0}
 AscendFrom id (k ∷ ks) = (slice_cmp nat_cmp id k.id ≡ Less) × AscendFrom k.id ks
 
+-- by the bytes of the identifiers, no two the same
 abbrev pub AreOrdered : List Known → Type 0
 AreOrdered [] = Unit {0}
 AreOrdered (k ∷ ks) = AscendFrom k.id ks

@@ -24,9 +24,11 @@ part_words (Text text) = letters (chars text)
 abbrev pub parts_words : List Part → Expression
 parts_words parts = cat_all (map part_words parts)
 
+-- the bytes that a template may have
 abbrev pub most_bytes : ℕ
 most_bytes = 1048576
 
+-- the letters that it may weigh
 abbrev pub most_weight : ℕ
 most_weight = 131072
 
@@ -34,21 +36,27 @@ most_weight = 131072
 abbrev pub weight_of : List ℕ → ℕ
 weight_of text = length (chars text)
 
+-- some token is in it
 abbrev pub has_token : List ℕ → Bool
 has_token text = nat_lt 0 (length (tokens_of_input text))
 
+-- the whole template is at fault, so its first byte is the place
 abbrev pub at_front : MarkupCause → MarkupFault
 at_front cause = record { place = 0; cause = cause }
 
+-- the one fault that no text decides
 abbrev pub out_of_memory : MarkupFault
 out_of_memory = at_front Memory
+
+-- the template of these letters, if they are not too many
+abbrev pub weighed : List ℕ → List ℕ → Result TemplateValue MarkupFault
+weighed text letters =
+    if nat_lt most_weight (weight_of letters) then Err (at_front TooHeavy)
+    else Ok (record { parts = Text letters ∷ []; weight = weight_of letters; original = text })
 
 -- The template that a text is, or why it is none: more bytes than a template may have come before a text
 -- without a token, and that before too many letters.
 unfoldable pub template_of : List ℕ → Result TemplateValue MarkupFault
 template_of text =
     if nat_lt most_bytes (length text) then Err (at_front TooLong)
-    else (if has_token text then (
-    if nat_lt most_weight (weight_of (piece_of text)) then Err (at_front TooHeavy)
-    else Ok (record { parts = Text (piece_of text) ∷ []; weight = weight_of (piece_of text); original = text })
-    ) else Err (at_front NoLetter))
+    else (if has_token text then weighed text (piece_of text) else Err (at_front NoLetter))

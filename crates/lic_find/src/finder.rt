@@ -8,7 +8,10 @@ use crate::triple::Triple;
 use lic_norm::text::Text;
 use std::alloc::{AllocError, Global};
 
-/// The matches of a set's templates in a text, in order.
+/// Gives the matches of a set's templates in a text: each range of tokens that a template describes, once,
+/// in the order of triples.
+///
+/// It keeps the list of its matches, so that giving them takes no memory.
 #[derive(Debug, Drop)]
 pub struct Finder {
     found: Vec<Triple>,
@@ -18,7 +21,7 @@ pub struct Finder {
 impl Finder {
     ghost use Rattle.lic_find.specs.Rest.{rest_of};
 
-    /// All matches.
+    /// All matches. Fails where a growth is refused.
     pub fn new(alloc: Global, set: &Set, text: &Text) -> Result<Finder, AllocError>
         ensures all { IfOk result (λ f. AreMatches set.now text.now.tokens None (rest_of f)) }
         ensures only { IfOk result (λ f. (others : List Triple) → AreMatches set.now text.now.tokens None others → others ≡ rest_of f) }
@@ -26,7 +29,7 @@ impl Finder {
         Finder::search(alloc, set, text, None)
     }
 
-    /// The matches after a triple, which may be a match or not, in range or not.
+    /// The matches after a triple, which may be a match or not, in range or not. Fails where a growth is refused.
     pub fn resume(
         alloc: Global,
         set: &Set,
@@ -39,6 +42,7 @@ impl Finder {
         Finder::search(alloc, set, text, Some(after))
     }
 
+    // The matches after a triple, or all.
     fn search(
         alloc: Global,
         set: &Set,
@@ -68,3 +72,6 @@ impl Iterator for Finder {
         Some(triple)
     }
 }
+
+#[cfg(test)]
+mod tests;

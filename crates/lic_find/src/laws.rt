@@ -11,3 +11,9 @@ pub fn matches_are_one_list()
     ensures { (set : List Known) (tokens : List TokenValue) (after : Option Triple) (xs ys : List Triple)
         → AreMatches set tokens after xs → AreMatches set tokens after ys → xs ≡ ys }
 {}
+
+/// For all templates and tokens there is a list of the matches.
+pub fn matches_exist()
+    ensures { (set : List Known) (tokens : List TokenValue) (after : Option Triple)
+        → (found : List Triple) × AreMatches set tokens after found }
+{}

@@ -5,7 +5,7 @@ ghost use Rattle.std.specs.Str.{chars};
 ghost use Rattle.lic_norm.specs.Tokens.{TokenValue};
 ghost use Rattle.lic_words.specs.Spelling.{Spells};
 ghost use Rattle.lic_find.specs.Matches.{IsAfter, letters_between};
-ghost use Rattle.lic_find.specs.Search.{set_letters, part_letters, parts_letters, letters_in, letters_at, letters_up_to, IsSpelled, Collects, AreFound, HasCome, HaveCome, Moves, IsBegin, triple_at};
+ghost use Rattle.lic_find.specs.Search.{set_letters, part_letters, parts_letters, letters_in, IsSpelled, Collects, AreFound, HasCome, HaveCome, Moves, IsBegin, triple_at};
 
 use crate::set::Set;
 use crate::template::Part;
@@ -44,7 +44,7 @@ pub fn letters_of_set(alloc: Global, set: &Set) -> Result<Vec<Vec<char>>, AllocE
     Ok(letters)
 }
 
-// What begins before this token is not after the triple.
+// The first token with which a range after the triple can begin.
 fn first_token(after: Option<Triple>) -> usize
     ensures { IsBegin after result }
 {
@@ -57,12 +57,14 @@ fn is_after(triple: Triple, after: Option<Triple>) -> bool
     after < Some(triple)
 }
 
+// The place behind one more token.
 fn moved(place: Option<Place>, letters: &[char], token: &str) -> Option<Place>
     ensures { Moves letters.now (chars token.now) place result }
 {
     place?.after(letters, token)
 }
 
+// Whether the letters end at the place.
 fn has_ended(place: Option<Place>, letters: &[char]) -> bool
     ensures { (ts : List (List ℕ)) → HasCome letters.now place ts → IsTrue result ↔ Spells letters.now ts }
 {

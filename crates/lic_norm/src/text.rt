@@ -40,8 +40,8 @@ impl Text {
     ///
     /// # Errors
     ///
-    /// `NotUtf8` where the bytes, or the first 67,108,864 of them, begin no UTF-8 text, or where no more
-    /// bytes than that end inside a character; otherwise `TooLong` where there are more bytes. `Memory`
+    /// `NotUtf8` where no UTF-8 text begins with the first 67,108,864 bytes; otherwise `TooLong` where
+    /// there are more bytes; otherwise `NotUtf8` where the source ends inside a character. `Memory`
     /// where a growth was refused.
     pub fn read(alloc: Global, source: Vec<u8>, words: &Words) -> Result<Text, TextFault>
         ensures source { IfOk result (λ t. t.source ≡ source.items) }

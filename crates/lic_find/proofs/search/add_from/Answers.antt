@@ -1,11 +1,10 @@
-use Rattle.std.proofs.Common.{◌≡◌, ◌+◌, ◌++◌, ◌∷◌, [], length, replicate, Some, sym, ap, ◌∙◌, subst, arith, rules}
-use Rattle.std.specs.Str.{chars}
+use Rattle.std.proofs.Common.{◌≡◌, length, replicate, Some, sym, ap, ◌∙◌, arith, rules}
 use Rattle.std.proofs.lemmas.Bool.{false≢true}
 use Rattle.lic_norm.specs.Tokens.{TokenValue}
-use Rattle.lic_find.specs.Search.{letters_in, letters_up_to, HaveCome}
-use Rattle.lic_find.proofs.Places.{HaveCome-start, IsSpelled-never, length-letters_in}
+use Rattle.lic_find.specs.Search.{letters_in, letters_up_to}
+use Rattle.lic_find.proofs.Places.{HaveCome-more, HaveCome-start, IsSpelled-never, length-letters_in}
 use Rattle.lic_find.proofs.Positions.{found-from, found-next_first}
-use Rattle.lic_find.proofs.Ranges.{letters_up_to-none, letters_up_to-more}
+use Rattle.lic_find.proofs.Ranges.{letters_up_to-none}
 use Rattle.lic_find.proofs.search.add_from.Goals as goal
 
 pub loop-last-init : goal.loop-last-init
@@ -24,11 +23,9 @@ pub loop-last-preserved : goal.loop-last-preserved
 loop-last-preserved c =
     let letters = letters_in c.args.letters.now in
     let tokens = c.args.text.now.tokens in
-    let d : TokenValue = record { text = c.token.result.text.now; span = c.token.result.span } in
-    let more = letters_up_to-more tokens c.args.first c.loop-last.last d c.loop-last.auto.last (omega arith)
-    ∙ ap (λ x. letters_up_to tokens c.args.first c.loop-last.last ++ chars x ∷ []) (sym (c.token.ensures.text d)) in
-    let come : HaveCome letters c.advance.new.places (letters_up_to tokens c.args.first (c.loop-last.last + 1)) =
-    subst (HaveCome letters c.advance.new.places) (sym more) (c.advance.ensures.places _ c.loop-last.invariant.come) in
+    let token : TokenValue = record { text = c.token.result.text.now; span = c.token.result.span } in
+    let come = HaveCome-more letters tokens c.loop-last.places c.args.first c.loop-last.last c.advance.new.places token c.loop-last.auto.last (omega arith)
+    (c.token.ensures.text token) c.advance.ensures.places c.loop-last.invariant.come in
     record {
       come = come;
       found = c.in_ok-add_ended.ensures tokens c.loop-last.auto.last (omega arith) come c.loop-last.invariant.found;
@@ -38,14 +35,12 @@ pub returns-then-not-advance : goal.returns-then-not-advance
 returns-then-not-advance c =
     let letters = letters_in c.args.letters.now in
     let tokens = c.args.text.now.tokens in
-    let d : TokenValue = record { text = c.token.result.text.now; span = c.token.result.span } in
-    let more = letters_up_to-more tokens c.args.first c.loop-last.last d c.loop-last.auto.last (omega arith)
-    ∙ ap (λ x. letters_up_to tokens c.args.first c.loop-last.last ++ chars x ∷ []) (sym (c.token.ensures.text d)) in
-    let come : HaveCome letters c.advance.new.places (letters_up_to tokens c.args.first (c.loop-last.last + 1)) =
-    subst (HaveCome letters c.advance.new.places) (sym more) (c.advance.ensures.places _ c.loop-last.invariant.come) in
+    let token : TokenValue = record { text = c.token.result.text.now; span = c.token.result.span } in
+    let come = HaveCome-more letters tokens c.loop-last.places c.args.first c.loop-last.last c.advance.new.places token c.loop-last.auto.last (omega arith)
+    (c.token.ensures.text token) c.advance.ensures.places c.loop-last.invariant.come in
+    let none = c.advance.ensures.none (λ e. absurd (false≢true (sym c.if-not-advance.true ∙ e))) in
     found-next_first letters tokens c.args.after c.loop-last.found.items c.args.first c.loop-last.last
-    (IsSpelled-never letters tokens c.advance.new.places c.args.first c.loop-last.last c.loop-last.auto.last come
-    (c.advance.ensures.none (λ e. absurd (false≢true (sym c.if-not-advance.true ∙ e))))) c.loop-last.invariant.found
+    (IsSpelled-never letters tokens c.advance.new.places c.args.first c.loop-last.last c.loop-last.auto.last come none) c.loop-last.invariant.found
 
 pub returns : goal.returns
 returns c =

@@ -1,4 +1,4 @@
-use Rattle.std.proofs.Common.{◌≤◌, sym, arith, rules, length}
+use Rattle.std.proofs.Common.{sym, arith, rules}
 use Rattle.std.proofs.lemmas.List.{length-take-le}
 use Rattle.lic_norm.proofs.Refused.{accepted, refused}
 use Rattle.lic_norm.proofs.refusal.accepted_text.Goals as goal

@@ -1,6 +1,6 @@
 use Rattle.std.proofs.Common.{rules, arith}
 use Rattle.std.proofs.lemmas.Grind.{common_steps}
-use Rattle.lic_norm.proofs.Refused.{long_utf8, long_bad, long_cut}
+use Rattle.lic_norm.proofs.Refused.{long_utf8, long_bad}
 use Rattle.lic_norm.proofs.refusal.refusal_of_front.Goals as goal
 
 pub returns-in-Err : goal.returns-in-Err

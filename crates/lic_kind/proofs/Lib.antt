@@ -1,0 +1,4 @@
+pub mod FoldingLemmas
+pub mod KindLemmas
+pub mod LetterLemmas
+pub mod WordFoldings

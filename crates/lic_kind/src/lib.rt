@@ -1,0 +1,43 @@
+//! The kind of a character, and the letters that it stands for (this project's profile).
+#![tactic(auto)]
+
+ghost use Rattle.std.specs.Prelude.{◌≡◌};
+ghost use Rattle.lic_kind.specs.Kinds.{kind_of};
+
+pub mod laws;
+mod letters;
+mod tables;
+#[cfg(test)]
+mod tests;
+
+pub use letters::spell;
+pub use tables::{is_bullet, is_dash, is_dropped, is_quote};
+
+/// What a character is to the scanner.
+#[derive(Clone, Copy, Debug, PartialEq, Eq)]
+pub enum Kind {
+    /// White space, `char::is_whitespace`.
+    Blank,
+    /// Taken out of the text: it stands for nothing and parts nothing.
+    Dropped,
+    /// A sign of punctuation, a token by itself.
+    Mark,
+    /// All other characters: letters, digits, symbols and control characters.
+    Word,
+}
+
+/// The kind of a character as it stands in the text, before folding (this project's profile).
+#[tactic(auto, unfolding(crate::specs::Kinds::kind_of))]
+pub fn kind_of(c: char) -> Kind
+    ensures { result ≡ kind_of c }
+{
+    if is_dropped(c) {
+        Kind::Dropped
+    } else if c.is_whitespace() {
+        Kind::Blank
+    } else if tables::is_mark(c) {
+        Kind::Mark
+    } else {
+        Kind::Word
+    }
+}

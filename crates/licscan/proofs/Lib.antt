@@ -1,0 +1,4 @@
+mod Written
+mod ReportLemmas
+mod Refusals
+mod RunLemmas

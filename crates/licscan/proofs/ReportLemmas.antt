@@ -1,0 +1,67 @@
+-- Lemmas on matches that are asked for, and on their lines.
+use Rattle.std.proofs.Common.{◌≡◌, ◌≢◌, ℕ, ◌+◌, ◌-◌, ◌<◌, ◌≤◌, List, [], ◌∷◌, ◌++◌, take, length, Option, None, Some, Bool, true, false, refl, sym, ◌∙◌, ap, arith, nat_lt, length-append, subst, zero, suc, Result, Ok, Err, OnErr}
+use Rattle.std.specs.Prelude.{MatchOption}
+use Rattle.std.proofs.Math.Seq.{take-nil}
+use Rattle.std.proofs.lemmas.Grind.{common_steps}
+use Rattle.std.proofs.lemmas.Bool.Decides.{nat_tests}
+use Rattle.std.specs.List.{flat_map}
+use Rattle.std.specs.Io.KnownBytes.{Appends}
+use Rattle.lic_norm.specs.Tokens.{TokenValue}
+use Rattle.lic_find.specs.Sets.{Known}
+use Rattle.lic_find.specs.Matches.{AreMatches}
+use Rattle.lic_find.specs.declared.triple.Triple.{Triple}
+use Rattle.licscan.specs.Stream.{BeginsWith}
+use Rattle.licscan.specs.Fields.{escaped}
+use Rattle.licscan.specs.Report.{match_line, first_of, IsReportOf}
+use Rattle.licscan.specs.declared.engine.Ask.{Ask}
+
+-- the first so many of a list that is not empty
+take-step : {X : Type 0} (n : ℕ) (x : X) (xs : List X) → n ≢ 0 → take n (x ∷ xs) ≡ x ∷ take (n - 1) xs
+take-step zero x xs h = absurd (h refl)
+take-step (suc n) x xs h = let e : n ≡ suc n - 1 = omega arith in ap (λ k. x ∷ take k xs) e
+
+-- the first so many, one at a time
+pub limited_step : {X : Type 0} (r : Option X) (left : Option ℕ) (n : ℕ) (xs ys : List X) → left ≡ Some n → n ≢ 0
+    → MatchOption r ((xs ≡ []) × (ys ≡ [])) (λ x. xs ≡ x ∷ ys)
+    → MatchOption r ((first_of left xs ≡ []) × (take (n - 1) ys ≡ [])) (λ x. first_of left xs ≡ x ∷ take (n - 1) ys)
+limited_step None left n xs ys e h p = (ap (λ l. first_of l xs) e ∙ ap (take n) p.0 ∙ take-nil n, ap (take (n - 1)) p.1 ∙ take-nil (n - 1))
+limited_step (Some x) left n xs ys e h p = ap (λ l. first_of l xs) e ∙ ap (take n) p ∙ take-step n x ys h
+
+pub some_more : {X : Type 0} (xs : List X) (x : X) → true ≡ nat_lt 0 (length (xs ++ x ∷ []))
+some_more xs x = let h = length-append xs (x ∷ []) in grind (arith, nat_tests, h)
+
+-- a list of lines is empty only where there is none
+pub some_lines : {X : Type 0} (f : X → List ℕ) (xs : List X) → ((x : X) → 0 < length (f x)) → nat_lt 0 (length xs) ≡ nat_lt 0 (length (flat_map f xs))
+some_lines f [] long = refl
+some_lines f (x ∷ xs) long = let h = long x in let e = length-append (f x) (flat_map f xs) in grind (arith, nat_tests, common_steps)
+
+-- no line is empty
+line_long : (name : List ℕ) (set : List Known) (tokens : List TokenValue) (t : Triple) → 0 < length (match_line name set tokens t)
+line_long name set tokens t =
+    let head : List ℕ = escaped name in
+    let e = length-append head (0x09 ∷ []) in
+    let rest : List ℕ = _ in
+    let all : length (match_line name set tokens t) ≡ length (head ++ 0x09 ∷ []) + length rest = length-append (head ++ 0x09 ∷ []) rest in
+    grind (arith, common_steps)
+
+module _ (name : List ℕ) (set : List Known) (ask : Ask) (tokens : List TokenValue) (wanted : List Triple) where
+  -- a beginning of the lines that are wanted is one of each report
+  pub begins_report : {A E : Type 0} (r : Result A E) (a b : Option (List ℕ))
+      → ((others : List Triple) → AreMatches set tokens ask.after others → first_of ask.limit others ≡ wanted)
+      → BeginsWith a b (flat_map (match_line name set tokens) wanted)
+      → OnErr r ((lines : List ℕ) → IsReportOf name set ask tokens lines → BeginsWith a b lines)
+  begins_report (Ok x) a b only p = tt
+  begins_report (Err x) a b only p = λ lines report.
+      subst (λ l. BeginsWith a b l) (sym (report.lines ∙ ap (flat_map (match_line name set tokens)) (only report.found report.matches))) p
+
+  -- the lines that are wanted are a report
+  pub whole_lines : (some : Bool) (a b : Option (List ℕ))
+      → ((found : List Triple) × AreMatches set tokens ask.after found × (wanted ≡ first_of ask.limit found))
+      → Appends a b (flat_map (match_line name set tokens) wanted) → some ≡ nat_lt 0 (length wanted)
+      → (lines : List ℕ) × IsReportOf name set ask tokens lines × Appends a b lines × (some ≡ nat_lt 0 (length lines))
+  whole_lines some a b all p s = (
+    flat_map (match_line name set tokens) wanted,
+    record { found = all.0; matches = all.1; lines = ap (flat_map (match_line name set tokens)) all.2 },
+    p,
+    s ∙ some_lines (match_line name set tokens) wanted (line_long name set tokens),
+  )

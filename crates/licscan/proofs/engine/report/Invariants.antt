@@ -1,0 +1,17 @@
+use Rattle.std.proofs.Common.{◌≡◌, ◌++◌, length, nat_lt}
+use Rattle.std.specs.List.{flat_map}
+use Rattle.licscan.specs.Report.{match_line}
+use Rattle.licscan.specs.Wanted.{wanted_of}
+use Rattle.licscan.proofs.Written.{IsPut}
+use Rattle.licscan.proofs.engine.report.Given as goal
+
+abbrev pub invariant-loop-triple : goal.invariant-loop-triple
+invariant-loop-triple g l =
+    record {
+      can : (goal.iterator-loop-triple g).can_next l.triple-iterator;
+      finite : (goal.iterator-loop-triple g).is_finite l.triple-iterator;
+      all : wanted_of l.initial.triple-iterator ≡ l.yielded ++ wanted_of l.triple-iterator;
+      put : IsPut (g.W.Sink.taken l.initial.out) (g.W.Sink.taken l.out) l.lines.items (flat_map (match_line l.name l.set l.text.tokens) l.yielded);
+      some : l.some ≡ nat_lt 0 (length l.yielded);
+      sound : g.W.Sink.failed l.out ≡ g.W.Sink.failed l.initial.out;
+    }

@@ -1,0 +1,170 @@
+//! From the bytes of an input to the bytes of its report.
+
+ghost use Rattle.std.specs.Prelude.{◌≡◌, ◌≢◌, ◌≤◌, ◌⊎◌, ◌++◌, ℕ, List, length, IfOk, OnOk, OnErr, IsErrOf, Some, None, IsTrue, nat_lt};
+ghost use Rattle.std.specs.Io.KnownBytes.{Consumes, Appends, IsAtEnd};
+ghost use Rattle.lic_norm.specs.Refusal.{refusal_of};
+ghost use Rattle.licscan.specs.Stream.{one_more, BeginsWith};
+ghost use Rattle.licscan.specs.Report.{IsReport, IsReportOf};
+ghost use Rattle.licscan.specs.declared.engine.RunFault.TheVariants.{Write, Memory};
+
+use crate::lines::add_match;
+use crate::stream::{Sink, Source};
+use crate::transfer::{ReadFault, WriteFailed, put_all, read_up_to};
+use crate::wanted::Wanted;
+use lic_find::set::Set;
+use lic_find::triple::Triple;
+use lic_norm::fault::TextFault;
+use lic_norm::text::Text;
+use lic_norm::words::Words;
+use std::alloc::{AllocError, Global};
+use thiserror::Error;
+
+/// The most bytes that are read of an input: one more than an input may have.
+pub const MOST_READ: usize = 67_108_865;
+
+/// As many bytes of lines are gathered before they are written.
+const GATHERED: usize = 65_536;
+
+/// What is asked of a scan.
+#[derive(Clone, Copy, Debug, PartialEq, Eq)]
+pub struct Ask {
+    /// All matches.
+    pub all: bool,
+    /// Only those that come after a triple, which need be no match.
+    pub after: Option<Triple>,
+    /// Only the first so many.
+    pub limit: Option<u64>,
+}
+
+/// Why a scan stopped.
+#[derive(Clone, Copy, Debug, PartialEq, Eq, Error)]
+pub enum RunFault {
+    /// The input is refused.
+    #[error("{0}")]
+    Text(TextFault),
+    /// The reader failed.
+    #[error("cannot be read")]
+    Read,
+    /// The writer failed.
+    #[error("cannot be written")]
+    Write,
+    /// A growth was refused.
+    #[error("out of memory")]
+    Memory,
+}
+
+impl From<AllocError> for RunFault {
+    ghost from_gives = { λ _ fault. fault ≡ Memory };
+
+    fn from(_error: AllocError) -> RunFault {
+        RunFault::Memory
+    }
+}
+
+impl From<WriteFailed> for RunFault {
+    ghost from_gives = { λ _ fault. fault ≡ Write };
+
+    fn from(_error: WriteFailed) -> RunFault {
+        RunFault::Write
+    }
+}
+
+/// Writes the gathered lines and empties the list, where there are enough of them.
+fn put_gathered<W: Sink>(out: &mut W, lines: &mut Vec<u8>) -> Result<(), WriteFailed>
+    ensures ok { OnOk result ((put : List ℕ) × Appends (W.taken out.old) (W.taken out.new) put × (lines.old.items ≡ put ++ lines.new.items)) }
+    ensures part { OnErr result (BeginsWith (W.taken out.old) (W.taken out.new) lines.old.items) }
+    ensures sound { OnOk result (W.failed out.new ≡ W.failed out.old) }
+    ensures failed { OnErr result (W.failed out.new ≡ one_more (W.failed out.old)) }
+{
+    if lines.len() < GATHERED {
+        return Ok(());
+    }
+    put_all(out, lines.as_slice())?;
+    lines.clear();
+    Ok(())
+}
+
+/// Writes the lines of the matches that are asked for, and says whether there was one.
+fn report<W: Sink>(
+    alloc: Global,
+    name: &str,
+    text: &Text,
+    out: &mut W,
+    set: &Set,
+    ask: &Ask,
+) -> Result<bool, RunFault>
+    ensures written { IfOk result (λ some. (lines : List ℕ)
+        × IsReportOf name.now set.now ask.now text.now.tokens lines
+        × Appends (W.taken out.old) (W.taken out.new) lines
+        × (some ≡ nat_lt 0 (length lines))) }
+    ensures part { OnErr result ((lines : List ℕ) → IsReportOf name.now set.now ask.now text.now.tokens lines
+        → BeginsWith (W.taken out.old) (W.taken out.new) lines) }
+    ensures sound { OnOk result (W.failed out.new ≡ W.failed out.old) }
+    ensures write { IsErrOf result RunFault.Write → W.failed out.new ≡ one_more (W.failed out.old) }
+    ensures no_read { ¬ (IsErrOf result RunFault.Read) }
+    ensures no_text { (fault : _) → ¬ (IsErrOf result (RunFault.Text fault)) }
+{
+    let wanted = Wanted::new(alloc, set, text, ask)?;
+    let mut lines = Vec::new(alloc);
+    let mut some = false;
+    for triple in wanted {
+        add_match(&mut lines, name, set, text, triple)?;
+        put_gathered(out, &mut lines)?;
+        some = true;
+    }
+    put_all(out, lines.as_slice())?;
+    Ok(some)
+}
+
+/// Reads an input to its end, and writes the report of it. The answer says whether a match was reported.
+///
+/// At most 67,108,865 bytes are read. `name` stands first in each line. A refused input, and one that cannot
+/// be read, gives no line; after a write that failed, and where memory is wanted, what was written is a
+/// beginning of the report. A failed call is not tried again.
+pub fn run<R: Source, W: Sink>(
+    alloc: Global,
+    name: &str,
+    input: &mut R,
+    out: &mut W,
+    set: &Set,
+    words: &Words,
+    ask: &Ask,
+) -> Result<bool, RunFault>
+    requires { IsTrue ask.now.all }
+    // The whole report of what was read to the end.
+    ensures report { IfOk result (λ some. (bytes lines : List ℕ)
+        × Consumes (R.left input.old) (R.left input.new) bytes
+        × IsAtEnd (R.left input.new)
+        × (refusal_of bytes ≡ None)
+        × IsReport name.now set.now ask.now bytes lines
+        × Appends (W.taken out.old) (W.taken out.new) lines
+        × (some ≡ nat_lt 0 (length lines))) }
+    // A beginning of the report of what was read.
+    ensures part { (fault : _) → IsErrOf result fault → ((fault ≡ RunFault.Write) ⊎ (fault ≡ RunFault.Memory)) → (bytes : List ℕ)
+        × Consumes (R.left input.old) (R.left input.new) bytes
+        × IsAtEnd (R.left input.new)
+        × (refusal_of bytes ≡ None)
+        × ((lines : List ℕ) → IsReport name.now set.now ask.now bytes lines → BeginsWith (W.taken out.old) (W.taken out.new) lines) }
+    // A refused text: nothing is written, and no continuation fares better.
+    ensures refused { (fault : _) → IsErrOf result (RunFault.Text fault) → fault ≢ TextFault.Memory → (bytes : List ℕ)
+        × Consumes (R.left input.old) (R.left input.new) bytes
+        × (refusal_of bytes ≡ Some fault)
+        × (IsAtEnd (R.left input.new) ⊎ ((more : List ℕ) → refusal_of (bytes ++ more) ≡ Some fault)) }
+    ensures refused_keeps { (fault : _) → IsErrOf result (RunFault.Text fault) → out.new ≡ out.old }
+    ensures read_keeps { IsErrOf result RunFault.Read → out.new ≡ out.old }
+    // Each failure comes from the one that failed.
+    ensures sound { OnOk result ((R.failed input.new ≡ R.failed input.old) × (W.failed out.new ≡ W.failed out.old)) }
+    ensures read { IsErrOf result RunFault.Read → R.failed input.new ≡ one_more (R.failed input.old) }
+    ensures write { IsErrOf result RunFault.Write → W.failed out.new ≡ one_more (W.failed out.old) }
+    ensures most { (bytes : List ℕ) × Consumes (R.left input.old) (R.left input.new) bytes × (length bytes ≤ 67108865) }
+{
+    let bytes = match read_up_to(alloc, input, MOST_READ) {
+        Ok(bytes) => bytes,
+        Err(ReadFault::Read) => return Err(RunFault::Read),
+        Err(ReadFault::Memory) => return Err(RunFault::Text(TextFault::Memory)),
+    };
+    match Text::read(alloc, bytes, words) {
+        Ok(text) => report(alloc, name, &text, out, set, ask),
+        Err(fault) => Err(RunFault::Text(fault)),
+    }
+}

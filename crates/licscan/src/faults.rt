@@ -1,0 +1,71 @@
+//! Why the program ends before its work is done, and how it tells so.
+
+use crate::fields::Escaped;
+use crate::stream::Sink;
+use crate::transfer::put_all;
+use lic_find::set::BuildFault;
+use std::alloc::{AllocError, AllocFailed, Global};
+use std::io;
+use thiserror::Error;
+
+/// What is wrong with the arguments, where their parser accepts them.
+#[derive(Debug, Drop, Error)]
+pub enum ArgumentFault {
+    #[error("an argument is not UTF-8")]
+    NotUtf8,
+    #[error("no command")]
+    NoCommand,
+    #[error("scan needs --all")]
+    NeedsAll,
+    #[error("--after takes one file")]
+    AfterFiles,
+    #[error("--after: bad triple")]
+    BadTriple,
+    #[error("--after: no template {}", Escaped(.id.as_str()))]
+    NoTemplate { id: String },
+}
+
+/// Why the program ends.
+#[derive(Debug, Drop, Error)]
+pub enum Stop {
+    #[error("{0}")]
+    Arguments(ArgumentFault),
+    #[error("templates: cannot be listed")]
+    Listing,
+    #[error("templates: {0}")]
+    Set(BuildFault),
+    #[error("standard output: cannot be written")]
+    Write,
+    #[error("out of memory")]
+    Memory,
+}
+
+impl<T: Drop> From<AllocFailed<T>> for Stop {
+    fn from(_error: AllocFailed<T>) -> Stop {
+        Stop::Memory
+    }
+}
+
+impl From<AllocError> for Stop {
+    fn from(_error: AllocError) -> Stop {
+        Stop::Memory
+    }
+}
+
+/// Whether a call of the system failed for want of memory.
+pub fn wants_memory(error: &io::Error) -> bool {
+    error.kind() == io::ErrorKind::OutOfMemory
+}
+
+/// Writes to standard error. A failure there can be told nowhere.
+pub fn tell<E: Sink>(err: &mut E, text: &str) {
+    let _ = put_all(err, text.as_bytes());
+}
+
+/// Tells why the program ends.
+pub fn tell_stop<E: Sink>(alloc: Global, err: &mut E, stop: &Stop) {
+    match format!(in alloc; "licscan: {stop}\n") {
+        Ok(line) => tell(err, line.as_str()),
+        Err(_) => tell(err, "licscan: out of memory\n"),
+    }
+}

@@ -1,0 +1,62 @@
+//! The licence scanner: finds the ranges of a text that a licence template describes.
+#![tactic(auto)]
+
+pub mod arguments;
+pub mod engine;
+pub mod faults;
+pub mod fields;
+pub mod files;
+pub mod lines;
+pub mod program;
+pub mod stream;
+pub mod templates;
+#[cfg(test)]
+mod tests;
+pub mod transfer;
+pub mod wanted;
+
+use crate::faults::{ArgumentFault, Stop, tell_stop, wants_memory};
+use crate::program::command;
+use crate::stream::Counted;
+use std::env;
+use std::process::ExitCode;
+
+/// The words after the program's name.
+fn words_given(rt: &HostRuntime) -> Result<Vec<String>, Stop> {
+    match env::args(rt) {
+        Ok(words) => Ok(words.skip(1).collect(rt.alloc())?),
+        Err(e) if wants_memory(&e) => Err(Stop::Memory),
+        Err(_) => Err(Stop::Arguments(ArgumentFault::NotUtf8)),
+    }
+}
+
+/// Runs the program over the standard streams.
+fn start(rt: &HostRuntime) -> Result<u8, Stop> {
+    let words = words_given(rt)?;
+    let mut args = Vec::new(rt.alloc());
+    for word in &words {
+        args.push(word.as_str())?;
+    }
+    let mut input = Counted::new(rt.stdin());
+    let mut out = Counted::new(rt.stdout());
+    let mut err = Counted::new(rt.stderr());
+    let status = command(
+        rt,
+        rt.alloc(),
+        args.as_slice(),
+        &mut input,
+        &mut out,
+        &mut err,
+    );
+    Ok(status)
+}
+
+fn main(rt: HostRuntime) -> ExitCode {
+    match start(&rt) {
+        Ok(status) => ExitCode::from(status),
+        Err(stop) => {
+            tell_stop(rt.alloc(), &mut Counted::new(rt.stderr()), &stop);
+            ExitCode::from(2)
+        }
+    }
+}

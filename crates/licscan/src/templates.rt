@@ -1,0 +1,181 @@
+//! The folder of the templates.
+
+use crate::faults::{Stop, tell, wants_memory};
+use crate::fields::Escaped;
+use crate::stream::{Counted, Sink};
+use crate::transfer::{ReadFault, read_up_to};
+use lic_find::set::Set;
+use lic_find::template::{MOST_BYTES, MarkupCause, MarkupFault, Template, read_template};
+use lic_norm::words::Words;
+use std::alloc::{AllocError, AllocFailed, Global};
+use std::fs::File;
+use std::rt::Files;
+use std::{fs, io};
+use thiserror::Error;
+
+/// What stands behind the identifier in the name of a template's file.
+const ENDING: &str = ".template.txt";
+
+/// Why one template is left out.
+#[derive(Debug, Drop, Error)]
+enum TemplateFault {
+    #[error("cannot be read")]
+    Unreadable,
+    #[error("not UTF-8 at byte {at}")]
+    NotUtf8 { at: usize },
+    #[error("{0}")]
+    Markup(MarkupFault),
+    #[error("out of memory")]
+    Memory,
+}
+
+impl From<AllocError> for TemplateFault {
+    fn from(_error: AllocError) -> TemplateFault {
+        TemplateFault::Memory
+    }
+}
+
+impl From<io::Error> for TemplateFault {
+    fn from(error: io::Error) -> TemplateFault {
+        if wants_memory(&error) {
+            TemplateFault::Memory
+        } else {
+            TemplateFault::Unreadable
+        }
+    }
+}
+
+impl From<ReadFault> for TemplateFault {
+    fn from(fault: ReadFault) -> TemplateFault {
+        match fault {
+            ReadFault::Read => TemplateFault::Unreadable,
+            ReadFault::Memory => TemplateFault::Memory,
+        }
+    }
+}
+
+/// The identifiers in a folder, in the order of their bytes, and how many names are not UTF-8.
+#[derive(Debug, Drop)]
+struct Listing {
+    ids: Vec<String>,
+    unnamed: usize,
+}
+
+/// Lists a folder.
+fn list<Rt: Files + AllocGlobal + Clone + Drop>(
+    rt: &Rt,
+    alloc: Global,
+    folder: &str,
+) -> Result<Listing, Stop> {
+    let mut ids = Vec::new(alloc);
+    let mut unnamed = 0usize;
+    for entry in fs::read_dir(rt, folder)? {
+        match entry {
+            Ok(entry) => add_id(alloc, &mut ids, entry.file_name())?,
+            Err(e) if e.kind() == io::ErrorKind::InvalidFilename => {
+                unnamed = unnamed.saturating_add(1);
+            }
+            Err(e) => return Err(Stop::from(e)),
+        }
+    }
+    ids.sort()?;
+    Ok(Listing { ids, unnamed })
+}
+
+/// Adds the identifier of a file, if its name is one of a template.
+fn add_id(alloc: Global, ids: &mut Vec<String>, name: &str) -> Result<(), Stop> {
+    if let Some(id) = name.strip_suffix(ENDING)
+        && !id.is_empty()
+    {
+        ids.push(id.to_string(alloc)?)?;
+    }
+    Ok(())
+}
+
+impl From<io::Error> for Stop {
+    fn from(error: io::Error) -> Stop {
+        if wants_memory(&error) {
+            Stop::Memory
+        } else {
+            Stop::Listing
+        }
+    }
+}
+
+/// The bytes of a template's file: no more than one more than a template may have.
+///
+/// Only files are opened, since to open a pipe may take for ever.
+fn read_file<Rt: Files + AllocGlobal>(
+    rt: &Rt,
+    alloc: Global,
+    path: &str,
+) -> Result<Vec<u8>, TemplateFault> {
+    if !fs::metadata(rt, path)?.is_file() {
+        return Err(TemplateFault::Unreadable);
+    }
+    let mut source = Counted::new(File::open(rt, path)?);
+    Ok(read_up_to(alloc, &mut source, MOST_BYTES + 1)?)
+}
+
+/// Reads a template.
+fn load<Rt: Files + AllocGlobal>(
+    rt: &Rt,
+    alloc: Global,
+    folder: &str,
+    id: &str,
+    words: &Words,
+) -> Result<Template, TemplateFault> {
+    let path = format!(in alloc; "{folder}/{id}{ENDING}")?;
+    let bytes = read_file(rt, alloc, path.as_str())?;
+    if bytes.len() > MOST_BYTES {
+        return Err(TemplateFault::Markup(MarkupFault {
+            place: 0,
+            cause: MarkupCause::TooLong,
+        }));
+    }
+    match simdutf8::compat::from_utf8(bytes.as_slice()) {
+        Ok(text) => read_template(alloc, text, words).map_err(TemplateFault::Markup),
+        Err(e) => Err(TemplateFault::NotUtf8 {
+            at: e.valid_up_to(),
+        }),
+    }
+}
+
+/// The templates of a folder, and whether one was left out.
+#[derive(Debug, Drop)]
+pub struct Loaded {
+    pub set: Set,
+    pub is_refused: bool,
+}
+
+/// Reads the templates of a folder by identifier. One that is refused or cannot be read is told and left out.
+pub fn load_all<Rt: Files + AllocGlobal + Clone + Drop, E: Sink>(
+    rt: &Rt,
+    alloc: Global,
+    folder: &str,
+    words: &Words,
+    err: &mut E,
+) -> Result<Loaded, Stop> {
+    let listing = list(rt, alloc, folder)?;
+    for _ in 0..listing.unnamed {
+        tell(err, "licscan: templates: a file name is not UTF-8\n");
+    }
+    let mut is_refused = listing.unnamed > 0;
+    let mut templates = Vec::new(alloc);
+    for id in listing.ids {
+        match load(rt, alloc, folder, id.as_str(), words) {
+            Ok(template) => templates.push((id, template))?,
+            Err(TemplateFault::Memory) => return Err(Stop::Memory),
+            Err(fault) => {
+                let id = Escaped(id.as_str());
+                let line = format!(in alloc; "licscan: template {id}: {fault}\n")?;
+                tell(err, line.as_str());
+                is_refused = true;
+            }
+        }
+    }
+    match Set::build(alloc, templates) {
+        Ok(set) => Ok(Loaded { set, is_refused }),
+        Err(fault) => Err(Stop::Set(fault)),
+    }
+}

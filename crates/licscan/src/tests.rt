@@ -1,0 +1,6 @@
+mod arguments;
+mod cases;
+mod help;
+mod matches;
+mod refusals;
+mod streams;

@@ -1,0 +1,120 @@
+//! What is told of what is refused.
+
+use crate::tests::cases::{Case, expect, make_folder};
+use std::fs;
+use std::test::Fail;
+
+#[test]
+fn a_refused_template_is_told_and_left_out(rt: HostRuntime) -> Result<(), Fail> {
+    let folder = "licscan-test-templates";
+    let mut long = Vec::new(rt.alloc());
+    long.resize(1_048_577, 0xFF)?;
+    make_folder(
+        &rt,
+        folder,
+        &[
+            ("A.template.txt", b"foo bar"),
+            ("E.template.txt", b" "),
+            ("L.template.txt", long.as_slice()),
+            ("U.template.txt", b"foo \xFF"),
+            (".template.txt", b" "),
+            ("notes.txt", b" "),
+        ],
+    )?;
+    fs::create_dir(&rt, "licscan-test-templates/D\n.template.txt")?;
+    let case = Case {
+        args: &["scan", "--all", "--templates", folder],
+        input: "foo bar",
+        status: 2,
+        out: "-\tA\t0\t1\t0\t7\n",
+        err: "licscan: template D\\n: cannot be read\n\
+            licscan: template E: M10 at 0: no letter in it\n\
+            licscan: template L: M11 at 0: more than 1048576 bytes\n\
+            licscan: template U: not UTF-8 at byte 4\n",
+    };
+    expect(&rt, &[case]);
+    fs::remove_dir_all(&rt, folder)?;
+    Ok(())
+}
+
+#[test]
+fn a_folder_may_be_empty_or_missing(rt: HostRuntime) -> Result<(), Fail> {
+    let folder = "licscan-test-empty";
+    make_folder(&rt, folder, &[])?;
+    expect(
+        &rt,
+        &[
+            Case {
+                args: &["scan", "--all", "--templates", folder],
+                input: "foo bar",
+                status: 1,
+                out: "",
+                err: "",
+            },
+            Case {
+                args: &["scan", "--all", "--templates", "licscan-test-missing"],
+                input: "foo bar",
+                status: 2,
+                out: "",
+                err: "licscan: templates: cannot be listed\n",
+            },
+        ],
+    );
+    fs::remove_dir_all(&rt, folder)?;
+    Ok(())
+}
+
+#[test]
+fn a_refused_file_is_told_and_the_rest_go_on(rt: HostRuntime) -> Result<(), Fail> {
+    let folder = "licscan-test-inputs";
+    make_folder(
+        &rt,
+        folder,
+        &[
+            ("A.template.txt", b"foo bar"),
+            ("bad.txt", b"foo bar \xFF"),
+            ("good.txt", b"foo bar"),
+        ],
+    )?;
+    let case = Case {
+        args: &[
+            "scan",
+            "--all",
+            "--templates",
+            folder,
+            "licscan-test-inputs/bad.txt",
+            "licscan-test-inputs/none\t.txt",
+            folder,
+            "licscan-test-inputs/good.txt",
+        ],
+        input: "",
+        status: 2,
+        out: "licscan-test-inputs/good.txt\tA\t0\t1\t0\t7\n",
+        err: "licscan: licscan-test-inputs/bad.txt: X1 at 8: not UTF-8\n\
+            licscan: licscan-test-inputs/none\\t.txt: cannot be read\n\
+            licscan: licscan-test-inputs: cannot be read\n",
+    };
+    expect(&rt, &[case]);
+    fs::remove_dir_all(&rt, folder)?;
+    Ok(())
+}
+
+#[test]
+fn more_templates_than_a_set_may_have_end_the_run(rt: HostRuntime) -> Result<(), Fail> {
+    let folder = "licscan-test-many";
+    make_folder(&rt, folder, &[])?;
+    for k in 0..4097u32 {
+        let path = format!(in rt.alloc(); "{folder}/{k}.template.txt")?;
+        fs::write(&rt, path.as_str(), b"foo")?;
+    }
+    let case = Case {
+        args: &["scan", "--all", "--templates", folder],
+        input: "foo",
+        status: 2,
+        out: "",
+        err: "licscan: templates: B2: more than 4096 templates\n",
+    };
+    expect(&rt, &[case]);
+    fs::remove_dir_all(&rt, folder)?;
+    Ok(())
+}

@@ -1,0 +1,75 @@
+//! Whole inputs and whole pieces, in as many calls as they take.
+
+ghost use Rattle.std.specs.Prelude.{◌≡◌, ◌<◌, ◌≤◌, ℕ, List, length, IfOk, OnOk, OnErr, IsErrOf};
+ghost use Rattle.std.specs.Io.KnownBytes.{Consumes, Appends, IsAtEnd};
+ghost use Rattle.licscan.specs.Stream.{one_more, BeginsWith};
+
+use crate::stream::{Sink, Source};
+use std::alloc::Global;
+
+/// How many bytes are asked for in one call.
+const CHUNK: usize = 16_384;
+
+/// A read that failed, or memory that was not there.
+#[derive(Clone, Copy, Debug, PartialEq, Eq)]
+pub enum ReadFault {
+    Read,
+    Memory,
+}
+
+/// Reads to the end, but no more than `limit` bytes.
+///
+/// A failed call is not tried again.
+pub fn read_up_to<R: Source>(
+    alloc: Global,
+    input: &mut R,
+    limit: usize,
+) -> Result<Vec<u8>, ReadFault>
+    ensures bytes { IfOk result (λ bytes. Consumes (R.left input.old) (R.left input.new) bytes.items) }
+    ensures bound { IfOk result (λ bytes. length bytes.items ≤ limit) }
+    ensures end { IfOk result (λ bytes. length bytes.items < limit → IsAtEnd (R.left input.new)) }
+    ensures part { OnErr result ((bytes : List ℕ) × (length bytes ≤ limit) × Consumes (R.left input.old) (R.left input.new) bytes) }
+    ensures sound { OnOk result (R.failed input.new ≡ R.failed input.old) }
+    ensures read { IsErrOf result ReadFault.Read → R.failed input.new ≡ one_more (R.failed input.old) }
+    ensures memory { IsErrOf result ReadFault.Memory → R.failed input.new ≡ R.failed input.old }
+{
+    let mut bytes = Vec::new(alloc);
+    let mut chunk = [0u8; CHUNK];
+    while bytes.len() < limit {
+        let room = (limit - bytes.len()).min(CHUNK);
+        match input.pull(&mut chunk[..room]) {
+            Err(_) => return Err(ReadFault::Read),
+            Ok(0) => return Ok(bytes),
+            Ok(n) => {
+                if bytes.extend_from_slice(&chunk[..n]).is_err() {
+                    return Err(ReadFault::Memory);
+                }
+            }
+        }
+    }
+    Ok(bytes)
+}
+
+/// A write that failed.
+#[derive(Clone, Copy, Debug, PartialEq, Eq)]
+pub struct WriteFailed;
+
+/// Writes all of `piece`.
+///
+/// A failed call is not tried again.
+pub fn put_all<W: Sink>(out: &mut W, piece: &[u8]) -> Result<(), WriteFailed>
+    ensures ok { OnOk result (Appends (W.taken out.old) (W.taken out.new) piece.now) }
+    ensures part { OnErr result (BeginsWith (W.taken out.old) (W.taken out.new) piece.now) }
+    ensures sound { OnOk result (W.failed out.new ≡ W.failed out.old) }
+    ensures failed { OnErr result (W.failed out.new ≡ one_more (W.failed out.old)) }
+{
+    let mut at = 0;
+    while at < piece.len() {
+        match out.put(&piece[at..]) {
+            Err(_) => return Err(WriteFailed),
+            Ok(0) => return Err(WriteFailed),
+            Ok(n) => at += n,
+        }
+    }
+    Ok(())
+}

@@ -1,0 +1,59 @@
+//! The matches that are asked for.
+
+ghost use Rattle.std.specs.Prelude.{◌≡◌, List, IfOk};
+ghost use Rattle.std.specs.Iterator.{YieldsFirst, item_count};
+ghost use Rattle.lic_find.specs.Matches.{AreMatches};
+ghost use Rattle.licscan.specs.Report.{first_of};
+ghost use Rattle.licscan.specs.Wanted.{wanted_of};
+
+use crate::engine::Ask;
+use lic_find::finder::Finder;
+use lic_find::set::Set;
+use lic_find::triple::Triple;
+use lic_norm::text::Text;
+use std::alloc::{AllocError, Global};
+
+/// The matches of a set in a text, from behind a triple and up to a limit where these are asked for.
+#[derive(Debug, Drop)]
+pub struct Wanted {
+    finder: Finder,
+    left: Option<u64>,
+}
+
+impl Wanted {
+    pub fn new(alloc: Global, set: &Set, text: &Text, ask: &Ask) -> Result<Wanted, AllocError>
+        ensures all { IfOk result (λ w. (found : List Triple)
+            × AreMatches set.now text.now.tokens ask.now.after found × (wanted_of w ≡ first_of ask.now.limit found)) }
+        ensures only { IfOk result (λ w. (others : List Triple)
+            → AreMatches set.now text.now.tokens ask.now.after others → first_of ask.now.limit others ≡ wanted_of w) }
+    {
+        let finder = match ask.after {
+            Some(after) => Finder::resume(alloc, set, text, after)?,
+            None => Finder::new(alloc, set, text)?,
+        };
+        Ok(Wanted {
+            finder,
+            left: ask.limit,
+        })
+    }
+}
+
+impl Iterator for Wanted {
+    type Item = Triple;
+
+    ghost next_gives = { YieldsFirst wanted_of };
+
+    ghost remaining = { item_count wanted_of };
+
+    /// Does not search on where the limit is reached.
+    fn next(&mut self) -> Option<Triple> {
+        match self.left {
+            Some(0) => None,
+            Some(n) => {
+                self.left = Some(n - 1);
+                self.finder.next()
+            }
+            None => self.finder.next(),
+        }
+    }
+}
