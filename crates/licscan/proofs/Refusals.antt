@@ -1,8 +1,8 @@
 -- Lemmas on refusals of what was read.
-use Rattle.std.proofs.Common.{◌≡◌, ℕ, ◌+◌, ◌<◌, ◌≤◌, List, [], ◌++◌, length, take, Bool, true, false, cond, Option, None, Some, nat_lt, refl, ◌∙◌, sym, ap, arith, length-append, inl, inr, ◌⊎◌}
+use Rattle.std.proofs.Common.{◌≡◌, ℕ, ◌<◌, ◌≤◌, List, ◌++◌, length, take, Bool, true, false, cond, Option, None, Some, nat_lt, refl, ◌∙◌, sym, ap, arith, length-append, inl, inr, ◌⊎◌}
 use Rattle.std.proofs.lemmas.Bool.Decides.{nat_tests}
 use Rattle.std.proofs.lemmas.List.{take-append-le}
-use Rattle.lic_norm.specs.Refusal.{refusal_of, long_refusal, short_refusal, most_bytes}
+use Rattle.lic_norm.specs.Refusal.{refusal_of, long_refusal}
 use Rattle.lic_norm.specs.declared.fault.TextFault.{TextFault}
 use Rattle.std.specs.Io.KnownBytes.{Consumes, IsAtEnd}
 

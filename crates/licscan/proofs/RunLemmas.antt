@@ -1,5 +1,5 @@
 -- From the clauses of a report to those of a run.
-use Rattle.std.proofs.Common.{◌≡◌, ℕ, ◌<◌, List, [], length, Bool, Option, None, Result, Ok, Err, IfOk, OnErr, IsErrOf, nat_lt, subst}
+use Rattle.std.proofs.Common.{◌≡◌, ℕ, ◌<◌, List, length, Bool, Option, None, Result, Ok, Err, IfOk, OnErr, IsErrOf, nat_lt, subst}
 use Rattle.std.specs.Io.KnownBytes.{Consumes, Appends, IsAtEnd}
 use Rattle.lic_norm.specs.Refusal.{refusal_of}
 use Rattle.lic_norm.specs.Tokens.{TokenValue, tokens_of_input}

@@ -1,5 +1,6 @@
 pub mod Stream
 pub mod Counts
+pub mod Causes
 pub mod Fields
 pub mod Report
 pub mod Wanted

@@ -1,5 +1,5 @@
 -- What is written about an input.
-use Rattle.std.specs.Prelude.{◌≡◌, ℕ, List, [], ◌∷◌, ◌++◌, decimal, take, Option, Some, None}
+use Rattle.std.specs.Prelude.{◌≡◌, ℕ, List, [], ◌++◌, decimal, take, Option, Some, None}
 use Rattle.std.specs.List.{flat_map, slice_index_or}
 use Rattle.lic_norm.specs.Tokens.{TokenValue, tokens_of_input}
 use Rattle.lic_find.specs.Sets.{Known}

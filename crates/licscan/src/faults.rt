@@ -1,11 +1,16 @@
 //! Why the program ends before its work is done, and how it tells so.
 
+ghost use Rattle.std.specs.Prelude.{◌≡◌, ◌↔◌, IsTrue};
+ghost use Rattle.std.specs.IoError.{error_kind};
+ghost use Rattle.licscan.specs.declared.faults.Stop.TheVariants.{Memory};
+
 use crate::fields::Escaped;
 use crate::stream::Sink;
 use crate::transfer::put_all;
 use lic_find::set::BuildFault;
 use std::alloc::{AllocError, AllocFailed, Global};
 use std::io;
+use std::io::ErrorKind;
 use thiserror::Error;
 
 /// What is wrong with the arguments, where their parser accepts them.
@@ -41,20 +46,26 @@ pub enum Stop {
 }
 
 impl<T: Drop> From<AllocFailed<T>> for Stop {
+    ghost from_gives = { λ _ stop. stop ≡ Memory };
+
     fn from(_error: AllocFailed<T>) -> Stop {
         Stop::Memory
     }
 }
 
 impl From<AllocError> for Stop {
+    ghost from_gives = { λ _ stop. stop ≡ Memory };
+
     fn from(_error: AllocError) -> Stop {
         Stop::Memory
     }
 }
 
 /// Whether a call of the system failed for want of memory.
-pub fn wants_memory(error: &io::Error) -> bool {
-    error.kind() == io::ErrorKind::OutOfMemory
+pub fn wants_memory(error: &io::Error) -> bool
+    ensures { IsTrue result ↔ (error_kind error.now ≡ ErrorKind.OutOfMemory) }
+{
+    error.kind() == ErrorKind::OutOfMemory
 }
 
 /// Writes to standard error. A failure there can be told nowhere.

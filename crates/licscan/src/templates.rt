@@ -1,5 +1,11 @@
 //! The folder of the templates.
 
+ghost use Rattle.std.specs.Prelude.{◌≡◌, ◌≢◌};
+ghost use Rattle.std.specs.IoError.{error_kind};
+ghost use Rattle.std.specs.declared.io.ErrorKind.TheVariants.{OutOfMemory};
+ghost use Rattle.licscan.specs.declared.templates.TemplateFault.TheVariants.{Unreadable, Memory};
+ghost use Rattle.licscan.specs.Causes.{fault_of_read};
+
 use crate::faults::{Stop, tell, wants_memory};
 use crate::fields::Escaped;
 use crate::stream::{Counted, Sink};
@@ -30,12 +36,17 @@ enum TemplateFault {
 }
 
 impl From<AllocError> for TemplateFault {
+    ghost from_gives = { λ _ fault. fault ≡ Memory };
+
     fn from(_error: AllocError) -> TemplateFault {
         TemplateFault::Memory
     }
 }
 
 impl From<io::Error> for TemplateFault {
+    ghost from_gives = { λ error fault. (error_kind error ≡ OutOfMemory → fault ≡ Memory)
+        × (error_kind error ≢ OutOfMemory → fault ≡ Unreadable) };
+
     fn from(error: io::Error) -> TemplateFault {
         if wants_memory(&error) {
             TemplateFault::Memory
@@ -46,6 +57,8 @@ impl From<io::Error> for TemplateFault {
 }
 
 impl From<ReadFault> for TemplateFault {
+    ghost from_gives = { λ read fault. fault ≡ fault_of_read read };
+
     fn from(fault: ReadFault) -> TemplateFault {
         match fault {
             ReadFault::Read => TemplateFault::Unreadable,
@@ -93,6 +106,11 @@ fn add_id(alloc: Global, ids: &mut Vec<String>, name: &str) -> Result<(), Stop> 
 }
 
 impl From<io::Error> for Stop {
+    ghost use Rattle.licscan.specs.declared.faults.Stop.TheVariants.{Listing, Memory};
+
+    ghost from_gives = { λ error stop. (error_kind error ≡ OutOfMemory → stop ≡ Memory)
+        × (error_kind error ≢ OutOfMemory → stop ≡ Listing) };
+
     fn from(error: io::Error) -> Stop {
         if wants_memory(&error) {
             Stop::Memory

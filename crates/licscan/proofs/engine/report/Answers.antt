@@ -1,7 +1,6 @@
-use Rattle.std.proofs.Common.{rules, ◌≡◌, ◌∙◌, ap, ◌++◌, sym, append_assoc, append-nil, subst, length, nat_lt, ◌∷◌, [], List}
+use Rattle.std.proofs.Common.{rules, ◌≡◌, ◌∙◌, ap, ◌++◌, sym, append_assoc, append-nil, subst, length, nat_lt, ◌∷◌, []}
 use Rattle.std.specs.List.{flat_map}
 use Rattle.std.specs.Io.KnownBytes.{Appends}
-use Rattle.lic_find.specs.declared.triple.Triple.{Triple}
 use Rattle.licscan.specs.Stream.{BeginsWith}
 use Rattle.licscan.specs.Report.{match_line}
 use Rattle.licscan.specs.Wanted.{wanted_of}

@@ -1,7 +1,6 @@
-use Rattle.std.proofs.Common.{◌≡◌, ◌≤◌, take, drop, sym, arith, List, ℕ, [], rules}
+use Rattle.std.proofs.Common.{take, drop, sym, rules}
 use Rattle.std.proofs.lemmas.List.{take-append-drop}
 use Rattle.std.proofs.KnownBytes.{Appends-kept}
-use Rattle.std.specs.Io.KnownBytes.{Appends}
 use Rattle.licscan.proofs.Written.{Appends-none, Appends-take}
 use Rattle.licscan.proofs.transfer.put_all.Goals as goal
 

@@ -1,0 +1,88 @@
+#!/usr/bin/env python3
+"""Refuses each request for memory of a built licscan in turn, and reads what it says.
+
+  sweep.py PROGRAM
+
+A run in which a request was refused must either say and write what the whole run does, or end with
+status 2, tell a want of memory, and write and tell nothing else that the whole run does not. Needs a C
+compiler. Prints each run that breaks this; the last line is 'N runs, M bad', and the status is 1 if M is not 0.
+"""
+import os, subprocess, sys, tempfile
+
+HERE = os.path.dirname(os.path.abspath(__file__))
+SCAN = ['scan', '--all', '--templates', 'T']
+FOUND = b'Foo   bar foo bar'
+CASES = [
+    (SCAN, FOUND),
+    (SCAN + ['--after', '0:1:A', '--limit', '1', '-'], FOUND),
+    (SCAN + ['good.txt', 'bad.txt', 'none', '-'], FOUND),
+    (SCAN + ['--after', '0:1:Z'], FOUND),
+    (SCAN + ['--after', '0-1:A'], FOUND),
+    (SCAN + ['--after', '0:1:A', 'good.txt', '-'], FOUND),
+    (SCAN + ['--limit', '0'], FOUND),
+    (['scan', '--templates', 'T'], FOUND),
+    (['scan', '--all', '--templates', 'none'], FOUND),
+    (['scan', '--all'], b''),
+    (['scan', '--help'], b''),
+    (['scan', '--unknown'], b''),
+    (['--help'], b''),
+    ([], b''),
+]
+FILES = {
+    'T/A.template.txt': b'foo bar',
+    'T/E.template.txt': b' ',
+    'T/U.template.txt': b'\xff',
+    'good.txt': b'foo bar',
+    'bad.txt': b'foo bar \xff',
+}
+# what follows from a template that wants memory
+FOLLOWS = b'licscan: --after: no template A'
+
+
+def run(program, folder, library, words, given, n):
+    place = dict(os.environ, LD_PRELOAD=library, FAIL_NTH=str(n))
+    ran = subprocess.run([program] + words, input=given, capture_output=True, env=place, cwd=folder)
+    return ran.returncode, ran.stdout, ran.stderr
+
+
+def is_right(ran, whole):
+    if ran == whole:
+        return True
+    told, known = ran[2].splitlines(), whole[2].splitlines()
+    others = [it for it in told if not it.endswith(b'out of memory')]
+    lines = set(whole[1].splitlines())
+    return (ran[0] == 2 and len(others) < len(told)
+            and all(it in known or it == FOLLOWS for it in others)
+            and all(it in lines for it in ran[1].splitlines()))
+
+
+def main():
+    program = os.path.abspath(sys.argv[1])
+    runs = bad = 0
+    with tempfile.TemporaryDirectory() as folder:
+        library = os.path.join(folder, 'fail_nth.so')
+        subprocess.run(['cc', '-shared', '-fPIC', '-O1', '-o', library, os.path.join(HERE, 'fail_nth.c'), '-ldl'], check=True)
+        os.makedirs(os.path.join(folder, 'T', 'D.template.txt'))
+        with open(os.path.join(folder.encode(), b'T', b'\xff.template.txt'), 'wb'):
+            pass
+        for name, text in FILES.items():
+            with open(os.path.join(folder, name), 'wb') as it:
+                it.write(text)
+        for words, given in CASES:
+            whole = run(program, folder, library, words, given, 0)
+            n, same = 0, 0
+            # (a growth that a library can do without changes nothing: 40 such in a row are the end)
+            while same < 40:
+                n += 1
+                ran = run(program, folder, library, words, given, n)
+                same = same + 1 if ran == whole else 0
+                if not is_right(ran, whole):
+                    bad += 1
+                    print(words, 'request', n, ran)
+            runs += n
+    print(f'{runs} runs, {bad} bad')
+    return 1 if bad else 0
+
+
+if __name__ == '__main__':
+    sys.exit(main())
