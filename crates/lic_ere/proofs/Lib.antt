@@ -1,0 +1,11 @@
+pub mod BoundLemmas
+pub mod BoundSpelling
+pub mod BracketLemmas
+pub mod BracketSpelling
+pub mod Complete
+pub mod FaultLemmas
+pub mod LocatedLemmas
+pub mod ReadLemmas
+pub mod ReadingLemmas
+pub mod SetLemmas
+pub mod Sound

@@ -1,0 +1,19 @@
+-- What reading gives, in the words of the grammar.
+use Rattle.std.proofs.Common.{List, ℕ, Result, Ok, Err}
+use Rattle.std.specs.Prelude.{IfOk}
+use Rattle.lic_ere.specs.declared.ere.Ere.{Ere}
+use Rattle.lic_ere.specs.declared.fault.EreFault.{EreFault}
+use Rattle.lic_ere.specs.Trees.{Tree, tree_of}
+use Rattle.lic_ere.specs.Faults.{Gives}
+use Rattle.lic_ere.specs.Reading.{reading}
+use Rattle.lic_ere.specs.Grammar.{IsPattern}
+use Rattle.lic_ere.proofs.FaultLemmas.{Gives-same}
+use Rattle.lic_ere.proofs.Complete.{IsPattern-read}
+use Rattle.lic_ere.proofs.Sound.{reading-IsPattern}
+
+pub is_found : (pattern : List ℕ) (result : Result Ere EreFault) → Gives tree_of result (reading pattern) → IfOk result (λ tree. IsPattern pattern (tree_of tree))
+is_found pattern (Ok tree) given = reading-IsPattern pattern (tree_of tree) given
+is_found pattern (Err e) given = tt
+
+pub is_read : (pattern : List ℕ) (result : Result Ere EreFault) (tree : Tree) → IsPattern pattern tree → Gives tree_of result (reading pattern) → Gives tree_of result (Ok tree)
+is_read pattern result tree is given = Gives-same tree_of result (reading pattern) (Ok tree) (IsPattern-read pattern tree is) given

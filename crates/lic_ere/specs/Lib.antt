@@ -1,0 +1,12 @@
+pub mod Signs
+pub mod Sets
+pub mod Trees
+pub mod Faults
+pub mod Located
+pub mod Brackets
+pub mod Bounds
+pub mod Lexemes
+pub mod Reading
+pub mod Views
+pub mod Spelling
+pub mod Grammar

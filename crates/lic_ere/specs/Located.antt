@@ -1,0 +1,29 @@
+-- The characters of a pattern with their places.
+use Rattle.std.specs.Prelude.{ℕ, ◌+◌, List, [], ◌∷◌, drop, chars}
+use Rattle.std.specs.Borrow.{Bor}
+use Rattle.std.specs.Char.{len_utf8}
+
+-- the byte at which a character begins, and the character
+abbrev pub Located : Type 0
+Located = ℕ × ℕ
+
+-- characters, the first of which begins at a byte
+abbrev pub located_from : ℕ → List ℕ → List Located
+located_from place [] = []
+located_from place (c ∷ cs) = (place, c) ∷ located_from (place + len_utf8 c) cs
+
+-- the characters of a pattern, given as its bytes
+abbrev pub located : List ℕ → List Located
+located pattern = located_from 0 (chars pattern)
+
+-- What is read stands beside the number of characters that it takes: here n more.
+abbrev pub further : {A : Type 0} → ℕ → A × ℕ → A × ℕ
+further n x = (x.0, n + x.1)
+
+-- what is read, and the characters behind those that it takes
+abbrev pub with_rest : {A : Type 0} → List Located → A × ℕ → A × List Located
+with_rest rest x = (x.0, drop x.1 rest)
+
+-- the same of what the code gives back, whose rest is a slice
+abbrev pub seen : {A : Type 0} → A × Bor (List Located) → A × List Located
+seen x = (x.0, x.1.now)

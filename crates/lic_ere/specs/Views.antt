@@ -1,0 +1,40 @@
+-- What the values of the code stand for.
+use Rattle.std.specs.Prelude.{List, map, reverse}
+use Rattle.lic_ere.specs.declared.lexeme.Lexeme.{Lexeme}
+use Rattle.lic_ere.specs.declared.lexeme.Lexeme.TheVariants as coded
+use Rattle.lic_ere.specs.Trees.{tree_of}
+use Rattle.lic_ere.specs.Lexemes as lexemes
+use Rattle.lic_ere.specs.declared.level.LastUnit.{LastUnit}
+use Rattle.lic_ere.specs.declared.level.LastUnit.TheVariants as levels
+use Rattle.lic_ere.specs.declared.level.Level.{Level}
+use Rattle.lic_ere.specs.declared.reader.Reader.{Reader}
+use Rattle.lic_ere.specs.Reading as reading
+
+abbrev pub lexeme_of : Lexeme → lexemes.Lexeme
+lexeme_of (coded.Unit unit) = lexemes.unit (tree_of unit)
+lexeme_of (coded.Sign b) = lexemes.sign b
+lexeme_of coded.Opening = lexemes.opening
+lexeme_of coded.Closing = lexemes.closing
+lexeme_of coded.Bar = lexemes.bar
+lexeme_of coded.Anchor = lexemes.anchor
+
+abbrev pub last_of : LastUnit → reading.LastUnit
+last_of levels.None = reading.no_unit
+last_of (levels.Single unit) = reading.single (tree_of unit)
+last_of (levels.Repeated unit) = reading.repeated (tree_of unit)
+
+abbrev pub level_of : Level → reading.Level
+level_of l =
+    record {
+      place = l.place;
+      alternatives = map tree_of l.alternatives.items;
+      before = map tree_of l.before.items;
+      last = last_of l.last;
+    }
+
+-- the levels from the inside out
+abbrev pub levels_of : List Level → List reading.Level
+levels_of ls = reverse (map level_of ls)
+
+abbrev pub state_of : Reader → reading.State
+state_of r = record { level = level_of r.level; outer = levels_of r.outer.items }

@@ -1,0 +1,133 @@
+//! Brackets.
+ghost use Rattle.std.specs.Prelude.{◌≡◌, ◌<◌, length, true, IfOk};
+ghost use Rattle.lic_ere.specs.Located.{seen, with_rest};
+ghost use Rattle.lic_ere.specs.Faults.{Gives, map_ok};
+ghost use Rattle.lic_ere.specs.Brackets.{begins_extension, single_at, range_at, member_at, closes, members_at, complement_at, bracket_at};
+
+use crate::class::{Class, Member};
+use crate::fault::{EreCause, EreFault};
+use std::alloc::Global;
+
+/// Whether a `[` stands directly before `:`, `.` or `=`, which is no part of a set here.
+fn begins_extension(character: char, rest: &[(usize, char)]) -> bool
+    ensures { result ≡ begins_extension character rest.now }
+{
+    let [(_, next), ..] = rest else {
+        return false;
+    };
+    character == '[' && matches!(*next, ':' | '.' | '=')
+}
+
+/// A member of one character.
+fn single(place: usize, character: char, rest: &[(usize, char)]) -> Result<Member, EreFault>
+    ensures { Gives (λ x. x) result (single_at (place, character) rest.now) }
+{
+    if begins_extension(character, rest) {
+        return Err(EreFault {
+            place,
+            cause: EreCause::BracketExtension,
+        });
+    }
+    Ok(Member {
+        first: character,
+        last: character,
+    })
+}
+
+/// A member from one character to another, each with its place.
+fn range(
+    first: (usize, char),
+    last: (usize, char),
+    rest: &[(usize, char)],
+) -> Result<Member, EreFault>
+    ensures { Gives (λ x. x) result (range_at first last rest.now) }
+{
+    if last.1 < first.1 {
+        return Err(EreFault {
+            place: first.0,
+            cause: EreCause::RangeOutOfOrder,
+        });
+    }
+    if begins_extension(last.1, rest) {
+        return Err(EreFault {
+            place: last.0,
+            cause: EreCause::BracketExtension,
+        });
+    }
+    Ok(Member {
+        first: first.1,
+        last: last.1,
+    })
+}
+
+/// The member that begins with a character, and what stands behind it.
+#[tactic(auto, unfolding(crate::specs::Brackets::member_at))]
+fn member(
+    first: (usize, char),
+    rest: &[(usize, char)],
+) -> Result<(Member, &[(usize, char)]), EreFault>
+    ensures { Gives seen result (map_ok (with_rest rest.now) (member_at first rest.now)) }
+{
+    if let [(_, sign), last, after @ ..] = rest
+        && *sign == '-'
+        && last.1 != ']'
+    {
+        return Ok((range(first, *last, after)?, after));
+    }
+    Ok((single(first.0, first.1, rest)?, rest))
+}
+
+/// Whether a character closes the bracket, as a `]` does that is not its first member.
+fn closes(first: bool, character: char) -> bool
+    ensures { result ≡ closes first character }
+{
+    !first && character == ']'
+}
+
+/// The members of the bracket that opens at a place, and what stands behind its `]`.
+fn members(
+    alloc: Global,
+    place: usize,
+    all: &[(usize, char)],
+) -> Result<(Vec<Member>, &[(usize, char)]), EreFault>
+    ensures { Gives (λ x. (x.0.items, x.1.now)) result (map_ok (with_rest all.now) (members_at place true 0 all.now)) }
+{
+    let mut members = Vec::new(alloc);
+    let mut rest = all;
+    while let Some((first, after)) = rest.split_first() {
+        if closes(members.is_empty(), first.1) {
+            return Ok((members, after));
+        }
+        let (member, behind) = member(*first, after)?;
+        members.push(member)?;
+        rest = behind;
+    }
+    Err(EreFault {
+        place,
+        cause: EreCause::BracketNotClosed,
+    })
+}
+
+/// Whether a `^` stands first, and what stands behind it.
+fn complement(rest: &[(usize, char)]) -> (bool, &[(usize, char)])
+    ensures { (result.0, result.1.now) ≡ with_rest rest.now (complement_at rest.now) }
+{
+    match rest.split_first() {
+        Some((first, after)) if first.1 == '^' => (true, after),
+        _ => (false, rest),
+    }
+}
+
+/// The set that a bracket stands for which opens at a place, and what stands behind it.
+#[tactic(auto, unfolding(crate::specs::Brackets::bracket_at))]
+pub fn bracket(
+    alloc: Global,
+    place: usize,
+    rest: &[(usize, char)],
+) -> Result<(Class, &[(usize, char)]), EreFault>
+    ensures { Gives seen result (map_ok (with_rest rest.now) (bracket_at place rest.now)) }
+{
+    let (complement, rest) = complement(rest);
+    let (members, rest) = members(alloc, place, rest)?;
+    Ok((Class::new(members, complement), rest))
+}

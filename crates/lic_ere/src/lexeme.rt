@@ -1,0 +1,121 @@
+//! Lexemes: what a pattern is made of.
+ghost use Rattle.std.specs.Prelude.{◌≡◌, Some};
+ghost use Rattle.lic_ere.specs.Bounds.{bounds_at};
+ghost use Rattle.lic_ere.specs.Located.{seen, with_rest};
+ghost use Rattle.lic_ere.specs.Faults.{Gives, map_ok};
+ghost use Rattle.lic_ere.specs.Lexemes.{means_nothing, anchor_at, escaped_at, counted_sign, sign, bounds, lexeme_at};
+ghost use Rattle.lic_ere.specs.Views.{lexeme_of};
+
+use crate::bounds::{Bounds, read_bounds};
+use crate::brackets::bracket;
+use crate::ere::Ere;
+use crate::fault::{EreCause, EreFault};
+use crate::letters::letters;
+use std::alloc::Global;
+
+/// What stands at one place of a pattern.
+#[derive(Drop)]
+pub enum Lexeme {
+    /// A unit that is no group: `.`, a bracket, or a character.
+    Unit(Ere),
+    /// A repetition sign, with its bounds where they can be read.
+    Sign(Option<Bounds>),
+    /// `(`
+    Opening,
+    /// `)`
+    Closing,
+    /// `|`
+    Bar,
+    /// The first `^` or the last `$`, which mean nothing.
+    Anchor,
+}
+
+/// Whether a character is a `^` that stands first or a `$` that stands last.
+fn means_nothing(place: usize, character: char, rest: &[(usize, char)]) -> bool
+    ensures { result ≡ means_nothing (place, character) rest.now }
+{
+    (character == '^' && place == 0) || (character == '$' && rest.is_empty())
+}
+
+/// A `^` or a `$`.
+fn anchor(place: usize, character: char, rest: &[(usize, char)]) -> Result<Lexeme, EreFault>
+    ensures { Gives (λ x. (lexeme_of x, 0)) result (anchor_at (place, character) rest.now) }
+{
+    if means_nothing(place, character, rest) {
+        Ok(Lexeme::Anchor)
+    } else {
+        Err(EreFault {
+            place,
+            cause: EreCause::AnchorInside,
+        })
+    }
+}
+
+/// What a `\` at a place begins, and what stands behind it.
+fn escaped(
+    alloc: Global,
+    place: usize,
+    rest: &[(usize, char)],
+) -> Result<(Lexeme, &[(usize, char)]), EreFault>
+    ensures { Gives (λ x. (lexeme_of x.0, x.1.now)) result (map_ok (with_rest rest.now) (escaped_at place rest.now)) }
+{
+    let Some((next, after)) = rest.split_first() else {
+        return Err(EreFault {
+            place,
+            cause: EreCause::EndsInBackslash,
+        });
+    };
+    if !next.1.is_ascii_punctuation() {
+        return Err(EreFault {
+            place,
+            cause: EreCause::UnknownEscape,
+        });
+    }
+    Ok((Lexeme::Unit(letters(alloc, next.1)?), after))
+}
+
+/// What a `{` begins, and what stands behind it.
+fn counted(rest: &[(usize, char)]) -> (Lexeme, &[(usize, char)])
+    ensures { (lexeme_of result.0, result.1.now) ≡ with_rest rest.now (counted_sign (bounds_at rest.now)) }
+{
+    match read_bounds(rest) {
+        Some((bounds, after)) => (Lexeme::Sign(Some(bounds)), after),
+        None => (Lexeme::Sign(None), rest),
+    }
+}
+
+/// The sign that repeats from `min` times to `max` times.
+fn sign(min: u32, max: Option<u32>) -> Lexeme
+    ensures { lexeme_of result ≡ sign (Some (bounds min max)) }
+{
+    Lexeme::Sign(Some(Bounds { min, max }))
+}
+
+/// The lexeme that begins with a character, and what stands behind it.
+#[tactic(auto, unfolding(crate::specs::Lexemes::lexeme_at))]
+pub fn next_lexeme(
+    alloc: Global,
+    place: usize,
+    character: char,
+    rest: &[(usize, char)],
+) -> Result<(Lexeme, &[(usize, char)]), EreFault>
+    ensures { Gives (λ x. (lexeme_of x.0, x.1.now)) result (map_ok (with_rest rest.now) (lexeme_at (place, character) rest.now)) }
+{
+    match character {
+        '.' => Ok((Lexeme::Unit(Ere::Any), rest)),
+        '*' => Ok((sign(0, None), rest)),
+        '+' => Ok((sign(1, None), rest)),
+        '?' => Ok((sign(0, Some(1)), rest)),
+        '{' => Ok(counted(rest)),
+        '(' => Ok((Lexeme::Opening, rest)),
+        ')' => Ok((Lexeme::Closing, rest)),
+        '|' => Ok((Lexeme::Bar, rest)),
+        '[' => {
+            let (class, rest) = bracket(alloc, place, rest)?;
+            Ok((Lexeme::Unit(Ere::Set(class)), rest))
+        }
+        '\\' => escaped(alloc, place, rest),
+        '^' | '$' => Ok((anchor(place, character, rest)?, rest)),
+        _ => Ok((Lexeme::Unit(letters(alloc, character)?), rest)),
+    }
+}

@@ -1,0 +1,21 @@
+//! Extended regular expressions: a profile of POSIX.1-2017, XBD 9.4, read into trees.
+#![tactic(auto)]
+
+mod bounds;
+mod brackets;
+mod class;
+mod ere;
+mod fault;
+mod letters;
+mod level;
+mod lexeme;
+mod reader;
+mod reading;
+
+pub use class::Class;
+pub use ere::Ere;
+pub use fault::{EreCause, EreFault};
+pub use reading::read;
+
+#[cfg(test)]
+mod tests;

@@ -1,0 +1,24 @@
+use Rattle.std.proofs.Common.{◌≡◌, ◌∙◌, ◌&&◌, ◌||◌, ℕ, List, sym, ap}
+use Rattle.std.specs.Prelude.{bytes_eq}
+use Rattle.std.specs.List.{list_any}
+use Rattle.lic_lines.specs.Sources.{chars_of}
+use Rattle.lic_lines.specs.LineRules.{rules_of}
+use Rattle.lic_lines.specs.Lines.{is_separator}
+use Rattle.lic_lines.specs.Walks.{walked, ends_piece, spaced_text_ends}
+use Rattle.lic_lines.proofs.SideEnds.{side_ends}
+use Rattle.lic_lines.proofs.rows.piece_ends.Goals as goal
+use Rattle.lic_lines.proofs.rows.piece_ends.Goals.{then-rules, else-rules}
+
+pub returns : goal.returns
+returns c =
+    let rules = rules_of c.args.rules.now in
+    let flags = c.args.flags.now in
+    let line = walked c.args.side (chars_of c.args.line.now) in
+    let end = c.args.end in
+    let separator : c.if-rules.separator ≡ (rules.separators && ends_piece is_separator flags line end) = elim c.if-rules.branch [
+      | then-rules w ↦ w.separator-is ∙ w.separator_ends-separator.ensures ∙ ap (λ b. b && ends_piece is_separator flags line end) (sym w.if-rules.true)
+      | else-rules w ↦ w.separator-is ∙ w.if-rules.false ∙ ap (λ b. b && ends_piece is_separator flags line end) (sym w.if-rules.false)
+    ] in
+    let text = c.any_text_ends-text.ensures ∙ ap (list_any (λ (t : List ℕ). ends_piece (bytes_eq (walked c.args.side t)) flags line end)) c.side_texts.ensures in
+    let spaced = c.any_spaced_text_ends-spaced.ensures ∙ ap (list_any (λ (t : List ℕ). spaced_text_ends flags line end (walked c.args.side t))) c.side_spaced.ensures in
+    (λ i. ((c.space_ends-space.ensures i || separator i) || text i) || (spaced i || c.requires.told i)) ∙ sym (side_ends flags line end rules c.args.side)

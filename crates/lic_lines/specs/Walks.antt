@@ -1,0 +1,61 @@
+-- What the code keeps while it walks over a line from one side.
+use Rattle.std.specs.Prelude.{◌≡◌, ◌≢◌, ℕ, zero, suc, ◌-◌, ◌<◌, ◌≤◌, Bool, true, false, ◌&&◌, ◌||◌, List, [], length, take, reverse, slice_index, slice_index_or, slice_range, bytes_eq}
+use Rattle.std.specs.Char.{is_whitespace}
+use Rattle.lic_lines.specs.Texts.{is_row, ends_in}
+use Rattle.lic_lines.specs.LineRules.{LineRules}
+use Rattle.lic_lines.specs.Lines.{is_lead_piece, is_tail_piece, repeats}
+pub use Rattle.lic_lines.specs.declared.walk.Side.{Side}
+pub use Rattle.lic_lines.specs.declared.walk.Side.TheVariants.{Front, End}
+
+-- a text as it is met on the way from a side
+abbrev pub walked : Side → List ℕ → List ℕ
+walked Front text = text
+walked End text = reverse text
+
+-- the pieces of a lead, or on the way from the end those of a tail
+abbrev pub is_walked_piece : LineRules → Side → List ℕ → Bool
+is_walked_piece rules Front text = is_lead_piece rules text
+is_walked_piece rules End text = is_tail_piece rules (reverse text)
+
+-- the texts that are pieces
+abbrev pub side_texts : LineRules → Side → List (List ℕ)
+side_texts rules Front = rules.lead
+side_texts rules End = rules.tail
+
+-- the texts that are pieces with a white space character, the last on the way
+abbrev pub side_spaced : LineRules → Side → List (List ℕ)
+side_spaced rules Front = rules.lead_space
+side_spaced rules End = rules.tail_space
+
+-- the texts that are pieces with their first character standing once or more
+abbrev pub side_repeated : LineRules → Side → List (List ℕ)
+side_repeated rules Front = []
+side_repeated rules End = rules.tail_repeat
+
+-- whether some number below n passes
+abbrev pub any_below : (ℕ → Bool) → ℕ → Bool
+any_below test zero = false
+any_below test (suc n) = test n || any_below test n
+
+-- whether a piece ends here that begins at one of the flagged places
+abbrev pub ends_piece : (List ℕ → Bool) → List Bool → List ℕ → ℕ → Bool
+ends_piece is_piece flags line end = any_below (λ j. slice_index_or flags j false && is_piece (slice_range line j end)) end
+
+-- the flags say of each front of the line, up to a length, whether it is a row
+pub record AreRows (is_piece : List ℕ → Bool) (flags : List Bool) (line : List ℕ) : Type 0 where
+  pub each : (k : ℕ) → k < length flags → slice_index_or flags k false ≡ is_row is_piece (take k line)
+
+-- from first on all characters before end are one; no flagged place before it has that, and it is flagged itself
+pub record IsRunFront (flags : List Bool) (line : List ℕ) (end first : ℕ) : Type 0 where
+  pub within : first ≤ end
+  pub same : (i : ℕ) → first ≤ i → i < end → slice_index line i ≡ slice_index line (end - 1)
+  pub flagged : first < end → slice_index_or flags first false ≡ true
+  pub least : (j : ℕ) → j < first → j < end → slice_index_or flags j false ≡ true → (i : ℕ) × (j ≤ i) × (i < end) × (slice_index line i ≢ slice_index line (end - 1))
+
+-- whether this text and a white space character end here, behind one of the flagged places
+unfoldable pub spaced_text_ends : List Bool → List ℕ → ℕ → List ℕ → Bool
+spaced_text_ends flags line end text = ends_piece (ends_in is_whitespace (bytes_eq text)) flags line end
+
+-- whether this text, met from its end on, its first character standing once or more, ends here behind one of the flagged places
+unfoldable pub repeat_ends : List Bool → List ℕ → ℕ → List ℕ → Bool
+repeat_ends flags line end text = ends_piece (λ part. repeats text (reverse part)) flags line end

@@ -1,0 +1,10 @@
+//! What a character is to the steps after the line rules.
+use crate::source::SourceChar;
+
+/// A blank, a mark or a word character.
+#[derive(Clone, Copy, Debug, PartialEq, Eq)]
+pub enum Cell {
+    Blank,
+    Mark(SourceChar),
+    Word(SourceChar),
+}

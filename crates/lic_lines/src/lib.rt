@@ -1,0 +1,25 @@
+//! From the source characters of one line to its first tokens: the line rules, runs of marks, tokens
+//! with their letters, and single copyright signs.
+#![tactic(auto)]
+
+mod cell;
+mod cut;
+mod item;
+mod line;
+mod line_part;
+mod rows;
+mod rules;
+mod runs;
+mod signs;
+mod source;
+#[cfg(test)]
+mod tests;
+mod tokens;
+mod walk;
+
+pub use cell::Cell;
+pub use line::{cells_of_line, push_tokens_of_line};
+pub use line_part::LinePart;
+pub use rules::{Rules, Texts};
+pub use source::SourceChar;
+pub use tokens::FirstToken;

@@ -1,0 +1,146 @@
+//! From a line to its tokens.
+ghost use Rattle.std.specs.Prelude.{◌≡◌, ◌++◌, ◌≤◌, ◌+◌, ◌<◌, ◌∷◌, length, map, drop, IfOk, OnOk};
+ghost use Rattle.lic_lines.specs.LineRules.{rules_of};
+ghost use Rattle.lic_lines.specs.Lines.{cell_of, blank_for, line_cells, Blank};
+ghost use Rattle.lic_lines.specs.Runs.{runs_joined};
+ghost use Rattle.lic_lines.specs.Tokens.{stretch_tokens, line_tokens, tokens_in};
+
+use crate::cell::Cell;
+use crate::cut::cut_line;
+use crate::line_part::LinePart;
+use crate::rules::Rules;
+use crate::runs::Runs;
+use crate::signs::join_single_signs;
+use crate::source::SourceChar;
+use crate::tokens::{FirstToken, push_first_tokens};
+use lic_kind::{Kind, kind_of};
+use std::alloc::{AllocError, Global};
+
+/// What a character is to the steps after the line rules.
+fn cell_of(s: SourceChar) -> Cell
+    ensures { result ≡ cell_of s }
+{
+    match kind_of(s.char) {
+        Kind::Word => Cell::Word(s),
+        Kind::Mark => Cell::Mark(s),
+        Kind::Blank | Kind::Dropped => Cell::Blank,
+    }
+}
+
+/// Adds the cells of these characters.
+fn push_cells(cells: &mut Vec<Cell>, text: &[SourceChar]) -> Result<(), AllocError>
+    ensures { OnOk result (cells.new.items ≡ cells.old.items ++ map cell_of text.now) }
+{
+    for s in text {
+        cells.push(cell_of(*s))?;
+    }
+    Ok(())
+}
+
+/// Adds a blank for a part of so many characters that is taken from a line, if it is not empty.
+fn push_blank_for(cells: &mut Vec<Cell>, length: usize) -> Result<(), AllocError>
+    ensures { OnOk result (cells.new.items ≡ cells.old.items ++ blank_for length) }
+{
+    if length > 0 {
+        cells.push(Cell::Blank)?;
+    }
+    Ok(())
+}
+
+/// Where the first blank stands, or how many characters there are.
+fn first_blank(text: &[SourceChar]) -> usize
+    ensures within { result ≤ length text.now }
+    ensures blank { result < length text.now → drop result (map cell_of text.now) ≡ Blank ∷ map cell_of (drop (result + 1) text.now) }
+{
+    for (place, s) in text.iter().enumerate() {
+        if let Cell::Blank = cell_of(*s) {
+            return place;
+        }
+    }
+    text.len()
+}
+
+/// What a line leaves after its runs of marks are joined: the blanks, marks and word characters that its tokens
+/// are made of, with one blank for each of lead, item and tail that is not empty. Dropped characters are taken
+/// out of the line already.
+///
+/// The error is want of memory.
+pub fn cells_of_line(
+    alloc: Global,
+    rules: &Rules,
+    part: LinePart,
+    line: &[SourceChar],
+) -> Result<Vec<Cell>, AllocError>
+    ensures { IfOk result (λ cells. cells.items ≡ runs_joined (rules_of rules.now) (line_cells (rules_of rules.now) part line.now)) }
+{
+    let cut = cut_line(alloc, rules, part, line)?;
+    let left = &line[cut.lead + cut.item..line.len() - cut.tail];
+    let mut cells = Vec::new(alloc);
+    push_blank_for(&mut cells, cut.lead)?;
+    push_blank_for(&mut cells, cut.item)?;
+    push_cells(&mut cells, left)?;
+    push_blank_for(&mut cells, cut.tail)?;
+    let mut runs = Runs::new(alloc);
+    let joined = runs.join(rules, &cells)?;
+    Vec::from_slice(alloc, joined)
+}
+
+/// Adds the first tokens of a stretch of text. The cells and runs are room for it, whatever they hold.
+fn push_stretch(
+    alloc: Global,
+    rules: &Rules,
+    text: &[SourceChar],
+    cells: &mut Vec<Cell>,
+    runs: &mut Runs,
+    out: &mut Vec<FirstToken>,
+) -> Result<(), AllocError>
+    ensures { OnOk result (tokens_in out.new.items ≡ tokens_in out.old.items ++ stretch_tokens (rules_of rules.now) text.now) }
+{
+    cells.clear();
+    push_cells(cells, text)?;
+    push_first_tokens(alloc, out, runs.join(rules, cells)?)
+}
+
+/// Adds the first tokens of a text, one stretch between blanks after the other.
+fn push_text(
+    alloc: Global,
+    rules: &Rules,
+    text: &[SourceChar],
+    out: &mut Vec<FirstToken>,
+) -> Result<(), AllocError>
+    ensures { OnOk result (tokens_in out.new.items ≡ tokens_in out.old.items ++ stretch_tokens (rules_of rules.now) text.now) }
+{
+    let mut cells = Vec::new(alloc);
+    let mut runs = Runs::new(alloc);
+    let mut at = 0;
+    while at < text.len() {
+        let end = at + first_blank(&text[at..]);
+        if end > at {
+            push_stretch(alloc, rules, &text[at..end], &mut cells, &mut runs, out)?;
+        }
+        at = end + 1;
+    }
+    Ok(())
+}
+
+/// Adds the tokens of one line, whose dropped characters are taken out already: without its lead, item and
+/// tail, its separators taken as blanks, runs of quotes and of dashes as one, and each copyright sign by
+/// itself as the token `copyright`. Whether a sign comes next to another, and what a line before or behind
+/// this one holds, has no effect.
+///
+/// The error is want of memory; `out` then holds more than it did, and is of no use.
+pub fn push_tokens_of_line(
+    alloc: Global,
+    rules: &Rules,
+    part: LinePart,
+    line: &[SourceChar],
+    out: &mut Vec<FirstToken>,
+) -> Result<(), AllocError>
+    ensures { OnOk result (tokens_in out.new.items ≡ tokens_in out.old.items ++ line_tokens (rules_of rules.now) part line.now) }
+{
+    let cut = cut_line(alloc, rules, part, line)?;
+    let left = &line[cut.lead + cut.item..line.len() - cut.tail];
+    let from = out.len();
+    push_text(alloc, rules, left, out)?;
+    join_single_signs(alloc, out, from)
+}

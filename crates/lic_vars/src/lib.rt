@@ -1,0 +1,5 @@
+//! What a scan reports of its matches: the tight ones, and the outer ones among these.
+#![tactic(auto)]
+
+pub mod filters;
+pub mod laws;
