@@ -21,7 +21,7 @@ pub struct LineCut {
 }
 
 /// What is taken from a line.
-pub fn cut_line(
+pub(crate) fn cut_line(
     alloc: Global,
     rules: &Rules,
     part: LinePart,

@@ -2,19 +2,19 @@
 //! with their letters, and single copyright signs.
 #![tactic(auto)]
 
-mod cell;
-mod cut;
+pub mod cell;
+pub mod cut;
 mod item;
 mod line;
-mod line_part;
+pub mod line_part;
 mod rows;
-mod rules;
+pub mod rules;
 mod runs;
 mod signs;
-mod source;
+pub mod source;
 #[cfg(test)]
 mod tests;
-mod tokens;
+pub mod tokens;
 mod walk;
 
 pub use cell::Cell;

@@ -123,12 +123,12 @@ fn push_text(
     Ok(())
 }
 
-/// Adds the tokens of one line, whose dropped characters are taken out already: without its lead, item and
-/// tail, its separators taken as blanks, runs of quotes and of dashes as one, and each copyright sign by
-/// itself as the token `copyright`. Whether a sign comes next to another, and what a line before or behind
-/// this one holds, has no effect.
+/// Adds the tokens of one line, by this project's profile of the matching guidelines of SPDX 2.3, Annex B: without
+/// its lead, item and tail, its separators taken as blanks, each run of quotes and of dashes as one, and each
+/// copyright sign by itself as the token `copyright`. Dropped characters are taken out of the line already; spans
+/// are in bytes. What a line before or behind this one holds has no effect.
 ///
-/// The error is want of memory; `out` then holds more than it did, and is of no use.
+/// The error is want of memory; `out` then holds some of the line's tokens, and is of no use.
 pub fn push_tokens_of_line(
     alloc: Global,
     rules: &Rules,

@@ -45,7 +45,7 @@ pub enum Texts {
 
 impl Texts {
     /// How many texts there are.
-    pub fn len(&self) -> usize
+    pub(crate) fn len(&self) -> usize
         ensures { result ≡ length (texts_of self.now) }
     {
         match self {
@@ -55,7 +55,7 @@ impl Texts {
     }
 
     /// The text of this number, counted from 0.
-    pub fn get(&self, i: usize) -> &[char]
+    pub(crate) fn get(&self, i: usize) -> &[char]
         requires { i < length (texts_of self.now) }
         ensures { result.now ≡ slice_index_or (texts_of self.now) i [] }
     {
@@ -69,7 +69,7 @@ impl Texts {
     }
 
     /// How many characters the longest text has.
-    pub fn longest(&self) -> usize
+    pub(crate) fn longest(&self) -> usize
         ensures { All (λ text. length text ≤ result) (texts_of self.now) }
     {
         let mut longest = 0;
@@ -100,7 +100,8 @@ pub struct Rules {
 }
 
 impl Rules {
-    /// The rules of this project's profile. Takes no memory.
+    /// The rules of this project's profile of the comment indicators, list items and separators of SPDX 2.3,
+    /// Annex B. Takes no memory.
     pub fn profile(alloc: Global) -> Self
         ensures { rules_of result ≡ profile }
     {

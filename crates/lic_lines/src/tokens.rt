@@ -64,7 +64,7 @@ fn token_of(
 }
 
 /// Adds the tokens of these cells.
-pub fn push_first_tokens(
+pub(crate) fn push_first_tokens(
     alloc: Global,
     out: &mut Vec<FirstToken>,
     cells: &[Cell],

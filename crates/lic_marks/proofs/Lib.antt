@@ -1,0 +1,14 @@
+pub mod Answers
+pub mod Cuts
+pub mod TidyLetters
+pub mod Shifting
+pub mod Repetitions
+pub mod Standing
+pub mod Nodes
+pub mod LetterWalks
+pub mod RowWalks
+pub mod JoinedRows
+pub mod Children
+pub mod Closing
+pub mod TokenRows
+pub mod Built

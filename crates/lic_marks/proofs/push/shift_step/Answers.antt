@@ -1,0 +1,36 @@
+use Rattle.std.proofs.Common.{◌≡◌, Bool, not, true, false, length, refl, sym, ap, ◌∙◌, arith}
+use Rattle.lic_marks.specs.Marks.{shift}
+use Rattle.lic_marks.specs.Rows.{marks_of}
+use Rattle.lic_marks.specs.Nodes.{core_of}
+use Rattle.lic_marks.proofs.Standing.{shift_over-joined, shift_over-needed, shift_over-free}
+use Rattle.lic_marks.proofs.RowWalks.{Shifts-marks_of}
+use Rattle.lic_marks.proofs.JoinedRows.{marks_of-either_row}
+use Rattle.lic_marks.proofs.push.shift_step.Goals as goal
+
+not_so : (b : Bool) → not b ≡ true → b ≡ false
+not_so true h = cc
+not_so false h = refl
+
+so : (b : Bool) → not b ≡ false → b ≡ true
+so true h = refl
+so false h = cc
+
+pub returns-then-not-step : goal.returns-then-not-step
+returns-then-not-step c =
+    Shifts-marks_of _ _ _ _ _ _ _ c.shift.ensures ∙ sym (shift_over-joined (core_of c.args.tree.now) _ _ _ _ _ _ (not_so _ c.if-not-step.true))
+
+pub returns-then-step : goal.returns-then-step
+returns-then-step c =
+    Shifts-marks_of _ _ _ _ _ _ _ c.shift-then-step.ensures
+    ∙ ap (λ t. shift (core_of c.args.tree.now) true false (marks_of (core_of c.args.tree.now) t) c.args.step.letter) c.copy_from_slice.ensures.after
+    ∙ sym (shift_over-needed (core_of c.args.tree.now) _ _ _ _ _ _ (so _ c.if-not-step.false) c.if-step.true)
+
+pub returns-else-step : goal.returns-else-step
+returns-else-step c =
+    let after_blanks = Shifts-marks_of _ _ _ _ _ _ _ c.shift-else-step.ensures
+    ∙ ap (λ t. shift (core_of c.args.tree.now) true false (marks_of (core_of c.args.tree.now) t) c.args.step.letter) c.copy_from_slice-else-step.ensures.after in
+    let at_once = Shifts-marks_of _ _ _ _ _ _ _ c.shift-else-step-2.ensures in
+    let long : length c.shift-else-step-2.new.row ≡ length c.shift-else-step.new.row = omega arith in
+    ap (marks_of (core_of c.args.tree.now)) c.join.ensures.row
+    ∙ marks_of-either_row (core_of c.args.tree.now) _ _ long ∙ rw (at_once, after_blanks) refl
+    ∙ sym (shift_over-free (core_of c.args.tree.now) _ _ _ _ _ _ (so _ c.if-not-step.false) c.if-step.false)

@@ -1,0 +1,121 @@
+use Rattle.std.proofs.Common.{◌||◌, false, refl, ap, rules, arith}
+use Rattle.lic_marks.specs.Cores.{cat_all, alt_all, any_front}
+use Rattle.lic_marks.specs.declared.node.Node.{the_lemmas}
+use Rattle.lic_marks.proofs.Nodes.{core_of-One, core_of-Cat, core_of-Alt, core_of-Front, core_of-Plus, core_of-Tidy, children-Cat, children-Alt, children-Front, child-Plus, child-Tidy, nullable-Tidy}
+use Rattle.lic_marks.proofs.RowWalks.{Leaves-empty, Leaves-none, Leaves-one, Leaves-cat, Leaves-alt, Leaves-plus, Leaves-tidy, Leaves-tidy-after, Leaves-front}
+use Rattle.lic_marks.proofs.Children.{cores_more, cores_done}
+use Rattle.lic_marks.proofs.Answers.{or_none, or_again}
+use Rattle.lic_marks.proofs.walk.+leaves.Goals as goal
+
+pub leaves-leaves_all-requires : goal.leaves-leaves_all-requires
+leaves-leaves_all-requires t c = (
+  search (rules, the_lemmas),
+  (
+    rw c.deref-in-Cat.ensures.value (children-Cat _ _ (rw c.in-Cat.is at c.requires.measured)),
+    rw c.deref-in-Cat.ensures.value (rw (c.in-Cat.is, core_of-Cat) at c.requires.room),
+  ),
+)
+
+pub leaves-leaves_any-requires : goal.leaves-leaves_any-requires
+leaves-leaves_any-requires t c = (
+  search (rules, the_lemmas),
+  (
+    rw c.deref-in-Alt.ensures.value (children-Alt _ _ (rw c.in-Alt.is at c.requires.measured)),
+    rw c.deref-in-Alt.ensures.value (rw (c.in-Alt.is, core_of-Alt) at c.requires.room),
+  ),
+)
+
+pub leaves-leaves_front-requires : goal.leaves-leaves_front-requires
+leaves-leaves_front-requires t c = (
+  search (rules, the_lemmas),
+  (
+    rw c.deref-in-Front.ensures.value (children-Front _ _ (rw c.in-Front.is at c.requires.measured)),
+    rw c.deref-in-Front.ensures.value (rw (c.in-Front.is, core_of-Front) at c.requires.room),
+  ),
+)
+
+pub leaves-leaves-requires : goal.leaves-leaves-requires
+leaves-leaves-requires t c = (
+  search (rules, the_lemmas),
+  (
+    rw c.deref-in-Plus.ensures (child-Plus _ _ (rw c.in-Plus.is at c.requires.measured)),
+    rw c.deref-in-Plus.ensures (rw (c.in-Plus.is, core_of-Plus) at c.requires.room),
+  ),
+)
+
+pub leaves-leaves_tidy-requires : goal.leaves-leaves_tidy-requires
+leaves-leaves_tidy-requires t c = (
+  search (rules, the_lemmas),
+  (
+    rw c.deref-in-Tidy.ensures (child-Tidy _ _ _ (rw c.in-Tidy.is at c.requires.measured)),
+    (
+      rw c.deref-in-Tidy.ensures (nullable-Tidy _ _ _ (rw c.in-Tidy.is at c.requires.measured)),
+      rw c.deref-in-Tidy.ensures (rw (c.in-Tidy.is, core_of-Tidy) at c.requires.room),
+    ),
+  ),
+)
+
+pub leaves-returns-in-One : goal.leaves-returns-in-One
+leaves-returns-in-One t c =
+    let room = rw (c.in-One.is, core_of-One) at c.requires.room in
+    rw (c.in-One.is, core_of-One) (Leaves-one _ _ _ _ _ _ false (omega (arith, room)) refl)
+
+pub leaves-returns-in-Plus : goal.leaves-returns-in-Plus
+leaves-returns-in-Plus t c = rw (c.in-Plus.is, core_of-Plus) (Leaves-plus _ _ _ _ _ _ (rw c.deref-in-Plus.ensures at c.leaves.ensures))
+
+pub leaves-returns-in-Tidy : goal.leaves-returns-in-Tidy
+leaves-returns-in-Tidy t c = rw (c.in-Tidy.is, core_of-Tidy) (rw c.deref-in-Tidy.ensures at c.leaves_tidy.ensures)
+
+pub leaves_tidy-returns-then-after : goal.leaves_tidy-returns-then-after
+leaves_tidy-returns-then-after t c = rw c.if-after.true (Leaves-tidy-after _ _ _ _ _ c.requires.empty)
+
+pub leaves_tidy-returns-else-after : goal.leaves_tidy-returns-else-after
+leaves_tidy-returns-else-after t c = rw c.if-after.false (Leaves-tidy _ _ _ _ _ (rw c.if-after.false at c.leaves.ensures))
+
+pub leaves_all-loop-child-preserved : goal.leaves_all-loop-child-preserved
+leaves_all-loop-child-preserved t c =
+    let same = cores_more c.args.children.now c.loop-child.child-index _ c.loop-child-test.true c.child-item.is in
+    let more = ap cat_all same in
+    let room = rw more at c.loop-child.invariant.room in
+    rw c.weight-place.ensures record {
+      room = omega (arith, room);
+      walk = λ y q. c.loop-child.invariant.walk y (rw more (Leaves-cat _ _ _ _ _ _ _ _ c.leaves-flag.ensures q));
+    }
+
+pub leaves_all-returns : goal.leaves_all-returns
+leaves_all-returns t c =
+    c.loop-child.invariant.walk c.loop-child.flag
+    (rw (cores_done c.args.children.now c.loop-child.child-index c.loop-child-test.false) (Leaves-empty _ _ _ _))
+
+pub leaves_any-loop-child-preserved : goal.leaves_any-loop-child-preserved
+leaves_any-loop-child-preserved t c =
+    let same = cores_more c.args.children.now c.loop-child.child-index _ c.loop-child-test.true c.child-item.is in
+    let more = ap alt_all same in
+    let room = rw more at c.loop-child.invariant.room in
+    rw c.weight-place.ensures record {
+      room = omega (arith, room);
+      walk = λ y q. rw (← or_again c.loop-child.found c.leaves-out.result y)
+          (c.loop-child.invariant.walk (c.leaves-out.result || y) (rw more (Leaves-alt _ _ _ _ _ _ _ _ c.leaves-out.ensures q)));
+    }
+
+pub leaves_any-returns : goal.leaves_any-returns
+leaves_any-returns t c =
+    rw (← or_none c.loop-child.found) (c.loop-child.invariant.walk false
+    (rw (cores_done c.args.children.now c.loop-child.child-index c.loop-child-test.false) (Leaves-none _ _ _ _)))
+
+pub leaves_front-loop-child-preserved : goal.leaves_front-loop-child-preserved
+leaves_front-loop-child-preserved t c =
+    let same = cores_more c.args.children.now c.loop-child.child-index _ c.loop-child-test.true c.child-item.is in
+    let more = ap any_front same in
+    let room = rw more at c.loop-child.invariant.room in
+    rw c.weight-place.ensures record {
+      room = omega (arith, room);
+      walk = λ y q. rw (← or_again c.loop-child.found c.loop-child.flag y)
+          (c.loop-child.invariant.walk (c.loop-child.flag || y)
+          (rw more (Leaves-front _ _ _ _ _ _ _ _ c.leaves-flag.ensures q)));
+    }
+
+pub leaves_front-returns : goal.leaves_front-returns
+leaves_front-returns t c =
+    c.loop-child.invariant.walk c.loop-child.flag
+    (rw (cores_done c.args.children.now c.loop-child.child-index c.loop-child-test.false) (Leaves-empty _ _ _ _))

@@ -1,0 +1,69 @@
+-- The cores of compiled expressions, and whether their cached numbers are right.
+use Rattle.std.specs.Prelude.{IsTrue, ◌≡◌, ℕ, Bool, true, ◌==◌, ◌&&◌, nat_le, not, List, map, if◌then◌else◌}
+use Rattle.std.specs.Bool.{beq}
+use Rattle.std.specs.List.{list_any, list_all}
+use Rattle.lic_marks.specs.Cores.{Core, one, cat_all, alt_all, any_front, plus, tidy}
+use Rattle.lic_marks.specs.Marks.{is_nullable}
+use Rattle.lic_marks.specs.Rows.{weight}
+use Rattle.lic_marks.specs.declared.test.Test.{Test}
+use Rattle.lic_marks.specs.declared.test.Test.TheVariants.{Letter, Any, Ranges}
+use Rattle.lic_marks.specs.declared.node.Node.{Node}
+use Rattle.lic_marks.specs.declared.node.Node.TheOpen.{Node-F}
+use Rattle.lic_marks.specs.declared.node.Node.TheFolds.{fold-Node, para-Node}
+
+-- a letter of one of the ranges, whose ends belong to them
+abbrev pub is_within : List (ℕ × ℕ) → ℕ → Bool
+is_within ranges c = list_any (λ r. nat_le r.0 c && nat_le c r.1) ranges
+
+-- whether a letter passes a test
+abbrev pub passes : Test → ℕ → Bool
+passes (Letter d) c = c == d
+passes Any c = true
+passes (Ranges ranges negated) c = if negated then not (is_within ranges.items c) else is_within ranges.items c
+
+-- these letters in a row
+abbrev pub letter_cores : List ℕ → List Core
+letter_cores text = map (λ d. one (λ c. c == d)) text
+
+-- one node, with the core of each child in its place
+abbrev pub node_core : Node-F Core → Core
+node_core (Node-F.Letters text) = cat_all (letter_cores text.items)
+node_core (Node-F.One test) = one (passes test)
+node_core (Node-F.Cat children weight) = cat_all children.items
+node_core (Node-F.Alt children weight) = alt_all children.items
+node_core (Node-F.Front children weight) = any_front children.items
+node_core (Node-F.Plus child weight) = plus child.value
+node_core (Node-F.Tidy child weight is_nullable) = tidy child.value
+
+-- the core that a node stands for
+abbrev pub core_of : Node → Core
+core_of = fold-Node Core node_core
+
+-- each node of the list with whether its cached numbers are right
+abbrev pub are_right : List (Node × Bool) → Bool
+are_right children = list_all (λ p. p.1) children
+
+-- the cores of these nodes
+abbrev pub cores_of : List (Node × Bool) → List Core
+cores_of children = map (λ p. core_of p.0) children
+
+-- one node, with each child and whether its cached numbers are right: the node's own are the weight of its core, and
+-- for a tidy node whether its child has the empty word
+abbrev pub node_is_measured : Node-F (Node × Bool) → Bool
+node_is_measured (Node-F.Letters text) = true
+node_is_measured (Node-F.One test) = true
+node_is_measured (Node-F.Cat children kept) = are_right children.items && (kept == weight (cat_all (cores_of children.items)))
+node_is_measured (Node-F.Alt children kept) = are_right children.items && (kept == weight (alt_all (cores_of children.items)))
+node_is_measured (Node-F.Front children kept) = are_right children.items && (kept == weight (any_front (cores_of children.items)))
+node_is_measured (Node-F.Plus child kept) = child.value.1 && (kept == weight (core_of child.value.0))
+node_is_measured (Node-F.Tidy child kept has_empty) =
+    child.value.1 && (kept == weight (core_of child.value.0)) && beq has_empty (is_nullable (core_of child.value.0))
+
+-- whether all cached numbers of a node are right
+abbrev pub is_measured : Node → Bool
+is_measured = para-Node Bool node_is_measured
+
+-- the node stands for this core, and its cached numbers are right
+pub record IsBuilt (r : Core) (node : Node) : Type 0 where
+  pub stands : core_of node ≡ r
+  pub measured : IsTrue (is_measured node)

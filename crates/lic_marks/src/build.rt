@@ -1,0 +1,125 @@
+//! Making compiled expressions.
+
+ghost use Rattle.std.specs.Prelude.{◌≡◌, IsTrue, IfSome, map};
+ghost use Rattle.std.specs.List.{list_all};
+ghost use Rattle.lic_marks.specs.Cores.{one, cat_all, alt_all, any_front, plus, tidy};
+ghost use Rattle.lic_marks.specs.Marks.{is_nullable};
+ghost use Rattle.lic_marks.specs.Rows.{weight};
+ghost use Rattle.lic_marks.specs.Nodes.{core_of, is_measured, letter_cores, passes, IsBuilt};
+
+use crate::node::Node;
+use crate::test::Test;
+
+/// These letters in a row.
+pub fn letters(text: Vec<char>) -> Node
+    ensures { IsBuilt (cat_all (letter_cores text.items)) result }
+{
+    Node::Letters(text)
+}
+
+/// One letter that passes.
+pub fn one(test: Test) -> Node
+    ensures { IsBuilt (one (passes test)) result }
+{
+    Node::One(test)
+}
+
+/// One child after another, or `None` where the weight is above the greatest `usize`.
+pub fn cat(children: Vec<Node>) -> Option<Node>
+    requires { IsTrue (list_all is_measured children.items) }
+    ensures { IfSome result (IsBuilt (cat_all (map core_of children.items))) }
+{
+    let weight = total_weight(&children)?;
+    Some(Node::Cat { children, weight })
+}
+
+/// Any one child, or `None` where the weight is above the greatest `usize`.
+pub fn alt(children: Vec<Node>) -> Option<Node>
+    requires { IsTrue (list_all is_measured children.items) }
+    ensures { IfSome result (IsBuilt (alt_all (map core_of children.items))) }
+{
+    let weight = total_weight(&children)?;
+    Some(Node::Alt { children, weight })
+}
+
+/// One child after another, up to any of them, or `None` where the weight is above the greatest `usize`.
+pub fn front(children: Vec<Node>) -> Option<Node>
+    requires { IsTrue (list_all is_measured children.items) }
+    ensures { IfSome result (IsBuilt (any_front (map core_of children.items))) }
+{
+    let weight = total_weight(&children)?;
+    Some(Node::Front { children, weight })
+}
+
+/// The child's words, one or more in a row.
+pub fn plus(child: Box<Node>) -> Node
+    requires { IsTrue (is_measured child.value) }
+    ensures { IsBuilt (plus (core_of child.value)) result }
+{
+    let weight = child.weight();
+    Node::Plus { child, weight }
+}
+
+/// The child's tidy words.
+pub fn tidy(child: Box<Node>) -> Node
+    requires { IsTrue (is_measured child.value) }
+    ensures { IsBuilt (tidy (core_of child.value)) result }
+{
+    let weight = child.weight();
+    let is_nullable = is_nullable(&child);
+    Node::Tidy {
+        child,
+        weight,
+        is_nullable,
+    }
+}
+
+// The weights together, unless they are above the greatest `usize`.
+fn total_weight(children: &[Node]) -> Option<usize>
+    requires { IsTrue (list_all is_measured children.now) }
+    ensures { IfSome result (λ total. total ≡ weight (cat_all (map core_of children.now))) }
+{
+    let mut total: usize = 0;
+    for child in children {
+        total = total.checked_add(child.weight())?;
+    }
+    Some(total)
+}
+
+/// Whether the expression has the empty word.
+#[cycle(is_nullable)]
+pub fn is_nullable(node: &Node) -> bool
+    ensures { result ≡ is_nullable (core_of node.now) }
+{
+    match node {
+        Node::Letters(text) => text.is_empty(),
+        Node::One(_) => false,
+        Node::Cat { children, .. } => are_all_nullable(children),
+        Node::Alt { children, .. } => is_any_nullable(children),
+        Node::Front { .. } => true,
+        Node::Plus { child, .. } => is_nullable(child),
+        Node::Tidy { child, .. } => is_nullable(child),
+    }
+}
+
+#[cycle(is_nullable)]
+fn are_all_nullable(children: &[Node]) -> bool
+    ensures { result ≡ is_nullable (cat_all (map core_of children.now)) }
+{
+    let mut all = true;
+    for child in children {
+        all = all & is_nullable(child);
+    }
+    all
+}
+
+#[cycle(is_nullable)]
+fn is_any_nullable(children: &[Node]) -> bool
+    ensures { result ≡ is_nullable (alt_all (map core_of children.now)) }
+{
+    let mut any = false;
+    for child in children {
+        any = any | is_nullable(child);
+    }
+    any
+}

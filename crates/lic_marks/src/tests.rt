@@ -1,0 +1,123 @@
+ghost use Rattle.std.specs.Prelude.{IsTrue, IfSome};
+ghost use Rattle.std.specs.List.{list_all};
+ghost use Rattle.lic_marks.specs.Nodes.{is_measured};
+
+use crate::build;
+use crate::node::Node;
+use crate::run::Run;
+use crate::test::Test;
+use std::alloc::{AllocError, Global};
+use std::process::Abort;
+
+fn letters(alloc: Global, text: &str) -> Option<Node>
+    ensures { IfSome result (λ node. IsTrue (is_measured node)) }
+{
+    Some(build::letters(text.chars().collect(alloc).ok()?))
+}
+
+fn pair(alloc: Global, first: Node, second: Node) -> Option<Vec<Node>>
+    requires first { IsTrue (is_measured first) }
+    requires second { IsTrue (is_measured second) }
+    ensures { IfSome result (λ nodes. IsTrue (list_all is_measured nodes.items)) }
+{
+    vec![in alloc; first, second].ok()
+}
+
+// `holder`, and then `s` or nothing
+fn holder(alloc: Global) -> Option<Node>
+    ensures { IfSome result (λ node. IsTrue (is_measured node)) }
+{
+    let ending = build::alt(pair(alloc, letters(alloc, "")?, letters(alloc, "s")?)?)?;
+    build::cat(pair(alloc, letters(alloc, "holder")?, ending)?)
+}
+
+// up to two letters, tidy, and then ` end`
+fn two_and_end(alloc: Global) -> Option<Node>
+    ensures { IfSome result (λ node. IsTrue (is_measured node)) }
+{
+    let any = build::front(pair(alloc, build::one(Test::Any), build::one(Test::Any))?)?;
+    let variable = build::tidy(Box::new(alloc, any).ok()?);
+    build::cat(pair(alloc, variable, letters(alloc, " end")?)?)
+}
+
+// one letter that is no digit, or more, tidy
+fn no_digits(alloc: Global) -> Option<Node>
+    ensures { IfSome result (λ node. IsTrue (is_measured node)) }
+{
+    let ranges = vec![in alloc; ('0', '9')].ok()?;
+    let one = build::one(Test::Ranges {
+        ranges,
+        negated: true,
+    });
+    let some = build::plus(Box::new(alloc, one).ok()?);
+    Some(build::tidy(Box::new(alloc, some).ok()?))
+}
+
+// The tokens, whether the expression describes them, and whether the run is dead then.
+type Case = (&'static [&'static str], bool, bool);
+
+fn assert_run(rt: &impl Abort, alloc: Global, tree: &Node, cases: &[Case]) -> Result<(), AllocError>
+    requires { IsTrue (is_measured tree.now) }
+{
+    let mut run = Run::new(alloc, tree)?;
+    for (tokens, is_described, is_dead) in cases {
+        run.reset();
+        for token in *tokens {
+            run.push(token);
+        }
+        assert_eq!(rt; run.accepts(), *is_described, "{tokens:?}");
+        assert_eq!(rt; run.is_dead(), *is_dead, "{tokens:?}");
+    }
+    Ok(())
+}
+
+#[test]
+fn an_optional_letter_belongs_to_its_word(rt: HostRuntime) -> Result<(), AllocError> {
+    let tree = holder(rt.alloc()).expect(&rt, "memory");
+    assert_run(
+        &rt,
+        rt.alloc(),
+        &tree,
+        &[
+            (&[], false, false),
+            (&["holder"], true, false),
+            (&["holders"], true, false),
+            (&["holder", "s"], false, true),
+            (&["hold", "er"], false, true),
+            (&["the"], false, true),
+        ],
+    )
+}
+
+#[test]
+fn a_variable_takes_so_many_letters(rt: HostRuntime) -> Result<(), AllocError> {
+    let tree = two_and_end(rt.alloc()).expect(&rt, "memory");
+    assert_run(
+        &rt,
+        rt.alloc(),
+        &tree,
+        &[
+            (&["end"], true, false),
+            (&["a", "end"], true, false),
+            (&["ab", "end"], true, false),
+            (&["abc", "end"], false, true),
+            (&["a", "b", "end"], false, true),
+        ],
+    )
+}
+
+#[test]
+fn a_variable_may_have_blanks_within(rt: HostRuntime) -> Result<(), AllocError> {
+    let tree = no_digits(rt.alloc()).expect(&rt, "memory");
+    assert_run(
+        &rt,
+        rt.alloc(),
+        &tree,
+        &[
+            (&[], false, false),
+            (&["a", "b"], true, false),
+            (&["a b", "c"], true, false),
+            (&["a", "1"], false, true),
+        ],
+    )
+}

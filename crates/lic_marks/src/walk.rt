@@ -1,0 +1,114 @@
+//! Whether one may stand behind a compiled expression.
+
+ghost use Rattle.std.specs.Prelude.{◌≡◌, ℕ, ◌+◌, ◌≤◌, IsTrue, length, map};
+ghost use Rattle.std.specs.List.{list_all};
+ghost use Rattle.lic_marks.specs.Cores.{cat_all, alt_all, any_front, tidy};
+ghost use Rattle.lic_marks.specs.Marks.{is_nullable};
+ghost use Rattle.lic_marks.specs.Rows.{weight, Leaves};
+ghost use Rattle.lic_marks.specs.Nodes.{core_of, is_measured, letter_cores};
+
+use crate::node::Node;
+
+/// Whether one may stand behind the expression, whose marks stand in the row from `at` on: some mark is at an end, or
+/// one enters and passes through. `after` says that the last letter was a blank.
+#[cycle(leaves)]
+pub fn leaves(node: &Node, row: &[bool], at: usize, after: bool, entry: bool) -> bool
+    requires measured { IsTrue (is_measured node.now) }
+    requires room { at + weight (core_of node.now) ≤ length row.now }
+    ensures { Leaves (core_of node.now) after entry row.now at result }
+{
+    match node {
+        Node::Letters(text) => leaves_letters(text, row, at, after, entry),
+        Node::One(_) => row[at],
+        Node::Cat { children, .. } => leaves_all(children, row, at, after, entry),
+        Node::Alt { children, .. } => leaves_any(children, row, at, after, entry),
+        Node::Front { children, .. } => leaves_front(children, row, at, after, entry),
+        Node::Plus { child, .. } => leaves(child, row, at, after, entry),
+        Node::Tidy {
+            child,
+            is_nullable,
+            ..
+        } => leaves_tidy(child, *is_nullable, row, at, after, entry),
+    }
+}
+
+/// Whether one may stand behind a tidy word of the child: not after a blank, unless one enters and the word is empty.
+#[cycle(leaves)]
+pub fn leaves_tidy(
+    child: &Node,
+    has_empty: bool,
+    row: &[bool],
+    at: usize,
+    after: bool,
+    entry: bool,
+) -> bool
+    requires measured { IsTrue (is_measured child.now) }
+    requires empty { has_empty ≡ is_nullable (core_of child.now) }
+    requires room { at + weight (core_of child.now) ≤ length row.now }
+    ensures { Leaves (tidy (core_of child.now)) after entry row.now at result }
+{
+    if after {
+        entry & has_empty
+    } else {
+        leaves(child, row, at, after, entry)
+    }
+}
+
+fn leaves_letters(text: &[char], row: &[bool], at: usize, after: bool, entry: bool) -> bool
+    requires { at + weight (cat_all (letter_cores text.now)) ≤ length row.now }
+    ensures { Leaves (cat_all (letter_cores text.now)) after entry row.now at result }
+{
+    if text.is_empty() {
+        entry
+    } else {
+        row[at + text.len() - 1]
+    }
+}
+
+#[cycle(leaves)]
+fn leaves_all(children: &[Node], row: &[bool], at: usize, after: bool, entry: bool) -> bool
+    requires measured { IsTrue (list_all is_measured children.now) }
+    requires room { at + weight (cat_all (map core_of children.now)) ≤ length row.now }
+    ensures { Leaves (cat_all (map core_of children.now)) after entry row.now at result }
+{
+    let mut place = at;
+    let mut flag = entry;
+    for child in children {
+        flag = leaves(child, row, place, after, flag);
+        place += child.weight();
+    }
+    flag
+}
+
+#[cycle(leaves)]
+fn leaves_any(children: &[Node], row: &[bool], at: usize, after: bool, entry: bool) -> bool
+    requires measured { IsTrue (list_all is_measured children.now) }
+    requires room { at + weight (alt_all (map core_of children.now)) ≤ length row.now }
+    ensures { Leaves (alt_all (map core_of children.now)) after entry row.now at result }
+{
+    let mut place = at;
+    let mut found = false;
+    for child in children {
+        let out = leaves(child, row, place, after, entry);
+        found = found | out;
+        place += child.weight();
+    }
+    found
+}
+
+#[cycle(leaves)]
+fn leaves_front(children: &[Node], row: &[bool], at: usize, after: bool, entry: bool) -> bool
+    requires measured { IsTrue (list_all is_measured children.now) }
+    requires room { at + weight (any_front (map core_of children.now)) ≤ length row.now }
+    ensures { Leaves (any_front (map core_of children.now)) after entry row.now at result }
+{
+    let mut place = at;
+    let mut flag = entry;
+    let mut found = false;
+    for child in children {
+        found = found | flag;
+        flag = leaves(child, row, place, after, flag);
+        place += child.weight();
+    }
+    found | flag
+}

@@ -1,0 +1,11 @@
+pub mod Rewriting
+pub mod Settling
+pub mod Held
+pub mod PhraseLists
+pub mod Waiting
+pub mod Spelling
+pub mod Keys
+pub mod Classes
+pub mod WordLists
+pub mod WordReading
+pub mod Listed

@@ -1,0 +1,107 @@
+-- The rewriting of a text's tokens: rows of signs, the scheme of web addresses, and phrases of equivalent words.
+use Rattle.std.specs.Prelude.{ℕ, zero, suc, ◌-◌, Bool, true, false, ◌&&◌, nat_lt, if◌then◌else◌, List, [], ◌∷◌, length, take, map, codes, Option, Some, None}
+use Rattle.std.specs.List.{flat_map}
+use Rattle.lic_lines.specs.Texts.{groups}
+use Rattle.lic_lines.specs.Tokens.{Token, is_text}
+
+-- where the last of the tokens t ∷ ts ends
+abbrev pub end_of_last : Token → List Token → ℕ
+end_of_last t [] = t.end
+end_of_last t (u ∷ ts) = end_of_last u ts
+
+-- the tokens t ∷ ts as one with this text, from the first to the last
+abbrev pub joined_as : List ℕ → Token → List Token → Token
+joined_as text t ts = record t { text = text; end = end_of_last t ts }
+
+-- ---- rows of signs
+
+abbrev pub is_sign : Token → Bool
+is_sign = is_text (codes "copyright")
+
+abbrev pub both_signs : Token → Token → Bool
+both_signs t u = is_sign t && is_sign u
+
+-- a row of signs as one sign; any other token is a row of its own
+abbrev pub sign_of_row : List Token → List Token
+sign_of_row [] = []
+sign_of_row (t ∷ ts) = joined_as t.text t ts ∷ []
+
+-- each longest row of neighbouring signs as one
+abbrev pub sign_rows : List Token → List Token
+sign_rows ts = flat_map sign_of_row (groups both_signs ts)
+
+-- ---- web addresses
+
+-- whether the tokens `:`, `/`, `/` stand at the front
+abbrev pub begins_authority : List Token → Bool
+begins_authority (a ∷ b ∷ c ∷ ts) = is_text (codes ":") a && is_text (codes "/") b && is_text (codes "/") c
+begins_authority _ = false
+
+-- a token before these others: `https` as `http` where the others begin with `:`, `/`, `/`
+abbrev pub without_secure : Token → List Token → Token
+without_secure t ts = if is_text (codes "https") t && begins_authority ts then record t { text = codes "http" } else t
+
+-- each `https` before `:`, `/`, `/` as `http`
+abbrev pub https_as_http : List Token → List Token
+https_as_http [] = []
+https_as_http (t ∷ ts) = without_secure t ts ∷ https_as_http ts
+
+-- ---- phrases
+
+-- a phrase of a list of equivalent words: the texts of its tokens, and the spelling of its class
+pub record Phrase : Type 0 where
+  pub texts : List (List ℕ)
+  pub spelling : List ℕ
+
+-- whether tokens with these texts stand at the front, in this order
+abbrev pub stands : List (List ℕ) → List Token → Bool
+stands [] ts = true
+stands (text ∷ texts) [] = false
+stands (text ∷ texts) (t ∷ ts) = is_text text t && stands texts ts
+
+-- the longer of two phrases, if there is a second, and the first where they are as long
+abbrev pub longer : Phrase → Option Phrase → Phrase
+longer p None = p
+longer p (Some q) = if nat_lt (length p.texts) (length q.texts) then q else p
+
+-- the longest phrase of the list, by number of tokens, that stands at the front
+abbrev pub longest_phrase : List Phrase → List Token → Option Phrase
+longest_phrase [] ts = None
+longest_phrase (p ∷ words) ts = if stands p.texts ts then Some (longer p (longest_phrase words ts)) else longest_phrase words ts
+
+-- how many tokens behind its first a phrase has
+abbrev pub count_behind : Option Phrase → ℕ
+count_behind None = 0
+count_behind (Some p) = length p.texts - 1
+
+-- what the first token becomes: itself, or the phrase that begins with it as one token
+abbrev pub first_as : Option Phrase → Token → List Token → Token
+first_as None t ts = t
+first_as (Some p) t ts = joined_as p.spelling t (take (length p.texts - 1) ts)
+
+-- the phrases from the left on, behind this many tokens that went into one
+abbrev pub phrases_behind : List Phrase → ℕ → List Token → List Token
+phrases_behind words n [] = []
+phrases_behind words (suc n) (t ∷ ts) = phrases_behind words n ts
+phrases_behind words zero (t ∷ ts) =
+    let phrase = longest_phrase words (t ∷ ts) in
+    first_as phrase t ts ∷ phrases_behind words (count_behind phrase) ts
+
+-- from the left, at each token the longest phrase as one token, which is not looked at again
+abbrev pub phrases_joined : List Phrase → List Token → List Token
+phrases_joined words ts = phrases_behind words 0 ts
+
+-- ---- the three in a row
+
+-- a token as it is reported: its text in UTF-8, and its span in bytes
+pub record SpannedText : Type 0 where
+  pub text : List ℕ
+  pub start : ℕ
+  pub end : ℕ
+
+abbrev pub spanned : Token → SpannedText
+spanned t = record { text = t.text; start = t.start; end = t.end }
+
+-- the tokens of a text, from its first tokens with single signs joined
+abbrev pub rewritten : List Phrase → List Token → List SpannedText
+rewritten words ts = map spanned (phrases_joined words (https_as_http (sign_rows ts)))

@@ -1,0 +1,96 @@
+//! Why a list of equivalent words is refused.
+
+ghost use Rattle.std.specs.Prelude.{◌≡◌};
+ghost use Rattle.lic_phrases.specs.declared.fault.WordsCause.TheVariants.{OutOfMemory};
+
+use std::alloc::{AllocError, AllocFailed};
+use std::fmt;
+use thiserror::Error;
+
+/// Why a list of equivalent words is refused.
+#[derive(Clone, Copy, Debug, PartialEq, Eq)]
+pub enum WordsCause {
+    /// A phrase has no token.
+    EmptyPhrase,
+    /// There is a phrase number 4,097, repeats counted.
+    TooManyPhrases,
+    /// A phrase has more than 8 tokens, or more than 256 bytes in canonical spelling.
+    PhraseTooLong,
+    /// There was no memory.
+    OutOfMemory,
+}
+
+impl WordsCause {
+    fn code(self) -> &'static str {
+        match self {
+            WordsCause::EmptyPhrase => "Q1",
+            WordsCause::TooManyPhrases => "Q2",
+            WordsCause::PhraseTooLong => "Q3",
+            WordsCause::OutOfMemory => "Q4",
+        }
+    }
+
+    fn text(self) -> &'static str {
+        match self {
+            WordsCause::EmptyPhrase => "empty phrase",
+            WordsCause::TooManyPhrases => "more than 4096 phrases",
+            WordsCause::PhraseTooLong => "phrase too long",
+            WordsCause::OutOfMemory => "out of memory",
+        }
+    }
+}
+
+impl From<AllocError> for WordsCause {
+    ghost from_gives = { λ _ cause. cause ≡ OutOfMemory };
+
+    fn from(_error: AllocError) -> WordsCause {
+        WordsCause::OutOfMemory
+    }
+}
+
+impl<T: Drop> From<AllocFailed<T>> for WordsCause {
+    ghost from_gives = { λ _ cause. cause ≡ OutOfMemory };
+
+    fn from(_error: AllocFailed<T>) -> WordsCause {
+        WordsCause::OutOfMemory
+    }
+}
+
+/// The first fault of a list of equivalent words.
+#[derive(Clone, Copy, Debug, PartialEq, Eq, Error)]
+#[error("{}{}: {}", .cause.code(), Place(*.line), .cause.text())]
+pub struct WordsFault {
+    /// The line of the phrase at fault, counted from 1; 0 for want of memory.
+    pub line: usize,
+    pub cause: WordsCause,
+}
+
+impl WordsCause {
+    ghost use Rattle.lic_phrases.specs.WordLists.{fault_at};
+
+    /// The fault on this line; want of memory is on no line, which is told as line 0.
+    pub(crate) fn at(self, line: usize) -> WordsFault
+        ensures { result ≡ fault_at line self }
+    {
+        match self {
+            WordsCause::OutOfMemory => WordsFault {
+                line: 0,
+                cause: self,
+            },
+            _ => WordsFault { line, cause: self },
+        }
+    }
+}
+
+/// Where a fault is, if anywhere.
+#[derive(Clone, Copy)]
+struct Place(usize);
+
+impl fmt::Display for Place {
+    fn fmt<W: fmt::Write>(&self, f: &mut fmt::Formatter<W>) -> fmt::Result {
+        match self.0 {
+            0 => Ok(()),
+            line => write!(f, " at line {line}"),
+        }
+    }
+}

@@ -1,0 +1,138 @@
+//! Phrases of a list of equivalent words.
+ghost use Rattle.std.specs.Prelude.{◌≡◌, ◌<◌, ◌||◌, ◌⊎◌, not, None, Some, IfOk, IfErr, OnOk, length, string_bytes};
+ghost use Rattle.std.specs.Char.{is_whitespace};
+ghost use Rattle.std.specs.Str.{chars};
+ghost use Rattle.lic_kind.specs.Kinds.{is_dropped, is_word_kind, kind_of};
+ghost use Rattle.lic_phrases.specs.Spelling.{
+  begins_in_word,
+  ends_in_word,
+  is_parted_at,
+  spelled,
+};
+ghost use Rattle.lic_phrases.specs.Keys.{HaveNoBlank, key_of, texts_in};
+ghost use Rattle.lic_phrases.specs.WordLists.{fault_of_phrase, is_skipped, phrase_texts};
+
+use crate::fault::WordsCause;
+use crate::tokens::phrase_tokens;
+use lic_kind::{Kind, is_dropped, kind_of};
+use std::alloc::{AllocError, Global};
+
+/// The most tokens of a phrase.
+const MOST_TOKENS: usize = 8;
+
+/// The most bytes of a phrase in canonical spelling.
+const MOST_BYTES: usize = 256;
+
+/// A phrase as it stands in a list.
+#[derive(Drop)]
+pub(crate) struct ListedPhrase {
+    /// The texts of its tokens.
+    pub(crate) texts: Vec<String>,
+    /// Its canonical spelling.
+    pub(crate) spelling: String,
+}
+
+/// The phrase of this text, or what is wrong with it.
+pub(crate) fn listed(alloc: Global, phrase: &str) -> Result<ListedPhrase, WordsCause>
+    ensures texts { IfOk result (λ p. texts_in p.texts.items ≡ phrase_texts (chars phrase.now)) }
+    ensures spelling { IfOk result (λ p. string_bytes p.spelling
+        ≡ spelled (phrase_texts (chars phrase.now))) }
+    ensures sound { OnOk result (fault_of_phrase (phrase_texts (chars phrase.now)) ≡ None) }
+    ensures fault { IfErr result (λ cause.
+        (fault_of_phrase (phrase_texts (chars phrase.now)) ≡ Some cause)
+        ⊎ (cause ≡ WordsCause.OutOfMemory)) }
+{
+    let texts = phrase_tokens(alloc, phrase)?;
+    if texts.is_empty() {
+        return Err(WordsCause::EmptyPhrase);
+    }
+    if texts.len() > MOST_TOKENS {
+        return Err(WordsCause::PhraseTooLong);
+    }
+    let spelling = spelling(alloc, &texts)?;
+    if spelling.len() > MOST_BYTES {
+        return Err(WordsCause::PhraseTooLong);
+    }
+    Ok(ListedPhrase { texts, spelling })
+}
+
+/// Whether a character is neither white space nor dropped.
+fn is_read(c: char) -> bool
+    ensures { result ≡ not (is_whitespace c || is_dropped c) }
+{
+    !(c.is_whitespace() || is_dropped(c))
+}
+
+/// Whether a line holds no phrases: it has nothing but white space and dropped characters, or its
+/// first other character is `#`.
+pub(crate) fn is_skipped(line: &str) -> bool
+    ensures { result ≡ is_skipped (chars line.now) }
+{
+    match line.chars().find(|c| is_read(*c)) {
+        None => true,
+        Some(first) => first == '#',
+    }
+}
+
+fn is_word(c: char) -> bool
+    ensures { result ≡ is_word_kind (kind_of c) }
+{
+    kind_of(c) == Kind::Word
+}
+
+fn begins_in_word(text: &str) -> bool
+    ensures { result ≡ begins_in_word text.now }
+{
+    match text.chars().next() {
+        None => false,
+        Some(first) => is_word(first),
+    }
+}
+
+fn ends_in_word(text: &str) -> bool
+    ensures { result ≡ ends_in_word text.now }
+{
+    let mut in_word = false;
+    for c in text.chars() {
+        in_word = is_word(c);
+    }
+    in_word
+}
+
+/// Whether a blank stands before the text at this place.
+fn is_parted_at(texts: &[String], place: usize) -> bool
+    requires { place < length texts.now }
+    ensures { result ≡ is_parted_at (texts_in texts.now) place }
+{
+    if place == 0 {
+        return false;
+    }
+    ends_in_word(texts[place - 1].as_str()) && begins_in_word(texts[place].as_str())
+}
+
+/// The texts of tokens in canonical spelling: one blank between two letters of kind Word that
+/// belong to different tokens, and none elsewhere.
+fn spelling(alloc: Global, texts: &[String]) -> Result<String, AllocError>
+    ensures { IfOk result (λ s. string_bytes s ≡ spelled (texts_in texts.now)) }
+{
+    let mut spelling = String::new(alloc);
+    for place in 0..texts.len() {
+        if is_parted_at(texts, place) {
+            spelling.push(' ')?;
+        }
+        spelling.push_str(texts[place].as_str())?;
+    }
+    Ok(spelling)
+}
+
+/// A phrase as one text, by which it is looked up: each token's text, and a blank behind it.
+pub(crate) fn key(alloc: Global, texts: &[String]) -> Result<String, AllocError>
+    ensures { IfOk result (λ key. string_bytes key ≡ key_of (texts_in texts.now)) }
+{
+    let mut key = String::new(alloc);
+    for text in texts {
+        key.push_str(text.as_str())?;
+        key.push(' ')?;
+    }
+    Ok(key)
+}

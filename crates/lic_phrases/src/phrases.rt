@@ -1,0 +1,152 @@
+//! Lists of phrases in classes of equivalent words.
+ghost use Rattle.std.specs.Prelude.{◌≡◌, ◌≤◌, ◌<◌, ◌∷◌, ◌++◌, [], IfOk, IfSome, OnOk, OnErr, length, map};
+ghost use Rattle.std.specs.Prelude.{option_map, slice_index_or, string_bytes, unwrap_or};
+ghost use Rattle.indexmap.specs.IndexMap.{get_by_text, IsUnchanged};
+ghost use Rattle.lic_phrases.specs.PhraseLists.{no_phrases, phrase_with, with_added, longest_from};
+ghost use Rattle.lic_phrases.specs.PhraseLists.{key_of, key_texts, phrase_of, IsKey};
+ghost use Rattle.lic_phrases.specs.PhraseLists.{IsRaised, HaveTokens};
+
+use indexmap::IndexMap;
+use std::alloc::{AllocError, Global};
+use std::marker::Model;
+
+/// What stands behind each text of a key: a byte that UTF-8 never has.
+pub(crate) const SEPARATOR: u8 = 0xFF;
+
+/// How many tokens a phrase has at most.
+pub const MAX_TOKENS: usize = 8;
+
+/// A list of phrases, each of one to eight tokens, in classes of equivalent ones (SPDX 2.3, Annex
+/// B, varietal spelling). A class has a number and a spelling.
+#[derive(Drop)]
+pub struct Phrases {
+    /// The class of each phrase, by its key.
+    classes: IndexMap<Vec<u8>, usize>,
+    /// For each text that begins a phrase, how many tokens such a phrase has at most.
+    most_from: IndexMap<String, usize>,
+    spellings: Vec<String>,
+}
+
+impl Model for Phrases {
+    ghost use Rattle.std.specs.Prelude.{map, string_bytes, unwrap_or};
+    ghost use Rattle.indexmap.specs.IndexMap.{get_by_text};
+    ghost use Rattle.lic_phrases.specs.PhraseLists.{PhraseList, phrases_in, IsStored};
+
+    ghost Value = { PhraseList };
+
+    ghost view = { λ a. record {
+      phrases = phrases_in (λ k. k.items) (map string_bytes a.spellings.items) a.classes.entries;
+      spellings = map string_bytes a.spellings.items;
+    } };
+
+    ghost invariant = { λ a. IsStored (λ k. k.items) a.classes.entries
+        (map string_bytes a.spellings.items)
+        (λ text. unwrap_or (get_by_text a.most_from text) 0) };
+}
+
+/// The key of a phrase with these texts.
+fn key_of(alloc: Global, texts: &[String]) -> Result<Vec<u8>, AllocError>
+    ensures { IfOk result (λ key. key.items ≡ key_of (map string_bytes texts.now)) }
+{
+    let mut key = Vec::new(alloc);
+    for text in texts {
+        key.extend_from_slice(text.as_bytes())?;
+        key.push(SEPARATOR)?;
+    }
+    Ok(key)
+}
+
+/// Raises the bound on how many tokens a phrase has that begins with this text.
+fn raise(
+    alloc: Global,
+    most_from: &mut IndexMap<String, usize>,
+    text: &str,
+    count: usize,
+) -> Result<(), AllocError>
+    requires { count ≤ 8 }
+    ensures raised { OnOk result (IsRaised text.now count
+        (λ t. unwrap_or (get_by_text most_from.old t) 0)
+        (λ t. unwrap_or (get_by_text most_from.new t) 0)) }
+    ensures err { OnErr result (IsUnchanged most_from.old most_from.new) }
+{
+    let most = most_from.get(text).copied().unwrap_or(0).max(count);
+    let first = String::from_str(alloc, text)?;
+    most_from.insert(first, most)?;
+    Ok(())
+}
+
+impl Phrases {
+    /// A list without phrases.
+    pub fn new(alloc: Global) -> Phrases
+        ensures { result ≡ no_phrases }
+    {
+        Phrases {
+            classes: IndexMap::new(alloc),
+            most_from: IndexMap::new(alloc),
+            spellings: Vec::new(alloc),
+        }
+    }
+
+    /// Adds a class with this spelling, and gives its number: classes are numbered from 0. Want of
+    /// memory changes nothing.
+    pub fn add_class(&mut self, spelling: String) -> Result<usize, AllocError>
+        ensures number { IfOk result (λ class. class ≡ length self.old.spellings) }
+        ensures added { OnOk result (self.new
+            ≡ record self.old { spellings = self.old.spellings ++ string_bytes spelling ∷ [] }) }
+        ensures err { OnErr result (self.new ≡ self.old) }
+    {
+        let class = self.spellings.len();
+        self.spellings.push(spelling)?;
+        Ok(class)
+    }
+
+    /// Adds a phrase to a class, with the texts of its tokens. If the phrase is there already, it
+    /// leaves its class for this one. Want of memory changes nothing.
+    pub fn add(&mut self, alloc: Global, texts: &[String], class: usize) -> Result<(), AllocError>
+        requires some { 0 < length texts.now }
+        requires few { length texts.now ≤ MAX_TOKENS }
+        requires known { class < length self.old.spellings }
+        ensures added { OnOk result (self.new ≡ record self.old {
+          phrases = with_added self.old.phrases
+              (record {
+                texts = map string_bytes texts.now;
+                spelling = slice_index_or self.old.spellings class [];
+              });
+        }) }
+        ensures err { OnErr result (self.new ≡ self.old) }
+    {
+        let key = key_of(alloc, texts)?;
+        raise(alloc, &mut self.most_from, texts[0].as_str(), texts.len())?;
+        self.classes.insert(key, class)?;
+        Ok(())
+    }
+
+    /// The spellings of the classes, by number.
+    pub fn spellings(&self) -> &[String]
+        ensures { map string_bytes result.now ≡ self.now.spellings }
+    {
+        self.spellings.as_slice()
+    }
+
+    /// How many tokens a phrase has at most that begins with a token of this text: 0 where there is
+    /// no such phrase.
+    pub(crate) fn most_from(&self, text: &str) -> usize
+        ensures bound { longest_from self.now.phrases text.now ≤ result }
+        ensures short { result ≤ MAX_TOKENS }
+        ensures some { HaveTokens self.now.phrases }
+    {
+        if self.most_from.is_empty() {
+            return 0;
+        }
+        self.most_from.get(text).copied().unwrap_or(0)
+    }
+
+    /// The class of the phrase with this key.
+    pub(crate) fn class_of(&self, key: &[u8]) -> Option<usize>
+        ensures class { IsKey key.now → option_map (phrase_of self.now.spellings key.now) result
+            ≡ phrase_with self.now.phrases (key_texts key.now) }
+        ensures known { IfSome result (λ class. class < length self.now.spellings) }
+    {
+        self.classes.get(key).copied()
+    }
+}

@@ -1,0 +1,141 @@
+//! The reader of a list of equivalent words.
+ghost use Rattle.std.specs.Prelude.{◌≡◌, ◌+◌, ◌<◌, ◌≤◌, ◌⊎◌, [], None, Some, IfOk, IfErr, OnOk, map, string_bytes, vec_len};
+ghost use Rattle.std.specs.Str.{chars};
+ghost use Rattle.lic_phrases.specs.Keys.{HaveNoBlank, texts_in};
+ghost use Rattle.lic_phrases.specs.Spelling.{spelled};
+ghost use Rattle.lic_phrases.specs.WordLists.{fault_of, phrase_texts, phrases_of_line, split_phrases};
+ghost use Rattle.lic_phrases.specs.Listed.{
+  AreListed,
+  HasFault,
+  HasNoFault,
+  ReadsLine,
+  ReadsPhrase,
+};
+
+use crate::fault::WordsCause;
+use crate::joining::join_line;
+use crate::phrase::{ListedPhrase, is_skipped, key, listed};
+use indexmap::IndexSet;
+use std::alloc::{AllocError, Global};
+
+/// The most phrases of a list, repeats counted.
+const MOST_PHRASES: usize = 4096;
+
+/// What is read of a list so far.
+#[derive(Drop)]
+pub(crate) struct Reader {
+    /// The keys of the phrases.
+    pub(crate) keys: IndexSet<String>,
+    /// The phrases, each but once, where it first stands.
+    pub(crate) phrases: Vec<ListedPhrase>,
+    /// For each phrase the number of the first of its class.
+    pub(crate) heads: Vec<usize>,
+    /// How many phrases were read, repeats counted.
+    count: usize,
+}
+
+impl Reader {
+    pub(crate) fn new(alloc: Global) -> Reader
+        ensures listed { AreListed result.keys.keys result.phrases.items result.heads.items }
+        ensures phrases { result.phrases.items ≡ [] }
+        ensures heads { result.heads.items ≡ [] }
+        ensures count { result.count ≡ 0 }
+    {
+        Reader {
+            keys: IndexSet::new(alloc),
+            phrases: Vec::new(alloc),
+            heads: Vec::new(alloc),
+            count: 0,
+        }
+    }
+
+    /// The number of a phrase, which is a class of its own where it is new.
+    fn number_of(&mut self, alloc: Global, phrase: ListedPhrase) -> Result<usize, AllocError>
+        requires listed { AreListed self.old.keys.keys self.old.phrases.items self.old.heads.items }
+        requires spelling { string_bytes phrase.spelling ≡ spelled (texts_in phrase.texts.items) }
+        requires no_blank { HaveNoBlank (texts_in phrase.texts.items) }
+        ensures listed { OnOk result (AreListed self.new.keys.keys self.new.phrases.items
+            self.new.heads.items) }
+        ensures count { self.new.count ≡ self.old.count }
+        ensures within { IfOk result (λ number. number < vec_len self.new.heads) }
+        ensures grown { vec_len self.old.heads ≤ vec_len self.new.heads }
+        ensures read { IfOk result (λ number. ReadsPhrase self.old.phrases.items
+            self.old.heads.items self.new.phrases.items self.new.heads.items
+            (texts_in phrase.texts.items) number) }
+    {
+        let key = key(alloc, &phrase.texts)?;
+        let (number, is_new) = self.keys.insert_full(key)?;
+        if is_new {
+            self.heads.push(number)?;
+            self.phrases.push(phrase)?;
+        }
+        Ok(number)
+    }
+
+    /// Reads a phrase, and gives its number.
+    fn read_phrase(&mut self, alloc: Global, phrase: &str) -> Result<usize, WordsCause>
+        requires listed { AreListed self.old.keys.keys self.old.phrases.items self.old.heads.items }
+        ensures listed { OnOk result (AreListed self.new.keys.keys self.new.phrases.items
+            self.new.heads.items) }
+        ensures count { OnOk result (self.new.count ≡ self.old.count + 1) }
+        ensures within { IfOk result (λ number. number < vec_len self.new.heads) }
+        ensures grown { vec_len self.old.heads ≤ vec_len self.new.heads }
+        ensures read { IfOk result (λ number. ReadsPhrase self.old.phrases.items
+            self.old.heads.items self.new.phrases.items self.new.heads.items
+            (phrase_texts (chars phrase.now)) number) }
+        ensures sound { OnOk result (fault_of self.old.count (phrase_texts (chars phrase.now))
+            ≡ None) }
+        ensures fault { IfErr result (λ cause.
+            (fault_of self.old.count (phrase_texts (chars phrase.now)) ≡ Some cause)
+            ⊎ (cause ≡ WordsCause.OutOfMemory)) }
+    {
+        if self.count >= MOST_PHRASES {
+            return Err(WordsCause::TooManyPhrases);
+        }
+        let phrase = listed(alloc, phrase)?;
+        self.count += 1;
+        let number = self.number_of(alloc, phrase)?;
+        Ok(number)
+    }
+
+    /// Reads a line, whose phrases become one class.
+    pub(crate) fn read_line(&mut self, alloc: Global, line: &str) -> Result<(), WordsCause>
+        requires listed { AreListed self.old.keys.keys self.old.phrases.items self.old.heads.items }
+        ensures listed { OnOk result (AreListed self.new.keys.keys self.new.phrases.items
+            self.new.heads.items) }
+        ensures read { OnOk result (ReadsLine self.old.phrases.items self.old.heads.items
+            self.new.phrases.items self.new.heads.items (phrases_of_line line.now)) }
+        ensures sound { OnOk result (HasNoFault (phrases_of_line line.now) self.old.count
+            self.new.count) }
+        ensures fault { IfErr result (λ cause.
+            HasFault (phrases_of_line line.now) self.old.count cause
+            ⊎ (cause ≡ WordsCause.OutOfMemory)) }
+    {
+        if is_skipped(line) {
+            return Ok(());
+        }
+        self.read_phrases(alloc, line)
+    }
+
+    /// Reads a line of phrases, which become one class.
+    fn read_phrases(&mut self, alloc: Global, line: &str) -> Result<(), WordsCause>
+        requires listed { AreListed self.old.keys.keys self.old.phrases.items self.old.heads.items }
+        ensures listed { OnOk result (AreListed self.new.keys.keys self.new.phrases.items
+            self.new.heads.items) }
+        ensures read { OnOk result (ReadsLine self.old.phrases.items self.old.heads.items
+            self.new.phrases.items self.new.heads.items (split_phrases line.now)) }
+        ensures sound { OnOk result (HasNoFault (split_phrases line.now) self.old.count
+            self.new.count) }
+        ensures fault { IfErr result (λ cause.
+            HasFault (split_phrases line.now) self.old.count cause
+            ⊎ (cause ≡ WordsCause.OutOfMemory)) }
+    {
+        let mut numbers = Vec::new(alloc);
+        for phrase in line.split(',') {
+            let number = self.read_phrase(alloc, phrase)?;
+            numbers.push(number)?;
+        }
+        join_line(&mut self.heads, &numbers);
+        Ok(())
+    }
+}
