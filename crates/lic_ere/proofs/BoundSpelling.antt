@@ -1,5 +1,5 @@
 -- The bounds that are read are those that are spelled.
-use Rattle.std.proofs.Common.{◌≡◌, ℕ, zero, suc, ◌+◌, ◌<◌, ◌≤◌, Bool, true, false, cond, eqb, ltb, leb, List, [], ◌∷◌, ◌++◌, length, map, drop, Option, Some, None, refl, ap, sym, subst, ◌∙◌, arith, eq-eqb}
+use Rattle.std.proofs.Common.{◌≡◌, ℕ, ◌<◌, ◌≤◌, Bool, true, false, cond, List, [], ◌∷◌, ◌++◌, length, map, drop, Option, Some, None, refl, ap, sym, subst, ◌∙◌, arith, eq-eqb}
 use Rattle.std.specs.Prelude.{◌==◌, ◌||◌, ◌&&◌, nat_lt, nat_le}
 use Rattle.std.specs.Borrow.{Bor}
 use Rattle.std.specs.Option.{IfSome, option_map, option_and_then}
@@ -8,12 +8,12 @@ use Rattle.std.specs.Char.{is_ascii_digit}
 use Rattle.std.specs.Str.Parse.{digits_value}
 use Rattle.std.proofs.lemmas.Bool.{eqb-true}
 use Rattle.std.proofs.lemmas.Bool.Decides.{nat_tests}
-use Rattle.std.proofs.lemmas.List.{drop-drop, drop_at, length-map}
+use Rattle.std.proofs.lemmas.List.{drop_at, length-map}
 use Rattle.lic_ere.specs.declared.bounds.Bounds.{Bounds}
 use Rattle.lic_ere.specs.Signs.{comma, close_brace}
 use Rattle.lic_ere.specs.Located.{Located, further, seen, with_rest}
 use Rattle.lic_ere.specs.Lexemes.{bounds}
-use Rattle.lic_ere.specs.Bounds.{digits, max_bound, number_at, closed_bounds, upper_bound, after_min, bounds_at}
+use Rattle.lic_ere.specs.Bounds.{digits, number_at, closed_bounds, upper_bound, after_min, bounds_at}
 use Rattle.lic_ere.proofs.FaultLemmas.{with_rest-further}
 use Rattle.lic_ere.specs.Spelling.{IsNumber, IsBounds, exactly, at_least, between}
 

@@ -1,6 +1,8 @@
 -- The brackets that are read are those that are spelled.
-use Rattle.std.proofs.Common.{◌≡◌, ℕ, zero, suc, ◌+◌, ◌<◌, ◌≤◌, Bool, true, false, cond, not, eqb, ltb, List, [], ◌∷◌, ◌++◌, length, drop, Result, Ok, Err, refl, ap, sym, subst, ◌∙◌, arith, eq-eqb}
+use Rattle.std.proofs.Common.{◌≡◌, ℕ, zero, suc, ◌+◌, ◌≤◌, Bool, true, false, cond, not, List, [], ◌∷◌, drop, Result, Ok, Err, refl, ap, sym, subst, ◌∙◌, arith, eq-eqb}
 use Rattle.std.specs.Prelude.{◌==◌, ◌&&◌, ◌≢◌, nat_lt}
+use Rattle.std.specs.Prelude.{IfOk}
+use Rattle.std.specs.Borrow.{Bor}
 use Rattle.std.proofs.lemmas.Bool.{eqb-true, false≢true}
 use Rattle.std.proofs.lemmas.Bool.Decides.{nat_tests}
 use Rattle.std.proofs.lemmas.List.{drop-drop}
@@ -9,11 +11,11 @@ use Rattle.lic_ere.specs.declared.fault.EreFault.{EreFault}
 use Rattle.lic_ere.specs.declared.fault.EreCause.TheVariants.{BracketExtension, RangeOutOfOrder}
 use Rattle.lic_ere.specs.Signs.{dash, close_bracket, caret}
 use Rattle.lic_ere.specs.Sets.{Brackets}
-use Rattle.lic_ere.specs.Located.{Located, further, with_rest}
-use Rattle.lic_ere.specs.Faults.{fault_at, map_ok, ◌>>=◌}
-use Rattle.lic_ere.specs.Brackets.{begins_extension, single_at, range_at, member_at, closes, members_at, complement_at, bracket_at}
+use Rattle.lic_ere.specs.Located.{Located, further, seen, with_rest}
+use Rattle.lic_ere.specs.Faults.{fault_at, Gives, map_ok, ◌>>=◌}
+use Rattle.lic_ere.specs.Brackets.{begins_extension, single_at, range_at, member_at, members_at, complement_at, bracket_at}
 use Rattle.lic_ere.specs.Spelling.{goes_on_as_range, IsMember, alone, range, IsMembers, closed, further as one_further, IsFirstMembers, members, IsBracket, plain, complement}
-use Rattle.lic_ere.proofs.FaultLemmas.{map_ok-same, map_ok-map_ok}
+use Rattle.lic_ere.proofs.FaultLemmas.{Gives-same, map_ok-same, map_ok-map_ok}
 use Rattle.lic_ere.proofs.BracketLemmas.{behind, members_of, members_turn}
 
 member_of : Located → List Located → Result (Member × List Located) EreFault
@@ -66,3 +68,172 @@ sign_then place sign cs =
     map_ok-map_ok (with_rest cs) (λ ms. (record { members = ms.0; complement = sign.0 }, sign.1 + ms.1)) (members_at place true 0 (drop sign.1 cs))
     ∙ map_ok-same _ (λ ms. (record { members = ms.0; complement = sign.0 }, drop ms.1 (drop sign.1 cs))) (members_at place true 0 (drop sign.1 cs)) (λ ms. ap (λ (l : List Located). (record { members = ms.0; complement = sign.0 }, l)) (sym (drop-drop ms.1 sign.1 cs)))
     ∙ sym (map_ok-map_ok (λ y. (record { members = y.0; complement = sign.0 }, y.1)) (with_rest (drop sign.1 cs)) (members_at place true 0 (drop sign.1 cs)))
+
+abbrev bracket_by : ℕ → Bool × ℕ → List Located → Result (Brackets × List Located) EreFault
+bracket_by place sign cs = map_ok (with_rest cs) (map_ok (λ ms. (record { members = ms.0; complement = sign.0 }, sign.1 + ms.1)) (members_at place true 0 (drop sign.1 cs)))
+
+abbrev with_sign : Bool → Result (List Member × List Located) EreFault → Result (Brackets × List Located) EreFault
+with_sign sign r = map_ok (λ y. (record { members = y.0; complement = sign }, y.1)) r
+
+-- a bracket, and what stands behind it
+abbrev pub bracket_of : ℕ → List Located → Result (Brackets × List Located) EreFault
+bracket_of place cs = map_ok (with_rest cs) (bracket_at place cs)
+
+bracket_of-is : (place : ℕ) (cs : List Located) → bracket_of place cs ≡ bracket_by place (complement_at cs) cs
+unfolding bracket_at
+bracket_of-is place cs = refl
+
+plain_sign : (x : Located) (cs : List Located) → (x.1 == caret) ≡ false → complement_at (x ∷ cs) ≡ (false, 0)
+plain_sign x cs e = rw e refl
+
+complement_sign : (x : Located) (cs : List Located) → (x.1 == caret) ≡ true → complement_at (x ∷ cs) ≡ (true, 1)
+complement_sign x cs e = rw e refl
+
+plain_is : (place : ℕ) (x : Located) (cs : List Located) → (x.1 == caret) ≡ false → bracket_of place (x ∷ cs) ≡ with_sign false (members_of place true (x ∷ cs))
+plain_is place x cs e = bracket_of-is place (x ∷ cs) ∙ ap (λ s. bracket_by place s (x ∷ cs)) (plain_sign x cs e) ∙ sign_then place (false, 0) (x ∷ cs)
+
+complement_is : (place : ℕ) (x : Located) (cs : List Located) → (x.1 == caret) ≡ true → bracket_of place (x ∷ cs) ≡ with_sign true (members_of place true cs)
+complement_is place x cs e = bracket_of-is place (x ∷ cs) ∙ ap (λ s. bracket_by place s (x ∷ cs)) (complement_sign x cs e) ∙ sign_then place (true, 1) (x ∷ cs)
+
+-- the bracket that is spelled is read
+pub IsBracket-read : (place : ℕ) {cs rest : List Located} {b : Brackets} → IsBracket cs rest b → bracket_of place cs ≡ Ok (b, rest)
+IsBracket-read place (plain {x = x} {cs = cs} ne is) = plain_is place x cs (not_this x.1 caret ne) ∙ ap (with_sign false) (first_read place is)
+IsBracket-read place (complement {x = x} {cs = cs} e is) = complement_is place x cs (eq-eqb _ _ e) ∙ ap (with_sign true) (first_read place is)
+
+-- ---- what is read is spelled
+
+abbrev held : {A B : Type 0} → A × B → Result (A × B) EreFault → A × B
+held p (Ok q) = q
+held p (Err e) = p
+
+abbrev found : {A B : Type 0} → A → B → Result (A × B) EreFault
+found a b = Ok (a, b)
+
+same_value : {A B : Type 0} (a c : A) (b d : B) → found a b ≡ found c d → a ≡ c
+same_value a c b d e = ap (λ o. (held (a, b) o).0) e
+
+same_rest : {A B : Type 0} (a c : A) (b d : B) → found a b ≡ found c d → b ≡ d
+same_rest a c b d e = ap (λ o. (held (a, b) o).1) e
+
+single_by : (x : Located) (rest more : List Located) (m : Member) (t : Bool) → begins_extension x.1 rest ≡ t → goes_on_as_range rest ≡ false
+    → map_ok (with_rest rest) (map_ok (λ m. (m, 0)) (cond t (Err (fault_at x.0 BracketExtension)) (Ok (record { first = x.1; last = x.1 })))) ≡ Ok (m, more) → IsMember (x ∷ rest) more m
+single_by x rest more m true e g is = absurd cc
+single_by x rest more m false e g is =
+    let one : Member = record { first = x.1; last = x.1 } in
+    subst (λ n. IsMember (x ∷ rest) more n) (same_value one m rest more is) (subst (λ l. IsMember (x ∷ rest) l one) (same_rest one m rest more is) (alone g e))
+
+range_by : (x h y : Located) (rest more : List Located) (m : Member) (t u : Bool) → h.1 ≡ dash → y.1 ≢ close_bracket → nat_lt y.1 x.1 ≡ t → begins_extension y.1 rest ≡ u
+    → map_ok (with_rest (h ∷ y ∷ rest)) (map_ok (λ m. (m, 2)) (cond t (Err (fault_at x.0 RangeOutOfOrder)) (cond u (Err (fault_at y.0 BracketExtension)) (Ok (record { first = x.1; last = y.1 }))))) ≡ Ok (m, more) → IsMember (x ∷ h ∷ y ∷ rest) more m
+range_by x h y rest more m true u hyphen ne order e is = absurd cc
+range_by x h y rest more m false true hyphen ne order e is = absurd cc
+range_by x h y rest more m false false hyphen ne order e is =
+    let both : Member = record { first = x.1; last = y.1 } in
+    let le : x.1 ≤ y.1 = grind (arith, nat_tests) in
+    subst (λ n. IsMember (x ∷ h ∷ y ∷ rest) more n) (same_value both m rest more is) (subst (λ l. IsMember (x ∷ h ∷ y ∷ rest) l both) (same_rest both m rest more is) (range hyphen ne le e))
+
+and_split : (a b : Bool) → (a && not b) ≡ true → (a ≡ true) × (b ≡ false)
+and_split true true h = absurd (false≢true h)
+and_split true false h = (refl, refl)
+and_split false b h = absurd (false≢true h)
+
+member_by : (x h y : Located) (rest more : List Located) (m : Member) (t : Bool) → (h.1 == dash && not (y.1 == close_bracket)) ≡ t
+    → map_ok (with_rest (h ∷ y ∷ rest)) (cond t (map_ok (λ m. (m, 2)) (range_at x y rest)) (map_ok (λ m. (m, 0)) (single_at x (h ∷ y ∷ rest)))) ≡ Ok (m, more) → IsMember (x ∷ h ∷ y ∷ rest) more m
+member_by x h y rest more m true e is =
+    let both = and_split (h.1 == dash) (y.1 == close_bracket) e in
+    range_by x h y rest more m (nat_lt y.1 x.1) (begins_extension y.1 rest) (eqb-true _ _ both.0) (is_not_this y.1 close_bracket both.1) refl refl is
+member_by x h y rest more m false e is = single_by x (h ∷ y ∷ rest) more m (begins_extension x.1 (h ∷ y ∷ rest)) refl e is
+
+member_spelled : (x : Located) (after more : List Located) (m : Member) → member_of x after ≡ Ok (m, more) → IsMember (x ∷ after) more m
+unfolding member_of member_at
+member_spelled x [] more m is = single_by x [] more m (begins_extension x.1 []) refl refl is
+member_spelled x (h ∷ []) more m is = single_by x (h ∷ []) more m (begins_extension x.1 (h ∷ [])) refl refl is
+member_spelled x (h ∷ y ∷ rest) more m is = member_by x h y rest more m (h.1 == dash && not (y.1 == close_bracket)) refl is
+
+Spelled : ℕ → List Located → Type 0
+Spelled place xs = (n : ℕ) (ms : List Member) (k : ℕ) → members_at place false n xs ≡ Ok (ms, k) → IsMembers (drop n xs) (drop k xs) ms
+
+-- one character more
+past_one : (x : Located) (xs cs : List Located) (ms ns : List Member) (j k : ℕ) → found ns (1 + j) ≡ found ms k → IsMembers cs (drop j xs) ns → IsMembers cs (drop k (x ∷ xs)) ms
+past_one x xs cs ms ns j k e is =
+    subst (λ l. IsMembers cs l ms) (drop-drop j 1 (x ∷ xs) ∙ ap (λ (i : ℕ). drop i (x ∷ xs)) (same_rest ns ms (1 + j) k e)) (subst (λ l. IsMembers cs (drop j xs) l) (same_value ns ms (1 + j) k e) is)
+
+skip_by : (x : Located) (xs cs : List Located) (ms : List Member) (k : ℕ) (r : Result (List Member × ℕ) EreFault) → ((ns : List Member) (j : ℕ) → r ≡ Ok (ns, j) → IsMembers cs (drop j xs) ns) → map_ok (further 1) r ≡ Ok (ms, k) → IsMembers cs (drop k (x ∷ xs)) ms
+skip_by x xs cs ms k (Ok y) all e = past_one x xs cs ms y.0 y.1 k e (all y.0 y.1 refl)
+skip_by x xs cs ms k (Err d) all e = absurd cc
+
+-- a member, and the members behind it
+abbrev member_then : ℕ → List Located → Result (Member × ℕ) EreFault → Result (List Member × ℕ) EreFault
+member_then place xs r = r >>= λ m. map_ok (λ ms. (m.0 ∷ ms.0, 1 + ms.1)) (members_at place false m.1 xs)
+
+others_by : (x : Located) (xs : List Located) (m : Member) (j : ℕ) (ms : List Member) (k : ℕ) (r : Result (List Member × ℕ) EreFault) → IsMember (x ∷ xs) (drop j xs) m
+    → ((ns : List Member) (i : ℕ) → r ≡ Ok (ns, i) → IsMembers (drop j xs) (drop i xs) ns) → map_ok {A = List Member × ℕ} {B = List Member × ℕ} (λ ms. (m ∷ ms.0, 1 + ms.1)) r ≡ Ok (ms, k) → IsFirstMembers (x ∷ xs) (drop k (x ∷ xs)) ms
+others_by x xs m j ms k (Err d) is all e = absurd cc
+others_by x xs m j ms k (Ok y) is all e =
+    subst (λ l. IsFirstMembers (x ∷ xs) l ms) (drop-drop y.1 1 (x ∷ xs) ∙ ap (λ (i : ℕ). drop i (x ∷ xs)) (same_rest (m ∷ y.0) ms (1 + y.1) k e))
+    (subst (λ l. IsFirstMembers (x ∷ xs) (drop y.1 xs) l) (same_value (m ∷ y.0) ms (1 + y.1) k e) (members is (all y.0 y.1 refl)))
+
+then_by : (place : ℕ) (x : Located) (xs : List Located) (ms : List Member) (k : ℕ) (r : Result (Member × ℕ) EreFault) → ((m : Member) (j : ℕ) → r ≡ Ok (m, j) → IsMember (x ∷ xs) (drop j xs) m)
+    → ((j : ℕ) (ns : List Member) (i : ℕ) → members_at place false j xs ≡ Ok (ns, i) → IsMembers (drop j xs) (drop i xs) ns) → member_then place xs r ≡ Ok (ms, k) → IsFirstMembers (x ∷ xs) (drop k (x ∷ xs)) ms
+then_by place x xs ms k (Err d) is all e = absurd cc
+then_by place x xs ms k (Ok m) is all e = others_by x xs m.0 m.1 ms k (members_at place false m.1 xs) (is m.0 m.1 refl) (all m.1) e
+
+one_spelled : (x : Located) (xs : List Located) (m : Member) (j : ℕ) → member_at x xs ≡ Ok (m, j) → IsMember (x ∷ xs) (drop j xs) m
+unfolding member_of
+one_spelled x xs m j e = member_spelled x xs (drop j xs) m (ap (map_ok (with_rest xs)) e)
+
+not_first : (x : Located) (xs rest : List Located) (ms : List Member) → x.1 ≢ close_bracket → IsFirstMembers (x ∷ xs) rest ms → IsMembers (x ∷ xs) rest ms
+not_first x xs rest ms ne (members is others) = one_further ne is others
+
+closes_by : (place : ℕ) (x : Located) (xs : List Located) (ms : List Member) (k : ℕ) (t : Bool) → (x.1 == close_bracket) ≡ t
+    → ((j : ℕ) (ns : List Member) (i : ℕ) → members_at place false j xs ≡ Ok (ns, i) → IsMembers (drop j xs) (drop i xs) ns)
+    → cond t (Ok ([], 1)) (member_then place xs (member_at x xs)) ≡ Ok (ms, k) → IsMembers (x ∷ xs) (drop k (x ∷ xs)) ms
+closes_by place x xs ms k true e all is =
+    subst (λ l. IsMembers (x ∷ xs) l ms) (ap (λ (i : ℕ). drop i (x ∷ xs)) (same_rest [] ms 1 k is)) (subst (λ l. IsMembers (x ∷ xs) xs l) (same_value [] ms 1 k is) (closed (eqb-true _ _ e)))
+closes_by place x xs ms k false e all is = not_first x xs (drop k (x ∷ xs)) ms (is_not_this x.1 close_bracket e) (then_by place x xs ms k (member_at x xs) (one_spelled x xs) all is)
+
+members_spelled : (place : ℕ) (xs : List Located) → Spelled place xs
+unfolding Spelled members_at
+members_spelled place [] n ms k e = absurd cc
+members_spelled place (x ∷ xs) (suc n) ms k e = skip_by x xs (drop n xs) ms k (members_at place false n xs) (members_spelled place xs n) e
+members_spelled place (x ∷ xs) zero ms k e = closes_by place x xs ms k (x.1 == close_bracket) refl (members_spelled place xs) e
+
+first_spelled : (place : ℕ) (cs : List Located) (ms : List Member) (k : ℕ) → members_at place true 0 cs ≡ Ok (ms, k) → IsFirstMembers cs (drop k cs) ms
+unfolding members_at Spelled
+first_spelled place [] ms k e = absurd cc
+first_spelled place (x ∷ xs) ms k e = then_by place x xs ms k (member_at x xs) (one_spelled x xs) (members_spelled place xs) e
+
+first_of_spelled : (place : ℕ) (cs rest : List Located) (ms : List Member) → members_of place true cs ≡ Ok (ms, rest) → IsFirstMembers cs rest ms
+first_of_spelled place cs rest ms e = by_result (members_at place true 0 cs) refl e
+  where
+    by_result : (r : Result (List Member × ℕ) EreFault) → members_at place true 0 cs ≡ r → map_ok (with_rest cs) r ≡ Ok (ms, rest) → IsFirstMembers cs rest ms
+    by_result (Ok y) was e = subst (λ l. IsFirstMembers cs l ms) (same_rest y.0 ms (drop y.1 cs) rest e) (subst (λ l. IsFirstMembers cs (drop y.1 cs) l) (same_value y.0 ms (drop y.1 cs) rest e) (first_spelled place cs y.0 y.1 was))
+    by_result (Err d) was e = absurd cc
+
+sign_was : (sign : Bool) (r : Result (List Member × List Located) EreFault) (b : Brackets) (rest : List Located) → with_sign sign r ≡ Ok (b, rest) → (ms : List Member) × (r ≡ Ok (ms, rest)) × (record { members = ms; complement = sign } ≡ b)
+sign_was sign (Ok y) b rest e =
+    let made : Brackets = record { members = y.0; complement = sign } in
+    (y.0, ap (λ (l : List Located). Ok (y.0, l)) (same_rest made b y.1 rest e), same_value made b y.1 rest e)
+sign_was sign (Err d) b rest e = absurd cc
+
+caret_by : (place : ℕ) (x : Located) (cs rest : List Located) (b : Brackets) (t : Bool) → (x.1 == caret) ≡ t → bracket_of place (x ∷ cs) ≡ Ok (b, rest) → IsBracket (x ∷ cs) rest b
+caret_by place x cs rest b true e is =
+    let was = sign_was true (members_of place true cs) b rest (sym (complement_is place x cs e) ∙ is) in
+    subst (λ c. IsBracket (x ∷ cs) rest c) was.2 (complement (eqb-true _ _ e) (first_of_spelled place cs rest was.0 was.1))
+caret_by place x cs rest b false e is =
+    let was = sign_was false (members_of place true (x ∷ cs)) b rest (sym (plain_is place x cs e) ∙ is) in
+    subst (λ c. IsBracket (x ∷ cs) rest c) was.2 (plain (is_not_this x.1 caret e) (first_of_spelled place (x ∷ cs) rest was.0 was.1))
+
+-- the bracket that is read is spelled
+pub bracket_at-spelled : (place : ℕ) (cs rest : List Located) (b : Brackets) → bracket_of place cs ≡ Ok (b, rest) → IsBracket cs rest b
+unfolding bracket_at members_at
+bracket_at-spelled place [] rest b is = absurd cc
+bracket_at-spelled place (x ∷ cs) rest b is = caret_by place x cs rest b (x.1 == caret) refl is
+
+-- ---- what the reader of the code gives
+
+pub is_spelled : (place : ℕ) (cs : List Located) (result : Result (Brackets × Bor (List Located)) EreFault) → Gives seen result (bracket_of place cs) → IfOk result (λ x. IsBracket cs x.1.now x.0)
+is_spelled place cs (Ok x) given = bracket_at-spelled place cs x.1.now x.0 given
+is_spelled place cs (Err e) given = tt
+
+pub is_read : (place : ℕ) (cs : List Located) (result : Result (Brackets × Bor (List Located)) EreFault) (b : Brackets) (rest : List Located) → IsBracket cs rest b → Gives seen result (bracket_of place cs) → Gives seen result (Ok (b, rest))
+is_read place cs result b rest is given = Gives-same seen result (bracket_of place cs) (Ok (b, rest)) (IsBracket-read place is) given

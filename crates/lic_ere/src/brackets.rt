@@ -1,6 +1,8 @@
 //! Brackets.
-ghost use Rattle.std.specs.Prelude.{◌≡◌, ◌<◌, length, true, IfOk};
-ghost use Rattle.lic_ere.specs.Located.{seen, with_rest};
+ghost use Rattle.std.specs.Prelude.{◌≡◌, ◌<◌, length, List, true, IfOk, Ok};
+ghost use Rattle.lic_ere.specs.Located.{Located, seen, with_rest};
+ghost use Rattle.lic_ere.specs.Sets.{Brackets};
+ghost use Rattle.lic_ere.specs.Spelling.{IsBracket};
 ghost use Rattle.lic_ere.specs.Faults.{Gives, map_ok};
 ghost use Rattle.lic_ere.specs.Brackets.{begins_extension, single_at, range_at, member_at, closes, members_at, complement_at, bracket_at};
 
@@ -119,8 +121,22 @@ fn complement(rest: &[(usize, char)]) -> (bool, &[(usize, char)])
 }
 
 /// The set that a bracket stands for which opens at a place, and what stands behind it.
-#[tactic(auto, unfolding(crate::specs::Brackets::bracket_at))]
 pub fn bracket(
+    alloc: Global,
+    place: usize,
+    rest: &[(usize, char)],
+) -> Result<(Class, &[(usize, char)]), EreFault>
+    // What is read is spelled so.
+    ensures found { IfOk result (λ x. IsBracket rest.now x.1.now x.0) }
+    // What is spelled so is read, unless memory runs out.
+    ensures only { (b : Brackets) (end : List Located) → IsBracket rest.now end b → Gives seen result (Ok (b, end)) }
+    ensures exact { Gives seen result (map_ok (with_rest rest.now) (bracket_at place rest.now)) }
+{
+    bracket_behind(alloc, place, rest)
+}
+
+#[tactic(auto, unfolding(crate::specs::Brackets::bracket_at))]
+fn bracket_behind(
     alloc: Global,
     place: usize,
     rest: &[(usize, char)],
