@@ -1,8 +1,11 @@
 -- Templates: what they hold, what they stand for, and which texts are templates.
-use Rattle.std.specs.Prelude.{ℕ, Bool, List, [], ◌∷◌, length, map, nat_lt, Result, Ok, Err, if◌then◌else◌}
+use Rattle.std.specs.Prelude.{ℕ, ◌==◌, not, Bool, true, List, [], ◌∷◌, length, map, nat_lt, Result, Ok, Err, if◌then◌else◌}
+use Rattle.std.specs.List.{list_any}
 use Rattle.std.specs.Str.{chars}
+use Rattle.lic_norm.specs.declared.pieces.Next.TheVariants.{LineEnd}
 use Rattle.lic_norm.specs.Pieces.{piece_of}
-use Rattle.lic_norm.specs.Tokens.{tokens_of_input}
+use Rattle.lic_phrases.specs.Rewriting.{Phrase}
+use Rattle.lic_words.specs.Words.{blank}
 use Rattle.lic_words.specs.Expressions.{Expression, letters, cat_all}
 use Rattle.lic_find.specs.declared.template.Part.{Part}
 use Rattle.lic_find.specs.declared.template.Part.TheVariants.{Text}
@@ -36,9 +39,9 @@ most_weight = 131072
 abbrev pub weight_of : List ℕ → ℕ
 weight_of text = length (chars text)
 
--- some token is in it
-abbrev pub has_token : List ℕ → Bool
-has_token text = nat_lt 0 (length (tokens_of_input text))
+-- some letter is no blank
+abbrev pub gives_token : List ℕ → Bool
+gives_token text = list_any (λ c. not (c == blank)) (chars text)
 
 -- the whole template is at fault, so its first byte is the place
 abbrev pub at_front : MarkupCause → MarkupFault
@@ -54,9 +57,13 @@ weighed text letters =
     if nat_lt most_weight (weight_of letters) then Err (at_front TooHeavy)
     else Ok (record { parts = Text letters ∷ []; weight = weight_of letters; original = text })
 
+-- The letters of a whole template: a piece at a line's start, with a line's end behind it.
+abbrev pub letters_of : List Phrase → List ℕ → List ℕ
+letters_of words text = piece_of words true LineEnd text
+
 -- The template that a text is, or why it is none: more bytes than a template may have come before a text
 -- without a token, and that before too many letters.
-unfoldable pub template_of : List ℕ → Result TemplateValue MarkupFault
-template_of text =
+unfoldable pub template_of : List Phrase → List ℕ → Result TemplateValue MarkupFault
+template_of words text =
     if nat_lt most_bytes (length text) then Err (at_front TooLong)
-    else (if has_token text then weighed text (piece_of text) else Err (at_front NoLetter))
+    else (if gives_token (letters_of words text) then weighed text (letters_of words text) else Err (at_front NoLetter))

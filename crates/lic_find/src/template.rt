@@ -1,5 +1,5 @@
 ghost use Rattle.std.specs.Prelude.{◌≡◌, ◌≢◌, ◌≤◌, length, IfOk, IfErr, Ok, Err};
-ghost use Rattle.lic_find.specs.Templates.{template_of};
+ghost use Rattle.lic_find.specs.Templates.{template_of, gives_token};
 
 use lic_norm::pieces::{Next, piece};
 use lic_norm::words::Words;
@@ -153,14 +153,22 @@ fn at_front(cause: MarkupCause) -> MarkupFault
     MarkupFault { place: 0, cause }
 }
 
-/// Reads a template of plain words: its letters are the texts of its tokens, with one blank between two
-/// (SPDX 2.3 Annex B, white space and capitalization).
+// Whether some letter is no blank, so that there is a token.
+fn gives_token(letters: &str) -> bool
+    ensures { result ≡ gives_token letters.now }
+{
+    letters.chars().any(|c| c != ' ')
+}
+
+/// Reads a template of plain words, as a text of its own: its letters are the texts of its tokens, with one blank
+/// between two whose meeting letters are letters of words, and one at an edge where white space stands or a lead, an
+/// item or a tail was taken away (SPDX 2.3 Annex B; this project's profile).
 ///
 /// A text of more than 1,048,576 bytes, one without a token, and one of more than 131,072 letters, blanks
 /// included, are refused, in this order (this project's profile). So is a text for which memory is refused.
 pub fn read_template(alloc: Global, text: &str, words: &Words) -> Result<Template, MarkupFault>
-    ensures accepted { IfOk result (λ t. template_of text.now ≡ Ok t) }
-    ensures refused { IfErr result (λ fault. fault.cause ≢ MarkupCause.Memory → template_of text.now ≡ Err fault) }
+    ensures accepted { IfOk result (λ t. template_of words.now text.now ≡ Ok t) }
+    ensures refused { IfErr result (λ fault. fault.cause ≢ MarkupCause.Memory → template_of words.now text.now ≡ Err fault) }
     ensures place { IfErr result (λ fault. fault.place ≡ 0) }
     ensures memory { IfErr result (λ fault. fault.cause ≡ MarkupCause.Memory → length text.now ≤ 1048576) }
 {
@@ -168,7 +176,7 @@ pub fn read_template(alloc: Global, text: &str, words: &Words) -> Result<Templat
         return Err(at_front(MarkupCause::TooLong));
     }
     let letters = piece(alloc, text, true, Next::LineEnd, words)?;
-    if letters.is_empty() {
+    if !gives_token(letters.as_str()) {
         return Err(at_front(MarkupCause::NoLetter));
     }
     let weight = letters.as_str().chars().count() as u64;

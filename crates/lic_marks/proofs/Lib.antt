@@ -12,3 +12,5 @@ pub mod Children
 pub mod Closing
 pub mod TokenRows
 pub mod Built
+pub mod Deciding
+pub mod DescribedExamples

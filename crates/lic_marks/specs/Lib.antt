@@ -5,3 +5,4 @@ pub mod Standing
 pub mod Rows
 pub mod Nodes
 pub mod Runs
+pub mod Deciding

@@ -2,11 +2,13 @@
 
 ghost use Rattle.std.specs.Prelude.{◌≡◌, ◌≢◌, ◌↔◌, ◌++◌, ◌∷◌, ◌==◌, ◌||◌, ◌⊎◌, [], ℕ, Bool, List, IsTrue, true, false};
 ghost use Rattle.lic_words.specs.Words.{blank};
+ghost use Rattle.lic_words.specs.Describing.{IsDescribed};
 ghost use Rattle.lic_words.specs.Expressions.{Expression, Language};
 ghost use Rattle.lic_words.specs.Spelling.{Gap, no_gap, SpellsGapped};
 ghost use Rattle.lic_marks.specs.Cores.{Core, WordsOf, core};
 ghost use Rattle.lic_marks.specs.Marks.{Marks, no_marks, join, can_leave, shift};
 ghost use Rattle.lic_marks.specs.Rests.{Completes, GoesOn};
+ghost use Rattle.lic_marks.specs.Deciding.{is_described};
 ghost use Rattle.lic_marks.specs.Standing.{StandsAtOnce, StandsFor, Gathers, IsClosed, shift_over};
 
 /// An expression with its repetitions written out stands for the same words.
@@ -80,4 +82,9 @@ pub fn leaving_is_spelling()
 pub fn no_marks_are_for_good()
     ensures { (r : Core) (letters more : List (Gap × ℕ)) → StandsAtOnce r false (no_marks r) letters
         → (w : List ℕ) → WordsOf r w → ¬ (SpellsGapped w (letters ++ more)) }
+{}
+
+/// Whether an expression describes a list of tokens is decided by a test that computes.
+pub fn whether_an_expression_describes_is_decided()
+    ensures { (e : Expression) (ts : List (List ℕ)) → IsTrue (is_described e ts) ↔ IsDescribed e ts }
 {}

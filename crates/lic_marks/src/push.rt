@@ -14,6 +14,7 @@ use crate::close::close;
 use crate::node::Node;
 use crate::rows::join;
 use crate::shift::shift;
+use lic_kind::{Kind, kind_of};
 
 /// A letter that is no blank, and how it stands behind the letters before it.
 #[derive(Clone, Copy, Debug)]
@@ -144,5 +145,5 @@ pub fn push_token(
 fn is_letter_of_word(c: char) -> bool
     ensures { result ≡ is_word c }
 {
-    !c.is_whitespace()
+    kind_of(c) == Kind::Word
 }

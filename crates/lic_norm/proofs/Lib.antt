@@ -1,8 +1,15 @@
 pub mod Refused
-pub mod OpenRows
-pub mod Progress
-pub mod SpansLemmas
-pub mod WordsLemmas
-pub mod Joining
-pub mod PiecesLemmas
-pub mod TextsLemmas
+pub mod RowLemmas
+pub mod LineCuts
+pub mod FirstLines
+pub mod NextChars
+pub mod Lying
+pub mod CellSpans
+pub mod TokenSpans
+pub mod TokenTexts
+pub mod Yielded
+pub mod ReadingLemmas
+pub mod TextLemmas
+pub mod PieceLines
+pub mod SpellingPlaces
+mod PieceCases

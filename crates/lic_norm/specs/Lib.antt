@@ -1,6 +1,7 @@
-pub mod Sources
 pub mod Tokens
 pub mod Spans
-pub mod Pieces
+pub mod LineEnds
 pub mod Refusal
 pub mod Views
+pub mod Reading
+pub mod Pieces

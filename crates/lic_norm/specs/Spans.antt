@@ -1,6 +1,7 @@
 -- Where tokens lie in their source, and what their texts are.
-use Rattle.std.specs.Prelude.{ℕ, ◌≤◌, ◌<◌, ◌≢◌, List, [], ◌∷◌, length, All}
+use Rattle.std.specs.Prelude.{ℕ, ◌≤◌, ◌<◌, List, [], ◌∷◌, All}
 use Rattle.std.specs.Str.{IsCharBoundary}
+pub use Rattle.lic_phrases.specs.TokenTexts.{IsTokenText}
 use Rattle.lic_norm.specs.Tokens.{TokenValue}
 
 -- each span is not empty, and begins no earlier than the one before ends
@@ -17,11 +18,6 @@ pub record AreSpans (source : List ℕ) (tokens : List TokenValue) : Type 0 wher
   pub rising : AreRising 0 tokens
   pub boundaries : All (IsOnBoundaries source) tokens
 
--- a token's text has a byte, and no U+0020
-pub record IsWord (text : List ℕ) : Type 0 where
-  pub not_empty : 0 < length text
-  pub no_blank : All (λ b. b ≢ 0x20) text
-
 -- the texts of tokens
-abbrev pub AreWords : List TokenValue → Type 0
-AreWords tokens = All (λ t. IsWord t.text) tokens
+abbrev pub AreTokenTexts : List TokenValue → Type 0
+AreTokenTexts tokens = All (λ t. IsTokenText t.text) tokens

@@ -1,47 +1,29 @@
--- From source characters to tokens.
-use Rattle.std.specs.Prelude.{ℕ, Bool, true, false, List, [], ◌∷◌, map, filter, encode_utf8_all}
-use Rattle.std.specs.List.{slice_split}
-use Rattle.std.specs.Char.{is_whitespace, to_ascii_lowercase}
+-- From an input to its tokens.
+use Rattle.std.specs.Prelude.{ℕ, List, map}
+use Rattle.lic_lines.specs.Sources.{source_of, without_dropped}
+use Rattle.lic_lines.specs.LineRules.{profile}
+use Rattle.lic_lines.specs.Lines.{whole_line}
+use Rattle.lic_lines.specs.Tokens.{Token, line_tokens, text_tokens}
+use Rattle.lic_phrases.specs.Rewriting.{Phrase, SpannedText, rewritten}
 use Rattle.lic_norm.specs.declared.token.Span.{Span}
-use Rattle.lic_norm.specs.Sources.{SourceChar, source_chars}
 
 -- a token: its text in UTF-8, and the bytes of the input that it was made from
 pub record TokenValue : Type 0 where
   pub text : List ℕ
   pub span : Span
 
-abbrev pub is_blank : SourceChar → Bool
-is_blank s = is_whitespace s.char
+-- a token of the rewriting as callers see it
+abbrev pub reported : SpannedText → TokenValue
+reported t = record { text = t.text; span = record { start = t.start; end = t.end } }
 
--- the letter of a character: ASCII letters in lower case
-abbrev pub letter_of : SourceChar → ℕ
-letter_of s = to_ascii_lowercase s.char
+-- the tokens of a text that begins at this byte of the input, before the rewriting
+unfoldable pub first_tokens_of : ℕ → List ℕ → List Token
+first_tokens_of at text = text_tokens profile (source_of at text)
 
-abbrev pub is_some_row : List SourceChar → Bool
-is_some_row [] = false
-is_some_row (s ∷ row) = true
-
--- the longest rows of characters that are no white space
-abbrev pub rows_of : List SourceChar → List (List SourceChar)
-rows_of text = filter is_some_row (slice_split is_blank text)
-
-abbrev pub first_byte : List SourceChar → ℕ
-first_byte [] = 0
-first_byte (s ∷ row) = s.start
-
-abbrev pub end_byte : List SourceChar → ℕ
-end_byte [] = 0
-end_byte (s ∷ []) = s.end
-end_byte (s ∷ t ∷ row) = end_byte (t ∷ row)
-
--- a row's letters, and its span from its first character to its last
-abbrev pub token_of : List SourceChar → TokenValue
-token_of row = record { text = encode_utf8_all (map letter_of row); span = record { start = first_byte row; end = end_byte row } }
-
--- the tokens of source characters
-abbrev pub tokens_of : List SourceChar → List TokenValue
-tokens_of text = map token_of (rows_of text)
+-- those of one whole line
+unfoldable pub line_tokens_of : ℕ → List ℕ → List Token
+line_tokens_of at line = line_tokens profile whole_line (without_dropped (source_of at line))
 
 -- the tokens of an input
-abbrev pub tokens_of_input : List ℕ → List TokenValue
-tokens_of_input input = tokens_of (source_chars input)
+abbrev pub tokens_of : List Phrase → List ℕ → List TokenValue
+tokens_of words input = map reported (rewritten words (first_tokens_of 0 input))

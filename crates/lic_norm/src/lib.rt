@@ -1,12 +1,17 @@
 //! From bytes to tokens, each with the bytes that it was made from.
 #![tactic(auto)]
 
+mod characters;
 pub mod fault;
+mod lines;
 pub mod pieces;
+mod reading;
 pub mod refusal;
-mod scanning;
+mod rewriting;
+mod spelling;
 #[cfg(test)]
 mod tests;
 pub mod text;
 pub mod token;
+mod token_list;
 pub mod words;

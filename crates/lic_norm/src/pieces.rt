@@ -1,9 +1,22 @@
-ghost use Rattle.std.specs.Prelude.{◌≡◌, IfOk};
-ghost use Rattle.std.specs.String.{string_bytes};
-ghost use Rattle.lic_norm.specs.Pieces.{piece_of};
+//! Pieces of a template's text.
+ghost use Rattle.std.specs.Prelude.{◌≡◌, ◌++◌, IfOk, OnOk, string_bytes};
+ghost use Rattle.std.specs.List.{list_all};
+ghost use Rattle.std.specs.Str.{chars};
+ghost use Rattle.lic_lines.specs.LineRules.{rules_of};
+ghost use Rattle.lic_lines.specs.Lines.{line_cells};
+ghost use Rattle.lic_lines.specs.Runs.{runs_joined};
+ghost use Rattle.lic_lines.specs.Sources.{without_dropped};
+ghost use Rattle.lic_lines.specs.Tokens.{line_tokens, tokens_in};
+ghost use Rattle.lic_norm.specs.Pieces.{unplaced, ends_in_feed, part_of, piece_cells, piece_tokens, is_blank, begins_in_blank, ends_in_blank, with_edges, piece_of};
 
-use crate::scanning::entries_of;
+use crate::lines::line_end;
+use crate::rewriting::Rewriting;
+use crate::spelling::spelled;
 use crate::words::Words;
+use lic_kind::is_dropped;
+use lic_lines::{
+    Cell, FirstToken, LinePart, Rules, SourceChar, cells_of_line, push_tokens_of_line,
+};
 use std::alloc::{AllocError, Global};
 
 /// What follows a piece of a template's text in its line.
@@ -17,10 +30,153 @@ pub enum Next {
     Optional,
 }
 
+/// What the lines of a piece leave: the list after its runs, and the tokens before the rewriting.
+#[derive(Drop)]
+struct Left {
+    cells: Vec<Cell>,
+    tokens: Vec<FirstToken>,
+}
+
+/// The characters of a template's text without the dropped ones. Where they stand has no effect on
+/// letters.
+fn characters_of(alloc: Global, text: &str) -> Result<Vec<SourceChar>, AllocError>
+    ensures { IfOk result (λ characters. characters.items ≡ without_dropped (unplaced (chars text.now))) }
+{
+    let mut characters = Vec::new(alloc);
+    for char in text.chars() {
+        if !is_dropped(char) {
+            characters.push(SourceChar {
+                char,
+                start: 0,
+                end: 0,
+            })?;
+        }
+    }
+    Ok(characters)
+}
+
+/// Whether a line ends in U+000A.
+fn ends_in_feed(line: &[SourceChar]) -> bool
+    ensures { result ≡ ends_in_feed line.now }
+{
+    match line {
+        [] => false,
+        [.., last] => last.char == '\n',
+    }
+}
+
+/// What is there of a line: only a line without U+000A at its end can be cut off by a rule.
+fn part_of(has_front: bool, before: Next, line: &[SourceChar]) -> LinePart
+    ensures { result ≡ part_of has_front before line.now }
+{
+    let (has_end, behind) = if ends_in_feed(line) {
+        (true, None)
+    } else {
+        match before {
+            Next::LineEnd => (true, None),
+            Next::Var => (false, Some('0')),
+            Next::Optional => (false, Some('a')),
+        }
+    };
+    LinePart {
+        has_front,
+        has_end,
+        behind,
+    }
+}
+
+impl Left {
+    /// Adds what is left of a line.
+    fn push_line(
+        &mut self,
+        alloc: Global,
+        rules: &Rules,
+        part: LinePart,
+        line: &[SourceChar],
+    ) -> Result<(), AllocError>
+        ensures cells { OnOk result (self.new.cells.items ≡ self.old.cells.items ++ runs_joined (rules_of rules.now) (line_cells (rules_of rules.now) part line.now)) }
+        ensures tokens { OnOk result (tokens_in self.new.tokens.items ≡ tokens_in self.old.tokens.items ++ line_tokens (rules_of rules.now) part line.now) }
+    {
+        let cells = cells_of_line(alloc, rules, part, line)?;
+        self.cells.extend_from_slice(&cells)?;
+        push_tokens_of_line(alloc, rules, part, line, &mut self.tokens)
+    }
+}
+
+/// What the lines of a piece leave, one line after another.
+fn left_of(alloc: Global, text: &str, at_line_start: bool, before: Next) -> Result<Left, AllocError>
+    ensures cells { IfOk result (λ left. left.cells.items ≡ piece_cells at_line_start before text.now) }
+    ensures tokens { IfOk result (λ left. tokens_in left.tokens.items ≡ piece_tokens at_line_start before text.now) }
+{
+    let rules = Rules::profile(alloc);
+    let mut left = Left {
+        cells: Vec::new(alloc),
+        tokens: Vec::new(alloc),
+    };
+    let mut has_front = at_line_start;
+    let mut at = 0;
+    while at < text.len() {
+        let end = at + line_end(&text[at..]);
+        let line = characters_of(alloc, &text[at..end])?;
+        left.push_line(alloc, &rules, part_of(has_front, before, &line), &line)?;
+        has_front = true;
+        at = end;
+    }
+    Ok(left)
+}
+
+fn is_blank(cell: &Cell) -> bool
+    ensures { result ≡ is_blank cell.now }
+{
+    matches!(cell, Cell::Blank)
+}
+
+/// Whether all of these are blanks.
+fn are_blank(cells: &[Cell]) -> bool
+    ensures { result ≡ list_all is_blank cells.now }
+{
+    cells.iter().all(|cell| is_blank(cell))
+}
+
+/// Whether the first of these is a blank.
+fn begins_in_blank(cells: &[Cell]) -> bool
+    ensures { result ≡ begins_in_blank cells.now }
+{
+    matches!(cells, [Cell::Blank, ..])
+}
+
+/// Whether the last of these is a blank.
+fn ends_in_blank(cells: &[Cell]) -> bool
+    ensures { result ≡ ends_in_blank cells.now }
+{
+    matches!(cells, [.., Cell::Blank])
+}
+
+/// The letters with one blank at each edge where the list has one; a list of blanks alone is one
+/// blank.
+fn with_edges(alloc: Global, cells: &[Cell], letters: &str) -> Result<String, AllocError>
+    ensures { IfOk result (λ edged. string_bytes edged ≡ with_edges cells.now letters.now) }
+{
+    let mut edged = String::new(alloc);
+    if begins_in_blank(cells) {
+        edged.push(' ')?;
+    }
+    if are_blank(cells) {
+        return Ok(edged);
+    }
+    edged.push_str(letters)?;
+    if ends_in_blank(cells) {
+        edged.push(' ')?;
+    }
+    Ok(edged)
+}
+
 /// The letters of a piece of a template's text: the texts of its tokens, with one blank between two
-/// (SPDX 2.3 Annex B, white space and capitalization).
+/// whose meeting letters are both of kind Word, and one at each edge where the text has a blank after
+/// its line rules and runs (SPDX 2.3 Annex B; this project's profile).
 ///
-/// `at_line_start` and `before` say what stands round the piece in its line.
+/// `at_line_start` says whether the piece begins at a line's start, where a lead and an item are
+/// taken away, and `before` what follows it in its line. The error is want of memory.
 pub fn piece(
     alloc: Global,
     text: &str,
@@ -28,18 +184,12 @@ pub fn piece(
     before: Next,
     words: &Words,
 ) -> Result<String, AllocError>
-    ensures { IfOk result (λ letters. string_bytes letters ≡ piece_of text.now) }
+    ensures { IfOk result (λ letters. string_bytes letters ≡ piece_of words.now at_line_start before text.now) }
 {
-    let _ = at_line_start;
-    let _ = before;
-    let _ = words;
-    let entries = entries_of(alloc, text)?;
-    let mut letters = String::new(alloc);
-    for entry in &entries {
-        if !letters.is_empty() {
-            letters.push(' ')?;
-        }
-        letters.push_str(entry.text.as_str())?;
-    }
-    Ok(letters)
+    let Left { cells, tokens } = left_of(alloc, text, at_line_start, before)?;
+    let mut rewriting = Rewriting::new(alloc, words.phrases());
+    rewriting.take(alloc, tokens)?;
+    let tokens = rewriting.finish(alloc)?;
+    let letters = spelled(alloc, &tokens)?;
+    with_edges(alloc, &cells, letters.as_str())
 }

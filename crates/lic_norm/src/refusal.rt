@@ -1,4 +1,4 @@
-ghost use Rattle.std.specs.Prelude.{◌≡◌, IfOk, IfErr, Some, None};
+ghost use Rattle.std.specs.Prelude.{◌≡◌, ◌≤◌, length, IfOk, IfErr, OnOk, Some, None};
 ghost use Rattle.std.specs.Str.{IsUtf8};
 ghost use Rattle.lic_norm.specs.Refusal.{refusal_of, long_refusal};
 
@@ -12,6 +12,7 @@ pub const MOST_BYTES: usize = 67_108_864;
 #[tactic(auto, unfolding(crate::specs::Refusal::refusal_of))]
 pub(crate) fn accepted_text(input: &[u8]) -> Result<&str, TextFault>
     ensures text { IfOk result (λ text. (text.now ≡ input.now) × IsUtf8 input.now) }
+    ensures short { OnOk result (length input.now ≤ MOST_BYTES) }
     ensures accepted { IfOk result (λ _. refusal_of input.now ≡ None) }
     ensures refused { IfErr result (λ fault. refusal_of input.now ≡ Some fault) }
 {

@@ -1,10 +1,12 @@
 ghost use Rattle.std.specs.Prelude.{◌≡◌, ◌<◌, ◌≤◌, ◌≢◌, length, slice_range, slice_index_or, IfOk, IfErr, OnOk, Some, None};
 
 use crate::fault::TextFault;
+use crate::reading::tokens_of_text;
 use crate::refusal::accepted_text;
-use crate::scanning::entries_of;
-use crate::token::{Entry, Span, Token};
+use crate::token::{Span, Token};
+use crate::token_list::TokenList;
 use crate::words::Words;
+use lic_phrases::laws::spellings_are_token_texts;
 use std::alloc::Global;
 use std::marker::Model;
 
@@ -12,31 +14,30 @@ use std::marker::Model;
 #[derive(Debug, Drop)]
 pub struct Text {
     source: Vec<u8>,
-    entries: Vec<Entry>,
+    tokens: TokenList,
 }
 
 impl Model for Text {
-    ghost use Rattle.std.specs.Prelude.{map};
-    ghost use Rattle.lic_norm.specs.Views.{TextValue, entry_value};
-    ghost use Rattle.lic_norm.specs.Spans.{AreSpans, AreWords};
+    ghost use Rattle.lic_norm.specs.Views.{TextValue};
+    ghost use Rattle.lic_norm.specs.Spans.{AreSpans, AreTokenTexts};
 
     ghost Value = { TextValue };
 
-    ghost view = { λ t. record { source = t.source.items; tokens = map entry_value t.entries.items } };
+    ghost view = { λ t. record { source = t.source.items; tokens = t.tokens } };
 
-    ghost invariant = { λ t. AreSpans t.source.items (map entry_value t.entries.items) × AreWords (map entry_value t.entries.items) };
+    ghost invariant = { λ t. AreSpans t.source.items t.tokens × AreTokenTexts t.tokens };
 }
 
 impl Text {
     ghost use Rattle.lic_norm.specs.Refusal.{refusal_of};
-    ghost use Rattle.lic_norm.specs.Tokens.{tokens_of_input};
-    ghost use Rattle.lic_norm.specs.Spans.{AreSpans, AreWords, IsWord};
+    ghost use Rattle.lic_norm.specs.Tokens.{tokens_of};
+    ghost use Rattle.lic_norm.specs.Spans.{AreSpans, AreTokenTexts, IsTokenText};
 
     /// Reads a source of at most 67,108,864 bytes of UTF-8.
     ///
-    /// A token is a longest row of characters that are no white space (`char::is_whitespace`), with
-    /// ASCII letters in lower case (this project's profile of SPDX 2.3 Annex B, white space and
-    /// capitalization).
+    /// From each line its lead, list item and tail are taken away; then a token is a longest row of
+    /// word characters with their letters, or a mark; and signs of copyright, web addresses and
+    /// equivalent words are written as one (this project's profile of SPDX 2.3 Annex B).
     ///
     /// # Errors
     ///
@@ -45,23 +46,23 @@ impl Text {
     /// where a growth was refused.
     pub fn read(alloc: Global, source: Vec<u8>, words: &Words) -> Result<Text, TextFault>
         ensures source { IfOk result (λ t. t.source ≡ source.items) }
-        ensures tokens { IfOk result (λ t. t.tokens ≡ tokens_of_input source.items) }
+        ensures tokens { IfOk result (λ t. t.tokens ≡ tokens_of words.now source.items) }
         ensures spans { IfOk result (λ t. AreSpans t.source t.tokens) }
-        ensures words { IfOk result (λ t. AreWords t.tokens) }
+        ensures words { IfOk result (λ t. AreTokenTexts t.tokens) }
         ensures accepted { OnOk result (refusal_of source.items ≡ None) }
         ensures refused { IfErr result (λ fault. fault ≢ TextFault.Memory → refusal_of source.items ≡ Some fault) }
     {
-        let _ = words;
         let text = accepted_text(source.as_slice())?;
-        let entries = entries_of(alloc, text)?;
-        Ok(Text { source, entries })
+        let tokens = tokens_of_text(alloc, text, words)?;
+        spellings_are_token_texts(words);
+        Ok(Text { source, tokens })
     }
 
     /// How many tokens there are.
     pub fn len(&self) -> usize
         ensures { result ≡ length self.now.tokens }
     {
-        self.entries.len()
+        self.tokens.len()
     }
 
     /// The token number `i`, from 0: its text, and its bytes of the source.
@@ -69,15 +70,11 @@ impl Text {
         requires { i < length self.now.tokens }
         ensures text { (d : _) → result.text.now ≡ (slice_index_or self.now.tokens i d).text }
         ensures span { (d : _) → result.span ≡ (slice_index_or self.now.tokens i d).span }
-        ensures word { IsWord result.text.now }
+        ensures word { IsTokenText result.text.now }
         ensures order { result.span.start < result.span.end }
         ensures within { result.span.end ≤ length self.now.source }
     {
-        let entry = &self.entries[i];
-        Token {
-            text: entry.text.as_str(),
-            span: entry.span,
-        }
+        self.tokens.get(i)
     }
 
     /// The bytes that were read.

@@ -11,10 +11,3 @@ pub struct Token<'a> {
     pub text: &'a str,
     pub span: Span,
 }
-
-/// A token as it is kept.
-#[derive(Debug, Drop)]
-pub(crate) struct Entry {
-    pub(crate) text: String,
-    pub(crate) span: Span,
-}

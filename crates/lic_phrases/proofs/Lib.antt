@@ -13,9 +13,11 @@ pub mod ReadingLemmas
 pub mod PhraseKeys
 pub mod SpellingLemmas
 pub mod ListedLemmas
+pub mod HeadLemmas
 pub mod FaultLemmas
 pub mod PhraseBlanks
 pub mod PhraseTokens
 pub mod WordsComputed
 pub mod ComputedLemmas
 pub mod WordExamples
+pub mod SpelledTexts

@@ -3,11 +3,13 @@ use Rattle.std.proofs.Common.{◌≡◌, ◌≢◌, ℕ, zero, suc, ◌+◌, ◌
 use Rattle.std.proofs.lemmas.Bool.{cases_Bool, cases_lt}
 use Rattle.std.proofs.lemmas.List.{length-map, map-append, drop_all, take_more}
 use Rattle.std.proofs.lemmas.Slice.Eq.{bytes_eq-Decides}
-use Rattle.std.specs.List.{list_any, position_or_len, zip}
+use Rattle.std.specs.List.{All, list_any, position_or_len, zip}
+use Rattle.std.proofs.lemmas.List.Elements.{All-push}
 use Rattle.std.proofs.lemmas.Slice.Zip.{length-zip, get_or-zip}
 use Rattle.lic_phrases.specs.declared.phrase.ListedPhrase.{ListedPhrase}
 use Rattle.lic_phrases.specs.Keys.{texts_in, key_of, HaveNoBlank, AreWithoutBlanks}
 use Rattle.lic_phrases.specs.Spelling.{spelled}
+use Rattle.lic_phrases.specs.TokenTexts.{IsTokenText}
 use Rattle.lic_phrases.specs.Listed.{AreListed, ReadsPhrase, phrases_in, spellings_in, with_heads}
 use Rattle.lic_phrases.specs.WordReading.{HasRead}
 use Rattle.lic_phrases.proofs.PhraseKeys.{key_of-same}
@@ -73,7 +75,7 @@ AreWithoutBlanks-push [] phrase known more = (more, tt)
 AreWithoutBlanks-push (p ∷ phrases) phrase known more = (known.0, AreWithoutBlanks-push phrases phrase known.1 more)
 
 module _ {A : Type 0} (keys keys' : List (String A)) (phrases phrases' : List ListedPhrase) (heads heads' : List ℕ) (key : String A) (p : ListedPhrase) (number : ℕ)
-    (known : AreListed keys phrases heads) (is_key : string_bytes key ≡ key_of (texts_in p.texts.items)) (spelling : string_bytes p.spelling ≡ spelled (texts_in p.texts.items)) (no_blank : HaveNoBlank (texts_in p.texts.items)) where
+    (known : AreListed keys phrases heads) (is_key : string_bytes key ≡ key_of (texts_in p.texts.items)) (spelling : string_bytes p.spelling ≡ spelled (texts_in p.texts.items)) (no_blank : HaveNoBlank (texts_in p.texts.items)) (token_text : IsTokenText (string_bytes p.spelling)) where
   abbrev phrase : List (List ℕ)
   phrase = texts_in p.texts.items
 
@@ -87,6 +89,9 @@ module _ {A : Type 0} (keys keys' : List (String A)) (phrases phrases' : List Li
         ap spellings_in ps ∙ map-append (λ (q : ListedPhrase). string_bytes q.spelling) phrases (p ∷ []) ∙ ap₂ (λ a b. a ++ b ∷ []) known.spellings spelling
         ∙ sym (ap (λ l. map spelled l) now ∙ map-append spelled (phrases_in phrases) (phrase ∷ []));
     no_blanks = subst AreWithoutBlanks (sym now) (AreWithoutBlanks-push (phrases_in phrases) phrase known.no_blanks no_blank);
+    token_texts =
+        subst (All IsTokenText) (sym (ap spellings_in ps ∙ map-append (λ (q : ListedPhrase). string_bytes q.spelling) phrases (p ∷ [])))
+        (All-push IsTokenText (spellings_in phrases) (string_bytes p.spelling) known.token_texts token_text);
     as_many = omega (arith, ap length hs, ap length ps, length-append heads (number ∷ []), length-append phrases (p ∷ []), known.as_many);
   }
     where

@@ -1,12 +1,13 @@
--- No token of a phrase holds a blank: its letters are those of marks and of word characters.
-use Rattle.std.proofs.Common.{◌≡◌, ◌≢◌, ℕ, Bool, true, false, cond, ◌&&◌, ◌==◌, if◌then◌else◌, List, [], ◌∷◌, ◌++◌, map, codes, encode_utf8_all, refl, sym, ap, ◌∙◌, arith, nat_le, nat_lt, length}
+-- Each token of a phrase has a letter, and none holds a blank: its letters are those of marks and of word characters.
+use Rattle.std.proofs.Common.{◌≡◌, ◌≢◌, ℕ, Bool, true, false, cond, ◌&&◌, ◌==◌, if◌then◌else◌, List, [], ◌∷◌, ◌++◌, map, codes, encode_utf8_all, refl, sym, ap, ◌∙◌, arith, nat_le, nat_lt, length, ◌<◌, length-append}
 use Rattle.std.specs.Char.{encode_utf8}
 use Rattle.std.proofs.lemmas.List.Elements.{recursion_from_All}
+use Rattle.std.proofs.lemmas.Str.{length-le-encodes}
 use Rattle.std.specs.List.{flat_map, AllByRecursion}
 use Rattle.lic_kind.specs.declared.Kind.{Kind}
 use Rattle.lic_kind.specs.declared.Kind.TheVariants as kind
 use Rattle.lic_kind.specs.Kinds.{kind_of, is_mark_kind, is_word_kind, spell}
-use Rattle.lic_kind.proofs.LetterLemmas.{mark_letters, word_letters}
+use Rattle.lic_kind.proofs.LetterLemmas.{spell-Mark, mark_letters, word_has_letters, word_letters}
 use Rattle.lic_lines.specs.declared.cell.Cell.{Cell}
 use Rattle.lic_lines.specs.declared.cell.Cell.TheVariants.{Blank, Mark, Word}
 use Rattle.lic_lines.specs.declared.source.SourceChar.{SourceChar}
@@ -124,26 +125,44 @@ encoded_no_blank (c ∷ cs) known = no_blank-append (encode_utf8 c) (encode_utf8
 
 -- ---- tokens
 
+-- the text has a letter and no blank
+abbrev pub IsSolid : List ℕ → Type 0
+IsSolid text = (0 < length text) × HasNoBlank text
+
+-- so for each of these texts
+abbrev pub AreSolid : List (List ℕ) → Type 0
+AreSolid [] = Unit {0}
+AreSolid (text ∷ texts) = IsSolid text × AreSolid texts
+
 abbrev IsPlain : Token → Type 0
-IsPlain t = HasNoBlank t.text
+IsPlain t = IsSolid t.text
+
+encoded_solid : (cs : List ℕ) → 0 < length cs → Each (λ d. d ≢ 0x20) cs → IsSolid (encode_utf8_all cs)
+encoded_solid cs some known = (omega (arith, length-le-encodes cs, some), encoded_no_blank cs known)
 
 tokens_from-plain : (after_blank : Bool) (gs : List (List Cell)) → Each (Each IsSound) gs → Each IsPlain (tokens_from after_blank gs)
 tokens_from-plain after_blank [] known = tt
 tokens_from-plain after_blank ([] ∷ gs) known = tokens_from-plain after_blank gs known.1
 tokens_from-plain after_blank ((Blank ∷ cells) ∷ gs) known = tokens_from-plain true gs known.1
-tokens_from-plain after_blank ((Mark s ∷ cells) ∷ gs) known = (encoded_no_blank (letters_of (Mark s ∷ cells)) (letters_of-no_blank (Mark s ∷ cells) known.0), tokens_from-plain false gs known.1)
-tokens_from-plain after_blank ((Word s ∷ cells) ∷ gs) known = (encoded_no_blank (letters_of (Word s ∷ cells)) (letters_of-no_blank (Word s ∷ cells) known.0), tokens_from-plain false gs known.1)
+tokens_from-plain after_blank ((Mark s ∷ cells) ∷ gs) known = (
+  encoded_solid (letters_of (Mark s ∷ cells)) (omega (arith, length-append (spell s.char) (letters_of cells), ap length (spell-Mark s.char known.0.0))) (letters_of-no_blank (Mark s ∷ cells) known.0),
+  tokens_from-plain false gs known.1,
+)
+tokens_from-plain after_blank ((Word s ∷ cells) ∷ gs) known = (
+  encoded_solid (letters_of (Word s ∷ cells)) (omega (arith, length-append (spell s.char) (letters_of cells), word_has_letters s.char known.0.0)) (letters_of-no_blank (Word s ∷ cells) known.0),
+  tokens_from-plain false gs known.1,
+)
 
 -- a text that is written out
 tested : (text : List ℕ) → Each (λ b. (b == 0x20) ≡ false) text → HasNoBlank text
 tested [] known = tt
 tested (b ∷ text) known = ((λ same. let two : true ≡ false = sym (ap (λ n. n == 0x20) same) ∙ known.0 in absurd cc), tested text known.1)
 
-copyright_plain : HasNoBlank (codes "copyright")
-copyright_plain = tested (codes "copyright") (refl, (refl, (refl, (refl, (refl, (refl, (refl, (refl, (refl, tt)))))))))
+copyright_plain : IsSolid (codes "copyright")
+copyright_plain = (omega arith, tested (codes "copyright") (refl, (refl, (refl, (refl, (refl, (refl, (refl, (refl, (refl, tt))))))))))
 
-http_plain : HasNoBlank (codes "http")
-http_plain = tested (codes "http") (refl, (refl, (refl, (refl, tt))))
+http_plain : IsSolid (codes "http")
+http_plain = (omega arith, tested (codes "http") (refl, (refl, (refl, (refl, tt)))))
 
 as_sign-plain : (t : Token) → IsPlain t → IsPlain (as_sign t)
 as_sign-plain t known = each-cond IsPlain (is_text (encode_utf8_all (0xA9 ∷ [])) t) (record t { text = codes "copyright" }) t copyright_plain known
@@ -165,12 +184,12 @@ https_as_http-plain [] known = tt
 https_as_http-plain (t ∷ ts) known =
     (each-cond IsPlain (is_text (codes "https") t && begins_authority ts) (record t { text = codes "http" }) t http_plain known.0, https_as_http-plain ts known.1)
 
-texts_of-plain : (ts : List Token) → Each IsPlain ts → HaveNoBlank (texts_of ts)
+texts_of-plain : (ts : List Token) → Each IsPlain ts → AreSolid (texts_of ts)
 texts_of-plain [] known = tt
 texts_of-plain (t ∷ ts) known = (known.0, texts_of-plain ts known.1)
 
-pub phrase_has_no_blank : (cs : List ℕ) → HaveNoBlank (phrase_texts cs)
-phrase_has_no_blank cs =
+pub phrase_is_solid : (cs : List ℕ) → AreSolid (phrase_texts cs)
+phrase_is_solid cs =
     let cells = map cell_of (characters_of cs) in
     let parted = without_separators cells in
     let joint = with_joined parted in
@@ -181,3 +200,10 @@ phrase_has_no_blank cs =
     let plain = single_signs-plain (first_tokens joint) (tokens_from-plain true (groups both_words joint) (each-groups IsSound both_words joint joint_sound)) in
     let rows = each-flat_map (Each IsPlain) IsPlain sign_of_row sign_of_row-plain (groups both_signs signs) (each-groups IsPlain both_signs signs plain) in
     texts_of-plain (https_as_http (sign_rows signs)) (https_as_http-plain (sign_rows signs) rows)
+
+solid_no_blank : (texts : List (List ℕ)) → AreSolid texts → HaveNoBlank texts
+solid_no_blank [] known = tt
+solid_no_blank (text ∷ texts) known = (known.0.1, solid_no_blank texts known.1)
+
+pub phrase_has_no_blank : (cs : List ℕ) → HaveNoBlank (phrase_texts cs)
+phrase_has_no_blank cs = solid_no_blank (phrase_texts cs) (phrase_is_solid cs)

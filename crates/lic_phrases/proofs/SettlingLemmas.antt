@@ -152,3 +152,7 @@ Settles-end words taken settled settled' kept rows addresses waiting before sign
 pub OnOk-both : {X E : Type 0} (r : Result X E) (P Q R : Type 0) → (P → Q → R) → OnOk r P → OnOk r Q → OnOk r R
 OnOk-both (Ok x) P Q R follows p q = follows p q
 OnOk-both (Err e) P Q R follows p q = tt
+
+-- two lists that are the same are so behind any front
+pub behind_front : (front xs ys xs' ys' : List SpannedText) → xs ++ xs' ≡ ys ++ ys' → (front ++ xs) ++ xs' ≡ (front ++ ys) ++ ys'
+behind_front front xs ys xs' ys' same = append_assoc front xs xs' ∙ ap (λ l. front ++ l) same ∙ sym (append_assoc front ys ys')

@@ -9,3 +9,4 @@ pub mod Classes
 pub mod WordLists
 pub mod WordReading
 pub mod Listed
+pub mod TokenTexts

@@ -1,9 +1,10 @@
 -- What the code holds of a list of equivalent words.
-use Rattle.std.specs.Prelude.{◌≡◌, ℕ, List, [], ◌∷◌, ◌++◌, length, map, string_bytes, slice_index_or, String, Some}
-use Rattle.std.specs.List.{zip}
+use Rattle.std.specs.Prelude.{◌≡◌, ℕ, ◌<◌, ◌≤◌, List, [], ◌∷◌, ◌++◌, length, map, string_bytes, slice_index, slice_index_or, String, Some}
+use Rattle.std.specs.List.{zip, All}
 use Rattle.lic_phrases.specs.Rewriting.{Phrase}
 use Rattle.lic_phrases.specs.Spelling.{spelled}
 use Rattle.lic_phrases.specs.Keys.{texts_in, key_of, AreWithoutBlanks}
+use Rattle.lic_phrases.specs.TokenTexts.{IsTokenText}
 use Rattle.lic_phrases.specs.WordLists.{fault_from}
 use Rattle.lic_phrases.specs.WordReading.{HasRead}
 use Rattle.lic_phrases.specs.declared.fault.WordsCause.{WordsCause}
@@ -21,12 +22,21 @@ spellings_in phrases = map (λ p. string_bytes p.spelling) phrases
 abbrev pub with_heads : List (List (List ℕ)) → List (List ℕ) → List ℕ → List Phrase
 with_heads phrases spellings heads = map (λ p. record { texts = p.0; spelling = slice_index_or spellings p.1 [] }) (zip phrases heads)
 
--- The keys of these phrases, whose texts hold no blank, so that a key is of one phrase alone; each phrase's own spelling; and
--- a class for each.
+-- The keys of these phrases, whose texts hold no blank, so that a key is of one phrase alone; each phrase's own spelling, which
+-- is the text of a token; and a class for each.
 pub record AreListed {A : Type 0} (keys : List (String A)) (phrases : List ListedPhrase) (heads : List ℕ) : Type 0 where
   pub keyed : texts_in keys ≡ map key_of (phrases_in phrases)
   pub spellings : spellings_in phrases ≡ map spelled (phrases_in phrases)
   pub no_blanks : AreWithoutBlanks (phrases_in phrases)
+  pub token_texts : All IsTokenText (spellings_in phrases)
+  pub as_many : length heads ≡ length phrases
+
+-- phrases of one to eight texts, no two the same, and for each the number of one that does not stand behind it
+pub record HaveHeads (phrases : List (List (List ℕ))) (heads : List ℕ) : Type 0 where
+  pub some : (i : ℕ) → i < length phrases → 0 < length (slice_index_or phrases i [])
+  pub few : (i : ℕ) → i < length phrases → length (slice_index_or phrases i []) ≤ 8
+  pub distinct : (i j : ℕ) → i < length phrases → j < length phrases → slice_index_or phrases i [] ≡ slice_index_or phrases j [] → i ≡ j
+  pub low : (i : ℕ) → i < length phrases → slice_index heads i ≤ i
   pub as_many : length heads ≡ length phrases
 
 -- whatever was read before, one more phrase of the line is read, and has this number

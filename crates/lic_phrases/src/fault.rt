@@ -65,6 +65,17 @@ pub struct WordsFault {
     pub cause: WordsCause,
 }
 
+impl From<AllocError> for WordsFault {
+    ghost use Rattle.std.specs.Prelude.{◌≡◌};
+    ghost use Rattle.lic_phrases.specs.WordLists.{out_of_memory};
+
+    ghost from_gives = { λ _ fault. fault ≡ out_of_memory };
+
+    fn from(error: AllocError) -> WordsFault {
+        WordsCause::from(error).at(0)
+    }
+}
+
 impl WordsCause {
     ghost use Rattle.lic_phrases.specs.WordLists.{fault_at};
 

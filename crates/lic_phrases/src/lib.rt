@@ -5,6 +5,7 @@ mod address;
 mod fault;
 mod final_token;
 mod joining;
+pub mod laws;
 mod merging;
 mod phrase;
 mod phrases;

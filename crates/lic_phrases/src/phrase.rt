@@ -10,6 +10,7 @@ ghost use Rattle.lic_phrases.specs.Spelling.{
   spelled,
 };
 ghost use Rattle.lic_phrases.specs.Keys.{HaveNoBlank, key_of, texts_in};
+ghost use Rattle.lic_phrases.specs.TokenTexts.{IsTokenText};
 ghost use Rattle.lic_phrases.specs.WordLists.{fault_of_phrase, is_skipped, phrase_texts};
 
 use crate::fault::WordsCause;
@@ -37,6 +38,7 @@ pub(crate) fn listed(alloc: Global, phrase: &str) -> Result<ListedPhrase, WordsC
     ensures texts { IfOk result (λ p. texts_in p.texts.items ≡ phrase_texts (chars phrase.now)) }
     ensures spelling { IfOk result (λ p. string_bytes p.spelling
         ≡ spelled (phrase_texts (chars phrase.now))) }
+    ensures token_text { IfOk result (λ p. IsTokenText (string_bytes p.spelling)) }
     ensures sound { OnOk result (fault_of_phrase (phrase_texts (chars phrase.now)) ≡ None) }
     ensures fault { IfErr result (λ cause.
         (fault_of_phrase (phrase_texts (chars phrase.now)) ≡ Some cause)

@@ -5,7 +5,9 @@ ghost use Rattle.indexmap.specs.IndexMap.{get_by_text, IsUnchanged};
 ghost use Rattle.lic_phrases.specs.PhraseLists.{no_phrases, phrase_with, with_added, longest_from};
 ghost use Rattle.lic_phrases.specs.PhraseLists.{key_of, key_texts, phrase_of, IsKey};
 ghost use Rattle.lic_phrases.specs.PhraseLists.{IsRaised, HaveTokens};
+ghost use Rattle.lic_phrases.specs.Waiting.{IsKnownText, spanned_in};
 
+use crate::final_token::{FinalToken, TokenText};
 use indexmap::IndexMap;
 use std::alloc::{AllocError, Global};
 use std::marker::Model;
@@ -126,6 +128,17 @@ impl Phrases {
         ensures { map string_bytes result.now ≡ self.now.spellings }
     {
         self.spellings.as_slice()
+    }
+
+    /// The text of a token: its own, or the spelling of its class.
+    pub fn text_of<'a>(&'a self, token: &'a FinalToken) -> &'a str
+        requires { IsKnownText (length self.now.spellings) token.now.text }
+        ensures { result.now ≡ (spanned_in self.now.spellings token.now).text }
+    {
+        match &token.text {
+            TokenText::Own(text) => text.as_str(),
+            TokenText::Class(class) => self.spellings[*class].as_str(),
+        }
     }
 
     /// How many tokens a phrase has at most that begins with a token of this text: 0 where there is

@@ -3,6 +3,7 @@ ghost use Rattle.std.specs.Prelude.{◌≡◌, ◌+◌, ◌<◌, ◌≤◌, ◌�
 ghost use Rattle.std.specs.Str.{chars};
 ghost use Rattle.lic_phrases.specs.Keys.{HaveNoBlank, texts_in};
 ghost use Rattle.lic_phrases.specs.Spelling.{spelled};
+ghost use Rattle.lic_phrases.specs.TokenTexts.{IsTokenText};
 ghost use Rattle.lic_phrases.specs.WordLists.{fault_of, phrase_texts, phrases_of_line, split_phrases};
 ghost use Rattle.lic_phrases.specs.Listed.{
   AreListed,
@@ -54,6 +55,7 @@ impl Reader {
         requires listed { AreListed self.old.keys.keys self.old.phrases.items self.old.heads.items }
         requires spelling { string_bytes phrase.spelling ≡ spelled (texts_in phrase.texts.items) }
         requires no_blank { HaveNoBlank (texts_in phrase.texts.items) }
+        requires token_text { IsTokenText (string_bytes phrase.spelling) }
         ensures listed { OnOk result (AreListed self.new.keys.keys self.new.phrases.items
             self.new.heads.items) }
         ensures count { self.new.count ≡ self.old.count }

@@ -2,7 +2,7 @@
 ghost use Rattle.std.specs.Prelude.{◌≡◌, ◌∷◌, ◌++◌, [], List, OnOk, length, map};
 ghost use Rattle.lic_lines.specs.Tokens.{Token, token_in, tokens_in};
 ghost use Rattle.lic_phrases.specs.Held.{tokens_in_window};
-ghost use Rattle.lic_phrases.specs.Rewriting.{rewritten};
+ghost use Rattle.lic_phrases.specs.Rewriting.{SpannedText, rewritten};
 ghost use Rattle.lic_phrases.specs.Settling.{Settles, nothing_kept};
 ghost use Rattle.lic_phrases.specs.Waiting.{spanned_in, AreKnown};
 
@@ -78,18 +78,19 @@ impl Rewriter {
     }
 
     /// Takes the next token, and puts those that are now settled at the end of the output. All
-    /// tokens of a text are taken with the same phrases.
+    /// tokens of a text are taken with the same phrases. The caller may take tokens out of the output
+    /// between calls: those that were given `before` stand in front of it.
     pub fn push(
         &mut self,
         phrases: &Phrases,
         token: FirstToken,
         output: &mut Vec<FinalToken>,
     ) -> Result<(), AllocError>
-        ensures settles { OnOk result ((taken : List Token)
+        ensures settles { OnOk result ((before : List SpannedText) (taken : List Token)
             → Settles phrases.now.phrases taken
-            (map (spanned_in phrases.now.spellings) output.old.items) self.old
+            (before ++ map (spanned_in phrases.now.spellings) output.old.items) self.old
             → Settles phrases.now.phrases (taken ++ token_in token ∷ [])
-            (map (spanned_in phrases.now.spellings) output.new.items) self.new) }
+            (before ++ map (spanned_in phrases.now.spellings) output.new.items) self.new) }
         ensures known { AreKnown (length phrases.now.spellings) output.old.items
             → OnOk result (AreKnown (length phrases.now.spellings) output.new.items) }
     {
@@ -103,13 +104,13 @@ impl Rewriter {
         give_known(phrases, false, &mut self.waiting, &mut self.key, output)
     }
 
-    /// Ends the text: puts the tokens that were kept back at the end of the output, which is then
-    /// complete.
+    /// Ends the text: puts the tokens that were kept back at the end of the output. It is then
+    /// complete, behind the tokens that were given `before`.
     pub fn finish(self, phrases: &Phrases, output: &mut Vec<FinalToken>) -> Result<(), AllocError>
-        ensures whole { OnOk result ((taken : List Token)
+        ensures whole { OnOk result ((before : List SpannedText) (taken : List Token)
             → Settles phrases.now.phrases taken
-            (map (spanned_in phrases.now.spellings) output.old.items) self
-            → map (spanned_in phrases.now.spellings) output.new.items
+            (before ++ map (spanned_in phrases.now.spellings) output.old.items) self
+            → before ++ map (spanned_in phrases.now.spellings) output.new.items
             ≡ rewritten phrases.now.phrases taken) }
         ensures known { AreKnown (length phrases.now.spellings) output.old.items
             → OnOk result (AreKnown (length phrases.now.spellings) output.new.items) }

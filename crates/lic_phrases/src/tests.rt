@@ -48,16 +48,14 @@ fn phrases(alloc: Global) -> Result<Phrases, Fail> {
     Ok(phrases)
 }
 
-/// The tokens of a text after the rewriting, as `text start-end` with commas between them.
-fn rewritten(alloc: Global, phrases: &Phrases, text: &str) -> Result<String, Fail> {
-    let mut rewriter = Rewriter::new(alloc);
-    let mut output = Vec::new(alloc);
-    for token in first_tokens(alloc, text)? {
-        rewriter.push(phrases, token, &mut output)?;
-    }
-    rewriter.finish(phrases, &mut output)?;
-    let mut shown = String::new(alloc);
-    for token in &output {
+/// Adds the tokens to those shown, as `text start-end` with commas between them.
+fn show(
+    alloc: Global,
+    phrases: &Phrases,
+    tokens: &[FinalToken],
+    shown: &mut String,
+) -> Result<(), Fail> {
+    for token in tokens {
         if !shown.is_empty() {
             shown.push_str(", ")?;
         }
@@ -71,6 +69,19 @@ fn rewritten(alloc: Global, phrases: &Phrases, text: &str) -> Result<String, Fai
         let span = format!(in alloc; " {}-{}", token.start, token.end)?;
         shown.push_str(span.as_str())?;
     }
+    Ok(())
+}
+
+/// The tokens of a text after the rewriting, as they are shown.
+fn rewritten(alloc: Global, phrases: &Phrases, text: &str) -> Result<String, Fail> {
+    let mut rewriter = Rewriter::new(alloc);
+    let mut output = Vec::new(alloc);
+    for token in first_tokens(alloc, text)? {
+        rewriter.push(phrases, token, &mut output)?;
+    }
+    rewriter.finish(phrases, &mut output)?;
+    let mut shown = String::new(alloc);
+    show(alloc, phrases, output.as_slice(), &mut shown)?;
     Ok(shown)
 }
 
@@ -117,5 +128,54 @@ fn rewrites_without_phrases(rt: HostRuntime) -> Result<(), Fail> {
         found.as_str(),
         "copyright 0-19, http 20-25, : 26-27, / 28-29, / 30-31, a 32-33"
     );
+    Ok(())
+}
+
+#[test]
+fn output_may_be_emptied_between_tokens(rt: HostRuntime) -> Result<(), Fail> {
+    let alloc = rt.alloc();
+    let phrases = phrases(alloc)?;
+    let mut rewriter = Rewriter::new(alloc);
+    let mut output = Vec::new(alloc);
+    let mut shown = String::new(alloc);
+    for token in first_tokens(alloc, "x a b c d y sub license")? {
+        rewriter.push(&phrases, token, &mut output)?;
+        show(alloc, &phrases, output.as_slice(), &mut shown)?;
+        output.clear();
+    }
+    rewriter.finish(&phrases, &mut output)?;
+    show(alloc, &phrases, output.as_slice(), &mut shown)?;
+    assert_eq!(rt;
+        shown.as_str(),
+        "x 0-1, alphabet 2-7, d 8-9, y 10-11, sub-license 12-23"
+    );
+    Ok(())
+}
+
+#[test]
+fn tells_the_text_of_a_token(rt: HostRuntime) -> Result<(), Fail> {
+    let alloc = rt.alloc();
+    let mut phrases = Phrases::new(alloc);
+    let class = phrases.add_class(String::from_str(alloc, "alphabet")?)?;
+    let word = FinalToken {
+        text: TokenText::Own(String::from_str(alloc, "a")?),
+        start: 0,
+        end: 1,
+    };
+    let phrase = FinalToken {
+        text: TokenText::Class(class),
+        start: 2,
+        end: 7,
+    };
+    assert_eq!(rt; phrases.text_of(&word), "a");
+    assert_eq!(rt; phrases.text_of(&phrase), "alphabet");
+    Ok(())
+}
+
+#[test]
+fn spellings_of_words_are_token_texts(rt: HostRuntime) -> Result<(), Fail> {
+    let words = Words::read(rt.alloc(), "sub license,sub-license")?;
+    laws::spellings_are_token_texts(&words);
+    assert_eq!(rt; words.phrases().spellings().len(), 2);
     Ok(())
 }

@@ -1,12 +1,14 @@
 //! Equivalent words.
 ghost use Rattle.std.specs.Prelude.{◌≡◌, ◌⊎◌, [], None, Some, IfOk, IfErr, OnOk};
+ghost use Rattle.lic_phrases.specs.Listed.{HaveHeads, phrases_in, spellings_in, with_heads};
+ghost use Rattle.lic_phrases.specs.TokenTexts.{HaveTokenTexts, IsTokenText};
 ghost use Rattle.lic_phrases.specs.WordLists.{AreWords, first_fault, out_of_memory, phrase_lines};
 
 use crate::fault::WordsFault;
 use crate::phrase::ListedPhrase;
+use crate::phrases::Phrases;
 use crate::reader::Reader;
-use indexmap::IndexSet;
-use std::alloc::Global;
+use std::alloc::{AllocError, Global};
 use std::marker::Model;
 
 #[cfg(test)]
@@ -15,30 +17,39 @@ mod tests;
 /// The phrases of a list of equivalent words, each with the spelling of its class.
 #[derive(Drop)]
 pub struct Words {
-    /// The keys of the phrases.
-    keys: IndexSet<String>,
-    /// The phrases, each but once, where it first stands in the list.
-    phrases: Vec<ListedPhrase>,
-    /// For each phrase the number of the first of its class.
-    heads: Vec<usize>,
+    phrases: Phrases,
 }
 
 impl Model for Words {
     ghost use Rattle.std.specs.Prelude.{List};
     ghost use Rattle.lic_phrases.specs.Rewriting.{Phrase};
-    ghost use Rattle.lic_phrases.specs.Listed.{
-      AreListed,
-      phrases_in,
-      spellings_in,
-      with_heads,
-    };
+    ghost use Rattle.lic_phrases.specs.TokenTexts.{HaveTokenTexts};
 
     ghost Value = { List Phrase };
 
-    ghost view = { λ words. with_heads (phrases_in words.phrases.items)
-        (spellings_in words.phrases.items) words.heads.items };
+    ghost view = { λ words. words.phrases.phrases };
 
-    ghost invariant = { λ words. AreListed words.keys.keys words.phrases.items words.heads.items };
+    ghost invariant = { λ words. HaveTokenTexts words.phrases.phrases };
+}
+
+/// The phrases, each in the class of its head. Every phrase has a class with its own spelling; one
+/// that heads no phrase leaves its class empty.
+fn with_heads(
+    alloc: Global,
+    listed: Vec<ListedPhrase>,
+    heads: &[usize],
+) -> Result<Phrases, AllocError>
+    requires { HaveHeads (phrases_in listed.items) heads.now }
+    ensures { IfOk result (λ p. p.phrases
+        ≡ with_heads (phrases_in listed.items) (spellings_in listed.items) heads.now) }
+{
+    let mut phrases = Phrases::new(alloc);
+    for phrase in listed {
+        let ListedPhrase { texts, spelling } = phrase;
+        let number = phrases.add_class(spelling)?;
+        phrases.add(alloc, &texts, heads[number])?;
+    }
+    Ok(phrases)
 }
 
 impl Words {
@@ -47,9 +58,7 @@ impl Words {
         ensures { result ≡ [] }
     {
         Words {
-            keys: IndexSet::new(alloc),
-            phrases: Vec::new(alloc),
-            heads: Vec::new(alloc),
+            phrases: Phrases::new(alloc),
         }
     }
 
@@ -75,10 +84,21 @@ impl Words {
                 return Err(cause.at(number));
             }
         }
-        Ok(Words {
-            keys: reader.keys,
-            phrases: reader.phrases,
-            heads: reader.heads,
-        })
+        let phrases = with_heads(alloc, reader.phrases, &reader.heads)?;
+        Ok(Words { phrases })
     }
+
+    /// The phrases in classes, as the rewriting of a text takes them.
+    pub fn phrases(&self) -> &Phrases
+        ensures { result.now.phrases ≡ self.now }
+    {
+        &self.phrases
+    }
+}
+
+/// The spelling of each class of equivalent words is the text of a token.
+pub fn spellings_are_token_texts(words: &Words)
+    ensures { HaveTokenTexts words.now }
+{
+    let _ = &words.phrases;
 }

@@ -4,6 +4,7 @@ use Rattle.std.specs.List.{concat, filter}
 use Rattle.std.proofs.lemmas.List.{replicate_more}
 use Rattle.std.proofs.lemmas.List.Elements.{filter-append}
 use Rattle.lic_words.specs.Words.{Word, blank, blanks}
+use Rattle.lic_kind.specs.Kinds.{kind_of}
 use Rattle.lic_words.specs.Letters.{is_word}
 use Rattle.lic_words.specs.Spelling.{Gap, gap_of, free, gapped, gapped_from, row_of, Spells, SpellsGapped}
 
@@ -36,6 +37,7 @@ HasNoBlank-from last apart (c ∷ row) = by_letter (λ l a. HasNoBlank-from l a 
 
 -- a blank is no letter of a word
 gap-behind_blank : (c : ℕ) → gap_of true (is_word blank && is_word c) ≡ free
+unfolding kind_of
 gap-behind_blank c = refl
 
 BeginsFree-from : (row : List ℕ) → BeginsFree (gapped_from blank true row)

@@ -1,7 +1,7 @@
 -- Letters of words: a gap between two of them is written as a blank at least.
-use Rattle.std.specs.Prelude.{ℕ, Bool, not}
-use Rattle.std.specs.Char.{is_whitespace}
+use Rattle.std.specs.Prelude.{ℕ, Bool}
+use Rattle.lic_kind.specs.Kinds.{kind_of, is_word_kind}
 
--- In this version each character that is no white space is a letter of a word.
+-- the letters of kind Word
 abbrev pub is_word : ℕ → Bool
-is_word c = not (is_whitespace c)
+is_word c = is_word_kind (kind_of c)

@@ -7,6 +7,8 @@ ghost use Rattle.lic_words.specs.Words.{blank};
 ghost use Rattle.lic_words.specs.Spelling.{Gap, Allows, Spells, SpellsGapped, gap_of};
 ghost use Rattle.lic_words.specs.Places.{HasSpelled};
 
+use lic_kind::{Kind, kind_of};
+
 /// How far letters have spelled a list of tokens. A walk over the tokens goes from `start` by `after`, and asks `is_end`.
 #[derive(Clone, Copy, Debug, PartialEq, Eq)]
 pub struct Place {
@@ -114,5 +116,5 @@ fn are_letters_of_words(before: char, c: char) -> bool
 fn is_letter_of_word(c: char) -> bool
     ensures { result ≡ is_word c }
 {
-    !c.is_whitespace()
+    kind_of(c) == Kind::Word
 }

@@ -1,10 +1,11 @@
 -- Lemmas on matches that are asked for, and on their lines.
-use Rattle.std.proofs.Common.{◌≡◌, ◌≢◌, ℕ, ◌+◌, ◌-◌, ◌<◌, List, [], ◌∷◌, ◌++◌, take, length, Option, None, Some, Bool, true, refl, sym, ◌∙◌, ap, arith, nat_lt, length-append, subst, zero, suc, Result, Ok, Err, OnErr}
+use Rattle.std.proofs.Common.{◌≡◌, ◌≢◌, ℕ, ◌+◌, ◌-◌, ◌<◌, ◌≤◌, List, [], ◌∷◌, ◌++◌, take, length, Option, None, Some, Bool, true, refl, sym, ◌∙◌, ap, arith, nat_lt, length-append, subst, zero, suc, Result, Ok, Err, OnErr}
 use Rattle.std.specs.Prelude.{MatchOption}
 use Rattle.std.proofs.Math.Seq.{take-nil}
 use Rattle.std.proofs.lemmas.Grind.{common_steps}
 use Rattle.std.proofs.lemmas.Bool.Decides.{nat_tests}
-use Rattle.std.specs.List.{flat_map}
+use Rattle.std.proofs.lemmas.List.{take_more, take_all}
+use Rattle.std.specs.List.{flat_map, slice_index_or}
 use Rattle.std.specs.Io.KnownBytes.{Appends}
 use Rattle.lic_norm.specs.Tokens.{TokenValue}
 use Rattle.lic_find.specs.Sets.{Known}
@@ -12,7 +13,9 @@ use Rattle.lic_find.specs.Matches.{AreMatches}
 use Rattle.lic_find.specs.declared.triple.Triple.{Triple}
 use Rattle.licscan.specs.Stream.{BeginsWith}
 use Rattle.licscan.specs.Fields.{escaped}
-use Rattle.licscan.specs.Report.{match_line, first_of, IsReportOf}
+use Rattle.licscan.specs.Report.{match_line, token_line, token_lines, no_token, first_of, IsReportOf}
+use Rattle.licscan.proofs.Written.{IsPut, put_line, put_whole}
+use Rattle.lic_norm.specs.declared.token.Span.{Span}
 use Rattle.licscan.specs.declared.engine.Ask.{Ask}
 
 -- the first so many of a list that is not empty
@@ -65,3 +68,47 @@ module _ (name : List ℕ) (set : List Known) (ask : Ask) (tokens : List TokenVa
     p,
     s ∙ some_lines (match_line name set tokens) wanted (line_long name set tokens),
   )
+
+-- ---- lines of tokens
+
+token_long : (name : List ℕ) (t : TokenValue) → 0 < length (token_line name t)
+token_long name t =
+    let head : List ℕ = escaped name in
+    let e = length-append head (0x09 ∷ []) in
+    let rest : List ℕ = _ in
+    let all : length (token_line name t) ≡ length (head ++ 0x09 ∷ []) + length rest = length-append (head ++ 0x09 ∷ []) rest in
+    grind (arith, common_steps)
+
+-- there is a line where there is a token
+pub some_tokens : (name : List ℕ) (tokens : List TokenValue) → nat_lt 0 (length tokens) ≡ nat_lt 0 (length (token_lines name tokens))
+some_tokens name tokens = some_lines (token_line name) tokens (token_long name)
+
+same_line : (name text : List ℕ) (span : Span) (t : TokenValue) → text ≡ t.text → span ≡ t.span
+    → token_line name (record { text = text; span = span }) ≡ token_line name t
+same_line name text span t e f =
+    ap (λ x. token_line name (record { text = x; span = span })) e ∙ ap (λ x. token_line name (record { text = t.text; span = x })) f
+
+-- the line of the next token is gathered
+pub put_token : (name : List ℕ) (tokens : List TokenValue) (i : ℕ) (text : List ℕ) (span : Span) (a b : Option (List ℕ)) (gathered more : List ℕ)
+    → IsPut a b gathered (token_lines name (take i tokens)) → i < length tokens
+    → text ≡ (slice_index_or tokens i no_token).text → span ≡ (slice_index_or tokens i no_token).span
+    → more ≡ gathered ++ token_line name (record { text = text; span = span })
+    → IsPut a b more (token_lines name (take (i + 1) tokens))
+put_token name tokens i text span a b gathered more p h e f l =
+    let line : more ≡ gathered ++ token_line name (slice_index_or tokens i no_token) =
+    l ∙ ap (λ x. gathered ++ x) (same_line name text span (slice_index_or tokens i no_token) e f) in
+    let put : IsPut a b more (flat_map (token_line name) (take i tokens ++ slice_index_or tokens i no_token ∷ [])) =
+    put_line (token_line name) (take i tokens) (slice_index_or tokens i no_token) a b gathered more p line in
+    subst (λ ts. IsPut a b more (token_lines name ts)) (sym (take_more tokens i no_token h)) put
+
+-- the lines of all tokens are put
+pub put_tokens : (name : List ℕ) (tokens : List TokenValue) (i : ℕ) (a b c : Option (List ℕ)) (gathered : List ℕ)
+    → IsPut a b gathered (token_lines name (take i tokens)) → Appends b c gathered → length tokens ≤ i
+    → Appends a c (token_lines name tokens)
+put_tokens name tokens i a b c gathered p q h =
+    subst (λ ts. Appends a c (token_lines name ts)) (take_all i tokens h) (put_whole a b c gathered (token_lines name (take i tokens)) p q)
+
+pub begins_tokens : {A E : Type 0} (r : Result A E) (name : List ℕ) (tokens : List TokenValue) (a b : Option (List ℕ))
+    → BeginsWith a b (token_lines name tokens) → OnErr r (BeginsWith a b (token_lines name tokens))
+begins_tokens (Ok x) name tokens a b p = tt
+begins_tokens (Err x) name tokens a b p = p

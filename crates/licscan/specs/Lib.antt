@@ -4,3 +4,4 @@ pub mod Causes
 pub mod Fields
 pub mod Report
 pub mod Wanted
+pub mod Work

@@ -1,7 +1,8 @@
 -- What is written about an input.
 use Rattle.std.specs.Prelude.{◌≡◌, ℕ, List, [], ◌++◌, decimal, take, Option, Some, None}
 use Rattle.std.specs.List.{flat_map, slice_index_or}
-use Rattle.lic_norm.specs.Tokens.{TokenValue, tokens_of_input}
+use Rattle.lic_norm.specs.Tokens.{TokenValue, tokens_of}
+use Rattle.lic_phrases.specs.Rewriting.{Phrase}
 use Rattle.lic_find.specs.Sets.{Known}
 use Rattle.lic_find.specs.Matches.{AreMatches}
 use Rattle.lic_find.specs.declared.triple.Triple.{Triple}
@@ -35,6 +36,16 @@ pub record IsReportOf (name : List ℕ) (set : List Known) (ask : Ask) (tokens :
   pub matches : AreMatches set tokens ask.after found
   pub lines : written ≡ flat_map (match_line name set tokens) (first_of ask.limit found)
 
--- what is written is the report on an input
-abbrev pub IsReport : List ℕ → List Known → Ask → List ℕ → List ℕ → Type 0
-IsReport name set ask input written = IsReportOf name set ask (tokens_of_input input) written
+-- what is written is the report on an input, by a list of equivalent words
+abbrev pub IsReport : List ℕ → List Known → List Phrase → Ask → List ℕ → List ℕ → Type 0
+IsReport name set words ask input written = IsReportOf name set ask (tokens_of words input) written
+
+-- the line of a token: the file's name, its first byte and its end, and its text
+abbrev pub token_line : List ℕ → TokenValue → List ℕ
+token_line name t =
+    field (escaped name) 0x09 ++ (field (decimal t.span.start) 0x09
+    ++ (field (decimal t.span.end) 0x09 ++ field (escaped t.text) 0x0A))
+
+-- the lines of tokens, in order
+abbrev pub token_lines : List ℕ → List TokenValue → List ℕ
+token_lines name tokens = flat_map (token_line name) tokens

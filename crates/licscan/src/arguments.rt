@@ -24,6 +24,34 @@ Status: 0 if a line was written, 1 if none was, 2 if anything was refused or cou
 
 Example: licscan scan --all --templates templates LICENSE README";
 
+const TOKENS_ABOUT: &str = "Writes a line for each token of a file";
+
+const TOKENS_DETAILS: &str = "\
+A line has four fields with a tab between two: the file, the byte at which the token starts, the byte behind its
+end, and its text.
+
+Status: 0 if a line was written, 1 if none was, 2 if anything was refused or could not be read or written.
+
+Example: licscan tokens LICENSE";
+
+/// The file of the list of equivalent words.
+fn words_option<'a>(alloc: Global) -> Arg<'a> {
+    Arg::new(alloc, "words")
+        .long("words")
+        .value_name("FILE")
+        .help("The list of words that count as the same")
+        .action(ArgAction::Set)
+}
+
+/// The files that are read.
+fn files_argument<'a>(alloc: Global) -> Arg<'a> {
+    Arg::new(alloc, "files")
+        .value_name("FILES")
+        .help("The files to read; none, or -, is standard input")
+        .num_args(0..)
+        .action(ArgAction::Append)
+}
+
 /// The options and files of `scan`.
 fn scan_command<'a>(alloc: Global) -> Result<Command<'a>, AllocError> {
     let templates = Arg::new(alloc, "templates")
@@ -47,19 +75,24 @@ fn scan_command<'a>(alloc: Global) -> Result<Command<'a>, AllocError> {
         .help("Write at most N lines for each file")
         .value_parser(value_parser!(u32).range(1..))
         .action(ArgAction::Set);
-    let files = Arg::new(alloc, "files")
-        .value_name("FILES")
-        .help("The files to scan; none, or -, is standard input")
-        .num_args(0..)
-        .action(ArgAction::Append);
     Command::new(alloc, "scan")
         .about(SCAN_ABOUT)
         .after_help(SCAN_DETAILS)
         .arg(all)?
         .arg(templates)?
+        .arg(words_option(alloc))?
         .arg(after)?
         .arg(limit)?
-        .arg(files)
+        .arg(files_argument(alloc))
+}
+
+/// The options and files of `tokens`.
+fn tokens_command<'a>(alloc: Global) -> Result<Command<'a>, AllocError> {
+    Command::new(alloc, "tokens")
+        .about(TOKENS_ABOUT)
+        .after_help(TOKENS_DETAILS)
+        .arg(words_option(alloc))?
+        .arg(files_argument(alloc))
 }
 
 /// Reads the words after the program's name.
@@ -68,6 +101,7 @@ pub fn parse<'a>(alloc: Global, words: &'a [&'a str]) -> Result<ArgMatches<'a>, 
         .about(ABOUT)
         .subcommand_required(true)
         .subcommand(scan_command(alloc)?)?
+        .subcommand(tokens_command(alloc)?)?
         .try_get_matches_from(words)
 }
 
@@ -99,10 +133,43 @@ fn read_after(text: &str) -> Option<After<'_>> {
     })
 }
 
+/// The files that are given, or standard input alone where none is.
+fn files_given<'a>(alloc: Global, found: &ArgMatches<'a>) -> Result<Vec<&'a str>, Stop> {
+    let mut files = Vec::new(alloc);
+    if let Some(given) = found.get_strs("files") {
+        files.extend_from_slice(given)?;
+    }
+    if files.is_empty() {
+        files.push("-")?;
+    }
+    Ok(files)
+}
+
+/// The arguments of `tokens`.
+#[derive(Debug, Drop)]
+pub struct TokensArguments<'a> {
+    /// The file of the list of equivalent words.
+    pub words: Option<&'a str>,
+    /// Standard input alone where no file is given.
+    pub files: Vec<&'a str>,
+}
+
+impl<'a> TokensArguments<'a> {
+    /// Reads what the parser found.
+    pub fn read(alloc: Global, found: &ArgMatches<'a>) -> Result<TokensArguments<'a>, Stop> {
+        Ok(TokensArguments {
+            words: found.get_str("words"),
+            files: files_given(alloc, found)?,
+        })
+    }
+}
+
 /// The arguments of `scan`.
 #[derive(Debug, Drop)]
 pub struct ScanArguments<'a> {
     pub folder: &'a str,
+    /// The file of the list of equivalent words.
+    pub words: Option<&'a str>,
     pub after: Option<After<'a>>,
     pub limit: Option<u64>,
     /// Standard input alone where no file is given.
@@ -116,13 +183,7 @@ impl<'a> ScanArguments<'a> {
         if !found.get_flag("all") {
             return Err(Stop::Arguments(ArgumentFault::NeedsAll));
         }
-        let mut files = Vec::new(alloc);
-        if let Some(given) = found.get_strs("files") {
-            files.extend_from_slice(given)?;
-        }
-        if files.is_empty() {
-            files.push("-")?;
-        }
+        let files = files_given(alloc, found)?;
         let mut after = None;
         if let Some(text) = found.get_str("after") {
             if files.len() > 1 {
@@ -135,6 +196,7 @@ impl<'a> ScanArguments<'a> {
         }
         Ok(ScanArguments {
             folder: found.get_str("templates").unwrap_or(""),
+            words: found.get_str("words"),
             after,
             limit: found.get_one::<u32>("limit").map(u64::from),
             files,

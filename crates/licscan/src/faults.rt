@@ -8,6 +8,7 @@ use crate::fields::Escaped;
 use crate::stream::Sink;
 use crate::transfer::put_all;
 use lic_find::set::BuildFault;
+use lic_norm::words::WordsFault;
 use std::alloc::{AllocError, AllocFailed, Global};
 use std::io;
 use std::io::ErrorKind;
@@ -30,11 +31,26 @@ pub enum ArgumentFault {
     NoTemplate { id: String },
 }
 
+/// Why a list of equivalent words is not taken.
+#[derive(Clone, Copy, Debug, PartialEq, Eq, Error)]
+pub enum ListFault {
+    /// The file cannot be opened or read, or has more than 67,108,864 bytes.
+    #[error("cannot be read")]
+    Unreadable,
+    /// `at` is the length in bytes of the longest front that is UTF-8.
+    #[error("not UTF-8 at byte {at}")]
+    NotUtf8 { at: usize },
+    #[error("{0}")]
+    Refused(WordsFault),
+}
+
 /// Why the program ends.
 #[derive(Debug, Drop, Error)]
 pub enum Stop {
     #[error("{0}")]
     Arguments(ArgumentFault),
+    #[error("words: {0}")]
+    Words(ListFault),
     #[error("templates: cannot be listed")]
     Listing,
     #[error("templates: {0}")]

@@ -1,8 +1,8 @@
-//! The files that are scanned.
+//! The files that lines are written about.
 
-ghost use Rattle.std.specs.Prelude.{IsTrue};
+ghost use Rattle.licscan.specs.Work.{AsksAll};
 
-use crate::engine::{Ask, RunFault, run};
+use crate::engine::{Ask, RunFault, run, run_tokens};
 use crate::faults::{Stop, tell, wants_memory};
 use crate::fields::Escaped;
 use crate::stream::{Counted, Sink, Source};
@@ -13,72 +13,96 @@ use std::fs::File;
 use std::rt::Files;
 
 /// What is looked for in each file.
-#[derive(Clone, Copy, Debug)]
+#[derive(Clone, Copy)]
 pub struct Search<'a> {
     pub set: &'a Set,
     pub words: &'a Words,
     pub ask: &'a Ask,
 }
 
+/// What is written about each file.
+#[derive(Clone, Copy)]
+pub enum Work<'a> {
+    /// The matches of a search.
+    Scan(Search<'a>),
+    /// The tokens, by a list of equivalent words.
+    Tokens(&'a Words),
+}
+
 /// What came of the files.
 #[derive(Clone, Copy, Debug, PartialEq, Eq)]
-pub struct Scanned {
+pub struct Written {
     pub has_line: bool,
     pub is_refused: bool,
 }
 
-/// Scans one file, or standard input where the name is `-`.
-fn scan_file<Rt: Files, R: Source, W: Sink>(
+/// Writes the lines about one input, and says whether there was one.
+fn write_lines<R: Source, W: Sink>(
+    alloc: Global,
+    name: &str,
+    input: &mut R,
+    out: &mut W,
+    work: Work<'_>,
+) -> Result<bool, RunFault>
+    requires { AsksAll work }
+{
+    match work {
+        Work::Scan(Search { set, words, ask }) => run(alloc, name, input, out, set, words, ask),
+        Work::Tokens(words) => run_tokens(alloc, name, input, out, words),
+    }
+}
+
+/// Writes the lines about one file, or about standard input where the name is `-`.
+fn write_file<Rt: Files, R: Source, W: Sink>(
     rt: &Rt,
     alloc: Global,
     name: &str,
     input: &mut R,
     out: &mut W,
-    search: Search<'_>,
+    work: Work<'_>,
 ) -> Result<Result<bool, RunFault>, Stop>
-    requires { IsTrue search.ask.now.all }
+    requires { AsksAll work }
 {
-    let Search { set, words, ask } = search;
     if name == "-" {
-        return Ok(run(alloc, name, input, out, set, words, ask));
+        return Ok(write_lines(alloc, name, input, out, work));
     }
     match File::open(rt, name) {
         Ok(file) => {
             let mut source = Counted::new(file);
-            Ok(run(alloc, name, &mut source, out, set, words, ask))
+            Ok(write_lines(alloc, name, &mut source, out, work))
         }
         Err(e) if wants_memory(&e) => Err(Stop::Memory),
         Err(_) => Ok(Err(RunFault::Read)),
     }
 }
 
-/// Scans the files in order. One that is refused or cannot be read is told, and the rest go on.
-pub fn scan_files<Rt: Files, R: Source, W: Sink, E: Sink>(
+/// Writes the lines about files in order. One that is refused or cannot be read is told, and the rest go on.
+pub fn write_files<Rt: Files, R: Source, W: Sink, E: Sink>(
     rt: &Rt,
     alloc: Global,
     files: &[&str],
     input: &mut R,
     out: &mut W,
     err: &mut E,
-    search: Search<'_>,
-) -> Result<Scanned, Stop>
-    requires { IsTrue search.ask.now.all }
+    work: Work<'_>,
+) -> Result<Written, Stop>
+    requires { AsksAll work }
 {
-    let mut scanned = Scanned {
+    let mut written = Written {
         has_line: false,
         is_refused: false,
     };
     for name in files {
-        match scan_file(rt, alloc, name, input, out, search)? {
-            Ok(some) => scanned.has_line |= some,
+        match write_file(rt, alloc, name, input, out, work)? {
+            Ok(some) => written.has_line |= some,
             Err(RunFault::Write) => return Err(Stop::Write),
             Err(fault) => {
                 let name = Escaped(name);
                 let line = format!(in alloc; "licscan: {name}: {fault}\n")?;
                 tell(err, line.as_str());
-                scanned.is_refused = true;
+                written.is_refused = true;
             }
         }
     }
-    Ok(scanned)
+    Ok(written)
 }

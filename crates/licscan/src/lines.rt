@@ -2,13 +2,14 @@
 
 ghost use Rattle.std.specs.Prelude.{◌≡◌, ◌++◌, OnOk};
 ghost use Rattle.std.specs.List.{slice_index_or};
-ghost use Rattle.licscan.specs.Report.{match_line, no_known, no_token};
+ghost use Rattle.licscan.specs.Fields.{escaped, field};
+ghost use Rattle.licscan.specs.Report.{match_line, token_line, no_known, no_token};
 
 use crate::fields::{add_number, add_text};
 use lic_find::set::Set;
 use lic_find::triple::Triple;
 use lic_norm::text::Text;
-use lic_norm::token::Span;
+use lic_norm::token::{Span, Token};
 use std::alloc::AllocError;
 
 /// The identifier of a template, or nothing.
@@ -29,6 +30,13 @@ fn span_at(text: &Text, i: usize) -> Span
     }
 }
 
+/// Adds the file's name, which stands first in each line.
+fn add_file(lines: &mut Vec<u8>, name: &str) -> Result<(), AllocError>
+    ensures { OnOk result (lines.new.items ≡ lines.old.items ++ field (escaped name.now) 0x09) }
+{
+    add_text(lines, name.as_bytes(), b'\t')
+}
+
 /// Adds the line of a match: the file, the identifier, the numbers of the first and last token, the first
 /// byte of the one and the end of the other.
 pub fn add_match(
@@ -40,10 +48,20 @@ pub fn add_match(
 ) -> Result<(), AllocError>
     ensures { OnOk result (lines.new.items ≡ lines.old.items ++ match_line name.now set.now text.now.tokens triple) }
 {
-    add_text(lines, name.as_bytes(), b'\t')?;
+    add_file(lines, name)?;
     add_text(lines, id_at(set, triple.template).as_bytes(), b'\t')?;
     add_number(lines, triple.first, b'\t')?;
     add_number(lines, triple.last, b'\t')?;
     add_number(lines, span_at(text, triple.first).start, b'\t')?;
     add_number(lines, span_at(text, triple.last).end, b'\n')
+}
+
+/// Adds the line of a token: the file, the first byte of the token and its end, and its text.
+pub fn add_token(lines: &mut Vec<u8>, name: &str, token: Token<'_>) -> Result<(), AllocError>
+    ensures { OnOk result (lines.new.items ≡ lines.old.items ++ token_line name.now (record { text = token.entry.text.now; span = token.entry.span })) }
+{
+    add_file(lines, name)?;
+    add_number(lines, token.span.start, b'\t')?;
+    add_number(lines, token.span.end, b'\t')?;
+    add_text(lines, token.text.as_bytes(), b'\n')
 }

@@ -14,6 +14,7 @@ pub mod templates;
 mod tests;
 pub mod transfer;
 pub mod wanted;
+pub mod word_list;
 
 use crate::faults::{ArgumentFault, Stop, tell_stop, wants_memory};
 use crate::program::command;

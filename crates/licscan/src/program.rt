@@ -1,14 +1,14 @@
 //! The whole program.
 
-use crate::arguments::{ScanArguments, ask_of, parse};
+use crate::arguments::{ScanArguments, TokensArguments, ask_of, parse};
 use crate::faults::{ArgumentFault, Stop, tell, tell_stop};
-use crate::files::{Search, scan_files};
+use crate::files::{Search, Work, Written, write_files};
 use crate::stream::{Sink, Source};
 use crate::templates::load_all;
 use crate::transfer::put_all;
+use crate::word_list::load_words;
 use clap::error::ErrorKind;
 use clap::{ArgMatches, Error};
-use lic_norm::words::Words;
 use std::alloc::Global;
 use std::rt::Files;
 
@@ -19,7 +19,18 @@ const NOTHING: u8 = 1;
 
 const REFUSED: u8 = 2;
 
-/// The command `scan`: the arguments, the templates by identifier, the files as given.
+/// The status after all files.
+fn status_of(written: Written) -> u8 {
+    if written.is_refused {
+        REFUSED
+    } else if written.has_line {
+        FOUND
+    } else {
+        NOTHING
+    }
+}
+
+/// The command `scan`: the arguments, the word list, the templates by identifier, the files as given.
 fn scan<Rt: Files + AllocGlobal + Clone + Drop, R: Source, W: Sink, E: Sink>(
     rt: &Rt,
     alloc: Global,
@@ -29,7 +40,7 @@ fn scan<Rt: Files + AllocGlobal + Clone + Drop, R: Source, W: Sink, E: Sink>(
     err: &mut E,
 ) -> Result<u8, Stop> {
     let arguments = ScanArguments::read(alloc, found)?;
-    let words = Words::none(alloc);
+    let words = load_words(rt, alloc, arguments.words)?;
     let loaded = load_all(rt, alloc, arguments.folder, &words, err)?;
     let ask = ask_of(alloc, &arguments, &loaded.set)?;
     let search = Search {
@@ -38,14 +49,25 @@ fn scan<Rt: Files + AllocGlobal + Clone + Drop, R: Source, W: Sink, E: Sink>(
         ask: &ask,
     };
     let files = arguments.files.as_slice();
-    let scanned = scan_files(rt, alloc, files, input, out, err, search)?;
-    if loaded.is_refused || scanned.is_refused {
-        Ok(REFUSED)
-    } else if scanned.has_line {
-        Ok(FOUND)
-    } else {
-        Ok(NOTHING)
-    }
+    let mut written = write_files(rt, alloc, files, input, out, err, Work::Scan(search))?;
+    written.is_refused |= loaded.is_refused;
+    Ok(status_of(written))
+}
+
+/// The command `tokens`: the arguments, the word list, the files as given.
+fn tokens<Rt: Files + AllocGlobal, R: Source, W: Sink, E: Sink>(
+    rt: &Rt,
+    alloc: Global,
+    found: &ArgMatches<'_>,
+    input: &mut R,
+    out: &mut W,
+    err: &mut E,
+) -> Result<u8, Stop> {
+    let arguments = TokensArguments::read(alloc, found)?;
+    let words = load_words(rt, alloc, arguments.words)?;
+    let files = arguments.files.as_slice();
+    let written = write_files(rt, alloc, files, input, out, err, Work::Tokens(&words))?;
+    Ok(status_of(written))
 }
 
 /// Writes what the parser of the arguments says: help to standard output, a fault to standard error.
@@ -82,10 +104,15 @@ fn try_command<Rt: Files + AllocGlobal + Clone + Drop, R: Source, W: Sink, E: Si
     words.push("licscan")?;
     words.extend_from_slice(args)?;
     match parse(alloc, words.as_slice()) {
-        Ok(matches) => match matches.subcommand_matches("scan") {
-            Some(found) => scan(rt, alloc, found, input, out, err),
-            None => Err(Stop::Arguments(ArgumentFault::NoCommand)),
-        },
+        Ok(matches) => {
+            if let Some(found) = matches.subcommand_matches("scan") {
+                scan(rt, alloc, found, input, out, err)
+            } else if let Some(found) = matches.subcommand_matches("tokens") {
+                tokens(rt, alloc, found, input, out, err)
+            } else {
+                Err(Stop::Arguments(ArgumentFault::NoCommand))
+            }
+        }
         Err(error) => show_usage(alloc, &error, out, err),
     }
 }

@@ -4,3 +4,5 @@ mod help;
 mod matches;
 mod refusals;
 mod streams;
+mod tokens;
+mod word_lists;

@@ -8,8 +8,8 @@ fn reads_a_template(rt: HostRuntime) -> Result<(), Fail> {
     let template = read_template(rt.alloc(), text, &words)?;
     assert_eq!(rt; template.parts().len(), 1);
     let Part::Text(letters) = &template.parts()[0];
-    assert_eq!(rt; letters.as_str(), "foo bar baz.");
-    assert_eq!(rt; template.weight(), 12);
+    assert_eq!(rt; letters.as_str(), " foo bar baz. ");
+    assert_eq!(rt; template.weight(), 14);
     assert_eq!(rt; template.original(), text);
     Ok(())
 }
@@ -28,9 +28,9 @@ fn weighs_letters_and_blanks(rt: HostRuntime) -> Result<(), Fail> {
     let words = Words::none(rt.alloc());
     for (piece, count, weight) in [
         ("a", 1, 1),
-        ("\u{e9}\n ", 3, 5),
+        ("\u{e9}\n ", 3, 6),
         ("\u{20ac}", 131_072, 131_072),
-        (" ab", 43_691, 131_072),
+        ("ab ", 43_690, 131_070),
     ] {
         let text = repeated(rt.alloc(), piece, count)?;
         let template = read_template(rt.alloc(), text.as_str(), &words)?;

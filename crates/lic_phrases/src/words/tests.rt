@@ -1,17 +1,25 @@
 //! Lists of equivalent words: what is read and what is refused, and the texts of the faults.
 use super::*;
 use crate::fault::WordsCause;
+use crate::phrases::SEPARATOR;
+use crate::tokens::phrase_tokens;
 use std::alloc::AllocError;
 use std::test::Fail;
 
 /// Each phrase of the words and the spelling of its class, a line for each.
 fn shown(alloc: Global, words: &Words) -> Result<String, AllocError> {
+    let phrases = words.phrases();
     let mut text = String::new(alloc);
-    for (phrase, head) in words.phrases.iter().zip(words.heads.iter()) {
-        text.push_str(phrase.spelling.as_str())?;
+    for spelling in phrases.spellings() {
+        let mut key = Vec::new(alloc);
+        for token in phrase_tokens(alloc, spelling.as_str())? {
+            key.extend_from_slice(token.as_bytes())?;
+            key.push(SEPARATOR)?;
+        }
+        text.push_str(spelling.as_str())?;
         text.push_str(" = ")?;
-        if let Some(first) = words.phrases.get(*head) {
-            text.push_str(first.spelling.as_str())?;
+        if let Some(class) = phrases.class_of(key.as_slice()) {
+            text.push_str(phrases.spellings()[class].as_str())?;
         }
         text.push('\n')?;
     }

@@ -8,8 +8,9 @@ Finds the ranges of texts that licence templates describe
 Usage: licscan <COMMAND>
 
 Commands:
-  scan  Writes a line for each match: a range of a file that a template describes
-  help  Print this message or the help of the given subcommand(s)
+  scan    Writes a line for each match: a range of a file that a template describes
+  tokens  Writes a line for each token of a file
+  help    Print this message or the help of the given subcommand(s)
 
 Options:
   -h, --help  Print help
@@ -21,11 +22,12 @@ Writes a line for each match: a range of a file that a template describes
 Usage: licscan scan [OPTIONS] --templates <DIR> [FILES]...
 
 Arguments:
-  [FILES]...  The files to scan; none, or -, is standard input
+  [FILES]...  The files to read; none, or -, is standard input
 
 Options:
       --all              Write every match, also those that overlap (must be given)
       --templates <DIR>  The folder of the templates
+      --words <FILE>     The list of words that count as the same
       --after <F:L:ID>   Write only what comes after first token F, last token L, template ID
       --limit <N>        Write at most N lines for each file
   -h, --help             Print help
@@ -40,9 +42,29 @@ Status: 0 if a line was written, 1 if none was, 2 if anything was refused or cou
 Example: licscan scan --all --templates templates LICENSE README
 ";
 
+const TOKENS_HELP: &str = "\
+Writes a line for each token of a file
+
+Usage: licscan tokens [OPTIONS] [FILES]...
+
+Arguments:
+  [FILES]...  The files to read; none, or -, is standard input
+
+Options:
+      --words <FILE>  The list of words that count as the same
+  -h, --help          Print help
+
+A line has four fields with a tab between two: the file, the byte at which the token starts, the byte behind its
+end, and its text.
+
+Status: 0 if a line was written, 1 if none was, 2 if anything was refused or could not be read or written.
+
+Example: licscan tokens LICENSE
+";
+
 const NO_COMMAND: &str = "\
 error: 'licscan' requires a subcommand but one was not provided
-  [subcommands: scan, help]
+  [subcommands: scan, tokens, help]
 
 Usage: licscan <COMMAND>
 
@@ -82,6 +104,13 @@ fn help_and_usage_are_shown(rt: HostRuntime) {
                 input: "",
                 status: 0,
                 out: SCAN_HELP,
+                err: "",
+            },
+            Case {
+                args: &["tokens", "--help"],
+                input: "",
+                status: 0,
+                out: TOKENS_HELP,
                 err: "",
             },
             Case {

@@ -1,20 +1,14 @@
-use Rattle.std.proofs.Common.{◌≡◌, ◌∙◌, ap, Some, sym}
-use Rattle.licscan.proofs.Refusals.{refused_text}
 use Rattle.licscan.proofs.RunLemmas.{whole_report, part_report}
 use Rattle.licscan.proofs.engine.run.Goals as goal
 
-pub returns-in-Ok-read-clause-report : goal.returns-in-Ok-read-clause-report
-returns-in-Ok-read-clause-report g c =
-    whole_report c.args.name.now c.args.set.now c.args.ask.now c.report.result c.in-Ok-read.text.tokens c.in-Ok.bytes.items _ _ _ _
-    c.in-Ok.ensures.bytes c.in-Ok.ensures.end c.in-Ok-read.ensures.accepted c.in-Ok-read.ensures.tokens c.report.ensures.written
+pub returns-clause-report : goal.returns-clause-report
+returns-clause-report g c =
+    let whole = c.in_ok-text.ensures.whole in
+    whole_report c.args.name.now c.args.set.now c.args.words.now c.args.ask.now c.report.result c.in_ok-text.text.tokens whole.0 _ _ _ _
+    (record { read = whole.1; end = whole.2; accepted = whole.3; same = whole.4 }) c.report.ensures.written
 
-pub returns-in-Ok-read-clause-part : goal.returns-in-Ok-read-clause-part
-returns-in-Ok-read-clause-part g c = λ fault is which.
-    part_report c.args.name.now c.args.set.now c.args.ask.now c.report.result fault c.in-Ok-read.text.tokens c.in-Ok.bytes.items _ _ _ _
-    c.in-Ok.ensures.bytes c.in-Ok.ensures.end c.in-Ok-read.ensures.accepted c.in-Ok-read.ensures.tokens c.report.ensures.part is
-
-pub returns-in-Err-clause-refused : goal.returns-in-Err-clause-refused
-returns-in-Err-clause-refused g c = λ fault is not_memory.
-    let same : c.in-Err.fault ≡ fault = cc in
-    refused_text c.in-Ok.bytes.items fault _ _ c.in-Ok.ensures.bytes c.in-Ok.ensures.end
-    (c.in-Err.ensures.refused (λ e. not_memory (sym same ∙ e)) ∙ ap Some same)
+pub returns-clause-part : goal.returns-clause-part
+returns-clause-part g c = λ fault is which.
+    let whole = c.in_ok-text.ensures.whole in
+    part_report c.args.name.now c.args.set.now c.args.words.now c.args.ask.now c.report.result fault c.in_ok-text.text.tokens whole.0 _ _ _ _
+    (record { read = whole.1; end = whole.2; accepted = whole.3; same = whole.4 }) c.report.ensures.part is

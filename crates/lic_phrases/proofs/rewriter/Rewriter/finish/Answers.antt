@@ -7,7 +7,7 @@ use Rattle.lic_phrases.specs.Settling.{Settles}
 use Rattle.lic_phrases.specs.Held.{held, tokens_in_window}
 use Rattle.lic_phrases.specs.Waiting.{spanned_in}
 use Rattle.lic_phrases.proofs.MergingLemmas.{none_from}
-use Rattle.lic_phrases.proofs.SettlingLemmas.{Settles-end, sign_rows-held, https_as_http-window, OnOk-both}
+use Rattle.lic_phrases.proofs.SettlingLemmas.{Settles-end, sign_rows-held, https_as_http-window, OnOk-both, behind_front}
 use Rattle.lic_phrases.proofs.rewriter.Rewriter.finish.Goals as goal
 use Rattle.lic_phrases.proofs.rewriter.Rewriter.finish.Goals.{in-Some+in-Some-push_address+in_ok-push_back, in-Some+in_default-push_address, in_default}
 
@@ -18,8 +18,8 @@ returns-clause-whole c =
     let fields = c.self.inside in
     let waiting = tokens_in fields.waiting.items in
     let window = tokens_in_window fields.address in
-    let settled = map (spanned_in spellings) c.args.output.now.items in
-    let settled' = map (spanned_in spellings) c.give_known.new.output.items in
+    let old = map (spanned_in spellings) c.args.output.now.items in
+    let new = map (spanned_in spellings) c.give_known.new.output.items in
     let poured = tokens_in c.pour.new.waiting.items in
     let gathered : tokens_in c.match-sign.waiting.items ++ tokens_in_window c.match-sign.address ≡ waiting ++ https_as_http (window ++ held fields.sign) =
     elim c.match-sign.branch [
@@ -49,7 +49,9 @@ returns-clause-whole c =
           ∙ https_as_http-window fields.address))
     ] in
     OnOk-both c.give_known.result _ _ _
-    (λ more all. λ taken before.
+    (λ more all. λ front taken before.
+    let settled = front ++ old in
+    let settled' = front ++ new in
     let inside = subst (Settles words taken settled) (sym c.self.view_is) before in
     Settles-end words taken settled settled'
     (record { sign = held fields.sign; address = window; phrase = waiting })
@@ -58,6 +60,6 @@ returns-clause-whole c =
     (sign_rows-held fields.sign)
     refl
     (c.in_ok-pour.ensures ∙ gathered)
-    (more [] (λ _. refl) ∙ ap (λ l. settled' ++ map spanned (phrases_joined words (tokens_in l ++ []))) all))
+    (behind_front front old new _ _ (more [] (λ _. refl) ∙ ap (λ l. new ++ map spanned (phrases_joined words (tokens_in l ++ []))) all)))
     c.give_known.ensures.given
     (c.give_known.ensures.all refl)

@@ -8,15 +8,15 @@ use Rattle.lic_phrases.specs.Settling.{Settles}
 use Rattle.lic_phrases.specs.Held.{held, tokens_in_window}
 use Rattle.lic_phrases.specs.Waiting.{spanned_in}
 use Rattle.lic_phrases.proofs.MergingLemmas.{none_from}
-use Rattle.lic_phrases.proofs.SettlingLemmas.{Settles-more, IsShort-held, OnOk-both}
+use Rattle.lic_phrases.proofs.SettlingLemmas.{Settles-more, IsShort-held, OnOk-both, behind_front}
 use Rattle.lic_phrases.proofs.rewriter.Rewriter.push.Goals as goal
 
 pub returns-in_default-clause-settles : goal.returns-in_default-clause-settles
-returns-in_default-clause-settles c = λ taken before.
+returns-in_default-clause-settles c = λ front taken before.
     let words = c.args.phrases.now.phrases in
     let fields = c.self.inside in
     let waiting = tokens_in fields.waiting.items in
-    let settled = map (spanned_in c.args.phrases.now.spellings) c.args.output.now.items in
+    let settled = front ++ map (spanned_in c.args.phrases.now.spellings) c.args.output.now.items in
     let none = none_from c.push_sign.result c.in_default.not-Some in
     let inside = subst (Settles words taken settled) (sym c.self.view_is) before in
     Settles-more words taken settled settled
@@ -30,11 +30,11 @@ returns-in_default-clause-settles c = λ taken before.
     (IsShort-held c.push_sign.new.last fields.address waiting inside.short.phrase)
 
 pub returns-in_default-push_address-clause-settles : goal.returns-in_default-push_address-clause-settles
-returns-in_default-push_address-clause-settles c = λ taken before.
+returns-in_default-push_address-clause-settles c = λ front taken before.
     let words = c.args.phrases.now.phrases in
     let fields = c.self.inside in
     let waiting = tokens_in fields.waiting.items in
-    let settled = map (spanned_in c.args.phrases.now.spellings) c.args.output.now.items in
+    let settled = front ++ map (spanned_in c.args.phrases.now.spellings) c.args.output.now.items in
     let none = none_from c.push_address.result c.in_default-push_address.not-Some in
     let inside = subst (Settles words taken settled) (sym c.self.view_is) before in
     Settles-more words taken settled settled
@@ -54,11 +54,13 @@ returns-clause-settles c =
     let fields = c.self.inside in
     let waiting = tokens_in fields.waiting.items in
     let given = token_in c.in-Some-push_address.settled in
-    let settled = map (spanned_in spellings) c.args.output.now.items in
-    let settled' = map (spanned_in spellings) c.give_known.new.output.items in
+    let old = map (spanned_in spellings) c.args.output.now.items in
+    let new = map (spanned_in spellings) c.give_known.new.output.items in
     let waiting' = tokens_in c.give_known.new.waiting.items in
     OnOk-both c.give_known.result _ _ _
-    (λ more few. λ taken before.
+    (λ more few. λ front taken before.
+    let settled = front ++ old in
+    let settled' = front ++ new in
     let inside = subst (Settles words taken settled) (sym c.self.view_is) before in
     let pushed = ap tokens_in c.in_ok-push_back.ensures.items ∙ map-append token_in fields.waiting.items (c.in-Some-push_address.settled ∷ []) in
     Settles-more words taken settled settled'
@@ -68,7 +70,9 @@ returns-clause-settles c =
     inside
     c.in-Some.ensures
     c.in-Some-push_address.ensures
-    (λ rest. ap (λ l. settled ++ map spanned (phrases_joined words l)) (sym (append_assoc waiting (given ∷ []) rest) ∙ ap (λ l. l ++ rest) (sym pushed)) ∙ more rest (λ e. absurd (false≢true e)))
+    (λ rest.
+    ap (λ l. settled ++ map spanned (phrases_joined words l)) (sym (append_assoc waiting (given ∷ []) rest) ∙ ap (λ l. l ++ rest) (sym pushed))
+    ∙ behind_front front old new _ _ (more rest (λ e. absurd (false≢true e))))
     (IsShort-held c.push_sign.new.last c.push_address.new.window waiting' (omega (arith, length-map c.give_known.new.waiting.items token_in, few))))
     c.give_known.ensures.given
     c.give_known.ensures.few

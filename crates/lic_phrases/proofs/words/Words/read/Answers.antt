@@ -1,14 +1,18 @@
-use Rattle.std.proofs.Common.{◌≡◌, ◌⊎◌, ℕ, ◌+◌, ◌<◌, ◌==◌, List, [], ◌∷◌, ◌++◌, length, get_or, take, drop, Some, lit<, refl, sym, ap, subst, ◌∙◌, arith, length-append, take_all}
+use Rattle.std.proofs.Common.{◌≡◌, ◌⊎◌, ℕ, ◌+◌, ◌<◌, ◌≤◌, ◌==◌, string_bytes, List, [], ◌∷◌, ◌++◌, length, get_or, take, drop, Option, Some, None, lit<, refl, sym, ap, subst, ◌∙◌, arith, length-append, take_all}
 use Rattle.std.proofs.lemmas.Iterator.Consumers.{YieldsList-turn, YieldsList-end}
 use Rattle.std.proofs.lemmas.Iterator.Splits.{YieldsList-from_str_split}
 use Rattle.std.proofs.lemmas.List.{length-map, drop_all}
 use Rattle.std.specs.List.{slice_split}
 use Rattle.lic_phrases.specs.declared.fault.WordsFault.{WordsFault}
-use Rattle.lic_phrases.specs.Listed.{phrases_in}
-use Rattle.lic_phrases.specs.WordLists.{fault_at, fault_from, first_fault, located, out_of_memory, phrase_lines, phrases_of_line}
+use Rattle.lic_phrases.specs.Listed.{HaveHeads, phrases_in, spellings_in, with_heads}
+use Rattle.lic_phrases.specs.Keys.{texts_in}
+use Rattle.lic_phrases.specs.TokenTexts.{HaveTokenTexts}
+use Rattle.lic_phrases.specs.WordLists.{AreWords, fault_at, fault_from, first_fault, located, out_of_memory, phrase_lines, phrases_of_line}
 use Rattle.lic_phrases.specs.WordReading.{HasRead}
 use Rattle.lic_phrases.proofs.FaultLemmas.{line_has_fault, lines_sound_more}
+use Rattle.lic_phrases.proofs.HeadLemmas.{HaveHeads-read}
 use Rattle.lic_phrases.proofs.ListedLemmas.{mapped_at, take-next, nothing_read, words_read}
+use Rattle.lic_phrases.proofs.SpelledTexts.{with_heads-texts}
 use Rattle.lic_phrases.proofs.words.Words.read.Goals as goal
 
 line_at : (text : List ℕ) (k : ℕ) (line : List ℕ) → (k < length (slice_split (λ b. b == 0x0A) text)) × (line ≡ get_or (slice_split (λ b. b == 0x0A) text) k line)
@@ -59,19 +63,63 @@ loop-line-preserved c =
           ∙ ap (λ n. fault_from reader.count (located (n + 1) (drop n (phrase_lines text)))) (sym more);
     }
 
+-- at the end of the text all lines are read
+all_read : (lines : List (List (List (List ℕ)))) (n : ℕ) (phrases : List (List (List ℕ))) (heads : List ℕ) → length lines ≤ n → HasRead [] (take n lines) [] phrases heads [] → HasRead [] lines [] phrases heads []
+all_read lines n phrases heads behind read = subst (λ (l : List (List (List (List ℕ)))). HasRead [] l [] phrases heads []) (take_all n lines behind) read
+
+-- and none is at fault
+all_sound : (lines : List (List (List (List ℕ)))) (n count : ℕ) (first : Option WordsFault) → length lines ≤ n → first ≡ fault_from count (located (n + 1) (drop n lines)) → first ≡ None
+all_sound lines n count first behind sound = sound ∙ ap (λ l. fault_from count (located (n + 1) l)) (drop_all n lines behind)
+
+pub with_heads-requires : goal.with_heads-requires
+with_heads-requires c =
+    let text = c.args.text.now in
+    let lines = phrase_lines text in
+    let n = length c.loop-line.yielded in
+    let known = c.loop-line.invariant in
+    let reader = c.loop-line.reader in
+    let phrases = phrases_in reader.phrases.items in
+    let all = YieldsList-end (YieldsList-from_str_split 10 text (lit< tt) (cc) (cc) (cc)) c.loop-line.yielded _ c.loop-line.yielded_by _ _ c.in-None.is c.next.ensures.steps in
+    let behind : length lines ≤ n = omega (arith, all.1, length-map (slice_split (λ b. b == 0x0A) text) phrases_of_line) in
+    subst (HaveHeads phrases) (sym c.deref.ensures.value)
+    (HaveHeads-read lines phrases reader.heads.items (all_read lines n phrases reader.heads.items behind known.read) (all_sound lines n reader.count (first_fault text) behind known.sound))
+
 pub returns-clause-accepted : goal.returns-clause-accepted
 returns-clause-accepted c =
     let text = c.args.text.now in
+    let lines = phrase_lines text in
+    let n = length c.loop-line.yielded in
     let all = YieldsList-end (YieldsList-from_str_split 10 text (lit< tt) (cc) (cc) (cc)) c.loop-line.yielded _ c.loop-line.yielded_by _ _ c.in-None.is c.next.ensures.steps in
-    c.loop-line.invariant.sound
-    ∙ ap (λ l. fault_from c.loop-line.reader.count (located (length c.loop-line.yielded + 1) l)) (drop_all (length c.loop-line.yielded) (phrase_lines text) (omega (arith, all.1, length-map (slice_split (λ b. b == 0x0A) text) phrases_of_line)))
+    let behind : length lines ≤ n = omega (arith, all.1, length-map (slice_split (λ b. b == 0x0A) text) phrases_of_line) in
+    all_sound lines n c.loop-line.reader.count (first_fault text) behind c.loop-line.invariant.sound
 
 pub returns-clause-words : goal.returns-clause-words
 returns-clause-words c =
     let text = c.args.text.now in
+    let lines = phrase_lines text in
+    let n = length c.loop-line.yielded in
     let known = c.loop-line.invariant in
     let reader = c.loop-line.reader in
+    let phrases = phrases_in reader.phrases.items in
+    let spellings = spellings_in reader.phrases.items in
     let all = YieldsList-end (YieldsList-from_str_split 10 text (lit< tt) (cc) (cc) (cc)) c.loop-line.yielded _ c.loop-line.yielded_by _ _ c.in-None.is c.next.ensures.steps in
-    let whole : take (length c.loop-line.yielded) (phrase_lines text) ≡ phrase_lines text = take_all (length c.loop-line.yielded) (phrase_lines text) (omega (arith, all.1, length-map (slice_split (λ b. b == 0x0A) text) phrases_of_line)) in
-    words_read (phrase_lines text) reader.keys.keys reader.phrases.items reader.heads.items known.listed
-    (subst (λ (l : List (List (List (List ℕ)))). HasRead [] l [] (phrases_in reader.phrases.items) reader.heads.items []) whole known.read)
+    let behind : length lines ≤ n = omega (arith, all.1, length-map (slice_split (λ b. b == 0x0A) text) phrases_of_line) in
+    subst (AreWords lines) (sym (c.in_ok-phrases.ensures ∙ ap (with_heads phrases spellings) c.deref.ensures.value))
+    (words_read lines reader.keys.keys reader.phrases.items reader.heads.items known.listed (all_read lines n phrases reader.heads.items behind known.read))
+
+pub invariant_of-result : goal.invariant_of-result
+invariant_of-result c =
+    let text = c.args.text.now in
+    let lines = phrase_lines text in
+    let n = length c.loop-line.yielded in
+    let known = c.loop-line.invariant in
+    let reader = c.loop-line.reader in
+    let items = reader.phrases.items in
+    let phrases = phrases_in items in
+    let spellings = spellings_in items in
+    let all = YieldsList-end (YieldsList-from_str_split 10 text (lit< tt) (cc) (cc) (cc)) c.loop-line.yielded _ c.loop-line.yielded_by _ _ c.in-None.is c.next.ensures.steps in
+    let behind : length lines ≤ n = omega (arith, all.1, length-map (slice_split (λ b. b == 0x0A) text) phrases_of_line) in
+    let heads = HaveHeads-read lines phrases reader.heads.items (all_read lines n phrases reader.heads.items behind known.read) (all_sound lines n reader.count (first_fault text) behind known.sound) in
+    let as_many : length spellings ≡ length phrases = omega (arith, length-map items (λ p. string_bytes p.spelling), length-map items (λ p. texts_in p.texts.items)) in
+    subst HaveTokenTexts (sym (c.in_ok-phrases.ensures ∙ ap (with_heads phrases spellings) c.deref.ensures.value))
+    (with_heads-texts phrases spellings reader.heads.items heads as_many known.listed.token_texts)

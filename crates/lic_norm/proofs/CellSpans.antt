@@ -1,0 +1,190 @@
+-- The characters of an input lie in it one behind the other, and so do those of its cells.
+use Rattle.std.proofs.Common.{◌≡◌, ℕ, zero, suc, ◌+◌, ◌-◌, ◌≤◌, Bool, List, [], ◌∷◌, ◌++◌, map, length, take, drop, refl, sym, ap, subst, ◌∙◌, append_assoc, arith, inl, inr, length-append, append-nil}
+use Rattle.std.specs.Prelude.{nat_le, if◌then◌else◌}
+use Rattle.std.specs.List.{flat_map, onto_first}
+use Rattle.std.specs.Char.{len_utf8, encode_utf8}
+use Rattle.std.specs.Str.{IsCharBoundary, IsUtf8, encode_utf8_all}
+use Rattle.std.proofs.lemmas.Bool.{cases_Bool, cond-true, cond-false}
+use Rattle.std.proofs.lemmas.Str.{IsCharBoundary-at_seam, IsUtf8-past_char, length-encode, len_utf8_bounds}
+use Rattle.lic_kind.specs.Kinds.{kind_of, is_word_kind, is_mark_kind}
+use Rattle.lic_lines.specs.Texts.{cut_after, groups, join_group}
+use Rattle.lic_lines.specs.Sources.{chars_of, placed, without_dropped, lines_of}
+use Rattle.lic_lines.specs.declared.source.SourceChar.{SourceChar}
+use Rattle.lic_lines.specs.declared.cell.Cell.{Cell}
+use Rattle.lic_lines.specs.declared.cell.Cell.TheVariants.{Blank, Mark, Word}
+use Rattle.lic_lines.specs.declared.line_part.LinePart.{LinePart}
+use Rattle.lic_lines.specs.LineRules.{LineRules}
+use Rattle.lic_lines.specs.Lines.{whole_line, blank_for, cell_of, cut_of, line_cells, cells_of}
+use Rattle.lic_lines.specs.Runs.{same_mark, same_family, end_after, without_separator, without_separators, joined, runs_joined}
+use Rattle.lic_norm.proofs.Lying.{Lie, Lie-order, Lie-append, Lie-split, Lie-rest, Lie-take, Lie-drop, Lie-filter}
+
+-- source characters lie from one byte up to another
+abbrev pub CharsLie : List ℕ → ℕ → List SourceChar → ℕ → Type 0
+CharsLie source = Lie {A = SourceChar} source (λ s. s.start) (λ s. s.end)
+
+-- the marks and word characters among cells
+abbrev pub solid : List Cell → List SourceChar
+solid [] = []
+solid (Blank ∷ cells) = solid cells
+solid (Mark s ∷ cells) = s ∷ solid cells
+solid (Word s ∷ cells) = s ∷ solid cells
+
+-- those of cells lie there
+abbrev pub CellsLie : List ℕ → ℕ → List Cell → ℕ → Type 0
+CellsLie source from cells to = CharsLie source from (solid cells) to
+
+pub solid-append : (xs ys : List Cell) → solid (xs ++ ys) ≡ solid xs ++ solid ys
+solid-append [] ys = refl
+solid-append (Blank ∷ xs) ys = solid-append xs ys
+solid-append (Mark s ∷ xs) ys = ap (λ l. s ∷ l) (solid-append xs ys)
+solid-append (Word s ∷ xs) ys = ap (λ l. s ∷ l) (solid-append xs ys)
+
+-- ---- parts of a list, and the list
+
+pub parts_of_cut : {A : Type 0} (ends : A → Bool) (xs : List A) → flat_map (λ part. part) (cut_after ends xs) ≡ xs
+parts_of_cut ends [] = refl
+parts_of_cut {A} ends (x ∷ xs) =
+    elim (cases_Bool (ends x)) [
+      | inl yes_end ↦ ap (flat_map (λ part. part)) (cond-true (ends x) ((x ∷ []) ∷ cut_after ends xs) (onto_first x (cut_after ends xs)) yes_end) ∙ ap (λ l. x ∷ l) (parts_of_cut ends xs)
+      | inr no_end ↦ ap (flat_map (λ part. part)) (cond-false (ends x) ((x ∷ []) ∷ cut_after ends xs) (onto_first x (cut_after ends xs)) no_end) ∙ onto (cut_after ends xs) ∙ ap (λ l. x ∷ l) (parts_of_cut ends xs)
+    ]
+  where
+    onto : (parts : List (List A)) → flat_map (λ part. part) (onto_first x parts) ≡ x ∷ flat_map (λ part. part) parts
+    onto [] = refl
+    onto (part ∷ parts) = refl
+
+pub parts_of_groups : {A : Type 0} (together : A → A → Bool) (xs : List A) → flat_map (λ part. part) (groups together xs) ≡ xs
+parts_of_groups together [] = refl
+parts_of_groups {A} together (x ∷ xs) = join (groups together xs) ∙ ap (λ l. x ∷ l) (parts_of_groups together xs)
+  where
+    join : (gs : List (List A)) → flat_map (λ part. part) (join_group together x gs) ≡ x ∷ flat_map (λ part. part) gs
+    join [] = refl
+    join ([] ∷ gs) = refl
+    join ((y ∷ g) ∷ gs) =
+        elim (cases_Bool (together x y)) [
+          | inl both ↦ ap (flat_map (λ part. part)) (cond-true (together x y) ((x ∷ y ∷ g) ∷ gs) ((x ∷ []) ∷ (y ∷ g) ∷ gs) both)
+          | inr apart ↦ ap (flat_map (λ part. part)) (cond-false (together x y) ((x ∷ y ∷ g) ∷ gs) ((x ∷ []) ∷ (y ∷ g) ∷ gs) apart)
+        ]
+
+-- ---- characters
+
+module _ (source : List ℕ) where
+  pub placed-Lie : (at : ℕ) (front cs : List ℕ) → source ≡ front ++ encode_utf8_all cs → length front ≡ at → IsUtf8 (encode_utf8_all cs) → CharsLie source at (placed at cs) (length source)
+  placed-Lie at front [] parts here text = omega (arith, ap length parts, length-append front [])
+  placed-Lie at front (c ∷ cs) parts here text =
+      let more = front ++ encode_utf8 c in
+      let rest = encode_utf8_all cs in
+      let parts' : source ≡ more ++ rest = parts ∙ sym (append_assoc front (encode_utf8 c) rest) in
+      let here' : length more ≡ at + len_utf8 c = length-append front (encode_utf8 c) ∙ ap (λ n. n + length (encode_utf8 c)) here ∙ ap (λ n. at + n) (length-encode c) in
+      let text' : IsUtf8 rest = IsUtf8-past_char (encode_utf8_all (c ∷ cs)) rest c text refl in
+      let P : ℕ → Type 0 = λ n. IsCharBoundary source n in (
+        omega arith,
+        omega (arith, len_utf8_bounds c),
+        subst P here (IsCharBoundary-at_seam source front (encode_utf8_all (c ∷ cs)) parts text),
+        subst P here' (IsCharBoundary-at_seam source more rest parts' text'),
+        placed-Lie (at + len_utf8 c) more cs parts' here' text',
+      )
+
+  -- ---- cells of lines
+
+  cell_of-cases : (s : SourceChar) (P : Cell → Type 0) → P (Word s) → P (Mark s) → P Blank → P (cell_of s)
+  cell_of-cases s P word mark blank =
+      let other = if is_mark_kind (kind_of s.char) then Mark s else Blank in
+      elim (cases_Bool (is_word_kind (kind_of s.char))) [
+        | inl is_word ↦ subst P (sym (cond-true (is_word_kind (kind_of s.char)) (Word s) other is_word)) word
+        | inr no_word ↦
+            subst P (sym (cond-false (is_word_kind (kind_of s.char)) (Word s) other no_word))
+            (elim (cases_Bool (is_mark_kind (kind_of s.char))) [
+              | inl is_mark ↦ subst P (sym (cond-true (is_mark_kind (kind_of s.char)) (Mark s) Blank is_mark)) mark
+              | inr no_mark ↦ subst P (sym (cond-false (is_mark_kind (kind_of s.char)) (Mark s) Blank no_mark)) blank
+            ])
+      ]
+
+  cells-Lie : (from : ℕ) (text : List SourceChar) (to : ℕ) → CharsLie source from text to → CellsLie source from (map cell_of text) to
+  cells-Lie from [] to l = l
+  cells-Lie from (s ∷ text) to l =
+      let solid_one : CellsLie source from (Mark s ∷ map cell_of text) to = (l.0, l.1, l.2, l.3, cells-Lie s.end text to l.4) in
+      cell_of-cases s (λ cell. CellsLie source from (cell ∷ map cell_of text) to) solid_one solid_one
+      (cells-Lie from text to (Lie-rest source (λ (r : SourceChar). r.start) (λ r. r.end) from s text to l))
+
+  solid_blank : (n : ℕ) → solid (blank_for n) ≡ []
+  solid_blank zero = refl
+  solid_blank (suc n) = refl
+
+  pub line-Lie : (rules : LineRules) (part : LinePart) (from : ℕ) (line : List SourceChar) (to : ℕ) → CharsLie source from line to → CellsLie source from (line_cells rules part line) to
+  line-Lie rules part from line to l =
+      let cut = cut_of rules part (chars_of line) in
+      let rest = drop (cut.lead + cut.item) line in
+      let kept = take (length rest - cut.tail) rest in
+      let lies : CellsLie source from (map cell_of kept) to =
+      cells-Lie from kept to
+      (Lie-take source (λ (r : SourceChar). r.start) (λ r. r.end) (length rest - cut.tail) from rest to
+      (Lie-drop source (λ (r : SourceChar). r.start) (λ r. r.end) (cut.lead + cut.item) from line to l)) in
+      let same : solid (line_cells rules part line) ≡ solid (map cell_of kept) =
+      solid-append (blank_for cut.lead ++ blank_for cut.item ++ map cell_of kept) (blank_for cut.tail)
+      ∙ ap (λ x. solid (blank_for cut.lead ++ blank_for cut.item ++ map cell_of kept) ++ x) (solid_blank cut.tail)
+      ∙ append-nil (solid (blank_for cut.lead ++ blank_for cut.item ++ map cell_of kept))
+      ∙ solid-append (blank_for cut.lead ++ blank_for cut.item) (map cell_of kept)
+      ∙ ap (λ x. x ++ solid (map cell_of kept)) (solid-append (blank_for cut.lead) (blank_for cut.item) ∙ ap (λ x. x ++ solid (blank_for cut.item)) (solid_blank cut.lead) ∙ solid_blank cut.item) in
+      subst (λ x. CharsLie source from x to) (sym same) lies
+
+  lines-Lie : (f : List SourceChar → List Cell) → ((from : ℕ) (line : List SourceChar) (to : ℕ) → CharsLie source from line to → CellsLie source from (f line) to)
+      → (from : ℕ) (lines : List (List SourceChar)) (to : ℕ) → CharsLie source from (flat_map (λ line. line) lines) to → CellsLie source from (flat_map f lines) to
+  lines-Lie f each from [] to l = l
+  lines-Lie f each from (line ∷ lines) to l =
+      let two = Lie-split source (λ (r : SourceChar). r.start) (λ r. r.end) from line (flat_map (λ line. line) lines) to l in
+      subst (λ x. CharsLie source from x to) (sym (solid-append (f line) (flat_map f lines)))
+      (Lie-append source (λ (r : SourceChar). r.start) (λ r. r.end) from (solid (f line)) two.0 (solid (flat_map f lines)) to (each from line two.0 two.1) (lines-Lie f each two.0 lines to two.2))
+
+  pub cells_of-Lie : (rules : LineRules) (from : ℕ) (text : List SourceChar) (to : ℕ) → CharsLie source from text to → CellsLie source from (cells_of rules text) to
+  cells_of-Lie rules from text to l =
+      let kept = without_dropped text in
+      let lies : CharsLie source from kept to = Lie-filter source (λ (r : SourceChar). r.start) (λ r. r.end) _ from text to l in
+      lines-Lie (line_cells rules whole_line) (line-Lie rules whole_line) from (lines_of kept) to
+      (subst (λ x. CharsLie source from x to) (sym (parts_of_cut _ kept)) lies)
+
+  -- ---- runs
+
+  runs-Lie : (f : List Cell → List Cell) → ((from : ℕ) (run : List Cell) (to : ℕ) → CellsLie source from run to → CellsLie source from (f run) to)
+      → (from : ℕ) (runs : List (List Cell)) (to : ℕ) → CellsLie source from (flat_map (λ run. run) runs) to → CellsLie source from (flat_map f runs) to
+  runs-Lie f each from [] to l = l
+  runs-Lie f each from (run ∷ runs) to l =
+      let two = Lie-split source (λ (r : SourceChar). r.start) (λ r. r.end) from (solid run) (solid (flat_map (λ run. run) runs)) to
+      (subst (λ x. CharsLie source from x to) (solid-append run (flat_map (λ run. run) runs)) l) in
+      subst (λ x. CharsLie source from x to) (sym (solid-append (f run) (flat_map f runs)))
+      (Lie-append source (λ (r : SourceChar). r.start) (λ r. r.end) from (solid (f run)) two.0 (solid (flat_map f runs)) to (each from run two.0 two.1) (runs-Lie f each two.0 runs to two.2))
+
+  separator-Lie : (from : ℕ) (run : List Cell) (to : ℕ) → CellsLie source from run to → CellsLie source from (without_separator run) to
+  separator-Lie from [] to l = l
+  separator-Lie from (Blank ∷ run) to l = l
+  separator-Lie from (Word s ∷ run) to l = l
+  separator-Lie from (Mark s ∷ run) to l =
+      let P : List Cell → Type 0 = λ cells. CellsLie source from cells to in
+      elim (cases_Bool (nat_le 2 (length run))) [
+        | inl many ↦ subst P (sym (cond-true (nat_le 2 (length run)) (Blank ∷ []) (Mark s ∷ run) many)) (Lie-order source (λ (r : SourceChar). r.start) (λ r. r.end) from (s ∷ solid run) to l)
+        | inr few ↦ subst P (sym (cond-false (nat_le 2 (length run)) (Blank ∷ []) (Mark s ∷ run) few)) l
+      ]
+
+  -- where the last of these ends lies between, and no character is cut there
+  pub end_after-lies : (at : ℕ) (cells : List Cell) (to : ℕ) → IsCharBoundary source at → CellsLie source at cells to → (at ≤ end_after at cells) × (end_after at cells ≤ to) × IsCharBoundary source (end_after at cells)
+  end_after-lies at [] to here l = (omega arith, l, here)
+  end_after-lies at (Blank ∷ cells) to here l = end_after-lies at cells to here l
+  end_after-lies at (Mark s ∷ cells) to here l = let rest = end_after-lies s.end cells to l.3 l.4 in (omega (arith, l.0, l.1, rest.0), rest.1, rest.2)
+  end_after-lies at (Word s ∷ cells) to here l = let rest = end_after-lies s.end cells to l.3 l.4 in (omega (arith, l.0, l.1, rest.0), rest.1, rest.2)
+
+  joined-Lie : (from : ℕ) (run : List Cell) (to : ℕ) → CellsLie source from run to → CellsLie source from (joined run) to
+  joined-Lie from [] to l = l
+  joined-Lie from (Blank ∷ run) to l = l
+  joined-Lie from (Word s ∷ run) to l = l
+  joined-Lie from (Mark s ∷ run) to l = let last = end_after-lies s.end run to l.3 l.4 in (l.0, omega (arith, l.1, last.0), l.2, last.2, last.1)
+
+  pub runs_joined-Lie : (rules : LineRules) (from : ℕ) (cells : List Cell) (to : ℕ) → CellsLie source from cells to → CellsLie source from (runs_joined rules cells) to
+  runs_joined-Lie rules from cells to l =
+      let P : List Cell → Type 0 = λ cells. CellsLie source from cells to in
+      let parted : P (without_separators cells) = runs-Lie without_separator separator-Lie from (groups same_mark cells) to (subst P (sym (parts_of_groups same_mark cells)) l) in
+      let first : P (if rules.separators then without_separators cells else cells) =
+      elim (cases_Bool rules.separators) [
+        | inl on ↦ subst P (sym (cond-true rules.separators (without_separators cells) cells on)) parted
+        | inr off ↦ subst P (sym (cond-false rules.separators (without_separators cells) cells off)) l
+      ] in
+      runs-Lie joined joined-Lie from (groups same_family (if rules.separators then without_separators cells else cells)) to (subst P (sym (parts_of_groups same_family (if rules.separators then without_separators cells else cells))) first)

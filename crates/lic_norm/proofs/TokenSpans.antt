@@ -1,0 +1,169 @@
+-- The tokens of an input lie in it one behind the other.
+use Rattle.std.proofs.Common.{ℕ, zero, suc, ◌-◌, ◌<◌, ◌≤◌, Bool, true, false, List, [], ◌∷◌, map, length, take, drop, get_or, ◌&&◌, refl, sym, subst, arith, All, inl, inr}
+use Rattle.std.specs.Prelude.{Option, Some, None, codes, encode_utf8_all}
+use Rattle.std.specs.List.{flat_map}
+use Rattle.std.specs.Str.{IsCharBoundary, IsUtf8, chars}
+use Rattle.std.proofs.lemmas.Bool.{cases_Bool, cond-true, cond-false}
+use Rattle.std.proofs.lemmas.List.Elements.{All-nil, All-cons}
+use Rattle.std.proofs.lemmas.Str.{encodes-chars}
+use Rattle.lic_lines.specs.Texts.{groups}
+use Rattle.lic_lines.specs.Sources.{source_of}
+use Rattle.lic_lines.specs.LineRules.{LineRules, profile}
+use Rattle.lic_lines.specs.Lines.{cells_of}
+use Rattle.lic_lines.specs.Runs.{runs_joined, end_after}
+use Rattle.lic_lines.specs.Tokens.{Token, both_words, tokens_from, first_tokens, is_text, is_sign_in_parentheses, sign_from, as_sign, single_signs, text_tokens}
+use Rattle.lic_lines.specs.declared.source.SourceChar.{SourceChar}
+use Rattle.lic_lines.specs.declared.cell.Cell.{Cell}
+use Rattle.lic_lines.specs.declared.cell.Cell.TheVariants.{Blank, Mark, Word}
+use Rattle.lic_phrases.specs.Rewriting.{Phrase, end_of_last, both_signs, sign_of_row, sign_rows, begins_authority, https_as_http, longest_phrase, count_behind, first_as, phrases_behind, phrases_joined, spanned}
+use Rattle.lic_norm.specs.Tokens.{TokenValue, reported, first_tokens_of, tokens_of}
+use Rattle.lic_norm.specs.Spans.{AreRising, IsOnBoundaries, AreSpans}
+use Rattle.lic_norm.proofs.Lying.{Lie, Lie-order, Lie-wider, Lie-split, Lie-take}
+use Rattle.lic_norm.proofs.CellSpans.{CharsLie, CellsLie, solid, solid-append, parts_of_groups, placed-Lie, cells_of-Lie, runs_joined-Lie, end_after-lies}
+
+-- tokens lie from one byte up to another
+abbrev pub TokensLie : List ℕ → ℕ → List Token → ℕ → Type 0
+TokensLie source = Lie {A = Token} source (λ t. t.start) (λ t. t.end)
+
+module _ (source : List ℕ) where
+  wider : (from' from : ℕ) (ts : List Token) (to : ℕ) → from' ≤ from → TokensLie source from ts to → TokensLie source from' ts to
+  wider from' from ts to low l = Lie-wider source (λ (t : Token). t.start) (λ t. t.end) from' from ts to to low (omega arith) l
+
+  order : (from : ℕ) (ts : List Token) (to : ℕ) → TokensLie source from ts to → from ≤ to
+  order from ts to l = Lie-order source (λ (t : Token). t.start) (λ t. t.end) from ts to l
+
+  -- ---- first tokens
+
+  tokens_from-Lie : (after_blank : Bool) (from : ℕ) (runs : List (List Cell)) (to : ℕ) → CellsLie source from (flat_map (λ run. run) runs) to → TokensLie source from (tokens_from after_blank runs) to
+  tokens_from-Lie after_blank from [] to l = l
+  tokens_from-Lie after_blank from ([] ∷ runs) to l = tokens_from-Lie after_blank from runs to l
+  tokens_from-Lie after_blank from ((Blank ∷ cells) ∷ runs) to l =
+      let rest = flat_map (λ (run : List Cell). run) runs in
+      let two = Lie-split source (λ (r : SourceChar). r.start) (λ r. r.end) from (solid cells) (solid rest) to (subst (λ x. CharsLie source from x to) (solid-append cells rest) l) in
+      wider from two.0 (tokens_from true runs) to (Lie-order source (λ (r : SourceChar). r.start) (λ r. r.end) from (solid cells) two.0 two.1) (tokens_from-Lie true two.0 runs to two.2)
+  tokens_from-Lie after_blank from ((Mark s ∷ cells) ∷ runs) to l =
+      let rest = flat_map (λ (run : List Cell). run) runs in
+      let two = Lie-split source (λ (r : SourceChar). r.start) (λ r. r.end) s.end (solid cells) (solid rest) to (subst (λ x. CharsLie source s.end x to) (solid-append cells rest) l.4) in
+      let last = end_after-lies source s.end cells two.0 l.3 two.1 in
+      (l.0, omega (arith, l.1, last.0), l.2, last.2, wider (end_after s.end cells) two.0 (tokens_from false runs) to last.1 (tokens_from-Lie false two.0 runs to two.2))
+  tokens_from-Lie after_blank from ((Word s ∷ cells) ∷ runs) to l =
+      let rest = flat_map (λ (run : List Cell). run) runs in
+      let two = Lie-split source (λ (r : SourceChar). r.start) (λ r. r.end) s.end (solid cells) (solid rest) to (subst (λ x. CharsLie source s.end x to) (solid-append cells rest) l.4) in
+      let last = end_after-lies source s.end cells two.0 l.3 two.1 in
+      (l.0, omega (arith, l.1, last.0), l.2, last.2, wider (end_after s.end cells) two.0 (tokens_from false runs) to last.1 (tokens_from-Lie false two.0 runs to two.2))
+
+  -- ---- signs
+
+  as_sign-Lie : (from : ℕ) (t : Token) (ts : List Token) (to : ℕ) → TokensLie source from (t ∷ ts) to → (us : List Token) → TokensLie source t.end us to → TokensLie source from (as_sign t ∷ us) to
+  as_sign-Lie from t ts to l us m =
+      let test = is_text (encode_utf8_all (0xA9 ∷ [])) t in
+      let P : Token → Type 0 = λ u. TokensLie source from (u ∷ us) to in
+      elim (cases_Bool test) [
+        | inl is ↦ subst P (sym (cond-true test (record t { text = codes "copyright" }) t is)) (l.0, l.1, l.2, l.3, m)
+        | inr other ↦ subst P (sym (cond-false test (record t { text = codes "copyright" }) t other)) (l.0, l.1, l.2, l.3, m)
+      ]
+
+  single_signs-Lie : (from : ℕ) (ts : List Token) (to : ℕ) → TokensLie source from ts to → TokensLie source from (single_signs ts) to
+  single_signs-Lie from [] to l = l
+  single_signs-Lie from (a ∷ []) to l = as_sign-Lie from a [] to l [] l.4
+  single_signs-Lie from (a ∷ b ∷ []) to l = as_sign-Lie from a (b ∷ []) to l (as_sign b ∷ []) (as_sign-Lie a.end b [] to l.4 [] l.4.4)
+  single_signs-Lie from (a ∷ b ∷ c ∷ ts) to l =
+      let test = is_sign_in_parentheses a b c in
+      let P : List Token → Type 0 = λ us. TokensLie source from us to in
+      let third = l.4.4 in
+      elim (cases_Bool test) [
+        | inl is ↦
+            subst P (sym (cond-true test (sign_from a c ∷ single_signs ts) (as_sign a ∷ single_signs (b ∷ c ∷ ts)) is))
+            (l.0, omega (arith, l.1, l.4.0, l.4.1, third.0, third.1), l.2, third.3, single_signs-Lie c.end ts to third.4)
+        | inr other ↦
+            subst P (sym (cond-false test (sign_from a c ∷ single_signs ts) (as_sign a ∷ single_signs (b ∷ c ∷ ts)) other))
+            (as_sign-Lie from a (b ∷ c ∷ ts) to l (single_signs (b ∷ c ∷ ts)) (single_signs-Lie a.end (b ∷ c ∷ ts) to l.4))
+      ]
+
+  -- where the last of these ends lies between, and no character is cut there
+  last-lies : (t : Token) (ts : List Token) (to : ℕ) → IsCharBoundary source t.end → TokensLie source t.end ts to → (t.end ≤ end_of_last t ts) × (end_of_last t ts ≤ to) × IsCharBoundary source (end_of_last t ts)
+  last-lies t [] to here l = (omega arith, l, here)
+  last-lies t (u ∷ ts) to here l = let rest = last-lies u ts to l.3 l.4 in (omega (arith, l.0, l.1, rest.0), rest.1, rest.2)
+
+  rows-Lie : (from : ℕ) (rows : List (List Token)) (to : ℕ) → TokensLie source from (flat_map (λ row. row) rows) to → TokensLie source from (flat_map sign_of_row rows) to
+  rows-Lie from [] to l = l
+  rows-Lie from ([] ∷ rows) to l = rows-Lie from rows to l
+  rows-Lie from ((t ∷ ts) ∷ rows) to l =
+      let two = Lie-split source (λ (r : Token). r.start) (λ r. r.end) t.end ts (flat_map (λ row. row) rows) to l.4 in
+      let last = last-lies t ts two.0 l.3 two.1 in
+      (l.0, omega (arith, l.1, last.0), l.2, last.2, wider (end_of_last t ts) two.0 (flat_map sign_of_row rows) to last.1 (rows-Lie two.0 rows to two.2))
+
+  -- ---- web addresses
+
+  https-Lie : (from : ℕ) (ts : List Token) (to : ℕ) → TokensLie source from ts to → TokensLie source from (https_as_http ts) to
+  https-Lie from [] to l = l
+  https-Lie from (t ∷ ts) to l =
+      let test = is_text (codes "https") t && begins_authority ts in
+      let rest = https-Lie t.end ts to l.4 in
+      let P : Token → Type 0 = λ u. TokensLie source from (u ∷ https_as_http ts) to in
+      elim (cases_Bool test) [
+        | inl is ↦ subst P (sym (cond-true test (record t { text = codes "http" }) t is)) (l.0, l.1, l.2, l.3, rest)
+        | inr other ↦ subst P (sym (cond-false test (record t { text = codes "http" }) t other)) (l.0, l.1, l.2, l.3, rest)
+      ]
+
+  -- ---- phrases
+
+  -- the tokens behind some that are joined to the first
+  behind-Lie : (n : ℕ) (t : Token) (ts : List Token) (to : ℕ) → TokensLie source t.end ts to → TokensLie source (end_of_last t (take n ts)) (drop n ts) to
+  behind-Lie zero t ts to l = l
+  behind-Lie (suc n) t [] to l = l
+  behind-Lie (suc n) t (u ∷ ts) to l = behind-Lie n u ts to l.4
+
+  phrases-Lie : (words : List Phrase) (n : ℕ) (from : ℕ) (ts : List Token) (to : ℕ) → TokensLie source from (drop n ts) to → TokensLie source from (phrases_behind words n ts) to
+  phrases-Lie words zero from [] to l = l
+  phrases-Lie words (suc n) from [] to l = l
+  phrases-Lie words (suc n) from (t ∷ ts) to l = phrases-Lie words n from ts to l
+  phrases-Lie words zero from (t ∷ ts) to l = at (longest_phrase words (t ∷ ts)) (λ n low rest. phrases-Lie words n low ts to rest)
+    where
+      at : (phrase : Option Phrase) → ((n low : ℕ) → TokensLie source low (drop n ts) to → TokensLie source low (phrases_behind words n ts) to) → TokensLie source from (first_as phrase t ts ∷ phrases_behind words (count_behind phrase) ts) to
+      at None more = (l.0, l.1, l.2, l.3, more 0 t.end l.4)
+      at (Some p) more =
+          let n = length p.texts - 1 in
+          let last = last-lies t (take n ts) to l.3 (Lie-take source (λ (r : Token). r.start) (λ r. r.end) n t.end ts to l.4) in
+          (l.0, omega (arith, l.1, last.0), l.2, last.2, more n (end_of_last t (take n ts)) (behind-Lie n t ts to l.4))
+
+  rewritten-Lie : (words : List Phrase) (from : ℕ) (ts : List Token) (to : ℕ) → TokensLie source from ts to → TokensLie source from (phrases_joined words (https_as_http (sign_rows ts))) to
+  rewritten-Lie words from ts to l =
+      let rows : TokensLie source from (sign_rows ts) to = rows-Lie from (groups both_signs ts) to (subst (λ us. TokensLie source from us to) (sym (parts_of_groups both_signs ts)) l) in
+      phrases-Lie words 0 from (https_as_http (sign_rows ts)) to (https-Lie from (sign_rows ts) to rows)
+
+  -- ---- as they are reported
+
+  reported-rising : (from : ℕ) (ts : List Token) (to : ℕ) → TokensLie source from ts to → AreRising from (map reported (map spanned ts))
+  reported-rising from [] to l = tt
+  reported-rising from (t ∷ ts) to l = (l.0, l.1, reported-rising t.end ts to l.4)
+
+  reported-boundaries : (from : ℕ) (ts : List Token) (to : ℕ) → TokensLie source from ts to → All (IsOnBoundaries source) (map reported (map spanned ts))
+  reported-boundaries from [] to l = All-nil (IsOnBoundaries source)
+  reported-boundaries from (t ∷ ts) to l =
+      All-cons (IsOnBoundaries source) (reported (spanned t)) (map reported (map spanned ts)) (l.2, l.3) (reported-boundaries t.end ts to l.4)
+
+  text_tokens-Lie : (rules : LineRules) → IsUtf8 source → TokensLie source 0 (text_tokens rules (source_of 0 source)) (length source)
+  text_tokens-Lie rules text =
+      let same = encodes-chars source text in
+      let to = length source in
+      let placed : CharsLie source 0 (source_of 0 source) to = placed-Lie source 0 [] (chars source) (sym same) refl (subst IsUtf8 (sym same) text) in
+      let cells = runs_joined rules (cells_of rules (source_of 0 source)) in
+      let lies : CellsLie source 0 cells to = runs_joined-Lie source rules 0 (cells_of rules (source_of 0 source)) to (cells_of-Lie source rules 0 (source_of 0 source) to placed) in
+      single_signs-Lie 0 (first_tokens cells) to
+      (tokens_from-Lie true 0 (groups both_words cells) to (subst (λ x. CellsLie source 0 x to) (sym (parts_of_groups both_words cells)) lies))
+
+-- the spans of an input's tokens
+pub tokens_of-AreSpans : (words : List Phrase) (input : List ℕ) → IsUtf8 input → AreSpans input (tokens_of words input)
+unfolding first_tokens_of
+tokens_of-AreSpans words input text =
+    let to = length input in
+    let lies = rewritten-Lie input words 0 (text_tokens profile (source_of 0 input)) to (text_tokens-Lie input profile text) in
+    let joined = phrases_joined words (https_as_http (sign_rows (text_tokens profile (source_of 0 input)))) in
+    record { rising = reported-rising input 0 joined to lies; boundaries = reported-boundaries input 0 joined to lies }
+
+-- no span is empty
+pub AreRising-at : (from : ℕ) (ts : List TokenValue) (i : ℕ) (d : TokenValue) → AreRising from ts → i < length ts → (get_or ts i d).span.start < (get_or ts i d).span.end
+AreRising-at from [] i d r lt = absurd (omega arith)
+AreRising-at from (t ∷ ts) zero d r lt = r.1
+AreRising-at from (t ∷ ts) (suc i) d r lt = AreRising-at t.span.end ts i d r.2 (omega arith)

@@ -1,0 +1,315 @@
+-- The texts of tokens.
+use Rattle.std.proofs.Common.{◌≡◌, ℕ, zero, suc, ◌+◌, ◌-◌, ◌<◌, ◌==◌, Bool, true, false, not, List, [], ◌∷◌, ◌++◌, map, length, take, drop, get_or, ◌&&◌, refl, sym, ap, subst, ◌∙◌, arith, All, inl, inr, eqb-true, length-append}
+use Rattle.std.specs.Prelude.{Option, Some, None, codes, encode_utf8_all, nat_le, nat_lt, if◌then◌else◌}
+use Rattle.std.specs.List.{flat_map, list_all}
+use Rattle.std.specs.Char.{is_whitespace}
+use Rattle.std.specs.Str.{NoCharPasses, NonePass}
+use Rattle.std.proofs.Math.Seq.{get_or-append_seam}
+use Rattle.std.proofs.lemmas.Bool.{cases_Bool, cond-true, cond-false, and_parts, true≢false, false_from_ne_true}
+use Rattle.std.proofs.lemmas.List.Elements.{All-nil, All-cons, All-head, All-tail, All-weaker}
+use Rattle.std.proofs.lemmas.Str.{length-le-encodes, NoCharPasses-byte}
+use Rattle.lic_kind.specs.Kinds.{kind_of, is_word_kind, is_mark_kind, spell}
+use Rattle.lic_kind.specs.declared.Kind.{Kind}
+use Rattle.lic_kind.specs.declared.Kind.TheVariants.{Blank as BlankKind, Dropped as DroppedKind, Mark as MarkKind, Word as WordKind}
+use Rattle.lic_kind.proofs.KindLemmas.{is_word_kind-true, kind_of-white}
+use Rattle.lic_kind.proofs.LetterLemmas.{spell-Mark, mark_letters, word_letters_are_not_white, word_has_letters}
+use Rattle.lic_lines.specs.Texts.{groups}
+use Rattle.lic_lines.specs.Sources.{chars_of, source_of, without_dropped, lines_of}
+use Rattle.lic_lines.specs.declared.source.SourceChar.{SourceChar}
+use Rattle.lic_lines.specs.declared.cell.Cell.{Cell}
+use Rattle.lic_lines.specs.declared.cell.Cell.TheVariants.{Blank, Mark, Word}
+use Rattle.lic_lines.specs.declared.line_part.LinePart.{LinePart}
+use Rattle.lic_lines.specs.LineRules.{LineRules, profile}
+use Rattle.lic_lines.specs.Lines.{whole_line, blank_for, cell_of, cut_of, cells_of, line_cells}
+use Rattle.lic_lines.specs.Runs.{same_mark, same_family, without_separator, without_separators, joined, runs_joined}
+use Rattle.lic_lines.specs.Tokens.{Token, both_words, letters_of, tokens_from, first_tokens, is_text, is_sign_in_parentheses, sign_from, as_sign, single_signs}
+use Rattle.lic_phrases.specs.Rewriting.{Phrase, both_signs, sign_of_row, sign_rows, begins_authority, https_as_http, stands, longer, longest_phrase, count_behind, first_as, phrases_behind, phrases_joined, spanned}
+use Rattle.lic_phrases.specs.TokenTexts.{IsTokenText, HaveTokenTexts}
+use Rattle.lic_norm.specs.Tokens.{reported, first_tokens_of, tokens_of}
+use Rattle.lic_norm.specs.Spans.{AreTokenTexts}
+use Rattle.lic_norm.proofs.CellSpans.{parts_of_groups}
+
+-- ---- texts without a blank
+
+abbrev is_space : ℕ → Bool
+is_space c = c == 0x20
+
+no_blank_at : (text front rest : List ℕ) → list_all (λ b. not (is_space b)) text ≡ true → text ≡ front ++ 0x20 ∷ rest → ⊥
+no_blank_at text front rest none parts = at front (ap (list_all (λ b. not (is_space b))) (sym parts) ∙ none)
+  where
+    at : (front : List ℕ) → list_all (λ b. not (is_space b)) (front ++ 0x20 ∷ rest) ≡ true → ⊥
+    at [] h = true≢false (sym h)
+    at (c ∷ front) h = at front (and_parts _ _ h).1
+
+plain_text : (text : List ℕ) → 0 < length text → list_all (λ b. not (is_space b)) text ≡ true → IsTokenText text
+plain_text text some none = record { not_empty = some; blanks = λ front rest parts. absurd (no_blank_at text front rest none parts) }
+
+copyright_text : IsTokenText (codes "copyright")
+copyright_text = plain_text (codes "copyright") (omega arith) refl
+
+http_text : IsTokenText (codes "http")
+http_text = plain_text (codes "http") (omega arith) refl
+
+letters_text : (letters : List ℕ) → 0 < length letters → NonePass is_space letters → IsTokenText (encode_utf8_all letters)
+letters_text letters some none =
+    let text = encode_utf8_all letters in
+    let no_char : NoCharPasses is_space text = (letters, refl, none) in
+    record {
+      not_empty = omega (arith, length-le-encodes letters);
+      blanks = λ front rest parts.
+          let at : get_or text (length front) 0 ≡ 0x20 = ap (λ l. get_or l (length front) 0) parts ∙ get_or-append_seam front 0x20 rest 0 in
+          let inside : length front < length text = omega (arith, ap length parts, length-append front (0x20 ∷ rest)) in
+          absurd (true≢false (ap is_space (sym at) ∙ NoCharPasses-byte is_space text (length front) no_char inside (omega arith)));
+    }
+
+-- ---- cells
+
+-- a mark is of kind Mark, and a word character of kind Word
+abbrev KindsFit : List Cell → Type 0
+KindsFit [] = Unit {0}
+KindsFit (Blank ∷ cells) = KindsFit cells
+KindsFit (Mark s ∷ cells) = (kind_of s.char ≡ MarkKind) × KindsFit cells
+KindsFit (Word s ∷ cells) = (kind_of s.char ≡ WordKind) × KindsFit cells
+
+fit-append : (xs ys : List Cell) → KindsFit xs → KindsFit ys → KindsFit (xs ++ ys)
+fit-append [] ys h g = g
+fit-append (Blank ∷ xs) ys h g = fit-append xs ys h g
+fit-append (Mark s ∷ xs) ys h g = (h.0, fit-append xs ys h.1 g)
+fit-append (Word s ∷ xs) ys h g = (h.0, fit-append xs ys h.1 g)
+
+fit-split : (xs ys : List Cell) → KindsFit (xs ++ ys) → KindsFit xs × KindsFit ys
+fit-split [] ys h = (tt, h)
+fit-split (Blank ∷ xs) ys h = fit-split xs ys h
+fit-split (Mark s ∷ xs) ys h = let rest = fit-split xs ys h.1 in ((h.0, rest.0), rest.1)
+fit-split (Word s ∷ xs) ys h = let rest = fit-split xs ys h.1 in ((h.0, rest.0), rest.1)
+
+is_mark_kind-true : (kind : Kind) → is_mark_kind kind ≡ true → kind ≡ MarkKind
+is_mark_kind-true MarkKind h = refl
+is_mark_kind-true WordKind h = absurd (true≢false (sym h))
+is_mark_kind-true BlankKind h = absurd (true≢false (sym h))
+is_mark_kind-true DroppedKind h = absurd (true≢false (sym h))
+
+fit-cells : (text : List SourceChar) → KindsFit (map cell_of text)
+fit-cells [] = tt
+fit-cells (s ∷ text) =
+    let rest = fit-cells text in
+    let P : Cell → Type 0 = λ cell. KindsFit (cell ∷ map cell_of text) in
+    let kind = kind_of s.char in
+    let other = if is_mark_kind kind then Mark s else Blank in
+    elim (cases_Bool (is_word_kind kind)) [
+      | inl word ↦ subst P (sym (cond-true (is_word_kind kind) (Word s) other word)) (is_word_kind-true kind word, rest)
+      | inr no_word ↦
+          subst P (sym (cond-false (is_word_kind kind) (Word s) other no_word))
+          (elim (cases_Bool (is_mark_kind kind)) [
+            | inl mark ↦ subst P (sym (cond-true (is_mark_kind kind) (Mark s) Blank mark)) (is_mark_kind-true kind mark, rest)
+            | inr no_mark ↦ subst P (sym (cond-false (is_mark_kind kind) (Mark s) Blank no_mark)) rest
+          ])
+    ]
+
+fit-blank : (n : ℕ) → KindsFit (blank_for n)
+fit-blank zero = tt
+fit-blank (suc n) = tt
+
+pub fit-line : (rules : LineRules) (part : LinePart) (line : List SourceChar) → KindsFit (line_cells rules part line)
+fit-line rules part line =
+    let cut = cut_of rules part (chars_of line) in
+    let rest = drop (cut.lead + cut.item) line in
+    let kept = map cell_of (take (length rest - cut.tail) rest) in
+    fit-append (blank_for cut.lead ++ blank_for cut.item ++ kept) (blank_for cut.tail)
+    (fit-append (blank_for cut.lead ++ blank_for cut.item) kept (fit-append (blank_for cut.lead) (blank_for cut.item) (fit-blank cut.lead) (fit-blank cut.item)) (fit-cells (take (length rest - cut.tail) rest)))
+    (fit-blank cut.tail)
+
+fit-lines : (rules : LineRules) (lines : List (List SourceChar)) → KindsFit (flat_map (line_cells rules whole_line) lines)
+fit-lines rules [] = tt
+fit-lines rules (line ∷ lines) = fit-append (line_cells rules whole_line line) (flat_map (line_cells rules whole_line) lines) (fit-line rules whole_line line) (fit-lines rules lines)
+
+fit-runs : (f : List Cell → List Cell) → ((run : List Cell) → KindsFit run → KindsFit (f run)) → (runs : List (List Cell)) → KindsFit (flat_map (λ run. run) runs) → KindsFit (flat_map f runs)
+fit-runs f each [] h = tt
+fit-runs f each (run ∷ runs) h =
+    let two = fit-split run (flat_map (λ run. run) runs) h in
+    fit-append (f run) (flat_map f runs) (each run two.0) (fit-runs f each runs two.1)
+
+fit-separator : (run : List Cell) → KindsFit run → KindsFit (without_separator run)
+fit-separator [] h = h
+fit-separator (Blank ∷ run) h = h
+fit-separator (Word s ∷ run) h = h
+fit-separator (Mark s ∷ run) h =
+    elim (cases_Bool (nat_le 2 (length run))) [
+      | inl many ↦ subst KindsFit (sym (cond-true (nat_le 2 (length run)) (Blank ∷ []) (Mark s ∷ run) many)) tt
+      | inr few ↦ subst KindsFit (sym (cond-false (nat_le 2 (length run)) (Blank ∷ []) (Mark s ∷ run) few)) h
+    ]
+
+fit-joined : (run : List Cell) → KindsFit run → KindsFit (joined run)
+fit-joined [] h = h
+fit-joined (Blank ∷ run) h = h
+fit-joined (Word s ∷ run) h = h
+fit-joined (Mark s ∷ run) h = (h.0, tt)
+
+fit-runs_joined : (rules : LineRules) (cells : List Cell) → KindsFit cells → KindsFit (runs_joined rules cells)
+fit-runs_joined rules cells h =
+    let parted : KindsFit (without_separators cells) = fit-runs without_separator fit-separator (groups same_mark cells) (subst KindsFit (sym (parts_of_groups same_mark cells)) h) in
+    let first : KindsFit (if rules.separators then without_separators cells else cells) =
+    elim (cases_Bool rules.separators) [
+      | inl on ↦ subst KindsFit (sym (cond-true rules.separators (without_separators cells) cells on)) parted
+      | inr off ↦ subst KindsFit (sym (cond-false rules.separators (without_separators cells) cells off)) h
+    ] in
+    fit-runs joined fit-joined (groups same_family (if rules.separators then without_separators cells else cells)) (subst KindsFit (sym (parts_of_groups same_family (if rules.separators then without_separators cells else cells))) first)
+
+-- ---- letters
+
+NonePass-append : (p : ℕ → Bool) (xs ys : List ℕ) → NonePass p xs → NonePass p ys → NonePass p (xs ++ ys)
+NonePass-append p [] ys h g = g
+NonePass-append p (x ∷ xs) ys h g = (h.0, NonePass-append p xs ys h.1 g)
+
+not_space : (c : ℕ) → is_whitespace c ≡ false → is_space c ≡ false
+not_space c dark = false_from_ne_true (is_space c) (λ is. true≢false (ap is_whitespace (sym (eqb-true c 0x20 is)) ∙ dark))
+
+mark_is_dark : (c : ℕ) → kind_of c ≡ MarkKind → is_whitespace c ≡ false
+mark_is_dark c mark = false_from_ne_true (is_whitespace c) (λ white. true≢false (sym (ap is_mark_kind mark) ∙ ap is_mark_kind (kind_of-white c white)))
+
+dark_letters : (cs : List ℕ) → All (λ c. is_whitespace c ≡ false) cs → NonePass is_space cs
+dark_letters [] h = tt
+dark_letters (c ∷ cs) h = (not_space c (All-head (λ c. is_whitespace c ≡ false) c cs h), dark_letters cs (All-tail (λ c. is_whitespace c ≡ false) c cs h))
+
+mark_spelled : (c : ℕ) → kind_of c ≡ MarkKind → NonePass is_space (spell c)
+mark_spelled c mark = dark_letters (spell c) (All-weaker (λ d. kind_of d ≡ MarkKind) (λ d. is_whitespace d ≡ false) mark_is_dark (spell c) (mark_letters c mark))
+
+no_space_letters : (cells : List Cell) → KindsFit cells → NonePass is_space (letters_of cells)
+no_space_letters [] h = tt
+no_space_letters (Blank ∷ cells) h = no_space_letters cells h
+no_space_letters (Mark s ∷ cells) h = NonePass-append is_space (spell s.char) (letters_of cells) (mark_spelled s.char h.0) (no_space_letters cells h.1)
+no_space_letters (Word s ∷ cells) h =
+    NonePass-append is_space (spell s.char) (letters_of cells) (dark_letters (spell s.char) (word_letters_are_not_white s.char h.0)) (no_space_letters cells h.1)
+
+-- ---- first tokens
+
+abbrev HaveTexts : List Token → Type 0
+HaveTexts ts = All (λ t. IsTokenText t.text) ts
+
+none_have : HaveTexts []
+none_have = All-nil (λ t. IsTokenText t.text)
+
+more_have : (t : Token) (ts : List Token) → IsTokenText t.text → HaveTexts ts → HaveTexts (t ∷ ts)
+more_have t ts text texts = All-cons (λ u. IsTokenText u.text) t ts text texts
+
+first_has : (t : Token) (ts : List Token) → HaveTexts (t ∷ ts) → IsTokenText t.text
+first_has t ts h = All-head (λ u. IsTokenText u.text) t ts h
+
+rest_have : (t : Token) (ts : List Token) → HaveTexts (t ∷ ts) → HaveTexts ts
+rest_have t ts h = All-tail (λ u. IsTokenText u.text) t ts h
+
+tokens_from-texts : (after_blank : Bool) (runs : List (List Cell)) → KindsFit (flat_map (λ run. run) runs) → HaveTexts (tokens_from after_blank runs)
+tokens_from-texts after_blank [] h = none_have
+tokens_from-texts after_blank ([] ∷ runs) h = tokens_from-texts after_blank runs h
+tokens_from-texts after_blank ((Blank ∷ cells) ∷ runs) h = tokens_from-texts true runs (fit-split cells (flat_map (λ run. run) runs) h).1
+tokens_from-texts after_blank ((Mark s ∷ cells) ∷ runs) h =
+    let two = fit-split (Mark s ∷ cells) (flat_map (λ run. run) runs) h in
+    more_have _ _
+    (letters_text (letters_of (Mark s ∷ cells)) (omega (arith, length-append (spell s.char) (letters_of cells), ap length (spell-Mark s.char h.0))) (no_space_letters (Mark s ∷ cells) two.0))
+    (tokens_from-texts false runs two.1)
+tokens_from-texts after_blank ((Word s ∷ cells) ∷ runs) h =
+    let two = fit-split (Word s ∷ cells) (flat_map (λ run. run) runs) h in
+    more_have _ _
+    (letters_text (letters_of (Word s ∷ cells)) (omega (arith, length-append (spell s.char) (letters_of cells), word_has_letters s.char h.0)) (no_space_letters (Word s ∷ cells) two.0))
+    (tokens_from-texts false runs two.1)
+
+-- ---- the rewriting
+
+as_sign-text : (t : Token) → IsTokenText t.text → IsTokenText (as_sign t).text
+as_sign-text t text =
+    let test = is_text (encode_utf8_all (0xA9 ∷ [])) t in
+    let P : Token → Type 0 = λ u. IsTokenText u.text in
+    elim (cases_Bool test) [
+      | inl is ↦ subst P (sym (cond-true test (record t { text = codes "copyright" }) t is)) copyright_text
+      | inr other ↦ subst P (sym (cond-false test (record t { text = codes "copyright" }) t other)) text
+    ]
+
+single_signs-texts : (ts : List Token) → HaveTexts ts → HaveTexts (single_signs ts)
+single_signs-texts [] h = h
+single_signs-texts (a ∷ []) h = more_have (as_sign a) [] (as_sign-text a (first_has a [] h)) none_have
+single_signs-texts (a ∷ b ∷ []) h =
+    let more = rest_have a (b ∷ []) h in
+    more_have (as_sign a) (as_sign b ∷ []) (as_sign-text a (first_has a (b ∷ []) h)) (more_have (as_sign b) [] (as_sign-text b (first_has b [] more)) none_have)
+single_signs-texts (a ∷ b ∷ c ∷ ts) h =
+    let test = is_sign_in_parentheses a b c in
+    let more = rest_have a (b ∷ c ∷ ts) h in
+    elim (cases_Bool test) [
+      | inl is ↦
+          subst HaveTexts (sym (cond-true test (sign_from a c ∷ single_signs ts) (as_sign a ∷ single_signs (b ∷ c ∷ ts)) is))
+          (more_have (sign_from a c) (single_signs ts) copyright_text (single_signs-texts ts (rest_have c ts (rest_have b (c ∷ ts) more))))
+      | inr other ↦
+          subst HaveTexts (sym (cond-false test (sign_from a c ∷ single_signs ts) (as_sign a ∷ single_signs (b ∷ c ∷ ts)) other))
+          (more_have (as_sign a) (single_signs (b ∷ c ∷ ts)) (as_sign-text a (first_has a (b ∷ c ∷ ts) h)) (single_signs-texts (b ∷ c ∷ ts) more))
+    ]
+
+rows-texts : (rows : List (List Token)) → HaveTexts (flat_map (λ row. row) rows) → HaveTexts (flat_map sign_of_row rows)
+rows-texts [] h = h
+rows-texts ([] ∷ rows) h = rows-texts rows h
+rows-texts ((t ∷ ts) ∷ rows) h =
+    let rest = flat_map (λ (row : List Token). row) rows in
+    more_have _ (flat_map sign_of_row rows) (first_has t (ts ++ rest) h) (rows-texts rows (behind ts rest (rest_have t (ts ++ rest) h)))
+  where
+    behind : (xs ys : List Token) → HaveTexts (xs ++ ys) → HaveTexts ys
+    behind [] ys g = g
+    behind (x ∷ xs) ys g = behind xs ys (rest_have x (xs ++ ys) g)
+
+https-texts : (ts : List Token) → HaveTexts ts → HaveTexts (https_as_http ts)
+https-texts [] h = h
+https-texts (t ∷ ts) h =
+    let test = is_text (codes "https") t && begins_authority ts in
+    let rest = https-texts ts (rest_have t ts h) in
+    let P : Token → Type 0 = λ u. HaveTexts (u ∷ https_as_http ts) in
+    elim (cases_Bool test) [
+      | inl is ↦ subst P (sym (cond-true test (record t { text = codes "http" }) t is)) (more_have (record t { text = codes "http" }) (https_as_http ts) http_text rest)
+      | inr other ↦ subst P (sym (cond-false test (record t { text = codes "http" }) t other)) (more_have t (https_as_http ts) (first_has t ts h) rest)
+    ]
+
+-- the spelling of a phrase that was found
+abbrev HasSpelling : Option Phrase → Type 0
+HasSpelling None = Unit {0}
+HasSpelling (Some p) = IsTokenText p.spelling
+
+longer-has : (p : Phrase) (other : Option Phrase) → IsTokenText p.spelling → HasSpelling other → IsTokenText (longer p other).spelling
+longer-has p None h g = h
+longer-has p (Some q) h g =
+    let P : Phrase → Type 0 = λ r. IsTokenText r.spelling in
+    elim (cases_Bool (nat_lt (length p.texts) (length q.texts))) [
+      | inl less ↦ subst P (sym (cond-true (nat_lt (length p.texts) (length q.texts)) q p less)) g
+      | inr more ↦ subst P (sym (cond-false (nat_lt (length p.texts) (length q.texts)) q p more)) h
+    ]
+
+longest-has : (words : List Phrase) (ts : List Token) → HaveTokenTexts words → HasSpelling (longest_phrase words ts)
+longest-has [] ts h = tt
+longest-has (p ∷ words) ts h =
+    let rest = longest-has words ts (All-tail (λ q. IsTokenText q.spelling) p words h) in
+    elim (cases_Bool (stands p.texts ts)) [
+      | inl here ↦ subst HasSpelling (sym (cond-true (stands p.texts ts) (Some (longer p (longest_phrase words ts))) (longest_phrase words ts) here)) (longer-has p (longest_phrase words ts) (All-head (λ q. IsTokenText q.spelling) p words h) rest)
+      | inr no_such ↦ subst HasSpelling (sym (cond-false (stands p.texts ts) (Some (longer p (longest_phrase words ts))) (longest_phrase words ts) no_such)) rest
+    ]
+
+phrases-texts : (words : List Phrase) (n : ℕ) (ts : List Token) → HaveTokenTexts words → HaveTexts ts → HaveTexts (phrases_behind words n ts)
+phrases-texts words n [] known h = none_have
+phrases-texts words (suc n) (t ∷ ts) known h = phrases-texts words n ts known (rest_have t ts h)
+phrases-texts words zero (t ∷ ts) known h = at (longest_phrase words (t ∷ ts)) (longest-has words (t ∷ ts) known) (λ n. phrases-texts words n ts known (rest_have t ts h))
+  where
+    at : (phrase : Option Phrase) → HasSpelling phrase → ((n : ℕ) → HaveTexts (phrases_behind words n ts)) → HaveTexts (first_as phrase t ts ∷ phrases_behind words (count_behind phrase) ts)
+    at None g more = more_have t (phrases_behind words 0 ts) (first_has t ts h) (more 0)
+    at (Some p) g more = more_have (first_as (Some p) t ts) (phrases_behind words (length p.texts - 1) ts) g (more (length p.texts - 1))
+
+reported-texts : (ts : List Token) → HaveTexts ts → AreTokenTexts (map reported (map spanned ts))
+reported-texts [] h = All-nil (λ t. IsTokenText t.text)
+reported-texts (t ∷ ts) h = All-cons (λ u. IsTokenText u.text) (reported (spanned t)) (map reported (map spanned ts)) (first_has t ts h) (reported-texts ts (rest_have t ts h))
+
+-- the texts of an input's tokens
+pub tokens_of-AreTokenTexts : (words : List Phrase) (input : List ℕ) → HaveTokenTexts words → AreTokenTexts (tokens_of words input)
+unfolding first_tokens_of
+tokens_of-AreTokenTexts words input known =
+    let text = source_of 0 input in
+    let cells = runs_joined profile (cells_of profile text) in
+    let fit : KindsFit cells = fit-runs_joined profile (cells_of profile text) (fit-lines profile (lines_of (without_dropped text))) in
+    let first : HaveTexts (first_tokens cells) = tokens_from-texts true (groups both_words cells) (subst KindsFit (sym (parts_of_groups both_words cells)) fit) in
+    let signs : HaveTexts (single_signs (first_tokens cells)) = single_signs-texts (first_tokens cells) first in
+    let rows : HaveTexts (sign_rows (single_signs (first_tokens cells))) =
+    rows-texts (groups both_signs (single_signs (first_tokens cells))) (subst HaveTexts (sym (parts_of_groups both_signs (single_signs (first_tokens cells)))) signs) in
+    let joined = https_as_http (sign_rows (single_signs (first_tokens cells))) in
+    reported-texts (phrases_joined words joined) (phrases-texts words 0 joined known (https-texts (sign_rows (single_signs (first_tokens cells))) rows))

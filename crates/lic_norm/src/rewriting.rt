@@ -1,0 +1,62 @@
+//! From first tokens to the tokens of the rewriting, as they are kept.
+ghost use Rattle.std.specs.Prelude.{◌≡◌, ◌++◌, [], List, map, IfOk, OnOk};
+ghost use Rattle.lic_lines.specs.Tokens.{Token, tokens_in};
+ghost use Rattle.lic_phrases.specs.Rewriting.{rewritten};
+ghost use Rattle.lic_norm.specs.Reading.{HasTaken};
+ghost use Rattle.lic_norm.specs.Tokens.{reported};
+
+use crate::token_list::TokenList;
+use lic_lines::FirstToken;
+use lic_phrases::{Phrases, Rewriter};
+use std::alloc::{AllocError, Global};
+
+/// Takes the first tokens of a text, and lists the tokens of its rewriting.
+#[derive(Drop)]
+pub(crate) struct Rewriting<'w> {
+    phrases: &'w Phrases,
+    rewriter: Rewriter,
+    tokens: TokenList,
+}
+
+impl<'w> Rewriting<'w> {
+    /// Nothing is taken yet.
+    pub(crate) fn new(alloc: Global, phrases: &'w Phrases) -> Rewriting<'w>
+        ensures taken { HasTaken result [] }
+        ensures phrases { result.phrases.now ≡ phrases.now }
+    {
+        Rewriting {
+            phrases,
+            rewriter: Rewriter::new(alloc),
+            tokens: TokenList::new(alloc),
+        }
+    }
+
+    /// Takes the next tokens, and lists those that are settled then.
+    pub(crate) fn take(&mut self, alloc: Global, tokens: Vec<FirstToken>) -> Result<(), AllocError>
+        ensures taken { OnOk result ((taken : List Token) → HasTaken self.old taken → HasTaken self.new (taken ++ tokens_in tokens.items)) }
+        ensures phrases { self.new.phrases.now ≡ self.old.phrases.now }
+    {
+        let mut settled = Vec::new(alloc);
+        for token in tokens {
+            self.rewriter.push(self.phrases, token, &mut settled)?;
+            self.tokens.extend(self.phrases, &settled)?;
+            settled.clear();
+        }
+        Ok(())
+    }
+
+    /// The tokens of the whole text.
+    pub(crate) fn finish(self, alloc: Global) -> Result<TokenList, AllocError>
+        ensures { IfOk result (λ tokens. (taken : List Token) → HasTaken self.entry taken → tokens ≡ map reported (rewritten self.entry.phrases.now.phrases taken)) }
+    {
+        let Rewriting {
+            phrases,
+            rewriter,
+            mut tokens,
+        } = self;
+        let mut settled = Vec::new(alloc);
+        rewriter.finish(phrases, &mut settled)?;
+        tokens.extend(phrases, &settled)?;
+        Ok(tokens)
+    }
+}

@@ -1,0 +1,105 @@
+//! Tokens as they are kept.
+ghost use Rattle.std.specs.Prelude.{◌≡◌, ◌<◌, ◌++◌, ◌∷◌, [], length, map, slice_index_or, OnOk};
+ghost use Rattle.lic_phrases.specs.Waiting.{AreKnown, spanned_in};
+
+use crate::token::{Span, Token};
+use lic_phrases::{FinalToken, Phrases};
+use std::alloc::{AllocError, Global};
+use std::marker::Model;
+
+/// A token as it is kept: where its text lies among the texts, and its bytes of the source.
+#[derive(Clone, Copy, Debug)]
+struct Row {
+    text_start: usize,
+    text_end: usize,
+    start: u32,
+    end: u32,
+}
+
+/// Tokens, with their texts in one string.
+#[derive(Debug, Drop)]
+pub(crate) struct TokenList {
+    texts: String,
+    rows: Vec<Row>,
+}
+
+impl Model for TokenList {
+    ghost use Rattle.std.specs.Prelude.{List, All, map};
+    ghost use Rattle.std.specs.String.{string_bytes};
+    ghost use Rattle.lic_norm.specs.Tokens.{TokenValue};
+    ghost use Rattle.lic_norm.specs.Views.{row_value, IsWithin};
+
+    ghost Value = { List TokenValue };
+
+    ghost view = { λ t. map (row_value (string_bytes t.texts)) t.rows.items };
+
+    ghost invariant = { λ t. All (IsWithin (string_bytes t.texts)) t.rows.items };
+}
+
+impl TokenList {
+    ghost use Rattle.lic_norm.specs.Tokens.{reported};
+
+    /// No tokens.
+    pub(crate) fn new(alloc: Global) -> TokenList
+        ensures { result ≡ [] }
+    {
+        TokenList {
+            texts: String::new(alloc),
+            rows: Vec::new(alloc),
+        }
+    }
+
+    /// How many tokens there are.
+    pub(crate) fn len(&self) -> usize
+        ensures { result ≡ length self.now }
+    {
+        self.rows.len()
+    }
+
+    /// Adds a token.
+    pub(crate) fn push(&mut self, text: &str, start: u32, end: u32) -> Result<(), AllocError>
+        ensures { OnOk result (self.new ≡ self.old ++ (record { text = text.now; span = record { start = start; end = end } }) ∷ []) }
+    {
+        let text_start = self.texts.len();
+        self.texts.push_str(text)?;
+        let text_end = self.texts.len();
+        self.rows.push(Row {
+            text_start,
+            text_end,
+            start,
+            end,
+        })?;
+        Ok(())
+    }
+
+    /// Adds tokens as the rewriting gives them.
+    pub(crate) fn extend(
+        &mut self,
+        phrases: &Phrases,
+        settled: &[FinalToken],
+    ) -> Result<(), AllocError>
+        requires { AreKnown (length phrases.now.spellings) settled.now }
+        ensures { OnOk result (self.new ≡ self.old ++ map reported (map (spanned_in phrases.now.spellings) settled.now)) }
+    {
+        for token in settled {
+            self.push(phrases.text_of(token), token.start, token.end)?;
+        }
+        Ok(())
+    }
+
+    /// The token number `i`, from 0.
+    pub(crate) fn get(&self, i: usize) -> Token<'_>
+        requires { i < length self.now }
+        ensures text { (d : _) → result.text.now ≡ (slice_index_or self.now i d).text }
+        ensures span { (d : _) → result.span ≡ (slice_index_or self.now i d).span }
+    {
+        let row = self.rows[i];
+        Token {
+            text: &self.texts.as_str()[row.text_start..row.text_end],
+            span: Span {
+                start: row.start as usize,
+                end: row.end as usize,
+            },
+        }
+    }
+}
