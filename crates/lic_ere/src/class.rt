@@ -1,9 +1,10 @@
 //! The set of letters that a bracket stands for.
-ghost use Rattle.std.specs.Prelude.{◌≡◌, ◌↔◌, ◌==◌, ◌&&◌, IsTrue};
+ghost use Rattle.std.specs.Prelude.{◌≡◌, ◌↔◌, ◌==◌, ◌&&◌, IsTrue, IfOk};
 ghost use Rattle.std.specs.List.{list_any};
 ghost use Rattle.lic_ere.specs.Sets.{image, meets, meets_any, has_image, is_in, IsIn};
 
 use lic_kind::{is_dash, is_quote};
+use std::alloc::{AllocError, Global};
 use std::marker::Model;
 
 /// A member of a bracket: the characters from the first to the last by scalar value.
@@ -38,6 +39,19 @@ impl Class {
             members,
             complement,
         }
+    }
+
+    /// The same set once more.
+    ///
+    /// # Errors
+    /// Memory is lacking.
+    pub fn copy(&self, alloc: Global) -> Result<Class, AllocError>
+        ensures { IfOk result (λ copy. copy ≡ self.now) }
+    {
+        Ok(Class {
+            members: Vec::from_slice(alloc, &self.members)?,
+            complement: self.complement,
+        })
     }
 
     /// Whether the letter is in the set: some character of the bracket has it as its image, or, behind

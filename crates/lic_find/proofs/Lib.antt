@@ -1,10 +1,8 @@
 pub mod Triples
 pub mod Collecting
-pub mod Described
-pub mod Positions
-pub mod Places
-pub mod Ranges
+pub mod Listed
 pub mod Matching
-pub mod Deciding
-pub mod Reading
-pub mod Ordering
+pub mod Ranges
+pub mod Describing
+pub mod Asking
+pub mod Walking

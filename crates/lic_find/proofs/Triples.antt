@@ -1,15 +1,41 @@
 -- The order of triples, and lists in that order.
 use Rattle.std.proofs.Common.{◌≡◌, zero, suc, ◌⊎◌, List, [], ◌∷◌, ◌++◌, refl, sym, ap, ◌∙◌, subst, inl, inr, ⊎_elim, arith}
 use Rattle.std.specs.List.{Contains}
-use Rattle.std.proofs.lemmas.List.Elements.{Contains-push_cases}
+use Rattle.std.proofs.lemmas.Bool.{cases_order}
+use Rattle.std.proofs.lemmas.List.Elements.{Contains-append_cases}
+use Rattle.lic_find.specs.Listing.{triple_at}
 use Rattle.lic_find.specs.Matches.{Precedes, AreAscending}
 use Rattle.lic_find.specs.declared.triple.Triple.{Triple}
+
+-- triples are the same if their numbers are
+pub same_parts : (s t : Triple) → s.first ≡ t.first → s.last ≡ t.last → s.template ≡ t.template → t ≡ s
+same_parts s t first last template =
+    sym (ap (λ n. triple_at n s.last s.template) first ∙ (ap (λ n. triple_at t.first n s.template) last ∙ ap (λ n. triple_at t.first t.last n) template))
 
 pub Precedes-itself : (t : Triple) → Precedes t t → ⊥
 Precedes-itself t h = omega (arith, h)
 
 pub Precedes-both : (s t : Triple) → Precedes s t → Precedes t s → ⊥
 Precedes-both s t h k = omega (arith, h, k)
+
+-- a triple that does not come before another is that one, or comes behind it
+pub not_before : (s t : Triple) → (Precedes s t → ⊥) → (t ≡ s) ⊎ Precedes t s
+not_before s t never =
+    elim (cases_order s.first t.first) [
+      | inr (inl below) ↦ absurd (never (inl below))
+      | inr (inr above) ↦ inr (inl above)
+      | inl first ↦
+          elim (cases_order s.last t.last) [
+            | inr (inl below) ↦ absurd (never (inr (first, inl below)))
+            | inr (inr above) ↦ inr (inr (sym first, inl above))
+            | inl last ↦
+                elim (cases_order s.template t.template) [
+                  | inr (inl below) ↦ absurd (never (inr (first, inr (last, below))))
+                  | inr (inr above) ↦ inr (inr (sym first, inr (sym last, above)))
+                  | inl template ↦ inl (same_parts s t first last template)
+                ]
+          ]
+    ]
 
 pub Precedes-trans : (s t u : Triple) → Precedes s t → Precedes t u → Precedes s u
 Precedes-trans s t u h k = grind (arith, h, k)
@@ -28,12 +54,12 @@ Contains-tail x xs y (k, h, e) = (suc k, omega arith, e)
 pub Contains-nil : {A : Type 0} (x : A) → Contains [] x → ⊥
 Contains-nil x (k, h, e) = omega arith
 
-pub AreAscending-push : (ts : List Triple) (s : Triple) → AreAscending ts → ((t : Triple) → Contains ts t → Precedes t s) →
-    AreAscending (ts ++ s ∷ [])
-AreAscending-push [] s rise below = (λ t h. absurd (Contains-nil t h), tt)
-AreAscending-push (t ∷ ts) s rise below = (
-  λ u h. ⊎_elim (rise.0 u) (λ (e : s ≡ u). subst (λ x. Precedes t x) e (below t (Contains-head t ts))) (Contains-push_cases ts s u h),
-  AreAscending-push ts s rise.1 (λ u h. below u (Contains-tail t ts u h)),
+pub AreAscending-append : (xs ys : List Triple) → AreAscending xs → AreAscending ys →
+    ((s t : Triple) → Contains xs s → Contains ys t → Precedes s t) → AreAscending (xs ++ ys)
+AreAscending-append [] ys rise climb below = climb
+AreAscending-append (x ∷ xs) ys rise climb below = (
+  λ t h. ⊎_elim (rise.0 t) (λ k. below x t (Contains-head x xs) k) (Contains-append_cases xs ys t h),
+  AreAscending-append xs ys rise.1 climb (λ s t h k. below s t (Contains-tail x xs s h) k),
 )
 
 -- the first of two lists in order that have the same members are the same

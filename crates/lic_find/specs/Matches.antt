@@ -4,8 +4,7 @@ use Rattle.std.specs.List.{slice_get}
 use Rattle.std.specs.Str.{chars}
 use Rattle.lic_norm.specs.Tokens.{TokenValue}
 use Rattle.lic_words.specs.Describing.{IsDescribed}
-use Rattle.lic_find.specs.Templates.{parts_words}
-use Rattle.lic_find.specs.Sets.{Known}
+use Rattle.lic_auto.specs.Sets.{Known, words_of}
 use Rattle.lic_find.specs.declared.triple.Triple.{Triple}
 
 -- the letters of each token from the first to the last
@@ -18,7 +17,7 @@ pub record IsMatch (set : List Known) (tokens : List TokenValue) (t : Triple) : 
   pub within : t.last < length tokens
   pub known : Known
   pub number : slice_get set t.template ≡ Some known
-  pub described : IsDescribed (parts_words known.template.parts) (letters_between tokens t.first t.last)
+  pub described : IsDescribed (words_of known) (letters_between tokens t.first t.last)
 
 -- by first token, then by last token, then by template
 abbrev pub Precedes : Triple → Triple → Type 0

@@ -1,9 +1,9 @@
-//! Templates, sets of templates, and the finder of the places that they describe.
+//! The walk over a text: where templates describe ranges of its tokens.
 #![tactic(auto)]
 
 pub mod finder;
 pub mod laws;
-mod search;
-pub mod set;
-pub mod template;
+pub mod matches;
+#[cfg(test)]
+mod tests;
 pub mod triple;

@@ -1,5 +1,5 @@
 -- Nodes that are made with right numbers.
-use Rattle.std.proofs.Common.{◌≡◌, ℕ, ◌+◌, ◌==◌, Bool, true, List, [], ◌∷◌, map, length, Vec, Box, Global, refl, sym, ap, ◌∙◌, arith, eq-eqb, ne_eqb, false, suc}
+use Rattle.std.proofs.Common.{◌≡◌, ℕ, ◌+◌, ◌==◌, Bool, true, List, [], ◌∷◌, map, length, Vec, Box, Global, refl, sym, ap, ◌∙◌, arith, eq-eqb, ne_eqb, false, suc, replicate}
 use Rattle.std.specs.Bool.{beq}
 use Rattle.std.specs.List.{list_all}
 use Rattle.lic_marks.specs.Cores.{Core, one, cat_all, alt_all, any_front, plus, tidy}
@@ -7,15 +7,15 @@ use Rattle.lic_marks.specs.Marks.{is_nullable}
 use Rattle.lic_marks.specs.Rows.{weight}
 use Rattle.lic_marks.specs.Nodes.{core_of, passes, is_measured, letter_cores, IsBuilt}
 use Rattle.lic_marks.specs.declared.test.Test.{Test}
-use Rattle.lic_marks.specs.declared.node.Node.{Node, Letters, One, Cat, Alt, Front, Plus, Tidy}
+use Rattle.lic_marks.specs.declared.node.Node.{Node, Letters, One, Copies, UpTo, Cat, Alt, Front, Plus, Tidy}
 use Rattle.lic_marks.proofs.Cuts.{and_both}
-use Rattle.lic_marks.proofs.Nodes.{core_of-Letters, core_of-One, is_measured-Letters, is_measured-One, core_of-Cat, core_of-Alt, core_of-Front, core_of-Plus, core_of-Tidy, is_measured-Cat, is_measured-Alt, is_measured-Front, is_measured-Plus, is_measured-Tidy}
+use Rattle.lic_marks.proofs.Nodes.{core_of-Letters, core_of-One, is_measured-Letters, is_measured-One, core_of-Copies, core_of-UpTo, is_measured-Copies, is_measured-UpTo, core_of-Cat, core_of-Alt, core_of-Front, core_of-Plus, core_of-Tidy, is_measured-Cat, is_measured-Alt, is_measured-Front, is_measured-Plus, is_measured-Tidy}
 
-weight-alt_all : (rs : List Core) → weight (cat_all rs) ≡ weight (alt_all rs)
+pub weight-alt_all : (rs : List Core) → weight (cat_all rs) ≡ weight (alt_all rs)
 weight-alt_all [] = refl
 weight-alt_all (r ∷ rs) = ap (λ n. weight r + n) (weight-alt_all rs)
 
-weight-any_front : (rs : List Core) → weight (cat_all rs) ≡ weight (any_front rs)
+pub weight-any_front : (rs : List Core) → weight (cat_all rs) ≡ weight (any_front rs)
 weight-any_front [] = refl
 weight-any_front (r ∷ rs) = omega (arith, weight-any_front rs)
 
@@ -75,3 +75,9 @@ IsBuilt-Letters text = record { stands = core_of-Letters text; measured = is_mea
 
 pub IsBuilt-One : (test : Test) → IsBuilt (one (passes test)) (One test)
 IsBuilt-One test = record { stands = core_of-One test; measured = is_measured-One test }
+
+pub IsBuilt-Copies : (test : Test) (count : ℕ) → IsBuilt (cat_all (replicate count (one (passes test)))) (Copies test count)
+IsBuilt-Copies test count = record { stands = core_of-Copies test count; measured = is_measured-Copies test count }
+
+pub IsBuilt-UpTo : (test : Test) (count : ℕ) → IsBuilt (any_front (replicate count (one (passes test)))) (UpTo test count)
+IsBuilt-UpTo test count = record { stands = core_of-UpTo test count; measured = is_measured-UpTo test count }

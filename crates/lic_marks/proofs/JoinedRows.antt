@@ -1,6 +1,6 @@
 -- Two rows of flags joined.
 use Rattle.std.proofs.Common.{◌≡◌, ℕ, zero, suc, ◌+◌, ◌<◌, Bool, true, false, ◌||◌, ◌&&◌, not, List, [], ◌∷◌, ◌++◌, length, take, drop, set, get_or, refl, sym, ap, arith, append_assoc, length-drop, ◌∙◌, replicate}
-use Rattle.std.proofs.lemmas.List.{drop_more, take_more_set, drop-set-lt}
+use Rattle.std.proofs.lemmas.List.{get_or-replicate, drop_more, take_more_set, drop-set-lt}
 use Rattle.lic_marks.specs.Cores.{Core, empty, one, cat, none, alt, plus, tidy}
 use Rattle.lic_marks.specs.Marks.{join}
 use Rattle.lic_marks.specs.Rows.{weight, marks_of, first_flag, either_row, unset_count}
@@ -85,3 +85,6 @@ all_clear [] all = refl
 all_clear (flag ∷ row) all =
     let first : flag ≡ false = all 0 true (omega arith) in
     ap (λ x. x ∷ row) first ∙ ap (λ s. false ∷ s) (all_clear row (λ k d inside. all (suc k) d (omega (arith, inside))))
+
+pub clear_flag : (row : List Bool) → row ≡ replicate (length row) false → (k : ℕ) (d : Bool) → k < length row → get_or row k d ≡ false
+clear_flag row clear k d inside = ap (λ s. get_or s k d) clear ∙ get_or-replicate (length row) k false d inside

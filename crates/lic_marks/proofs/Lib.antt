@@ -12,5 +12,11 @@ pub mod Children
 pub mod Closing
 pub mod TokenRows
 pub mod Built
+pub mod Copied
+pub mod Patches
+pub mod Taken
+pub mod Moving
+pub mod Untouched
+pub mod WindowRows
 pub mod Deciding
-pub mod DescribedExamples
+mod DescribedExamples

@@ -1,22 +1,41 @@
 -- The equations of a node's core and of its cached numbers, one for each variant.
-use Rattle.std.proofs.Common.{◌≡◌, ℕ, Bool, true, ◌==◌, ◌&&◌, List, [], ◌∷◌, length, map, Vec, Box, Global, refl, sym, ap, ◌∙◌, false, eqb-true}
+use Rattle.std.proofs.Common.{◌≡◌, ℕ, Bool, true, ◌==◌, ◌&&◌, List, [], ◌∷◌, length, map, replicate, Vec, Box, Global, refl, sym, ap, ◌∙◌, false, eqb-true}
 use Rattle.std.specs.List.{list_all}
 use Rattle.std.specs.Bool.{beq}
 use Rattle.lic_marks.specs.Cores.{Core, one, cat_all, alt_all, any_front, plus, tidy}
 use Rattle.lic_marks.specs.Marks.{is_nullable}
 use Rattle.lic_marks.specs.Rows.{weight}
 use Rattle.lic_marks.specs.Nodes.{passes, letter_cores, node_core, core_of, are_right, cores_of, node_is_measured, is_measured}
-use Rattle.lic_marks.proofs.LetterWalks.{weight-letters}
+use Rattle.lic_marks.proofs.LetterWalks.{weight-letters, weight-copies, weight-up_to}
 use Rattle.lic_marks.proofs.Cuts.{and_left, and_right}
 use Rattle.lic_marks.specs.declared.test.Test.{Test}
 use Rattle.lic_marks.specs.declared.node.Node.{Node, Node-F, fold-roll-Node, para-roll-Node}
-use Rattle.lic_marks.specs.declared.node.Node.TheVariants.{Letters, One, Cat, Alt, Front, Plus, Tidy, rolls-Letters, rolls-One, rolls-Cat, rolls-Alt, rolls-Front, rolls-Plus, rolls-Tidy}
+use Rattle.lic_marks.specs.declared.node.Node.TheVariants.{Letters, One, Copies, UpTo, Cat, Alt, Front, Plus, Tidy, rolls-Letters, rolls-One, rolls-Copies, rolls-UpTo, rolls-Cat, rolls-Alt, rolls-Front, rolls-Plus, rolls-Tidy}
 
 pub core_of-Letters : (text : Vec ℕ Global) → core_of (Letters text) ≡ cat_all (letter_cores text.items)
 core_of-Letters text = ap core_of (sym (rolls-Letters text)) ∙ fold-roll-Node Core node_core (Node-F.Letters text)
 
 pub core_of-One : (test : Test) → core_of (One test) ≡ one (passes test)
 core_of-One test = ap core_of (sym (rolls-One test)) ∙ fold-roll-Node Core node_core (Node-F.One test)
+
+module _ (test : Test) (count : ℕ) where
+  pub core_of-Copies : core_of (Copies test count) ≡ cat_all (replicate count (one (passes test)))
+  core_of-Copies = ap core_of (sym (rolls-Copies test count)) ∙ fold-roll-Node Core node_core (Node-F.Copies test count)
+
+  pub core_of-UpTo : core_of (UpTo test count) ≡ any_front (replicate count (one (passes test)))
+  core_of-UpTo = ap core_of (sym (rolls-UpTo test count)) ∙ fold-roll-Node Core node_core (Node-F.UpTo test count)
+
+  pub is_measured-Copies : is_measured (Copies test count) ≡ true
+  is_measured-Copies = ap is_measured (sym (rolls-Copies test count)) ∙ para-roll-Node Bool node_is_measured (Node-F.Copies test count)
+
+  pub is_measured-UpTo : is_measured (UpTo test count) ≡ true
+  is_measured-UpTo = ap is_measured (sym (rolls-UpTo test count)) ∙ para-roll-Node Bool node_is_measured (Node-F.UpTo test count)
+
+  pub weight-Copies : count ≡ weight (core_of (Copies test count))
+  weight-Copies = rw core_of-Copies (sym (weight-copies (passes test) count))
+
+  pub weight-UpTo : count ≡ weight (core_of (UpTo test count))
+  weight-UpTo = rw core_of-UpTo (sym (weight-up_to (passes test) count))
 
 module _ (children : Vec Node Global) (kept : ℕ) where
   pub core_of-Cat : core_of (Cat children kept) ≡ cat_all (map core_of children.items)

@@ -3,6 +3,7 @@ pub mod Marks
 pub mod Rests
 pub mod Standing
 pub mod Rows
+pub mod Windows
 pub mod Nodes
 pub mod Runs
 pub mod Deciding

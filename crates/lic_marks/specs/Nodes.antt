@@ -1,25 +1,22 @@
 -- The cores of compiled expressions, and whether their cached numbers are right.
-use Rattle.std.specs.Prelude.{IsTrue, ◌≡◌, ℕ, Bool, true, ◌==◌, ◌&&◌, nat_le, not, List, map, if◌then◌else◌}
+use Rattle.std.specs.Prelude.{IsTrue, ◌≡◌, ℕ, Bool, true, ◌==◌, ◌&&◌, List, map, replicate}
 use Rattle.std.specs.Bool.{beq}
-use Rattle.std.specs.List.{list_any, list_all}
+use Rattle.std.specs.List.{list_all}
+use Rattle.lic_ere.specs.Sets.{is_in}
 use Rattle.lic_marks.specs.Cores.{Core, one, cat_all, alt_all, any_front, plus, tidy}
 use Rattle.lic_marks.specs.Marks.{is_nullable}
 use Rattle.lic_marks.specs.Rows.{weight}
 use Rattle.lic_marks.specs.declared.test.Test.{Test}
-use Rattle.lic_marks.specs.declared.test.Test.TheVariants.{Letter, Any, Ranges}
+use Rattle.lic_marks.specs.declared.test.Test.TheVariants.{Letter, Any, Class}
 use Rattle.lic_marks.specs.declared.node.Node.{Node}
 use Rattle.lic_marks.specs.declared.node.Node.TheOpen.{Node-F}
 use Rattle.lic_marks.specs.declared.node.Node.TheFolds.{fold-Node, para-Node}
-
--- a letter of one of the ranges, whose ends belong to them
-abbrev pub is_within : List (ℕ × ℕ) → ℕ → Bool
-is_within ranges c = list_any (λ r. nat_le r.0 c && nat_le c r.1) ranges
 
 -- whether a letter passes a test
 abbrev pub passes : Test → ℕ → Bool
 passes (Letter d) c = c == d
 passes Any c = true
-passes (Ranges ranges negated) c = if negated then not (is_within ranges.items c) else is_within ranges.items c
+passes (Class brackets) c = is_in brackets c
 
 -- these letters in a row
 abbrev pub letter_cores : List ℕ → List Core
@@ -29,6 +26,8 @@ letter_cores text = map (λ d. one (λ c. c == d)) text
 abbrev pub node_core : Node-F Core → Core
 node_core (Node-F.Letters text) = cat_all (letter_cores text.items)
 node_core (Node-F.One test) = one (passes test)
+node_core (Node-F.Copies test count) = cat_all (replicate count (one (passes test)))
+node_core (Node-F.UpTo test count) = any_front (replicate count (one (passes test)))
 node_core (Node-F.Cat children weight) = cat_all children.items
 node_core (Node-F.Alt children weight) = alt_all children.items
 node_core (Node-F.Front children weight) = any_front children.items
@@ -52,6 +51,8 @@ cores_of children = map (λ p. core_of p.0) children
 abbrev pub node_is_measured : Node-F (Node × Bool) → Bool
 node_is_measured (Node-F.Letters text) = true
 node_is_measured (Node-F.One test) = true
+node_is_measured (Node-F.Copies test count) = true
+node_is_measured (Node-F.UpTo test count) = true
 node_is_measured (Node-F.Cat children kept) = are_right children.items && (kept == weight (cat_all (cores_of children.items)))
 node_is_measured (Node-F.Alt children kept) = are_right children.items && (kept == weight (alt_all (cores_of children.items)))
 node_is_measured (Node-F.Front children kept) = are_right children.items && (kept == weight (any_front (cores_of children.items)))

@@ -1,6 +1,6 @@
 //! Making compiled expressions.
 
-ghost use Rattle.std.specs.Prelude.{◌≡◌, IsTrue, IfSome, map};
+ghost use Rattle.std.specs.Prelude.{◌≡◌, ◌<◌, IsTrue, IfSome, IfNone, map, replicate};
 ghost use Rattle.std.specs.List.{list_all};
 ghost use Rattle.lic_marks.specs.Cores.{one, cat_all, alt_all, any_front, plus, tidy};
 ghost use Rattle.lic_marks.specs.Marks.{is_nullable};
@@ -24,28 +24,45 @@ pub fn one(test: Test) -> Node
     Node::One(test)
 }
 
-/// One child after another, or `None` where the weight is above the greatest `usize`.
+/// So many letters in a row that each pass.
+pub fn copies(test: Test, count: usize) -> Node
+    ensures { IsBuilt (cat_all (replicate count (one (passes test)))) result }
+{
+    Node::Copies { test, count }
+}
+
+/// Letters in a row that each pass, up to so many.
+pub fn up_to(test: Test, count: usize) -> Node
+    ensures { IsBuilt (any_front (replicate count (one (passes test)))) result }
+{
+    Node::UpTo { test, count }
+}
+
+/// One child after another, or `None` where the children together weigh more than the greatest `usize`.
 pub fn cat(children: Vec<Node>) -> Option<Node>
     requires { IsTrue (list_all is_measured children.items) }
-    ensures { IfSome result (IsBuilt (cat_all (map core_of children.items))) }
+    ensures built { IfSome result (IsBuilt (cat_all (map core_of children.items))) }
+    ensures heavy { IfNone result (usize.MAX < weight (cat_all (map core_of children.items))) }
 {
     let weight = total_weight(&children)?;
     Some(Node::Cat { children, weight })
 }
 
-/// Any one child, or `None` where the weight is above the greatest `usize`.
+/// Any one child, or `None` where the children together weigh more than the greatest `usize`.
 pub fn alt(children: Vec<Node>) -> Option<Node>
     requires { IsTrue (list_all is_measured children.items) }
-    ensures { IfSome result (IsBuilt (alt_all (map core_of children.items))) }
+    ensures built { IfSome result (IsBuilt (alt_all (map core_of children.items))) }
+    ensures heavy { IfNone result (usize.MAX < weight (cat_all (map core_of children.items))) }
 {
     let weight = total_weight(&children)?;
     Some(Node::Alt { children, weight })
 }
 
-/// One child after another, up to any of them, or `None` where the weight is above the greatest `usize`.
+/// One child after another, up to any of them, or `None` where the children together weigh more than the greatest `usize`.
 pub fn front(children: Vec<Node>) -> Option<Node>
     requires { IsTrue (list_all is_measured children.items) }
-    ensures { IfSome result (IsBuilt (any_front (map core_of children.items))) }
+    ensures built { IfSome result (IsBuilt (any_front (map core_of children.items))) }
+    ensures heavy { IfNone result (usize.MAX < weight (cat_all (map core_of children.items))) }
 {
     let weight = total_weight(&children)?;
     Some(Node::Front { children, weight })
@@ -77,7 +94,8 @@ pub fn tidy(child: Box<Node>) -> Node
 // The weights together, unless they are above the greatest `usize`.
 fn total_weight(children: &[Node]) -> Option<usize>
     requires { IsTrue (list_all is_measured children.now) }
-    ensures { IfSome result (λ total. total ≡ weight (cat_all (map core_of children.now))) }
+    ensures total { IfSome result (λ total. total ≡ weight (cat_all (map core_of children.now))) }
+    ensures heavy { IfNone result (usize.MAX < weight (cat_all (map core_of children.now))) }
 {
     let mut total: usize = 0;
     for child in children {
@@ -94,6 +112,8 @@ pub fn is_nullable(node: &Node) -> bool
     match node {
         Node::Letters(text) => text.is_empty(),
         Node::One(_) => false,
+        Node::Copies { count, .. } => *count == 0,
+        Node::UpTo { .. } => true,
         Node::Cat { children, .. } => are_all_nullable(children),
         Node::Alt { children, .. } => is_any_nullable(children),
         Node::Front { .. } => true,

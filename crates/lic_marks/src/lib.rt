@@ -3,9 +3,12 @@
 
 pub mod build;
 pub mod close;
+mod copy;
 pub mod laws;
+pub mod moves;
 pub mod node;
 pub mod push;
+pub mod row;
 pub mod rows;
 pub mod run;
 pub mod shift;
@@ -13,3 +16,4 @@ pub mod test;
 #[cfg(test)]
 mod tests;
 pub mod walk;
+pub mod window;

@@ -11,6 +11,16 @@ pub enum Node {
     Letters(Vec<char>),
     /// One letter that passes.
     One(Test),
+    /// So many letters in a row that each pass.
+    Copies {
+        test: Test,
+        count: usize,
+    },
+    /// Letters in a row that each pass, up to so many.
+    UpTo {
+        test: Test,
+        count: usize,
+    },
     /// One child after another.
     Cat {
         children: Vec<Node>,
@@ -51,6 +61,8 @@ impl Node {
         match self {
             Node::Letters(text) => text.len(),
             Node::One(_) => 1,
+            Node::Copies { count, .. } => *count,
+            Node::UpTo { count, .. } => *count,
             Node::Cat { weight, .. } => *weight,
             Node::Alt { weight, .. } => *weight,
             Node::Front { weight, .. } => *weight,

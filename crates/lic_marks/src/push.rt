@@ -12,8 +12,7 @@ ghost use Rattle.lic_marks.specs.Standing.{StandsAtOnce, StandsFor, StandsSoFar,
 
 use crate::close::close;
 use crate::node::Node;
-use crate::rows::join;
-use crate::shift::shift;
+use crate::row::Row;
 use lic_kind::{Kind, kind_of};
 
 /// A letter that is no blank, and how it stands behind the letters before it.
@@ -29,48 +28,40 @@ pub struct Step {
 }
 
 // The marks after a letter that stands at once or behind a gap. The spare row is room to work in.
-fn shift_step(
-    tree: &Node,
-    at_once: &mut [bool],
-    after_blanks: &[bool],
-    spare: &mut [bool],
-    step: Step,
-)
+fn shift_step(tree: &Node, at_once: &mut Row, after_blanks: &Row, spare: &mut Row, step: Step)
     requires measured { IsTrue (is_measured tree.now) }
     requires room { weight (core_of tree.now) ≤ length at_once.old }
     requires after_blanks_len { length after_blanks.now ≡ length at_once.old }
     requires spare_len { length spare.old ≡ length at_once.old }
-    ensures { marks_of (core_of tree.now) at_once.new
+    ensures at_once_len { length at_once.new ≡ length at_once.old }
+    ensures spare_len { length spare.new ≡ length spare.old }
+    ensures marks { marks_of (core_of tree.now) at_once.new
         ≡ shift_over (core_of tree.now) step.entry (marks_of (core_of tree.now) at_once.old) (marks_of (core_of tree.now) after_blanks.now) (gap_of step.is_apart step.are_words) step.letter }
 {
     let c = step.letter;
     if !step.is_apart {
-        shift(tree, at_once, 0, false, step.entry, c);
+        at_once.shift(tree, false, step.entry, c);
     } else if step.are_words {
-        at_once.copy_from_slice(after_blanks);
-        shift(tree, at_once, 0, true, false, c);
+        at_once.copy_from(after_blanks);
+        at_once.shift(tree, true, false, c);
     } else {
-        spare.copy_from_slice(after_blanks);
-        shift(tree, spare, 0, true, false, c);
-        shift(tree, at_once, 0, false, step.entry, c);
-        join(at_once, spare);
+        spare.copy_from(after_blanks);
+        spare.shift(tree, true, false, c);
+        at_once.shift(tree, false, step.entry, c);
+        at_once.join(spare);
     }
 }
 
 // One letter more, for all letters that the marks stand for.
-fn push_letter(
-    tree: &Node,
-    at_once: &mut [bool],
-    after_blanks: &[bool],
-    spare: &mut [bool],
-    step: Step,
-)
+fn push_letter(tree: &Node, at_once: &mut Row, after_blanks: &Row, spare: &mut Row, step: Step)
     requires measured { IsTrue (is_measured tree.now) }
     requires room { weight (core_of tree.now) ≤ length at_once.old }
     requires after_blanks_len { length after_blanks.now ≡ length at_once.old }
     requires spare_len { length spare.old ≡ length at_once.old }
     requires letter { step.letter ≢ blank }
-    ensures { (letters : List (Gap × ℕ))
+    ensures at_once_len { length at_once.new ≡ length at_once.old }
+    ensures spare_len { length spare.new ≡ length spare.old }
+    ensures stands { (letters : List (Gap × ℕ))
         → StandsSoFar (core_of tree.now) step.entry (marks_of (core_of tree.now) at_once.old) (marks_of (core_of tree.now) after_blanks.now) step.is_apart letters
         → StandsAtOnce (core_of tree.now) false (marks_of (core_of tree.now) at_once.new) (letters ++ (gap_of step.is_apart step.are_words, step.letter) ∷ []) }
 {
@@ -80,9 +71,9 @@ fn push_letter(
 // Makes ready for a letter that stands apart.
 fn part(
     tree: &Node,
-    at_once: &[bool],
-    after_blanks: &mut [bool],
-    spare: &mut [bool],
+    at_once: &Row,
+    after_blanks: &mut Row,
+    spare: &mut Row,
     entry: bool,
     is_apart: bool,
 )
@@ -90,7 +81,9 @@ fn part(
     requires room { weight (core_of tree.now) ≤ length at_once.now }
     requires after_blanks_len { length after_blanks.old ≡ length at_once.now }
     requires spare_len { length spare.old ≡ length at_once.now }
-    ensures { (letters : List (Gap × ℕ))
+    ensures after_blanks_len { length after_blanks.new ≡ length after_blanks.old }
+    ensures spare_len { length spare.new ≡ length spare.old }
+    ensures stands { (letters : List (Gap × ℕ))
         → StandsSoFar (core_of tree.now) entry (marks_of (core_of tree.now) at_once.now) (marks_of (core_of tree.now) after_blanks.old) is_apart letters
         → StandsFor (core_of tree.now) entry (marks_of (core_of tree.now) at_once.now) (marks_of (core_of tree.now) after_blanks.new) letters }
 {
@@ -104,9 +97,9 @@ fn part(
 pub fn push_token(
     tree: &Node,
     token: &str,
-    at_once: &mut [bool],
-    after_blanks: &mut [bool],
-    spare: &mut [bool],
+    at_once: &mut Row,
+    after_blanks: &mut Row,
+    spare: &mut Row,
     mut entry: bool,
     mut last: char,
 ) -> (bool, char)
@@ -118,6 +111,9 @@ pub fn push_token(
         → StandsFor (core_of tree.now) entry (marks_of (core_of tree.now) at_once.old) (marks_of (core_of tree.now) after_blanks.old) letters
         → StandsFor (core_of tree.now) result.0 (marks_of (core_of tree.now) at_once.new) (marks_of (core_of tree.now) after_blanks.new) (letters ++ gapped_from last true (chars token.now)) }
     ensures last { result.1 ≡ last_letter last (chars token.now) }
+    ensures at_once_len { length at_once.new ≡ length at_once.old }
+    ensures after_blanks_len { length after_blanks.new ≡ length after_blanks.old }
+    ensures spare_len { length spare.new ≡ length spare.old }
 {
     let mut is_apart = true;
     for c in token.chars() {

@@ -1,48 +1,67 @@
 //! The marks of a compiled expression after one more letter.
 
-ghost use Rattle.std.specs.Prelude.{◌≡◌, ℕ, ◌+◌, ◌≤◌, IsTrue, length, map};
+ghost use Rattle.std.specs.Prelude.{◌≡◌, ℕ, ◌+◌, ◌≤◌, IsTrue, length, map, replicate};
 ghost use Rattle.std.specs.List.{list_all};
-ghost use Rattle.lic_marks.specs.Cores.{cat_all, alt_all, any_front, plus, tidy};
+ghost use Rattle.lic_marks.specs.Cores.{one, cat_all, alt_all, any_front, plus, tidy};
 ghost use Rattle.lic_marks.specs.Marks.{is_nullable};
 ghost use Rattle.lic_marks.specs.Rows.{weight, Shifts};
-ghost use Rattle.lic_marks.specs.Nodes.{core_of, is_measured, letter_cores};
+ghost use Rattle.lic_marks.specs.Windows.{IsClearOutside, TakesIn};
+ghost use Rattle.lic_marks.specs.Nodes.{core_of, is_measured, letter_cores, passes};
 
+use crate::moves::{Reading, move_copies, move_letters, put};
 use crate::node::Node;
-use crate::rows::{clear, is_clear};
-use crate::walk::{leaves, leaves_tidy};
+use crate::rows::clear;
+use crate::test::Test;
+use crate::walk::{leaves, leaves_copies, leaves_letters, leaves_tidy, leaves_up_to};
+use crate::window::Window;
 
-/// Takes the marks, which stand in the row from `at` on, over the letter `c`. `after` says that the letter before it was
-/// a blank, and `entry` that one may begin with it. Answers whether one could leave before the letter.
+/// Takes the marks, which stand in the row from `at` on, over the letter that is read. `entry` says that one may begin
+/// with it. Answers whether one could leave before the letter, and takes in the marks that there are behind it.
 #[cycle(shift)]
-pub fn shift(node: &Node, row: &mut [bool], at: usize, after: bool, entry: bool, c: char) -> bool
+pub fn shift(
+    node: &Node,
+    row: &mut [bool],
+    at: usize,
+    entry: bool,
+    reading: Reading,
+    marked: &mut Window,
+) -> bool
     requires measured { IsTrue (is_measured node.now) }
     requires room { at + weight (core_of node.now) ≤ length row.old }
-    ensures { Shifts (core_of node.now) after entry c row.old at row.new result }
+    requires live { IsClearOutside reading.live row.old at (at + weight (core_of node.now)) }
+    ensures shifts { Shifts (core_of node.now) reading.after entry reading.letter row.old at row.new result }
+    ensures marked { TakesIn marked.old marked.new row.new at (at + weight (core_of node.now)) }
 {
+    let end = at + node.weight();
     // where nothing is marked and none begins, nothing will be
-    if !entry && is_clear(&row[at..at + node.weight()]) {
+    if !entry && !reading.live.meets(at, end) {
         return false;
     }
     match node {
-        Node::Letters(text) => shift_letters(text, row, at, after, entry, c),
+        Node::Letters(text) => shift_letters(text, row, at, entry, reading, marked),
         Node::One(test) => {
-            let marked = row[at];
-            row[at] = entry & test.passes(c);
-            marked
+            let out = row[at];
+            let is_passed = test.passes(reading.letter);
+            put(row, at, entry & is_passed, marked);
+            out
         }
-        Node::Cat { children, .. } => shift_all(children, row, at, after, entry, c),
-        Node::Alt { children, .. } => shift_any(children, row, at, after, entry, c),
-        Node::Front { children, .. } => shift_front(children, row, at, after, entry, c),
+        Node::Copies { test, count } => {
+            shift_copies(test, *count, row, at, entry, reading, marked)
+        }
+        Node::UpTo { test, count } => shift_up_to(test, *count, row, at, entry, reading, marked),
+        Node::Cat { children, .. } => shift_all(children, row, at, entry, reading, marked),
+        Node::Alt { children, .. } => shift_any(children, row, at, entry, reading, marked),
+        Node::Front { children, .. } => shift_front(children, row, at, entry, reading, marked),
         Node::Plus { child, .. } => {
-            let again = leaves(child, row, at, after, entry);
-            shift(child, row, at, after, entry | again, c);
+            let again = leaves(child, row, at, reading.live, reading.after, entry);
+            shift(child, row, at, entry | again, reading, marked);
             again
         }
         Node::Tidy {
             child,
             is_nullable,
             ..
-        } => shift_tidy(child, *is_nullable, row, at, after, entry, c),
+        } => shift_tidy(child, *is_nullable, row, at, entry, reading, marked),
     }
 }
 
@@ -50,22 +69,58 @@ fn shift_letters(
     text: &[char],
     row: &mut [bool],
     at: usize,
-    after: bool,
     entry: bool,
-    c: char,
+    reading: Reading,
+    marked: &mut Window,
 ) -> bool
-    requires { at + weight (cat_all (letter_cores text.now)) ≤ length row.old }
-    ensures { Shifts (cat_all (letter_cores text.now)) after entry c row.old at row.new result }
+    requires room { at + weight (cat_all (letter_cores text.now)) ≤ length row.old }
+    requires live { IsClearOutside reading.live row.old at (at + weight (cat_all (letter_cores text.now))) }
+    ensures shifts { Shifts (cat_all (letter_cores text.now)) reading.after entry reading.letter row.old at row.new result }
+    ensures marked { TakesIn marked.old marked.new row.new at (at + weight (cat_all (letter_cores text.now))) }
 {
-    let mut place = at;
-    let mut flag = entry;
-    for letter in text {
-        let marked = row[place];
-        row[place] = flag & (c == *letter);
-        flag = marked;
-        place += 1;
-    }
-    flag
+    let out = leaves_letters(text, row, at, reading.after, entry);
+    move_letters(text, row, at, entry, reading, marked);
+    out
+}
+
+fn shift_copies(
+    test: &Test,
+    count: usize,
+    row: &mut [bool],
+    at: usize,
+    entry: bool,
+    reading: Reading,
+    marked: &mut Window,
+) -> bool
+    requires room { at + count ≤ length row.old }
+    requires live { IsClearOutside reading.live row.old at (at + count) }
+    ensures shifts { Shifts (cat_all (replicate count (one (passes test.now)))) reading.after entry reading.letter row.old at row.new result }
+    ensures marked { TakesIn marked.old marked.new row.new at (at + count) }
+{
+    let out = leaves_copies(count, row, at, reading.after, entry);
+    let is_passed = test.passes(reading.letter);
+    move_copies(count, is_passed, row, at, entry, reading.live, marked);
+    out
+}
+
+fn shift_up_to(
+    test: &Test,
+    count: usize,
+    row: &mut [bool],
+    at: usize,
+    entry: bool,
+    reading: Reading,
+    marked: &mut Window,
+) -> bool
+    requires room { at + count ≤ length row.old }
+    requires live { IsClearOutside reading.live row.old at (at + count) }
+    ensures shifts { Shifts (any_front (replicate count (one (passes test.now)))) reading.after entry reading.letter row.old at row.new result }
+    ensures marked { TakesIn marked.old marked.new row.new at (at + count) }
+{
+    let out = leaves_up_to(count, row, at, reading.live, reading.after, entry);
+    let is_passed = test.passes(reading.letter);
+    move_copies(count, is_passed, row, at, entry, reading.live, marked);
+    out
 }
 
 #[cycle(shift)]
@@ -73,18 +128,23 @@ fn shift_all(
     children: &[Node],
     row: &mut [bool],
     at: usize,
-    after: bool,
     entry: bool,
-    c: char,
+    reading: Reading,
+    marked: &mut Window,
 ) -> bool
     requires measured { IsTrue (list_all is_measured children.now) }
     requires room { at + weight (cat_all (map core_of children.now)) ≤ length row.old }
-    ensures { Shifts (cat_all (map core_of children.now)) after entry c row.old at row.new result }
+    requires live { IsClearOutside reading.live row.old at (at + weight (cat_all (map core_of children.now))) }
+    ensures shifts { Shifts (cat_all (map core_of children.now)) reading.after entry reading.letter row.old at row.new result }
+    ensures marked { TakesIn marked.old marked.new row.new at (at + weight (cat_all (map core_of children.now))) }
 {
     let mut place = at;
     let mut flag = entry;
     for child in children {
-        flag = shift(child, row, place, after, flag, c);
+        if !flag && reading.live.to <= place {
+            return false;
+        }
+        flag = shift(child, row, place, flag, reading, marked);
         place += child.weight();
     }
     flag
@@ -95,18 +155,23 @@ fn shift_any(
     children: &[Node],
     row: &mut [bool],
     at: usize,
-    after: bool,
     entry: bool,
-    c: char,
+    reading: Reading,
+    marked: &mut Window,
 ) -> bool
     requires measured { IsTrue (list_all is_measured children.now) }
     requires room { at + weight (alt_all (map core_of children.now)) ≤ length row.old }
-    ensures { Shifts (alt_all (map core_of children.now)) after entry c row.old at row.new result }
+    requires live { IsClearOutside reading.live row.old at (at + weight (alt_all (map core_of children.now))) }
+    ensures shifts { Shifts (alt_all (map core_of children.now)) reading.after entry reading.letter row.old at row.new result }
+    ensures marked { TakesIn marked.old marked.new row.new at (at + weight (alt_all (map core_of children.now))) }
 {
     let mut place = at;
     let mut found = false;
     for child in children {
-        let out = shift(child, row, place, after, entry, c);
+        if !entry && reading.live.to <= place {
+            return found;
+        }
+        let out = shift(child, row, place, entry, reading, marked);
         found = found | out;
         place += child.weight();
     }
@@ -118,20 +183,25 @@ fn shift_front(
     children: &[Node],
     row: &mut [bool],
     at: usize,
-    after: bool,
     entry: bool,
-    c: char,
+    reading: Reading,
+    marked: &mut Window,
 ) -> bool
     requires measured { IsTrue (list_all is_measured children.now) }
     requires room { at + weight (any_front (map core_of children.now)) ≤ length row.old }
-    ensures { Shifts (any_front (map core_of children.now)) after entry c row.old at row.new result }
+    requires live { IsClearOutside reading.live row.old at (at + weight (any_front (map core_of children.now))) }
+    ensures shifts { Shifts (any_front (map core_of children.now)) reading.after entry reading.letter row.old at row.new result }
+    ensures marked { TakesIn marked.old marked.new row.new at (at + weight (any_front (map core_of children.now))) }
 {
     let mut place = at;
     let mut flag = entry;
     let mut found = false;
     for child in children {
+        if !flag && reading.live.to <= place {
+            return found;
+        }
         found = found | flag;
-        flag = shift(child, row, place, after, flag, c);
+        flag = shift(child, row, place, flag, reading, marked);
         place += child.weight();
     }
     found | flag
@@ -144,21 +214,38 @@ fn shift_tidy(
     has_empty: bool,
     row: &mut [bool],
     at: usize,
-    after: bool,
     entry: bool,
-    c: char,
+    reading: Reading,
+    marked: &mut Window,
 ) -> bool
     requires measured { IsTrue (is_measured child.now) }
     requires empty { has_empty ≡ is_nullable (core_of child.now) }
     requires room { at + weight (core_of child.now) ≤ length row.old }
-    ensures { Shifts (tidy (core_of child.now)) after entry c row.old at row.new result }
+    requires live { IsClearOutside reading.live row.old at (at + weight (core_of child.now)) }
+    ensures shifts { Shifts (tidy (core_of child.now)) reading.after entry reading.letter row.old at row.new result }
+    ensures marked { TakesIn marked.old marked.new row.new at (at + weight (core_of child.now)) }
 {
-    let out = leaves_tidy(child, has_empty, row, at, after, entry);
-    if c == ' ' && after {
+    let out = leaves_tidy(
+        child,
+        has_empty,
+        row,
+        at,
+        reading.live,
+        reading.after,
+        entry,
+    );
+    if reading.letter == ' ' && reading.after {
         let end = at + child.weight();
-        clear(row, at, end);
+        clear(row, at, end, reading.live);
     } else {
-        shift(child, row, at, after, entry & (c != ' '), c);
+        shift(
+            child,
+            row,
+            at,
+            entry & (reading.letter != ' '),
+            reading,
+            marked,
+        );
     }
     out
 }

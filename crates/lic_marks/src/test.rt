@@ -1,6 +1,9 @@
 //! Tests of one letter.
 
-ghost use Rattle.std.specs.Prelude.{◌≡◌};
+ghost use Rattle.std.specs.Prelude.{◌≡◌, IfOk};
+
+use lic_ere::Class;
+use std::alloc::{AllocError, Global};
 
 /// A test of one letter.
 #[derive(Drop, Debug)]
@@ -9,11 +12,8 @@ pub enum Test {
     Letter(char),
     /// Any letter, the blank too.
     Any,
-    /// A letter of these ranges, whose ends belong to them, or each letter but theirs.
-    Ranges {
-        ranges: Vec<(char, char)>,
-        negated: bool,
-    },
+    /// A letter of the set that a bracket stands for.
+    Class(Class),
 }
 
 impl Test {
@@ -26,18 +26,21 @@ impl Test {
         match self {
             Test::Letter(d) => c == *d,
             Test::Any => true,
-            Test::Ranges { ranges, negated } => {
-                let is_within = is_within(ranges, c);
-                if *negated { !is_within } else { is_within }
-            }
+            Test::Class(class) => class.has(c),
         }
     }
-}
 
-ghost use Rattle.lic_marks.specs.Nodes.{is_within};
-
-fn is_within(ranges: &[(char, char)], c: char) -> bool
-    ensures { result ≡ is_within ranges.now c }
-{
-    ranges.iter().any(|range| (range.0 <= c) & (c <= range.1))
+    /// The same test once more.
+    ///
+    /// # Errors
+    /// Memory is lacking.
+    pub fn copy(&self, alloc: Global) -> Result<Test, AllocError>
+        ensures { IfOk result (λ copy. copy ≡ self.now) }
+    {
+        Ok(match self {
+            Test::Letter(letter) => Test::Letter(*letter),
+            Test::Any => Test::Any,
+            Test::Class(class) => Test::Class(class.copy(alloc)?),
+        })
+    }
 }

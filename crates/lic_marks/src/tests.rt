@@ -6,6 +6,7 @@ use crate::build;
 use crate::node::Node;
 use crate::run::Run;
 use crate::test::Test;
+use lic_ere::Ere;
 use std::alloc::{AllocError, Global};
 use std::process::Abort;
 
@@ -44,13 +45,39 @@ fn two_and_end(alloc: Global) -> Option<Node>
 fn no_digits(alloc: Global) -> Option<Node>
     ensures { IfSome result (λ node. IsTrue (is_measured node)) }
 {
-    let ranges = vec![in alloc; ('0', '9')].ok()?;
-    let one = build::one(Test::Ranges {
-        ranges,
-        negated: true,
-    });
+    let Ok(Ere::Set(class)) = lic_ere::read(alloc, "[^0-9]") else {
+        return None;
+    };
+    let one = build::one(Test::Class(class));
     let some = build::plus(Box::new(alloc, one).ok()?);
     Some(build::tidy(Box::new(alloc, some).ok()?))
+}
+
+// `a` or `b`, twice, and then `c`
+fn counted(alloc: Global) -> Option<Node>
+    ensures { IfSome result (λ node. IsTrue (is_measured node)) }
+{
+    let Ok(Ere::Set(class)) = lic_ere::read(alloc, "[ab]") else {
+        return None;
+    };
+    let twice = build::copies(Test::Class(class), 2);
+    build::cat(pair(alloc, twice, letters(alloc, "c")?)?)
+}
+
+// as `two_and_end`, by one leaf
+fn up_to_two_and_end(alloc: Global) -> Option<Node>
+    ensures { IfSome result (λ node. IsTrue (is_measured node)) }
+{
+    let variable = build::tidy(Box::new(alloc, build::up_to(Test::Any, 2)).ok()?);
+    build::cat(pair(alloc, variable, letters(alloc, " end")?)?)
+}
+
+// `abc def` or `x`, once or more in a row
+fn row_of_two(alloc: Global) -> Option<Node>
+    ensures { IfSome result (λ node. IsTrue (is_measured node)) }
+{
+    let either = build::alt(pair(alloc, letters(alloc, "abc def")?, letters(alloc, "x")?)?)?;
+    Some(build::plus(Box::new(alloc, either).ok()?))
 }
 
 // The tokens, whether the expression describes them, and whether the run is dead then.
@@ -119,5 +146,82 @@ fn a_variable_may_have_blanks_within(rt: HostRuntime) -> Result<(), AllocError> 
             (&["a b", "c"], true, false),
             (&["a", "1"], false, true),
         ],
+    )
+}
+
+#[test]
+fn so_many_letters_are_neither_fewer_nor_more(rt: HostRuntime) -> Result<(), AllocError> {
+    let tree = counted(rt.alloc()).expect(&rt, "memory");
+    assert_run(
+        &rt,
+        rt.alloc(),
+        &tree,
+        &[
+            (&["abc"], true, false),
+            (&["bbc"], true, false),
+            (&["ab"], false, false),
+            (&["ac"], false, true),
+            (&["abbc"], false, true),
+            (&["adc"], false, true),
+        ],
+    )
+}
+
+#[test]
+fn up_to_so_many_letters_may_be_fewer(rt: HostRuntime) -> Result<(), AllocError> {
+    let tree = up_to_two_and_end(rt.alloc()).expect(&rt, "memory");
+    assert_run(
+        &rt,
+        rt.alloc(),
+        &tree,
+        &[
+            (&["end"], true, false),
+            (&["a", "end"], true, false),
+            (&["ab", "end"], true, false),
+            (&["abc", "end"], false, true),
+            (&["a", "b", "end"], false, true),
+        ],
+    )
+}
+
+#[test]
+fn marks_go_back_to_the_first_place(rt: HostRuntime) -> Result<(), AllocError> {
+    let tree = row_of_two(rt.alloc()).expect(&rt, "memory");
+    assert_run(
+        &rt,
+        rt.alloc(),
+        &tree,
+        &[
+            (&["x"], true, false),
+            (&["abc", "def"], true, false),
+            (&["abc", "defx"], true, false),
+            (&["xxabc", "defabc", "defx"], true, false),
+            (&["abc", "x"], false, true),
+            (&["xabc", "de"], false, false),
+            (&["x", "x"], false, true),
+        ],
+    )
+}
+
+#[test]
+fn a_copy_is_as_the_first_one(rt: HostRuntime) -> Result<(), AllocError> {
+    let first = row_of_two(rt.alloc()).expect(&rt, "memory");
+    let copy = first.copy(rt.alloc())?;
+    assert_run(
+        &rt,
+        rt.alloc(),
+        &copy,
+        &[
+            (&["xabc", "def"], true, false),
+            (&["abc", "x"], false, true),
+        ],
+    )?;
+    let counted = counted(rt.alloc()).expect(&rt, "memory");
+    let copy = counted.copy(rt.alloc())?;
+    assert_run(
+        &rt,
+        rt.alloc(),
+        &copy,
+        &[(&["abc"], true, false), (&["ac"], false, true)],
     )
 }

@@ -1,34 +1,45 @@
 //! Whether one may stand behind a compiled expression.
 
-ghost use Rattle.std.specs.Prelude.{◌≡◌, ℕ, ◌+◌, ◌≤◌, IsTrue, length, map};
+ghost use Rattle.std.specs.Prelude.{◌≡◌, ℕ, Bool, ◌+◌, ◌≤◌, IsTrue, length, map, replicate};
 ghost use Rattle.std.specs.List.{list_all};
-ghost use Rattle.lic_marks.specs.Cores.{cat_all, alt_all, any_front, tidy};
+ghost use Rattle.lic_marks.specs.Cores.{one, cat_all, alt_all, any_front, tidy};
 ghost use Rattle.lic_marks.specs.Marks.{is_nullable};
 ghost use Rattle.lic_marks.specs.Rows.{weight, Leaves};
+ghost use Rattle.lic_marks.specs.Windows.{IsClearOutside};
 ghost use Rattle.lic_marks.specs.Nodes.{core_of, is_measured, letter_cores};
 
 use crate::node::Node;
+use crate::rows::is_any_set;
+use crate::window::Window;
 
 /// Whether one may stand behind the expression, whose marks stand in the row from `at` on: some mark is at an end, or
-/// one enters and passes through. `after` says that the last letter was a blank.
+/// one enters and passes through. `after` says that the last letter was a blank, and `live` has each mark.
 #[cycle(leaves)]
-pub fn leaves(node: &Node, row: &[bool], at: usize, after: bool, entry: bool) -> bool
+pub fn leaves(node: &Node, row: &[bool], at: usize, live: Window, after: bool, entry: bool) -> bool
     requires measured { IsTrue (is_measured node.now) }
     requires room { at + weight (core_of node.now) ≤ length row.now }
+    requires live { IsClearOutside live row.now at (at + weight (core_of node.now)) }
     ensures { Leaves (core_of node.now) after entry row.now at result }
 {
+    let end = at + node.weight();
+    // where nothing is marked and none begins, none can leave
+    if !entry && !live.meets(at, end) {
+        return false;
+    }
     match node {
         Node::Letters(text) => leaves_letters(text, row, at, after, entry),
         Node::One(_) => row[at],
-        Node::Cat { children, .. } => leaves_all(children, row, at, after, entry),
-        Node::Alt { children, .. } => leaves_any(children, row, at, after, entry),
-        Node::Front { children, .. } => leaves_front(children, row, at, after, entry),
-        Node::Plus { child, .. } => leaves(child, row, at, after, entry),
+        Node::Copies { count, .. } => leaves_copies(*count, row, at, after, entry),
+        Node::UpTo { count, .. } => leaves_up_to(*count, row, at, live, after, entry),
+        Node::Cat { children, .. } => leaves_all(children, row, at, live, after, entry),
+        Node::Alt { children, .. } => leaves_any(children, row, at, live, after, entry),
+        Node::Front { children, .. } => leaves_front(children, row, at, live, after, entry),
+        Node::Plus { child, .. } => leaves(child, row, at, live, after, entry),
         Node::Tidy {
             child,
             is_nullable,
             ..
-        } => leaves_tidy(child, *is_nullable, row, at, after, entry),
+        } => leaves_tidy(child, *is_nullable, row, at, live, after, entry),
     }
 }
 
@@ -39,22 +50,25 @@ pub fn leaves_tidy(
     has_empty: bool,
     row: &[bool],
     at: usize,
+    live: Window,
     after: bool,
     entry: bool,
 ) -> bool
     requires measured { IsTrue (is_measured child.now) }
     requires empty { has_empty ≡ is_nullable (core_of child.now) }
     requires room { at + weight (core_of child.now) ≤ length row.now }
+    requires live { IsClearOutside live row.now at (at + weight (core_of child.now)) }
     ensures { Leaves (tidy (core_of child.now)) after entry row.now at result }
 {
     if after {
         entry & has_empty
     } else {
-        leaves(child, row, at, after, entry)
+        leaves(child, row, at, live, after, entry)
     }
 }
 
-fn leaves_letters(text: &[char], row: &[bool], at: usize, after: bool, entry: bool) -> bool
+/// Whether one may stand behind these letters: the last one is marked, or there is none and one enters.
+pub fn leaves_letters(text: &[char], row: &[bool], at: usize, after: bool, entry: bool) -> bool
     requires { at + weight (cat_all (letter_cores text.now)) ≤ length row.now }
     ensures { Leaves (cat_all (letter_cores text.now)) after entry row.now at result }
 {
@@ -65,31 +79,87 @@ fn leaves_letters(text: &[char], row: &[bool], at: usize, after: bool, entry: bo
     }
 }
 
+/// Whether one may stand behind so many letters: the last one is marked, or there is none and one enters.
+pub fn leaves_copies(count: usize, row: &[bool], at: usize, after: bool, entry: bool) -> bool
+    requires { at + count ≤ length row.now }
+    ensures { (passes : ℕ → Bool) → Leaves (cat_all (replicate count (one passes))) after entry row.now at result }
+{
+    if count == 0 {
+        entry
+    } else {
+        row[at + count - 1]
+    }
+}
+
+/// Whether one may stand behind up to so many letters: one of them is marked, or one enters.
+pub fn leaves_up_to(
+    count: usize,
+    row: &[bool],
+    at: usize,
+    live: Window,
+    after: bool,
+    entry: bool,
+) -> bool
+    requires room { at + count ≤ length row.now }
+    requires live { IsClearOutside live row.now at (at + count) }
+    ensures { (passes : ℕ → Bool) → Leaves (any_front (replicate count (one passes))) after entry row.now at result }
+{
+    let first = live.from.max(at);
+    let end = live.to.min(at + count);
+    if first < end {
+        entry | is_any_set(&row[first..end])
+    } else {
+        entry
+    }
+}
+
 #[cycle(leaves)]
-fn leaves_all(children: &[Node], row: &[bool], at: usize, after: bool, entry: bool) -> bool
+fn leaves_all(
+    children: &[Node],
+    row: &[bool],
+    at: usize,
+    live: Window,
+    after: bool,
+    entry: bool,
+) -> bool
     requires measured { IsTrue (list_all is_measured children.now) }
     requires room { at + weight (cat_all (map core_of children.now)) ≤ length row.now }
+    requires live { IsClearOutside live row.now at (at + weight (cat_all (map core_of children.now))) }
     ensures { Leaves (cat_all (map core_of children.now)) after entry row.now at result }
 {
     let mut place = at;
     let mut flag = entry;
     for child in children {
-        flag = leaves(child, row, place, after, flag);
+        if !flag && live.to <= place {
+            return false;
+        }
+        flag = leaves(child, row, place, live, after, flag);
         place += child.weight();
     }
     flag
 }
 
 #[cycle(leaves)]
-fn leaves_any(children: &[Node], row: &[bool], at: usize, after: bool, entry: bool) -> bool
+fn leaves_any(
+    children: &[Node],
+    row: &[bool],
+    at: usize,
+    live: Window,
+    after: bool,
+    entry: bool,
+) -> bool
     requires measured { IsTrue (list_all is_measured children.now) }
     requires room { at + weight (alt_all (map core_of children.now)) ≤ length row.now }
+    requires live { IsClearOutside live row.now at (at + weight (alt_all (map core_of children.now))) }
     ensures { Leaves (alt_all (map core_of children.now)) after entry row.now at result }
 {
     let mut place = at;
     let mut found = false;
     for child in children {
-        let out = leaves(child, row, place, after, entry);
+        if !entry && live.to <= place {
+            return found;
+        }
+        let out = leaves(child, row, place, live, after, entry);
         found = found | out;
         place += child.weight();
     }
@@ -97,17 +167,28 @@ fn leaves_any(children: &[Node], row: &[bool], at: usize, after: bool, entry: bo
 }
 
 #[cycle(leaves)]
-fn leaves_front(children: &[Node], row: &[bool], at: usize, after: bool, entry: bool) -> bool
+fn leaves_front(
+    children: &[Node],
+    row: &[bool],
+    at: usize,
+    live: Window,
+    after: bool,
+    entry: bool,
+) -> bool
     requires measured { IsTrue (list_all is_measured children.now) }
     requires room { at + weight (any_front (map core_of children.now)) ≤ length row.now }
+    requires live { IsClearOutside live row.now at (at + weight (any_front (map core_of children.now))) }
     ensures { Leaves (any_front (map core_of children.now)) after entry row.now at result }
 {
     let mut place = at;
     let mut flag = entry;
     let mut found = false;
     for child in children {
+        if !flag && live.to <= place {
+            return found;
+        }
         found = found | flag;
-        flag = leaves(child, row, place, after, flag);
+        flag = leaves(child, row, place, live, after, flag);
         place += child.weight();
     }
     found | flag

@@ -73,6 +73,6 @@ with_edges cells letters =
     else blank_if (begins_in_blank cells) ++ letters ++ blank_if (ends_in_blank cells)
 
 -- the letters of a piece: the texts of its tokens in canonical spelling, between its edges
-abbrev pub piece_of : List Phrase → Bool → Next → List ℕ → List ℕ
+unfoldable pub piece_of : List Phrase → Bool → Next → List ℕ → List ℕ
 piece_of words at_line_start before text =
     with_edges (piece_cells at_line_start before text) (spelled (map (λ t. t.text) (rewritten words (piece_tokens at_line_start before text))))

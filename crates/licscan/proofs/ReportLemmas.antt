@@ -8,7 +8,7 @@ use Rattle.std.proofs.lemmas.List.{take_more, take_all}
 use Rattle.std.specs.List.{flat_map, slice_index_or}
 use Rattle.std.specs.Io.KnownBytes.{Appends}
 use Rattle.lic_norm.specs.Tokens.{TokenValue}
-use Rattle.lic_find.specs.Sets.{Known}
+use Rattle.lic_auto.specs.Sets.{Known}
 use Rattle.lic_find.specs.Matches.{AreMatches}
 use Rattle.lic_find.specs.declared.triple.Triple.{Triple}
 use Rattle.licscan.specs.Stream.{BeginsWith}

@@ -4,7 +4,7 @@ use Rattle.std.specs.Io.KnownBytes.{Consumes, Appends, IsAtEnd}
 use Rattle.lic_norm.specs.Refusal.{refusal_of}
 use Rattle.lic_norm.specs.Tokens.{TokenValue, tokens_of}
 use Rattle.lic_phrases.specs.Rewriting.{Phrase}
-use Rattle.lic_find.specs.Sets.{Known}
+use Rattle.lic_auto.specs.Sets.{Known}
 use Rattle.licscan.specs.Stream.{BeginsWith}
 use Rattle.licscan.specs.Report.{IsReport, IsReportOf, token_lines}
 use Rattle.licscan.specs.declared.engine.Ask.{Ask}

@@ -5,7 +5,7 @@ ghost use Rattle.std.specs.Prelude.{◌≡◌, IfOk, IsTrue, is_some};
 use crate::engine::Ask;
 use crate::faults::{ArgumentFault, Stop};
 use clap::{Arg, ArgAction, ArgMatches, Command, Error, value_parser};
-use lic_find::set::Set;
+use lic_auto::set::Set;
 use lic_find::triple::Triple;
 use std::alloc::{AllocError, Global};
 

@@ -12,7 +12,7 @@ use crate::lines::{add_match, add_token};
 use crate::stream::{Sink, Source};
 use crate::transfer::{ReadFault, WriteFailed, put_all, read_up_to};
 use crate::wanted::Wanted;
-use lic_find::set::Set;
+use lic_auto::set::Set;
 use lic_find::triple::Triple;
 use lic_norm::fault::TextFault;
 use lic_norm::text::Text;

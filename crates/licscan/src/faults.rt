@@ -7,7 +7,7 @@ ghost use Rattle.licscan.specs.declared.faults.Stop.TheVariants.{Memory};
 use crate::fields::Escaped;
 use crate::stream::Sink;
 use crate::transfer::put_all;
-use lic_find::set::BuildFault;
+use lic_auto::set::BuildFault;
 use lic_norm::words::WordsFault;
 use std::alloc::{AllocError, AllocFailed, Global};
 use std::io;

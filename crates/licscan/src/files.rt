@@ -6,7 +6,7 @@ use crate::engine::{Ask, RunFault, run, run_tokens};
 use crate::faults::{Stop, tell, wants_memory};
 use crate::fields::Escaped;
 use crate::stream::{Counted, Sink, Source};
-use lic_find::set::Set;
+use lic_auto::set::Set;
 use lic_norm::words::Words;
 use std::alloc::Global;
 use std::fs::File;

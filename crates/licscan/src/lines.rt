@@ -6,7 +6,7 @@ ghost use Rattle.licscan.specs.Fields.{escaped, field};
 ghost use Rattle.licscan.specs.Report.{match_line, token_line, no_known, no_token};
 
 use crate::fields::{add_number, add_text};
-use lic_find::set::Set;
+use lic_auto::set::Set;
 use lic_find::triple::Triple;
 use lic_norm::text::Text;
 use lic_norm::token::{Span, Token};

@@ -10,14 +10,17 @@ use crate::faults::{Stop, tell, wants_memory};
 use crate::fields::Escaped;
 use crate::stream::{Counted, Sink};
 use crate::transfer::{ReadFault, read_up_to};
-use lic_find::set::Set;
-use lic_find::template::{MOST_BYTES, MarkupCause, MarkupFault, Template, read_template};
+use lic_auto::set::Set;
+use lic_markup::{MarkupCause, MarkupFault, Template, read_template};
 use lic_norm::words::Words;
 use std::alloc::{AllocError, AllocFailed, Global};
 use std::fs::File;
 use std::rt::Files;
 use std::{fs, io};
 use thiserror::Error;
+
+/// The most bytes that a template may have.
+const MOST_BYTES: usize = 1_048_576;
 
 /// What stands behind the identifier in the name of a template's file.
 const ENDING: &str = ".template.txt";

@@ -7,21 +7,26 @@ ghost use Rattle.licscan.specs.Report.{first_of};
 ghost use Rattle.licscan.specs.Wanted.{wanted_of};
 
 use crate::engine::Ask;
+use lic_auto::set::Set;
 use lic_find::finder::Finder;
-use lic_find::set::Set;
 use lic_find::triple::Triple;
 use lic_norm::text::Text;
 use std::alloc::{AllocError, Global};
 
 /// The matches of a set in a text, from behind a triple and up to a limit where these are asked for.
 #[derive(Debug, Drop)]
-pub struct Wanted {
-    finder: Finder,
+pub struct Wanted<'a> {
+    finder: Finder<'a>,
     left: Option<u64>,
 }
 
-impl Wanted {
-    pub fn new(alloc: Global, set: &Set, text: &Text, ask: &Ask) -> Result<Wanted, AllocError>
+impl<'a> Wanted<'a> {
+    pub fn new(
+        alloc: Global,
+        set: &'a Set,
+        text: &'a Text,
+        ask: &Ask,
+    ) -> Result<Wanted<'a>, AllocError>
         ensures all { IfOk result (λ w. (found : List Triple)
             × AreMatches set.now text.now.tokens ask.now.after found × (wanted_of w ≡ first_of ask.now.limit found)) }
         ensures only { IfOk result (λ w. (others : List Triple)
@@ -38,7 +43,7 @@ impl Wanted {
     }
 }
 
-impl Iterator for Wanted {
+impl Iterator for Wanted<'_> {
     type Item = Triple;
 
     ghost next_gives = { YieldsFirst wanted_of };

@@ -3,8 +3,8 @@
 use crate::engine::{Ask, RunFault, run};
 use crate::program::command;
 use crate::stream::{Counted, Sink, Source};
-use lic_find::set::Set;
-use lic_find::template::read_template;
+use lic_auto::set::Set;
+use lic_markup::read_template;
 use lic_norm::words::Words;
 use std::alloc::Global;
 use std::io;

@@ -1,5 +1,5 @@
-use Rattle.lic_find.proofs.Deciding.{AreMatches-some}
+use Rattle.lic_find.specs.Listing.{matches_behind}
 use Rattle.lic_find.proofs.laws.matches_exist.Goals as goal
 
 pub returns : goal.returns
-returns c = AreMatches-some
+returns c = λ set tokens after. (matches_behind set tokens after, c.matches_are_listed.ensures set tokens after)

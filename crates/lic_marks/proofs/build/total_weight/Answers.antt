@@ -12,8 +12,8 @@ loop-child-preserved c =
     let total = rw more at c.loop-child.invariant in
     omega (arith, total, c.in_ok-total.ensures, c.weight.ensures)
 
-pub returns : goal.returns
-returns c =
+pub returns-clause-total : goal.returns-clause-total
+returns-clause-total c =
     let done = ap cat_all (cores_done c.args.children.now c.loop-child.child-index c.loop-child-test.false) in
     let total = rw done at c.loop-child.invariant in
     omega (arith, total)

@@ -5,17 +5,22 @@ use Rattle.lic_marks.proofs.close.close.Goals as goal
 
 pub loop-grew-init : goal.loop-grew-init
 loop-grew-init c = record {
-  gathers = Gathers-begin (core_of c.args.tree.now) c.args.entry c.args.at_once.now _ _ _ c.copy_from_slice.ensures.after c.shift.ensures;
+  gathers = Gathers-begin (core_of c.args.tree.now) c.args.entry c.args.at_once.now _ _ _ c.copy_from.ensures.same c.shift.ensures.shifts;
+  after_blanks_len = omega (arith, c.copy_from.ensures.len, c.shift.ensures.len);
+  spare_len = c.requires.spare_len;
   closed = λ never. absurd (let e = never in cc);
 }
 
 pub loop-grew-preserved : goal.loop-grew-preserved
 loop-grew-preserved c =
-    let same : c.copy_from_slice-in-loop-grew.new.self ≡ c.loop-grew.after_blanks = c.copy_from_slice-in-loop-grew.ensures.after in
-    let long : length c.loop-grew.after_blanks ≡ length c.shift-in-loop-grew.new.row = omega arith in
+    let same : c.copy_from-in-loop-grew.new.self ≡ c.loop-grew.after_blanks = c.copy_from-in-loop-grew.ensures.same in
+    let long : length c.loop-grew.after_blanks ≡ length c.shift-in-loop-grew.new.self =
+    omega (arith, c.copy_from-in-loop-grew.ensures.len, c.shift-in-loop-grew.ensures.len) in
     record {
       gathers = Gathers-next (core_of c.args.tree.now) c.args.entry c.args.at_once.now c.loop-grew.after_blanks _ _ _ _
-          same c.shift-in-loop-grew.ensures long c.join-grew.ensures.row c.loop-grew.invariant.gathers;
+          same c.shift-in-loop-grew.ensures.shifts long c.join-grew.ensures.row c.loop-grew.invariant.gathers;
+      after_blanks_len = omega (arith, c.join-grew.ensures.len);
+      spare_len = omega (arith, c.copy_from-in-loop-grew.ensures.len, c.shift-in-loop-grew.ensures.len);
       closed = λ still. IsClosed-next (core_of c.args.tree.now) c.args.entry c.args.at_once.now c.loop-grew.after_blanks _ _ _ _
-          same c.shift-in-loop-grew.ensures long c.join-grew.ensures.row (c.join-grew.ensures.same still);
+          same c.shift-in-loop-grew.ensures.shifts long c.join-grew.ensures.row (c.join-grew.ensures.same still);
     }

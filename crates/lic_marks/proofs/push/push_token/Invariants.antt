@@ -9,6 +9,9 @@ use Rattle.lic_marks.proofs.push.push_token.Given as goal
 -- the marks stand for some letters more, and what is left of the token gives the rest of its letters
 abbrev pub invariant-loop-c : goal.invariant-loop-c
 invariant-loop-c l = record {
+  at_once_len : length l.at_once ≡ length l.initial.at_once;
+  after_blanks_len : length l.after_blanks ≡ length l.initial.after_blanks;
+  spare_len : length l.spare ≡ length l.initial.spare;
   stands : (more : List (Gap × ℕ))
       × (gapped_from l.fn.last true (chars l.token) ≡ more ++ gapped_from l.last l.is_apart (drop (length l.yielded) (chars l.token)))
       × ((letters : List (Gap × ℕ)) →

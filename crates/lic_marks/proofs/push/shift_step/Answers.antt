@@ -15,22 +15,23 @@ so : (b : Bool) → not b ≡ false → b ≡ true
 so true h = refl
 so false h = cc
 
-pub returns-then-not-step : goal.returns-then-not-step
-returns-then-not-step c =
-    Shifts-marks_of _ _ _ _ _ _ _ c.shift.ensures ∙ sym (shift_over-joined (core_of c.args.tree.now) _ _ _ _ _ _ (not_so _ c.if-not-step.true))
+pub returns-then-not-step-clause-marks : goal.returns-then-not-step-clause-marks
+returns-then-not-step-clause-marks c =
+    Shifts-marks_of _ _ _ _ _ _ _ c.shift.ensures.shifts ∙ sym (shift_over-joined (core_of c.args.tree.now) _ _ _ _ _ _ (not_so _ c.if-not-step.true))
 
-pub returns-then-step : goal.returns-then-step
-returns-then-step c =
-    Shifts-marks_of _ _ _ _ _ _ _ c.shift-then-step.ensures
-    ∙ ap (λ t. shift (core_of c.args.tree.now) true false (marks_of (core_of c.args.tree.now) t) c.args.step.letter) c.copy_from_slice.ensures.after
+pub returns-then-step-clause-marks : goal.returns-then-step-clause-marks
+returns-then-step-clause-marks c =
+    Shifts-marks_of _ _ _ _ _ _ _ c.shift-then-step.ensures.shifts
+    ∙ ap (λ t. shift (core_of c.args.tree.now) true false (marks_of (core_of c.args.tree.now) t) c.args.step.letter) c.copy_from.ensures.same
     ∙ sym (shift_over-needed (core_of c.args.tree.now) _ _ _ _ _ _ (so _ c.if-not-step.false) c.if-step.true)
 
-pub returns-else-step : goal.returns-else-step
-returns-else-step c =
-    let after_blanks = Shifts-marks_of _ _ _ _ _ _ _ c.shift-else-step.ensures
-    ∙ ap (λ t. shift (core_of c.args.tree.now) true false (marks_of (core_of c.args.tree.now) t) c.args.step.letter) c.copy_from_slice-else-step.ensures.after in
-    let at_once = Shifts-marks_of _ _ _ _ _ _ _ c.shift-else-step-2.ensures in
-    let long : length c.shift-else-step-2.new.row ≡ length c.shift-else-step.new.row = omega arith in
+pub returns-else-step-clause-marks : goal.returns-else-step-clause-marks
+returns-else-step-clause-marks c =
+    let after_blanks = Shifts-marks_of _ _ _ _ _ _ _ c.shift-else-step.ensures.shifts
+    ∙ ap (λ t. shift (core_of c.args.tree.now) true false (marks_of (core_of c.args.tree.now) t) c.args.step.letter) c.copy_from-else-step.ensures.same in
+    let at_once = Shifts-marks_of _ _ _ _ _ _ _ c.shift-else-step-2.ensures.shifts in
+    let long : length c.shift-else-step-2.new.self ≡ length c.shift-else-step.new.self =
+    omega (arith, c.shift-else-step-2.ensures.len, c.shift-else-step.ensures.len, c.copy_from-else-step.ensures.len) in
     ap (marks_of (core_of c.args.tree.now)) c.join.ensures.row
     ∙ marks_of-either_row (core_of c.args.tree.now) _ _ long ∙ rw (at_once, after_blanks) refl
     ∙ sym (shift_over-free (core_of c.args.tree.now) _ _ _ _ _ _ (so _ c.if-not-step.false) c.if-step.false)

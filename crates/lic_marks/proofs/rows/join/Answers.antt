@@ -1,4 +1,6 @@
-use Rattle.std.proofs.Common.{◌<◌, Bool, true, false, ◌||◌, length, set, get_or, sym, ap, ◌∙◌, arith}
+use Rattle.std.proofs.Common.{◌<◌, ◌+◌, ◌++◌, Bool, true, false, ◌||◌, length, set, get_or, take, drop, refl, sym, ap, ◌∙◌, arith, length-drop}
+use Rattle.std.proofs.lemmas.List.{get_or-drop, take-append-drop}
+use Rattle.lic_marks.proofs.WindowRows.{either_row-front, either_row-clear, outside_before, outside_behind}
 use Rattle.lic_marks.proofs.JoinedRows.{either_row-more, unset_count-set, set-same, kept, gained_old, gained}
 use Rattle.lic_marks.proofs.rows.join.Goals as goal
 use Rattle.lic_marks.proofs.rows.join.Goals.{then-other-i, else-other-i}
@@ -30,3 +32,19 @@ loop-i-preserved c =
             most = c.loop-i.invariant.most;
           }
     ]
+
+pub loop-i-init : goal.loop-i-init
+loop-i-init c = record {
+  row = either_row-front c.args.live.from c.args.row.now c.args.other.now c.requires.len
+      (λ k near. outside_before c.args.live c.args.other.now c.requires.live k near);
+  same = λ h. refl;
+  grows = λ h. cc;
+  most = omega arith;
+}
+
+pub returns-clause-row : goal.returns-clause-row
+returns-clause-row c =
+    let rest = either_row-clear (drop c.loop-i.i c.loop-i.row) (drop c.loop-i.i c.args.other.now)
+    (omega (arith, length-drop c.loop-i.i c.loop-i.row, length-drop c.loop-i.i c.args.other.now)) (λ k. get_or-drop c.loop-i.i c.args.other.now k false
+    ∙ outside_behind c.args.live c.args.other.now c.requires.live (c.loop-i.i + k) (omega arith)) in
+    sym (take-append-drop c.loop-i.i c.loop-i.row) ∙ ap (λ t. take c.loop-i.i c.loop-i.row ++ t) (sym rest) ∙ c.loop-i.invariant.row

@@ -1,19 +1,38 @@
-use Rattle.std.proofs.Common.{◌+◌, ◌||◌, ◌&&◌, false, set, refl, ap, rules, arith, eq-eqb}
+use Rattle.std.proofs.Common.{◌≡◌, ◌+◌, ◌<◌, ◌||◌, ◌&&◌, false, map, drop, set, refl, ap, ◌∙◌, rules, arith, eq-eqb}
 use Rattle.lic_words.specs.Words.{blank}
 use Rattle.lic_marks.specs.Cores.{cat_all, alt_all, any_front}
+use Rattle.lic_marks.specs.Rows.{weight}
+use Rattle.lic_marks.specs.Nodes.{core_of, passes}
 use Rattle.lic_marks.specs.declared.node.Node.{the_lemmas}
-use Rattle.lic_marks.proofs.Nodes.{core_of-One, core_of-Cat, core_of-Alt, core_of-Front, core_of-Plus, core_of-Tidy, children-Cat, children-Alt, children-Front, child-Plus, child-Tidy, nullable-Tidy}
-use Rattle.lic_marks.proofs.RowWalks.{Shifts-clear_slice, Shifts-empty, Shifts-none, Shifts-one, Shifts-cat, Shifts-alt, Shifts-front, Shifts-plus, Shifts-tidy-clear}
-use Rattle.lic_marks.proofs.Children.{cores_more, cores_done}
+use Rattle.lic_marks.proofs.Nodes.{core_of-One, core_of-Copies, core_of-UpTo, core_of-Cat, core_of-Alt, core_of-Front, core_of-Plus, core_of-Tidy, children-Cat, children-Alt, children-Front, child-Plus, child-Tidy, nullable-Tidy}
+use Rattle.lic_marks.proofs.LetterWalks.{weight-copies, weight-up_to}
+use Rattle.lic_marks.proofs.RowWalks.{Shifts-empty, Shifts-none, Shifts-one, Shifts-cat, Shifts-alt, Shifts-front, Shifts-plus, Shifts-tidy-clear}
+use Rattle.lic_marks.proofs.Children.{cores_more, cores_done, measured_at}
 use Rattle.lic_marks.proofs.Answers.{or_none, or_again}
+use Rattle.lic_marks.proofs.Taken.{clear_all, clear_part, TakesIn-clear, TakesIn-more}
+use Rattle.lic_marks.proofs.Untouched.{Shifts-untouched, clear_behind, clear_from, TakesIn-walk}
+use Rattle.lic_marks.proofs.WindowRows.{flags_cleared}
 use Rattle.lic_marks.proofs.shift.+shift.Goals as goal
+
+pub shift-returns-then-not-meets : goal.shift-returns-then-not-meets
+shift-returns-then-not-meets t c =
+    let apart : (c.args.reading.live.from < c.args.at + weight (core_of c.args.node.now)) × (c.args.at < c.args.reading.live.to) → ⊥ =
+    λ p. let meets = c.meets.ensures.1 (omega (arith, p.0, c.weight.ensures), p.1) in cc in
+    let clear = clear_all _ _ _ _ c.requires.live apart in
+    record {
+      shifts = rw c.if-not-entry.true (Shifts-untouched _ c.args.reading.after c.args.row.now c.args.at c.requires.room clear c.args.reading.letter);
+      marked = TakesIn-clear _ _ _ _ clear;
+    }
 
 pub shift-shift_all-requires : goal.shift-shift_all-requires
 shift-shift_all-requires t c = (
   search (rules, the_lemmas),
   (
     rw c.deref-in-Cat.ensures.value (children-Cat _ _ (rw c.in-Cat.is at c.requires.measured)),
-    rw c.deref-in-Cat.ensures.value (rw (c.in-Cat.is, core_of-Cat) at c.requires.room),
+    (
+      rw c.deref-in-Cat.ensures.value (rw (c.in-Cat.is, core_of-Cat) at c.requires.room),
+      rw c.deref-in-Cat.ensures.value (rw (c.in-Cat.is, core_of-Cat) at c.requires.live),
+    ),
   ),
 )
 
@@ -22,7 +41,10 @@ shift-shift_any-requires t c = (
   search (rules, the_lemmas),
   (
     rw c.deref-in-Alt.ensures.value (children-Alt _ _ (rw c.in-Alt.is at c.requires.measured)),
-    rw c.deref-in-Alt.ensures.value (rw (c.in-Alt.is, core_of-Alt) at c.requires.room),
+    (
+      rw c.deref-in-Alt.ensures.value (rw (c.in-Alt.is, core_of-Alt) at c.requires.room),
+      rw c.deref-in-Alt.ensures.value (rw (c.in-Alt.is, core_of-Alt) at c.requires.live),
+    ),
   ),
 )
 
@@ -31,7 +53,10 @@ shift-shift_front-requires t c = (
   search (rules, the_lemmas),
   (
     rw c.deref-in-Front.ensures.value (children-Front _ _ (rw c.in-Front.is at c.requires.measured)),
-    rw c.deref-in-Front.ensures.value (rw (c.in-Front.is, core_of-Front) at c.requires.room),
+    (
+      rw c.deref-in-Front.ensures.value (rw (c.in-Front.is, core_of-Front) at c.requires.room),
+      rw c.deref-in-Front.ensures.value (rw (c.in-Front.is, core_of-Front) at c.requires.live),
+    ),
   ),
 )
 
@@ -40,68 +65,12 @@ shift-shift-requires t c = (
   search (rules, the_lemmas),
   (
     rw c.deref-in-Plus-2.ensures (child-Plus _ _ (rw c.in-Plus.is at c.requires.measured)),
-    rw c.deref-in-Plus-2.ensures (rw (c.in-Plus.is, core_of-Plus) at c.requires.room),
+    (
+      rw c.deref-in-Plus-2.ensures (rw (c.in-Plus.is, core_of-Plus) at c.requires.room),
+      rw c.deref-in-Plus-2.ensures (rw (c.in-Plus.is, core_of-Plus) at c.requires.live),
+    ),
   ),
 )
-
-pub shift-returns-in-One : goal.shift-returns-in-One
-shift-returns-in-One t c =
-    let room = rw (c.in-One.is, core_of-One) at c.requires.room in
-    rw (c.in-One.is, core_of-One) (Shifts-one _ _ _ _ _ _ _ _ false (omega (arith, room)) refl
-    (ap (λ b. set c.args.row.now c.args.at (c.args.entry && b)) c.passes.ensures))
-
-pub shift_all-loop-child-preserved : goal.shift_all-loop-child-preserved
-shift_all-loop-child-preserved t c =
-    let same = cores_more c.args.children.now c.loop-child.child-index _ c.loop-child-test.true c.child-item.is in
-    let more = ap cat_all same in
-    let room = rw more at c.loop-child.invariant.room in
-    rw c.weight-place.ensures record {
-      room = omega (arith, room, c.shift-flag.auto.row);
-      walk = λ new y q. c.loop-child.invariant.walk new y (rw more (Shifts-cat _ _ _ _ _ _ _ _ _ _ _ (omega (arith, room)) c.shift-flag.ensures q));
-    }
-
-pub shift_all-returns : goal.shift_all-returns
-shift_all-returns t c =
-    c.loop-child.invariant.walk c.loop-child.row c.loop-child.flag
-    (rw (cores_done c.args.children.now c.loop-child.child-index c.loop-child-test.false) (Shifts-empty _ _ _ _ _))
-
-pub shift_any-loop-child-preserved : goal.shift_any-loop-child-preserved
-shift_any-loop-child-preserved t c =
-    let same = cores_more c.args.children.now c.loop-child.child-index _ c.loop-child-test.true c.child-item.is in
-    let more = ap alt_all same in
-    let room = rw more at c.loop-child.invariant.room in
-    rw c.weight-place.ensures record {
-      room = omega (arith, room, c.shift-out.auto.row);
-      walk = λ new y q. rw (← or_again c.loop-child.found c.shift-out.result y)
-          (c.loop-child.invariant.walk new (c.shift-out.result || y)
-          (rw more (Shifts-alt _ _ _ _ _ _ _ _ _ _ _ (omega (arith, room)) c.shift-out.ensures q)));
-    }
-
-pub shift_any-returns : goal.shift_any-returns
-shift_any-returns t c =
-    rw (← or_none c.loop-child.found) (c.loop-child.invariant.walk c.loop-child.row false
-    (rw (cores_done c.args.children.now c.loop-child.child-index c.loop-child-test.false) (Shifts-none _ _ _ _ _)))
-
-pub shift_front-loop-child-preserved : goal.shift_front-loop-child-preserved
-shift_front-loop-child-preserved t c =
-    let same = cores_more c.args.children.now c.loop-child.child-index _ c.loop-child-test.true c.child-item.is in
-    let more = ap any_front same in
-    let room = rw more at c.loop-child.invariant.room in
-    rw c.weight-place.ensures record {
-      room = omega (arith, room, c.shift-flag.auto.row);
-      walk = λ new y q. rw (← or_again c.loop-child.found c.loop-child.flag y)
-          (c.loop-child.invariant.walk new (c.loop-child.flag || y)
-          (rw more (Shifts-front _ _ _ _ _ _ _ _ _ _ _ (omega (arith, room)) c.shift-flag.ensures q)));
-    }
-
-pub shift_front-returns : goal.shift_front-returns
-shift_front-returns t c =
-    c.loop-child.invariant.walk c.loop-child.row c.loop-child.flag
-    (rw (cores_done c.args.children.now c.loop-child.child-index c.loop-child-test.false) (Shifts-empty _ _ _ _ _))
-
-pub shift-returns-then-is_clear : goal.shift-returns-then-is_clear
-shift-returns-then-is_clear t c =
-    rw c.if-not-entry.true (Shifts-clear_slice _ _ _ _ _ _ c.requires.room c.weight.ensures (c.if-is_clear.ensures refl))
 
 pub shift-leaves-again-requires-clause-measured : goal.shift-leaves-again-requires-clause-measured
 shift-leaves-again-requires-clause-measured t c = rw c.deref-in-Plus.ensures (child-Plus _ _ (rw c.in-Plus.is at c.requires.measured))
@@ -113,20 +82,212 @@ shift-shift_tidy-requires t c = (
     rw c.deref-in-Tidy.ensures (child-Tidy _ _ _ (rw c.in-Tidy.is at c.requires.measured)),
     (
       rw c.deref-in-Tidy.ensures (nullable-Tidy _ _ _ (rw c.in-Tidy.is at c.requires.measured)),
-      rw c.deref-in-Tidy.ensures (rw (c.in-Tidy.is, core_of-Tidy) at c.requires.room),
+      (
+        rw c.deref-in-Tidy.ensures (rw (c.in-Tidy.is, core_of-Tidy) at c.requires.room),
+        rw c.deref-in-Tidy.ensures (rw (c.in-Tidy.is, core_of-Tidy) at c.requires.live),
+      ),
     ),
   ),
 )
 
+pub shift-shift_copies-requires-clause-room : goal.shift-shift_copies-requires-clause-room
+shift-shift_copies-requires-clause-room t c =
+    let room = rw (c.in-Copies.is, core_of-Copies) at c.requires.room in
+    omega (arith, room, weight-copies (passes c.in-Copies.test) c.in-Copies.count)
+
+pub shift-shift_copies-requires-clause-live : goal.shift-shift_copies-requires-clause-live
+shift-shift_copies-requires-clause-live t c = rw weight-copies at (rw (c.in-Copies.is, core_of-Copies) at c.requires.live)
+
+pub shift-returns-in-Copies : goal.shift-returns-in-Copies
+shift-returns-in-Copies t c = record {
+  shifts = rw (c.in-Copies.is, core_of-Copies) c.shift_copies.ensures.shifts;
+  marked = rw (c.in-Copies.is, core_of-Copies, weight-copies) c.shift_copies.ensures.marked;
+}
+
+pub shift-shift_up_to-requires-clause-room : goal.shift-shift_up_to-requires-clause-room
+shift-shift_up_to-requires-clause-room t c =
+    let room = rw (c.in-UpTo.is, core_of-UpTo) at c.requires.room in
+    omega (arith, room, weight-up_to (passes c.in-UpTo.test) c.in-UpTo.count)
+
+pub shift-shift_up_to-requires-clause-live : goal.shift-shift_up_to-requires-clause-live
+shift-shift_up_to-requires-clause-live t c = rw weight-up_to at (rw (c.in-UpTo.is, core_of-UpTo) at c.requires.live)
+
+pub shift-returns-in-UpTo : goal.shift-returns-in-UpTo
+shift-returns-in-UpTo t c = record {
+  shifts = rw (c.in-UpTo.is, core_of-UpTo) c.shift_up_to.ensures.shifts;
+  marked = rw (c.in-UpTo.is, core_of-UpTo, weight-up_to) c.shift_up_to.ensures.marked;
+}
+
+pub shift-returns-in-One : goal.shift-returns-in-One
+shift-returns-in-One t c =
+    let room = rw (c.in-One.is, core_of-One) at c.requires.room in
+    record {
+      shifts = rw (c.in-One.is, core_of-One) (Shifts-one _ _ _ _ _ _ _ _ false (omega (arith, room)) refl
+          (c.put.ensures.row ∙ ap (λ b. set c.args.row.now c.args.at (c.args.entry && b)) c.passes-is_passed.ensures));
+      marked = rw (c.in-One.is, core_of-One) c.put.ensures.marked;
+    }
+
 pub shift-returns-in-Plus : goal.shift-returns-in-Plus
-shift-returns-in-Plus t c =
-    rw (c.in-Plus.is, core_of-Plus) (Shifts-plus _ _ _ _ _ _ _ _ _ (rw c.deref-in-Plus.ensures at c.leaves-again.ensures)
-    (rw c.deref-in-Plus-2.ensures at c.shift.ensures))
+shift-returns-in-Plus t c = record {
+  shifts = rw (c.in-Plus.is, core_of-Plus) (Shifts-plus _ _ _ _ _ _ _ _ _ (rw c.deref-in-Plus.ensures at c.leaves-again.ensures)
+      (rw c.deref-in-Plus-2.ensures at c.shift.ensures.shifts));
+  marked = rw (c.in-Plus.is, core_of-Plus) (rw c.deref-in-Plus-2.ensures at c.shift.ensures.marked);
+}
 
 pub shift-returns-in-Tidy : goal.shift-returns-in-Tidy
-shift-returns-in-Tidy t c = rw (c.in-Tidy.is, core_of-Tidy) (rw c.deref-in-Tidy.ensures at c.shift_tidy.ensures)
+shift-returns-in-Tidy t c = record {
+  shifts = rw (c.in-Tidy.is, core_of-Tidy) (rw c.deref-in-Tidy.ensures at c.shift_tidy.ensures.shifts);
+  marked = rw (c.in-Tidy.is, core_of-Tidy) (rw c.deref-in-Tidy.ensures at c.shift_tidy.ensures.marked);
+}
 
-pub shift_tidy-returns-then-after : goal.shift_tidy-returns-then-after
-shift_tidy-returns-then-after t c =
-    rw c.if-after.true (Shifts-tidy-clear _ _ _ _ _ _ _ _ (eq-eqb c.args.c blank c.if-c-eq32.true)
-    (rw c.if-after.true at c.leaves_tidy-out.ensures) (ap (λ n. c.args.at + n) c.weight.ensures) c.clear.ensures)
+pub shift_tidy-returns-then-reading : goal.shift_tidy-returns-then-reading
+shift_tidy-returns-then-reading t c =
+    let next = ap (λ n. c.args.at + n) c.weight.ensures in
+    record {
+      shifts = rw c.if-reading.true (Shifts-tidy-clear _ _ _ _ _ _ _ _ (eq-eqb c.args.reading.letter blank c.if-reading-eq32.true)
+          (rw c.if-reading.true at c.leaves_tidy-out.ensures) next c.clear.ensures);
+      marked = TakesIn-clear _ _ _ _ (λ k low high.
+          flags_cleared _ _ _ _ (omega arith) (omega (arith, next, c.requires.room)) c.clear.ensures k low (omega (arith, next, high)));
+    }
+
+pub shift_all-shift-flag-requires : goal.shift_all-shift-flag-requires
+shift_all-shift-flag-requires t c =
+    let more = ap cat_all (cores_more c.args.children.now c.loop-child.child-index _ c.loop-child-test.true c.child-item.is) in
+    let rest = rw more at c.loop-child.invariant.rest in (
+      search (rules, the_lemmas),
+      (
+        measured_at c.args.children.now c.loop-child.child-index _ c.requires.measured c.loop-child-test.true c.child-item.is,
+        (
+          omega (arith, rest, c.requires.room),
+          clear_part _ _ _ _ _ _ c.loop-child.invariant.live (omega arith) (omega (arith, rest)),
+        ),
+      ),
+    )
+
+pub shift_all-loop-child-preserved : goal.shift_all-loop-child-preserved
+shift_all-loop-child-preserved t c =
+    let more = ap cat_all (cores_more c.args.children.now c.loop-child.child-index _ c.loop-child-test.true c.child-item.is) in
+    let rest = rw more at c.loop-child.invariant.rest in
+    rw c.weight-place.ensures record {
+      begun = omega (arith, c.loop-child.invariant.begun);
+      rest = omega (arith, rest);
+      live = clear_behind _ _ _ _ _ _ _ _ (omega (arith, rest)) c.shift-flag.ensures.shifts _ _ c.loop-child.invariant.live (omega (arith, rest));
+      taken = TakesIn-walk _ _ _ _ _ _ _ _ (omega (arith, rest)) c.shift-flag.ensures.shifts _ _ _ _ c.loop-child.invariant.taken c.shift-flag.ensures.marked;
+      walk = λ new y q. c.loop-child.invariant.walk new y (rw more (Shifts-cat _ _ _ _ _ _ _ _ _ _ _ (omega (arith, rest)) c.shift-flag.ensures.shifts q));
+    }
+
+pub shift_all-returns : goal.shift_all-returns
+shift_all-returns t c =
+    let done = cores_done c.args.children.now c.loop-child.child-index c.loop-child-test.false in
+    let rest = rw done at c.loop-child.invariant.rest in
+    let end : c.loop-child.place ≡ c.args.at + weight (cat_all (map core_of c.args.children.now)) = omega (arith, rest) in
+    record {
+      shifts = c.loop-child.invariant.walk c.loop-child.row c.loop-child.flag (rw done (Shifts-empty _ _ _ _ _));
+      marked = rw end at c.loop-child.invariant.taken;
+    }
+
+pub shift_all-returns-then-reading-place : goal.shift_all-returns-then-reading-place
+shift_all-returns-then-reading-place t c =
+    let clear = clear_from _ _ _ _ c.loop-child.invariant.live c.if-reading-place.true in
+    let untouched = Shifts-untouched (cat_all (map core_of (drop c.loop-child.child-index c.args.children.now))) c.args.reading.after c.loop-child.row c.loop-child.place
+    (omega (arith, c.loop-child.invariant.rest)) (λ k low high. clear k low (omega (arith, high, c.loop-child.invariant.rest))) c.args.reading.letter in
+    record {
+      shifts = c.loop-child.invariant.walk c.loop-child.row false (rw c.if-not-flag.true untouched);
+      marked = TakesIn-more _ _ _ _ _ _ c.loop-child.invariant.taken (omega (arith, c.loop-child.invariant.rest)) clear;
+    }
+
+pub shift_any-shift-out-requires : goal.shift_any-shift-out-requires
+shift_any-shift-out-requires t c =
+    let more = ap alt_all (cores_more c.args.children.now c.loop-child.child-index _ c.loop-child-test.true c.child-item.is) in
+    let rest = rw more at c.loop-child.invariant.rest in (
+      search (rules, the_lemmas),
+      (
+        measured_at c.args.children.now c.loop-child.child-index _ c.requires.measured c.loop-child-test.true c.child-item.is,
+        (
+          omega (arith, rest, c.requires.room),
+          clear_part _ _ _ _ _ _ c.loop-child.invariant.live (omega arith) (omega (arith, rest)),
+        ),
+      ),
+    )
+
+pub shift_any-loop-child-preserved : goal.shift_any-loop-child-preserved
+shift_any-loop-child-preserved t c =
+    let more = ap alt_all (cores_more c.args.children.now c.loop-child.child-index _ c.loop-child-test.true c.child-item.is) in
+    let rest = rw more at c.loop-child.invariant.rest in
+    rw c.weight-place.ensures record {
+      begun = omega (arith, c.loop-child.invariant.begun);
+      rest = omega (arith, rest);
+      live = clear_behind _ _ _ _ _ _ _ _ (omega (arith, rest)) c.shift-out.ensures.shifts _ _ c.loop-child.invariant.live (omega (arith, rest));
+      taken = TakesIn-walk _ _ _ _ _ _ _ _ (omega (arith, rest)) c.shift-out.ensures.shifts _ _ _ _ c.loop-child.invariant.taken c.shift-out.ensures.marked;
+      walk = λ new y q. rw (← or_again c.loop-child.found c.shift-out.result y)
+          (c.loop-child.invariant.walk new (c.shift-out.result || y)
+          (rw more (Shifts-alt _ _ _ _ _ _ _ _ _ _ _ (omega (arith, rest)) c.shift-out.ensures.shifts q)));
+    }
+
+pub shift_any-returns : goal.shift_any-returns
+shift_any-returns t c =
+    let done = cores_done c.args.children.now c.loop-child.child-index c.loop-child-test.false in
+    let rest = rw done at c.loop-child.invariant.rest in
+    let end : c.loop-child.place ≡ c.args.at + weight (alt_all (map core_of c.args.children.now)) = omega (arith, rest) in
+    record {
+      shifts = rw (← or_none c.loop-child.found) (c.loop-child.invariant.walk c.loop-child.row false (rw done (Shifts-none _ _ _ _ _)));
+      marked = rw end at c.loop-child.invariant.taken;
+    }
+
+pub shift_any-returns-then-reading-place : goal.shift_any-returns-then-reading-place
+shift_any-returns-then-reading-place t c =
+    let clear = clear_from _ _ _ _ c.loop-child.invariant.live c.if-reading-place.true in
+    let untouched = Shifts-untouched (alt_all (map core_of (drop c.loop-child.child-index c.args.children.now))) c.args.reading.after c.loop-child.row c.loop-child.place
+    (omega (arith, c.loop-child.invariant.rest)) (λ k low high. clear k low (omega (arith, high, c.loop-child.invariant.rest))) c.args.reading.letter in
+    record {
+      shifts = rw (← or_none c.loop-child.found) (c.loop-child.invariant.walk c.loop-child.row false (rw c.if-not-entry.true untouched));
+      marked = TakesIn-more _ _ _ _ _ _ c.loop-child.invariant.taken (omega (arith, c.loop-child.invariant.rest)) clear;
+    }
+
+pub shift_front-shift-flag-requires : goal.shift_front-shift-flag-requires
+shift_front-shift-flag-requires t c =
+    let more = ap any_front (cores_more c.args.children.now c.loop-child.child-index _ c.loop-child-test.true c.child-item.is) in
+    let rest = rw more at c.loop-child.invariant.rest in (
+      search (rules, the_lemmas),
+      (
+        measured_at c.args.children.now c.loop-child.child-index _ c.requires.measured c.loop-child-test.true c.child-item.is,
+        (
+          omega (arith, rest, c.requires.room),
+          clear_part _ _ _ _ _ _ c.loop-child.invariant.live (omega arith) (omega (arith, rest)),
+        ),
+      ),
+    )
+
+pub shift_front-loop-child-preserved : goal.shift_front-loop-child-preserved
+shift_front-loop-child-preserved t c =
+    let more = ap any_front (cores_more c.args.children.now c.loop-child.child-index _ c.loop-child-test.true c.child-item.is) in
+    let rest = rw more at c.loop-child.invariant.rest in
+    rw c.weight-place.ensures record {
+      begun = omega (arith, c.loop-child.invariant.begun);
+      rest = omega (arith, rest);
+      live = clear_behind _ _ _ _ _ _ _ _ (omega (arith, rest)) c.shift-flag.ensures.shifts _ _ c.loop-child.invariant.live (omega (arith, rest));
+      taken = TakesIn-walk _ _ _ _ _ _ _ _ (omega (arith, rest)) c.shift-flag.ensures.shifts _ _ _ _ c.loop-child.invariant.taken c.shift-flag.ensures.marked;
+      walk = λ new y q. rw (← or_again c.loop-child.found c.loop-child.flag y)
+          (c.loop-child.invariant.walk new (c.loop-child.flag || y)
+          (rw more (Shifts-front _ _ _ _ _ _ _ _ _ _ _ (omega (arith, rest)) c.shift-flag.ensures.shifts q)));
+    }
+
+pub shift_front-returns : goal.shift_front-returns
+shift_front-returns t c =
+    let done = cores_done c.args.children.now c.loop-child.child-index c.loop-child-test.false in
+    let rest = rw done at c.loop-child.invariant.rest in
+    let end : c.loop-child.place ≡ c.args.at + weight (any_front (map core_of c.args.children.now)) = omega (arith, rest) in
+    record {
+      shifts = c.loop-child.invariant.walk c.loop-child.row c.loop-child.flag (rw done (Shifts-empty _ _ _ _ _));
+      marked = rw end at c.loop-child.invariant.taken;
+    }
+
+pub shift_front-returns-then-reading-place : goal.shift_front-returns-then-reading-place
+shift_front-returns-then-reading-place t c =
+    let clear = clear_from _ _ _ _ c.loop-child.invariant.live c.if-reading-place.true in
+    let untouched = Shifts-untouched (any_front (map core_of (drop c.loop-child.child-index c.args.children.now))) c.args.reading.after c.loop-child.row c.loop-child.place
+    (omega (arith, c.loop-child.invariant.rest)) (λ k low high. clear k low (omega (arith, high, c.loop-child.invariant.rest))) c.args.reading.letter in
+    record {
+      shifts = rw (← or_none c.loop-child.found) (c.loop-child.invariant.walk c.loop-child.row false (rw c.if-not-flag.true untouched));
+      marked = TakesIn-more _ _ _ _ _ _ c.loop-child.invariant.taken (omega (arith, c.loop-child.invariant.rest)) clear;
+    }

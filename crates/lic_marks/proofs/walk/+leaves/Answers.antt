@@ -1,18 +1,32 @@
-use Rattle.std.proofs.Common.{◌||◌, false, refl, ap, rules, arith}
+use Rattle.std.proofs.Common.{◌+◌, ◌<◌, ◌||◌, false, refl, ap, rules, arith}
 use Rattle.lic_marks.specs.Cores.{cat_all, alt_all, any_front}
+use Rattle.lic_marks.specs.Rows.{weight}
+use Rattle.lic_marks.specs.Nodes.{core_of, passes}
 use Rattle.lic_marks.specs.declared.node.Node.{the_lemmas}
-use Rattle.lic_marks.proofs.Nodes.{core_of-One, core_of-Cat, core_of-Alt, core_of-Front, core_of-Plus, core_of-Tidy, children-Cat, children-Alt, children-Front, child-Plus, child-Tidy, nullable-Tidy}
+use Rattle.lic_marks.proofs.Nodes.{core_of-One, core_of-Copies, core_of-UpTo, core_of-Cat, core_of-Alt, core_of-Front, core_of-Plus, core_of-Tidy, children-Cat, children-Alt, children-Front, child-Plus, child-Tidy, nullable-Tidy}
+use Rattle.lic_marks.proofs.LetterWalks.{weight-copies, weight-up_to}
 use Rattle.lic_marks.proofs.RowWalks.{Leaves-empty, Leaves-none, Leaves-one, Leaves-cat, Leaves-alt, Leaves-plus, Leaves-tidy, Leaves-tidy-after, Leaves-front}
-use Rattle.lic_marks.proofs.Children.{cores_more, cores_done}
+use Rattle.lic_marks.proofs.Children.{cores_more, cores_done, measured_at}
 use Rattle.lic_marks.proofs.Answers.{or_none, or_again}
+use Rattle.lic_marks.proofs.Taken.{clear_all, clear_part}
+use Rattle.lic_marks.proofs.Untouched.{Leaves-clear}
 use Rattle.lic_marks.proofs.walk.+leaves.Goals as goal
+
+pub leaves-returns-then-not-meets : goal.leaves-returns-then-not-meets
+leaves-returns-then-not-meets t c =
+    let apart : (c.args.live.from < c.args.at + weight (core_of c.args.node.now)) × (c.args.at < c.args.live.to) → ⊥ =
+    λ p. let meets = c.meets.ensures.1 (omega (arith, p.0, c.weight.ensures), p.1) in cc in
+    rw c.if-not-entry.true (Leaves-clear _ c.args.after c.args.row.now c.args.at c.requires.room (clear_all _ _ _ _ c.requires.live apart))
 
 pub leaves-leaves_all-requires : goal.leaves-leaves_all-requires
 leaves-leaves_all-requires t c = (
   search (rules, the_lemmas),
   (
     rw c.deref-in-Cat.ensures.value (children-Cat _ _ (rw c.in-Cat.is at c.requires.measured)),
-    rw c.deref-in-Cat.ensures.value (rw (c.in-Cat.is, core_of-Cat) at c.requires.room),
+    (
+      rw c.deref-in-Cat.ensures.value (rw (c.in-Cat.is, core_of-Cat) at c.requires.room),
+      rw c.deref-in-Cat.ensures.value (rw (c.in-Cat.is, core_of-Cat) at c.requires.live),
+    ),
   ),
 )
 
@@ -21,7 +35,10 @@ leaves-leaves_any-requires t c = (
   search (rules, the_lemmas),
   (
     rw c.deref-in-Alt.ensures.value (children-Alt _ _ (rw c.in-Alt.is at c.requires.measured)),
-    rw c.deref-in-Alt.ensures.value (rw (c.in-Alt.is, core_of-Alt) at c.requires.room),
+    (
+      rw c.deref-in-Alt.ensures.value (rw (c.in-Alt.is, core_of-Alt) at c.requires.room),
+      rw c.deref-in-Alt.ensures.value (rw (c.in-Alt.is, core_of-Alt) at c.requires.live),
+    ),
   ),
 )
 
@@ -30,7 +47,10 @@ leaves-leaves_front-requires t c = (
   search (rules, the_lemmas),
   (
     rw c.deref-in-Front.ensures.value (children-Front _ _ (rw c.in-Front.is at c.requires.measured)),
-    rw c.deref-in-Front.ensures.value (rw (c.in-Front.is, core_of-Front) at c.requires.room),
+    (
+      rw c.deref-in-Front.ensures.value (rw (c.in-Front.is, core_of-Front) at c.requires.room),
+      rw c.deref-in-Front.ensures.value (rw (c.in-Front.is, core_of-Front) at c.requires.live),
+    ),
   ),
 )
 
@@ -39,7 +59,10 @@ leaves-leaves-requires t c = (
   search (rules, the_lemmas),
   (
     rw c.deref-in-Plus.ensures (child-Plus _ _ (rw c.in-Plus.is at c.requires.measured)),
-    rw c.deref-in-Plus.ensures (rw (c.in-Plus.is, core_of-Plus) at c.requires.room),
+    (
+      rw c.deref-in-Plus.ensures (rw (c.in-Plus.is, core_of-Plus) at c.requires.room),
+      rw c.deref-in-Plus.ensures (rw (c.in-Plus.is, core_of-Plus) at c.requires.live),
+    ),
   ),
 )
 
@@ -50,10 +73,33 @@ leaves-leaves_tidy-requires t c = (
     rw c.deref-in-Tidy.ensures (child-Tidy _ _ _ (rw c.in-Tidy.is at c.requires.measured)),
     (
       rw c.deref-in-Tidy.ensures (nullable-Tidy _ _ _ (rw c.in-Tidy.is at c.requires.measured)),
-      rw c.deref-in-Tidy.ensures (rw (c.in-Tidy.is, core_of-Tidy) at c.requires.room),
+      (
+        rw c.deref-in-Tidy.ensures (rw (c.in-Tidy.is, core_of-Tidy) at c.requires.room),
+        rw c.deref-in-Tidy.ensures (rw (c.in-Tidy.is, core_of-Tidy) at c.requires.live),
+      ),
     ),
   ),
 )
+
+pub leaves-leaves_copies-requires : goal.leaves-leaves_copies-requires
+leaves-leaves_copies-requires t c =
+    let room = rw (c.in-Copies.is, core_of-Copies) at c.requires.room in
+    omega (arith, room, weight-copies (passes c.in-Copies.test) c.in-Copies.count)
+
+pub leaves-leaves_up_to-requires-clause-room : goal.leaves-leaves_up_to-requires-clause-room
+leaves-leaves_up_to-requires-clause-room t c =
+    let room = rw (c.in-UpTo.is, core_of-UpTo) at c.requires.room in
+    omega (arith, room, weight-up_to (passes c.in-UpTo.test) c.in-UpTo.count)
+
+pub leaves-leaves_up_to-requires-clause-live : goal.leaves-leaves_up_to-requires-clause-live
+leaves-leaves_up_to-requires-clause-live t c =
+    rw weight-up_to at (rw (c.in-UpTo.is, core_of-UpTo) at c.requires.live)
+
+pub leaves-returns-in-Copies : goal.leaves-returns-in-Copies
+leaves-returns-in-Copies t c = rw (c.in-Copies.is, core_of-Copies) (c.leaves_copies.ensures (passes c.in-Copies.test))
+
+pub leaves-returns-in-UpTo : goal.leaves-returns-in-UpTo
+leaves-returns-in-UpTo t c = rw (c.in-UpTo.is, core_of-UpTo) (c.leaves_up_to.ensures (passes c.in-UpTo.test))
 
 pub leaves-returns-in-One : goal.leaves-returns-in-One
 leaves-returns-in-One t c =
@@ -72,13 +118,27 @@ leaves_tidy-returns-then-after t c = rw c.if-after.true (Leaves-tidy-after _ _ _
 pub leaves_tidy-returns-else-after : goal.leaves_tidy-returns-else-after
 leaves_tidy-returns-else-after t c = rw c.if-after.false (Leaves-tidy _ _ _ _ _ (rw c.if-after.false at c.leaves.ensures))
 
+pub leaves_all-leaves-flag-requires : goal.leaves_all-leaves-flag-requires
+leaves_all-leaves-flag-requires t c =
+    let more = ap cat_all (cores_more c.args.children.now c.loop-child.child-index _ c.loop-child-test.true c.child-item.is) in
+    let rest = rw more at c.loop-child.invariant.rest in (
+      search (rules, the_lemmas),
+      (
+        measured_at c.args.children.now c.loop-child.child-index _ c.requires.measured c.loop-child-test.true c.child-item.is,
+        (
+          omega (arith, rest, c.requires.room),
+          clear_part _ _ _ _ _ _ c.requires.live c.loop-child.invariant.begun (omega (arith, rest)),
+        ),
+      ),
+    )
+
 pub leaves_all-loop-child-preserved : goal.leaves_all-loop-child-preserved
 leaves_all-loop-child-preserved t c =
-    let same = cores_more c.args.children.now c.loop-child.child-index _ c.loop-child-test.true c.child-item.is in
-    let more = ap cat_all same in
-    let room = rw more at c.loop-child.invariant.room in
+    let more = ap cat_all (cores_more c.args.children.now c.loop-child.child-index _ c.loop-child-test.true c.child-item.is) in
+    let rest = rw more at c.loop-child.invariant.rest in
     rw c.weight-place.ensures record {
-      room = omega (arith, room);
+      begun = omega (arith, c.loop-child.invariant.begun);
+      rest = omega (arith, rest);
       walk = λ y q. c.loop-child.invariant.walk y (rw more (Leaves-cat _ _ _ _ _ _ _ _ c.leaves-flag.ensures q));
     }
 
@@ -87,13 +147,27 @@ leaves_all-returns t c =
     c.loop-child.invariant.walk c.loop-child.flag
     (rw (cores_done c.args.children.now c.loop-child.child-index c.loop-child-test.false) (Leaves-empty _ _ _ _))
 
+pub leaves_any-leaves-out-requires : goal.leaves_any-leaves-out-requires
+leaves_any-leaves-out-requires t c =
+    let more = ap alt_all (cores_more c.args.children.now c.loop-child.child-index _ c.loop-child-test.true c.child-item.is) in
+    let rest = rw more at c.loop-child.invariant.rest in (
+      search (rules, the_lemmas),
+      (
+        measured_at c.args.children.now c.loop-child.child-index _ c.requires.measured c.loop-child-test.true c.child-item.is,
+        (
+          omega (arith, rest, c.requires.room),
+          clear_part _ _ _ _ _ _ c.requires.live c.loop-child.invariant.begun (omega (arith, rest)),
+        ),
+      ),
+    )
+
 pub leaves_any-loop-child-preserved : goal.leaves_any-loop-child-preserved
 leaves_any-loop-child-preserved t c =
-    let same = cores_more c.args.children.now c.loop-child.child-index _ c.loop-child-test.true c.child-item.is in
-    let more = ap alt_all same in
-    let room = rw more at c.loop-child.invariant.room in
+    let more = ap alt_all (cores_more c.args.children.now c.loop-child.child-index _ c.loop-child-test.true c.child-item.is) in
+    let rest = rw more at c.loop-child.invariant.rest in
     rw c.weight-place.ensures record {
-      room = omega (arith, room);
+      begun = omega (arith, c.loop-child.invariant.begun);
+      rest = omega (arith, rest);
       walk = λ y q. rw (← or_again c.loop-child.found c.leaves-out.result y)
           (c.loop-child.invariant.walk (c.leaves-out.result || y) (rw more (Leaves-alt _ _ _ _ _ _ _ _ c.leaves-out.ensures q)));
     }
@@ -103,13 +177,27 @@ leaves_any-returns t c =
     rw (← or_none c.loop-child.found) (c.loop-child.invariant.walk false
     (rw (cores_done c.args.children.now c.loop-child.child-index c.loop-child-test.false) (Leaves-none _ _ _ _)))
 
+pub leaves_front-leaves-flag-requires : goal.leaves_front-leaves-flag-requires
+leaves_front-leaves-flag-requires t c =
+    let more = ap any_front (cores_more c.args.children.now c.loop-child.child-index _ c.loop-child-test.true c.child-item.is) in
+    let rest = rw more at c.loop-child.invariant.rest in (
+      search (rules, the_lemmas),
+      (
+        measured_at c.args.children.now c.loop-child.child-index _ c.requires.measured c.loop-child-test.true c.child-item.is,
+        (
+          omega (arith, rest, c.requires.room),
+          clear_part _ _ _ _ _ _ c.requires.live c.loop-child.invariant.begun (omega (arith, rest)),
+        ),
+      ),
+    )
+
 pub leaves_front-loop-child-preserved : goal.leaves_front-loop-child-preserved
 leaves_front-loop-child-preserved t c =
-    let same = cores_more c.args.children.now c.loop-child.child-index _ c.loop-child-test.true c.child-item.is in
-    let more = ap any_front same in
-    let room = rw more at c.loop-child.invariant.room in
+    let more = ap any_front (cores_more c.args.children.now c.loop-child.child-index _ c.loop-child-test.true c.child-item.is) in
+    let rest = rw more at c.loop-child.invariant.rest in
     rw c.weight-place.ensures record {
-      room = omega (arith, room);
+      begun = omega (arith, c.loop-child.invariant.begun);
+      rest = omega (arith, rest);
       walk = λ y q. rw (← or_again c.loop-child.found c.loop-child.flag y)
           (c.loop-child.invariant.walk (c.loop-child.flag || y)
           (rw more (Leaves-front _ _ _ _ _ _ _ _ c.leaves-flag.ensures q)));
@@ -119,3 +207,24 @@ pub leaves_front-returns : goal.leaves_front-returns
 leaves_front-returns t c =
     c.loop-child.invariant.walk c.loop-child.flag
     (rw (cores_done c.args.children.now c.loop-child.child-index c.loop-child-test.false) (Leaves-empty _ _ _ _))
+
+pub leaves_all-returns-then-live-place : goal.leaves_all-returns-then-live-place
+leaves_all-returns-then-live-place t c =
+    c.loop-child.invariant.walk false
+    (rw c.if-not-flag.true (Leaves-clear _ c.args.after c.args.row.now c.loop-child.place
+    (omega (arith, c.loop-child.invariant.rest, c.requires.room)) (λ k low high.
+    c.requires.live.behind k (omega (arith, c.loop-child.invariant.begun)) (omega (arith, c.loop-child.invariant.rest)) (omega (arith, c.if-live-place.true)))))
+
+pub leaves_any-returns-then-live-place : goal.leaves_any-returns-then-live-place
+leaves_any-returns-then-live-place t c =
+    rw (← or_none c.loop-child.found) (c.loop-child.invariant.walk false
+    (rw c.if-not-entry.true (Leaves-clear _ c.args.after c.args.row.now c.loop-child.place
+    (omega (arith, c.loop-child.invariant.rest, c.requires.room)) (λ k low high.
+    c.requires.live.behind k (omega (arith, c.loop-child.invariant.begun)) (omega (arith, c.loop-child.invariant.rest)) (omega (arith, c.if-live-place.true))))))
+
+pub leaves_front-returns-then-live-place : goal.leaves_front-returns-then-live-place
+leaves_front-returns-then-live-place t c =
+    rw (← or_none c.loop-child.found) (c.loop-child.invariant.walk false
+    (rw c.if-not-flag.true (Leaves-clear _ c.args.after c.args.row.now c.loop-child.place
+    (omega (arith, c.loop-child.invariant.rest, c.requires.room)) (λ k low high.
+    c.requires.live.behind k (omega (arith, c.loop-child.invariant.begun)) (omega (arith, c.loop-child.invariant.rest)) (omega (arith, c.if-live-place.true))))))

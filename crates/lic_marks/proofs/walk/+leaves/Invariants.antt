@@ -1,4 +1,4 @@
-use Rattle.std.proofs.Common.{◌+◌, ◌≤◌, Bool, ◌||◌, length, map, drop}
+use Rattle.std.proofs.Common.{◌≡◌, ◌+◌, ◌≤◌, Bool, ◌||◌, map, drop}
 use Rattle.lic_marks.specs.Cores.{cat_all, alt_all, any_front}
 use Rattle.lic_marks.specs.Rows.{weight, Leaves}
 use Rattle.lic_marks.specs.Nodes.{core_of}
@@ -8,21 +8,24 @@ use Rattle.lic_marks.proofs.walk.+leaves.Given as goal
 abbrev pub invariant-leaves_all-loop-child : goal.invariant-leaves_all-loop-child
 invariant-leaves_all-loop-child l =
     record {
-      room : l.place + weight (cat_all (map core_of (drop l.child-index l.children))) ≤ length l.row;
+      begun : l.at ≤ l.place;
+      rest : l.place + weight (cat_all (map core_of (drop l.child-index l.children))) ≡ l.at + weight (cat_all (map core_of l.children));
       walk : (y : Bool) → Leaves (cat_all (map core_of (drop l.child-index l.children))) l.after l.flag l.row l.place y →
           Leaves (cat_all (map core_of l.children)) l.after l.entry l.row l.at y;
     }
 
 abbrev pub invariant-leaves_any-loop-child : goal.invariant-leaves_any-loop-child
 invariant-leaves_any-loop-child l = record {
-  room : l.place + weight (alt_all (map core_of (drop l.child-index l.children))) ≤ length l.row;
+  begun : l.at ≤ l.place;
+  rest : l.place + weight (alt_all (map core_of (drop l.child-index l.children))) ≡ l.at + weight (alt_all (map core_of l.children));
   walk : (y : Bool) → Leaves (alt_all (map core_of (drop l.child-index l.children))) l.after l.entry l.row l.place y →
       Leaves (alt_all (map core_of l.children)) l.after l.entry l.row l.at (l.found || y);
 }
 
 abbrev pub invariant-leaves_front-loop-child : goal.invariant-leaves_front-loop-child
 invariant-leaves_front-loop-child l = record {
-  room : l.place + weight (any_front (map core_of (drop l.child-index l.children))) ≤ length l.row;
+  begun : l.at ≤ l.place;
+  rest : l.place + weight (any_front (map core_of (drop l.child-index l.children))) ≡ l.at + weight (any_front (map core_of l.children));
   walk : (y : Bool) → Leaves (any_front (map core_of (drop l.child-index l.children))) l.after l.flag l.row l.place y →
       Leaves (any_front (map core_of l.children)) l.after l.entry l.row l.at (l.found || y);
 }

@@ -9,6 +9,7 @@ use Rattle.lic_norm.proofs.SpellingPlaces.{texts_of, texts_of-reported}
 use Rattle.lic_norm.proofs.pieces.piece.Goals as goal
 
 pub returns : goal.returns
+unfolding piece_of
 returns c =
     let words = c.args.words.now in
     let first = piece_tokens c.args.at_line_start c.args.before c.args.text.now in

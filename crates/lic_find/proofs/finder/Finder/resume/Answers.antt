@@ -8,6 +8,6 @@ use Rattle.lic_find.proofs.finder.Finder.resume.Goals as goal
 
 pub returns-clause-only : goal.returns-clause-only
 returns-clause-only c =
-    IfOk-weaker c.search.result (λ f. AreMatches c.args.set.now c.args.text.now.tokens (Some c.args.after) (rest_of f))
+    IfOk-weaker c.behind.result (λ f. AreMatches c.args.set.now c.args.text.now.tokens (Some c.args.after) (rest_of f))
     (λ f. (others : List Triple) → AreMatches c.args.set.now c.args.text.now.tokens (Some c.args.after) others → others ≡ rest_of f)
-    (λ f all others m. AreMatches-unique c.args.set.now c.args.text.now.tokens (Some c.args.after) others (rest_of f) m all) c.search.ensures
+    (λ f all others m. AreMatches-unique c.args.set.now c.args.text.now.tokens (Some c.args.after) others (rest_of f) m all) c.behind.ensures.matches

@@ -1,5 +1,5 @@
 use Rattle.std.proofs.Common.{arith}
-use Rattle.lic_marks.proofs.Nodes.{weight-Letters, weight-Cat, weight-Alt, weight-Front, weight-Plus, weight-Tidy}
+use Rattle.lic_marks.proofs.Nodes.{weight-Letters, weight-Copies, weight-UpTo, weight-Cat, weight-Alt, weight-Front, weight-Plus, weight-Tidy}
 use Rattle.lic_marks.proofs.node.Node.weight.Goals as goal
 
 pub returns-in-Letters : goal.returns-in-Letters
@@ -19,3 +19,9 @@ returns-in-Plus c = rw c.in-Plus.is (weight-Plus _ _ (rw c.in-Plus.is at c.requi
 
 pub returns-in-Tidy : goal.returns-in-Tidy
 returns-in-Tidy c = rw c.in-Tidy.is (weight-Tidy _ _ _ (rw c.in-Tidy.is at c.requires))
+
+pub returns-in-Copies : goal.returns-in-Copies
+returns-in-Copies c = rw c.in-Copies.is (weight-Copies _ _)
+
+pub returns-in-UpTo : goal.returns-in-UpTo
+returns-in-UpTo c = rw c.in-UpTo.is (weight-UpTo _ _)

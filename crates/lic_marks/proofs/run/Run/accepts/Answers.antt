@@ -18,9 +18,9 @@ true_not false h = refl
 pub returns : goal.returns
 returns c = λ e ts s.
     let answer : (c.leaves-at_once.result || c.leaves-after_blanks.result)
-    ≡ (can_leave (core_of c.args.self.now.tree.now) false c.args.self.now.entry (marks_of (core_of c.args.self.now.tree.now) c.args.self.now.at_once.items)
-    || can_leave (core_of c.args.self.now.tree.now) true false (marks_of (core_of c.args.self.now.tree.now) c.args.self.now.after_blanks.items)) =
-    rw (c.leaves-at_once.ensures.answer, c.leaves-after_blanks.ensures.answer, c.deref.ensures.value, c.deref-2.ensures.value) refl in (
+    ≡ (can_leave (core_of c.args.self.now.tree.now) false c.args.self.now.entry (marks_of (core_of c.args.self.now.tree.now) c.args.self.now.at_once)
+    || can_leave (core_of c.args.self.now.tree.now) true false (marks_of (core_of c.args.self.now.tree.now) c.args.self.now.after_blanks)) =
+    rw (c.leaves-at_once.ensures.answer, c.leaves-after_blanks.ensures.answer) refl in (
       λ h.
           let found = accept_sound (core_of c.args.self.now.tree.now) _ _ _ (gapped ts) s.marks
           (sym answer ∙ and_right (not c.args.self.now.is_empty) (c.leaves-at_once.result || c.leaves-after_blanks.result) h) in (

@@ -1,4 +1,4 @@
-use Rattle.std.proofs.Common.{◌≡◌, not, Bool, true, false, refl, sym, ap, ◌∙◌, subst}
+use Rattle.std.proofs.Common.{◌≡◌, not, Bool, true, false, refl, ap, ◌∙◌, subst}
 use Rattle.lic_words.specs.Words.{blank}
 use Rattle.lic_words.specs.Spelling.{gapped, gapped_from, row_of, last_of}
 use Rattle.lic_marks.specs.Marks.{no_marks}
@@ -18,7 +18,7 @@ not_so false h = refl
 pub returns : goal.returns
 returns c = λ e ts s h more (some, w, language, spells).
     let none : c.args.self.now.entry ≡ false = not_so c.args.self.now.entry (and_left (not c.args.self.now.entry) c.is_clear.result h) in
-    let clear = sym c.deref.ensures.value ∙ c.is_clear.ensures (and_right (not c.args.self.now.entry) c.is_clear.result h) in
+    let clear = c.is_clear.ensures.0 (and_right (not c.args.self.now.entry) c.is_clear.result h) in
     let marks = ap (marks_of (core_of c.args.self.now.tree.now)) clear ∙ marks_of-replicate (core_of c.args.self.now.tree.now) _ in
     let now : StandsAtOnce (core_of c.args.self.now.tree.now) false (no_marks (core_of c.args.self.now.tree.now)) (gapped ts) =
     subst (λ b. StandsAtOnce (core_of c.args.self.now.tree.now) b (no_marks (core_of c.args.self.now.tree.now)) (gapped ts)) none

@@ -1,0 +1,76 @@
+-- Which templates describe the tokens that a run stands for.
+use Rattle.std.proofs.Common.{◌≡◌, ℕ, ◌+◌, ◌<◌, ◌≤◌, Bool, true, false, ◌==◌, ◌&&◌, not, List, [], ◌∷◌, ◌++◌, length, get_or, take, Some, vec_len, eqb-true, refl, sym, ap, ◌∙◌, subst, append-nil, arith}
+use Rattle.std.specs.List.{slice_get, Contains}
+use Rattle.std.specs.Bool.{IsTrue}
+use Rattle.std.proofs.lemmas.List.{get_or_default, length-take}
+use Rattle.std.proofs.lemmas.Option.{slice_get_within}
+use Rattle.std.proofs.Math.Logic.{∥∥₁_elim}
+use mathlib.Core.HLevel.{⊥_prop}
+use mathlib.Core.Bool.{Bool-set}
+use borrow.Author.Count.{below_more}
+use Rattle.lic_words.specs.Expressions.{Expression}
+use Rattle.lic_words.specs.Describing.{IsDescribed}
+use Rattle.lic_marks.specs.Deciding.{is_described}
+use Rattle.lic_marks.proofs.Deciding.{is_described_sound, is_described_complete}
+use Rattle.lic_marks.specs.Runs.{Stands}
+use Rattle.lic_marks.specs.declared.run.Run as tree
+use Rattle.lic_auto.specs.Sets.{Known, words_of}
+use Rattle.lic_auto.specs.Runs.{StandsFor, set_of, live_of, is_dead}
+use Rattle.lic_auto.specs.declared.run.Run.{Run}
+use Rattle.lic_auto.proofs.Changing.{slice_get-some}
+
+and_left : (a b : Bool) → (a && b) ≡ true → a ≡ true
+and_left true b h = refl
+and_left false b h = h
+
+and_right : (a b : Bool) → (a && b) ≡ true → b ≡ true
+and_right true b h = h
+and_right false b h = cc
+
+not_false : (b : Bool) → not b ≡ true → b ≡ false
+not_false true h = cc
+not_false false h = refl
+
+-- what the runs of the first numbers of a list stand for is not described, where they are not below the first one that is asked for
+abbrev pub FailBefore : List tree.Run → List ℕ → ℕ → ℕ → Type 0
+FailBefore runs live from i = (j : ℕ) → j < i → from ≤ get_or live j 0 → (run : tree.Run) → slice_get runs (get_or live j 0) ≡ Some run →
+    (e : Expression) (ts : List (List ℕ)) → Stands run e ts → ¬ (IsDescribed e ts)
+
+module _ (run : Run) (ts : List (List ℕ)) (s : StandsFor run ts) where
+  -- as many runs as templates
+  same_count : length (set_of run) ≡ length run.runs.items
+  same_count = omega (arith, run.count, run.runs.ok)
+
+  module _ (k : ℕ) (known : Known) (is : slice_get (set_of run) k ≡ Some known) where
+    -- a template is not described where its run says so, if it is live
+    pub none_described : ((j : ℕ) → j < length (live_of run) → get_or (live_of run) j 0 ≡ k → (r : tree.Run) → slice_get run.runs.items k ≡ Some r →
+        Stands r (words_of known) ts → ¬ (IsDescribed (words_of known) ts)) → ¬ (IsDescribed (words_of known) ts)
+    none_described fails described = by_empty run.is_empty refl
+      where
+        not_live : ¬ (Contains (live_of run) k)
+        not_live (j, inside, at) =
+            let (r, there) = slice_get-some run.runs.items (set_of run) k known same_count is in
+            ∥∥₁_elim (s.live k known r (j, inside, at) is there) ⊥_prop
+            (λ stands. fails j inside (get_or_default (live_of run) j 0 k inside ∙ at) r there stands described)
+
+        by_empty : (b : Bool) → run.is_empty ≡ b → ⊥
+        by_empty true e = described.0 (s.empty.0 e)
+        by_empty false e = s.others e k known not_live is [] (subst (IsDescribed (words_of known)) (sym (append-nil ts)) described)
+
+    -- a dead run
+    pub dead_described : IsTrue (is_dead run) → (more : List (List ℕ)) → ¬ (IsDescribed (words_of known) (ts ++ more))
+    dead_described dead more described =
+        let some : run.is_empty ≡ false = not_false run.is_empty (and_left (not run.is_empty) (run.live_count == 0) dead) in
+        let none : run.live_count ≡ 0 = eqb-true run.live_count 0 (and_right (not run.is_empty) (run.live_count == 0) dead) in
+        let size : length (live_of run) ≤ run.live_count = omega (arith, length-take run.live_count run.live.items) in
+        s.others some k known (λ (j, inside, at). omega (arith, none, size, inside)) is more described
+
+  -- a template is described where its run says so
+  pub some_described : (n : ℕ) (r : tree.Run) (b : Bool) → Contains (live_of run) n → slice_get run.runs.items n ≡ Some r → b ≡ true →
+      ((e : Expression) (us : List (List ℕ)) → Stands r e us → (IsTrue b → IsDescribed e us)) →
+      (known : Known) × (slice_get (set_of run) n ≡ Some known) × IsDescribed (words_of known) ts
+  some_described n r b inside there passed accepts =
+      let (known, is) = slice_get-some (set_of run) run.runs.items n r (sym same_count) there in
+      let decided : is_described (words_of known) ts ≡ true =
+      ∥∥₁_elim (s.live n known r inside is there) (Bool-set _ _) (λ stands. is_described_complete (words_of known) ts (accepts (words_of known) ts stands passed)) in
+      (known, is, is_described_sound (words_of known) ts decided)

@@ -1,0 +1,49 @@
+-- The compiled trees of a set of templates.
+use Rattle.std.proofs.Common.{◌≡◌, ℕ, zero, suc, ◌+◌, ◌<◌, true, List, [], ◌∷◌, ◌++◌, map, take, length, get_or, Some, refl, sym, ap, ◌∙◌, subst}
+use Rattle.std.specs.List.{slice_get, list_all}
+use Rattle.std.proofs.lemmas.List.{map-append, length-map}
+use Rattle.std.proofs.lemmas.Option.{none-some, same_Some}
+use Rattle.lic_words.specs.Expressions.{Expression, Language}
+use Rattle.lic_marks.specs.Cores.{HasWordsOf}
+use Rattle.lic_marks.specs.Nodes.{core_of}
+use Rattle.lic_marks.specs.declared.node.Node.{Node}
+use Rattle.lic_auto.specs.Sets.{Known, known_of, all_known, words_of}
+use Rattle.lic_auto.specs.Compiling.{HasWords, AllHaveWords}
+use Rattle.lic_auto.specs.Compiled.{IsCompiled}
+use Rattle.lic_auto.specs.Indexes.{IsIndexOf}
+use Rattle.lic_auto.specs.declared.set.Named.{Named}
+use Rattle.lic_auto.specs.declared.index.Index.{Index}
+use Rattle.lic_auto.proofs.Trees.{more, AllHaveWords-measured}
+
+-- one template more
+pub more_known : (named : List Named) (i : ℕ) (one : Named) → i < length named → one ≡ get_or named i one →
+    map words_of (all_known (take (i + 1) named)) ≡ map words_of (all_known (take i named)) ++ words_of (known_of one) ∷ []
+more_known named i one inside is =
+    ap (map words_of) (more known_of named i one inside is) ∙ map-append words_of (all_known (take i named)) (known_of one ∷ [])
+
+AllHaveWords-count : (trees : List Node) (es : List Expression) → AllHaveWords trees es → length trees ≡ length es
+AllHaveWords-count [] [] all = refl
+AllHaveWords-count [] (e ∷ es) all = absurd all
+AllHaveWords-count (t ∷ trees) [] all = absurd all
+AllHaveWords-count (t ∷ trees) (e ∷ es) all = ap suc (AllHaveWords-count trees es all.1)
+
+-- the tree of one template
+tree_at : (set : List Known) (trees : List Node) → AllHaveWords trees (map words_of set) → (k : ℕ) (known : Known) (tree : Node) →
+    slice_get set k ≡ Some known → slice_get trees k ≡ Some tree → HasWords (Language (words_of known)) tree
+tree_at [] trees all k known tree here there = absurd (none-some known here)
+tree_at (s ∷ set) [] all k known tree here there = absurd all
+tree_at (s ∷ set) (t ∷ trees) all zero known tree here there =
+    subst (λ n. HasWords (Language (words_of known)) n) (same_Some t tree there)
+    (subst (λ s. HasWords (Language (words_of s)) t) (same_Some s known here) all.0)
+tree_at (s ∷ set) (t ∷ trees) all (suc k) known tree here there = tree_at set trees all.1 k known tree here there
+
+pub IsCompiled-from_trees : (set : List Known) (trees : List Node) (index : Index) → AllHaveWords trees (map words_of set) → IsIndexOf index trees →
+    IsCompiled set trees index
+IsCompiled-from_trees set trees index all indexed = record {
+  count = AllHaveWords-count trees (map words_of set) all ∙ length-map set words_of;
+  measured = AllHaveWords-measured trees (map words_of set) all;
+  words = λ k known tree here there.
+      let same = (tree_at set trees all k known tree here there).words in
+      ∣ (λ w. (same.to w, same.from w)) ∣₁;
+  index = indexed;
+}

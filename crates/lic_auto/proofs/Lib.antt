@@ -1,0 +1,17 @@
+pub mod RisingLemmas
+pub mod Changing
+pub mod Beginning
+pub mod Walking
+pub mod Accepting
+pub mod FirstLemmas
+pub mod Gathering
+pub mod IndexLemmas
+pub mod WordSets
+pub mod Rows
+pub mod Weightless
+pub mod Repetitions
+pub mod Trees
+pub mod Copies
+pub mod Taken
+pub mod Ordering
+pub mod KnownTrees

@@ -1,0 +1,98 @@
+-- The children that a row or a choice has taken so far.
+use Rattle.std.proofs.Common.{◌≡◌, ℕ, ◌+◌, ◌<◌, ◌≤◌, Bool, true, false, ◌||◌, List, [], ◌∷◌, ◌++◌, map, take, length, get_or, Option, Some, None, arith, refl, sym, ap, ◌∙◌, subst}
+use Rattle.std.specs.List.{list_all}
+use Rattle.std.specs.Option.{IfSome, ok_or}
+use Rattle.std.specs.Result.{IfOk}
+use Rattle.std.proofs.lemmas.List.{length_push, map-append, take_all}
+use Rattle.std.proofs.lemmas.List.Folds.{list_all-append}
+use Rattle.lic_words.specs.Words.{Word}
+use Rattle.lic_words.specs.Expressions.{Language}
+use Rattle.lic_words.specs.Expressions as words
+use Rattle.lic_marks.specs.Cores.{Core, WordsOf, cat_all, alt_all}
+use Rattle.lic_marks.specs.Marks.{is_nullable}
+use Rattle.lic_marks.specs.Rows.{weight}
+use Rattle.lic_marks.specs.Nodes.{core_of, is_measured, IsBuilt}
+use Rattle.lic_marks.specs.declared.node.Node.{Node}
+use Rattle.lic_marks.proofs.Children.{measured_at}
+use Rattle.lic_marks.proofs.Cuts.{and_both}
+use Rattle.lic_auto.specs.Compiling.{AreSame, HasWords}
+use Rattle.lic_auto.proofs.WordSets.{AreSame-refl, AreSame-sym, AreSame-trans, Either, EmptyIf, IsEmpty, IsNone, Either-same, Either-turned, Either-none_left}
+use Rattle.lic_auto.proofs.Rows.{cat_all-keep, alt_all-keep, alt_all-push}
+use Rattle.lic_auto.proofs.Weightless.{cat_all-leave_out, alt_all-leave_out, cat_all-none, weightless_none}
+use Rattle.lic_auto.proofs.Trees.{more}
+
+cores-push : (ns new : List Node) (n : Node) → new ≡ ns ++ n ∷ [] → map core_of new ≡ map core_of ns ++ core_of n ∷ []
+cores-push ns new n e = ap (map core_of) e ∙ map-append core_of ns (n ∷ [])
+
+pub measured-push : (ns new : List Node) (n : Node) → new ≡ ns ++ n ∷ [] → list_all is_measured ns ≡ true → is_measured n ≡ true →
+    list_all is_measured new ≡ true
+measured-push ns new n e h k =
+    ap (list_all is_measured) e ∙ list_all-append is_measured ns (n ∷ [])
+    ∙ and_both (list_all is_measured ns) _ h (and_both (is_measured n) true k refl)
+
+-- one child is taken
+module _ (all ys : List Node) (n : Node) (turn : (length ys < length all) × (n ≡ get_or all (length ys) n)) where
+  taken : map core_of (take (length (ys ++ n ∷ [])) all) ≡ map core_of (take (length ys) all) ++ core_of n ∷ []
+  taken = ap (λ k. map core_of (take k all)) (length_push ys n) ∙ more core_of all (length ys) n turn.0 turn.1
+
+  pub measured_turn : list_all is_measured all ≡ true → is_measured n ≡ true
+  measured_turn h = measured_at all (length ys) n h turn.0 turn.1
+
+  module _ (ns : List Node) where
+    pub row_keeps : (new : List Node) → new ≡ ns ++ n ∷ [] →
+        AreSame (WordsOf (cat_all (map core_of ns))) (WordsOf (cat_all (map core_of (take (length ys) all)))) →
+        AreSame (WordsOf (cat_all (map core_of new))) (WordsOf (cat_all (map core_of (take (length (ys ++ n ∷ [])) all))))
+    row_keeps new e same =
+        rw (cores-push ns new n e, taken) (cat_all-keep (map core_of ns) (map core_of (take (length ys) all)) (core_of n) same)
+
+    pub row_leaves_out : weight (core_of n) ≡ 0 → is_nullable (core_of n) ≡ true →
+        AreSame (WordsOf (cat_all (map core_of ns))) (WordsOf (cat_all (map core_of (take (length ys) all)))) →
+        AreSame (WordsOf (cat_all (map core_of ns))) (WordsOf (cat_all (map core_of (take (length (ys ++ n ∷ [])) all))))
+    row_leaves_out light empty_too same =
+        rw taken (cat_all-leave_out (map core_of ns) (map core_of (take (length ys) all)) (core_of n) light empty_too same)
+
+    module _ (b : Bool) where
+      pub choice_keeps : (new : List Node) → new ≡ ns ++ n ∷ [] →
+          AreSame (Either (EmptyIf b) (WordsOf (alt_all (map core_of ns)))) (WordsOf (alt_all (map core_of (take (length ys) all)))) →
+          AreSame (Either (EmptyIf b) (WordsOf (alt_all (map core_of new)))) (WordsOf (alt_all (map core_of (take (length (ys ++ n ∷ [])) all))))
+      choice_keeps new e same =
+          rw (cores-push ns new n e, taken) (alt_all-keep (EmptyIf b) (map core_of ns) (map core_of (take (length ys) all)) (core_of n) same)
+
+      pub choice_leaves_out : (d : Bool) → d ≡ is_nullable (core_of n) → weight (core_of n) ≡ 0 →
+          AreSame (Either (EmptyIf b) (WordsOf (alt_all (map core_of ns)))) (WordsOf (alt_all (map core_of (take (length ys) all)))) →
+          AreSame (Either (EmptyIf (b || d)) (WordsOf (alt_all (map core_of ns)))) (WordsOf (alt_all (map core_of (take (length (ys ++ n ∷ [])) all))))
+      choice_leaves_out d e light same =
+          rw (e, taken) (alt_all-leave_out b (map core_of ns) (map core_of (take (length ys) all)) (core_of n) light same)
+
+  pub row_ends : (node : Node) → weight (core_of n) ≡ 0 → is_nullable (core_of n) ≡ false → HasWords (Language words.none) node →
+      HasWords (WordsOf (cat_all (map core_of all))) node
+  row_ends node light never has = record {
+    words = AreSame-trans has.words (AreSame-sym (cat_all-none all (length ys) n turn.0 turn.1 (weightless_none (core_of n) light never)));
+    measured = has.measured;
+  }
+
+-- all children are taken
+pub all_taken : (all ys : List Node) → length ys ≡ length all → take (length ys) all ≡ all
+all_taken all ys e = take_all (length ys) all (omega (arith, e))
+
+-- the empty word is among the words of a choice
+pub choice_with_empty : (ns new : List Node) (n : Node) (b : Bool) (Q : Word → Type 0) → new ≡ ns ++ n ∷ [] → HasWords (Language words.empty) n →
+    b ≡ true → AreSame (Either (EmptyIf b) (WordsOf (alt_all (map core_of ns)))) Q → AreSame (WordsOf (alt_all (map core_of new))) Q
+choice_with_empty ns new n b Q e has is same =
+    rw (cores-push ns new n e)
+    (AreSame-trans (alt_all-push (map core_of ns) (core_of n))
+    (AreSame-trans (Either-same (AreSame-refl (WordsOf (alt_all (map core_of ns)))) has.words)
+    (AreSame-trans (Either-turned (WordsOf (alt_all (map core_of ns))) IsEmpty) (rw is at same))))
+
+-- it is not, or by the others
+pub choice_without : (P Q : Word → Type 0) (b : Bool) → b ≡ false → AreSame (Either (EmptyIf b) P) Q → AreSame P Q
+choice_without P Q b is same = AreSame-trans (AreSame-sym (Either-none_left P)) (rw is at same)
+
+-- the choice of nodes is the answer
+pub choice_told : {E : Type 0} (r : Option Node) (e : E) (nodes : List Node) (Q : Word → Type 0) → AreSame (WordsOf (alt_all (map core_of nodes))) Q →
+    IfSome r (IsBuilt (alt_all (map core_of nodes))) → IfOk (ok_or r e) (HasWords Q)
+choice_told None e nodes Q same built = tt
+choice_told (Some node) e nodes Q same built = record {
+  words = subst (λ r. AreSame (WordsOf r) Q) (sym built.stands) same;
+  measured = built.measured;
+}

@@ -1,0 +1,10 @@
+pub mod Sets
+pub mod Rising
+pub mod Listing
+pub mod Beginnings
+pub mod Firsts
+pub mod Indexes
+pub mod Compiled
+pub mod Compiling
+pub mod Walks
+pub mod Runs

@@ -1,0 +1,260 @@
+//! Parts of templates as compiled trees.
+
+ghost use Rattle.std.specs.Prelude.{◌≡◌, ◌<◌, ◌≤◌, ℕ, Option, IsTrue, IfOk, Some, None, [], ◌∷◌, map, replicate, chars};
+ghost use Rattle.std.specs.List.{list_all};
+ghost use Rattle.lic_words.specs.Expressions.{Language, IsAtMost, letters, empty, none, repeat};
+ghost use Rattle.lic_markup.specs.Meaning.{parts_words, part_words};
+ghost use Rattle.lic_markup.specs.Parts.{part_of};
+ghost use Rattle.lic_marks.specs.Cores.{WordsOf, cat_all, alt_all, alt as either, copies, up_to, empty as nothing};
+ghost use Rattle.lic_marks.specs.Marks.{is_nullable};
+ghost use Rattle.lic_marks.specs.Rows.{weight};
+ghost use Rattle.lic_marks.specs.Nodes.{core_of, is_measured, IsBuilt};
+ghost use Rattle.lic_auto.specs.Compiling.{HasWords, AllHaveWords, Repeats, pattern_words};
+
+use lic_ere::Ere;
+use lic_marks::build;
+use lic_marks::node::Node;
+use lic_marks::test::Test;
+use lic_markup::Part;
+use std::alloc::{AllocError, Global};
+
+/// The words of parts in a row, as a compiled tree.
+///
+/// # Errors
+/// Memory is lacking, or the tree weighs more than the greatest `usize`.
+#[cycle(compile)]
+pub(crate) fn compile(alloc: Global, parts: &[Part]) -> Result<Node, AllocError>
+    ensures { IfOk result (HasWords (Language (parts_words (map part_of parts.now)))) }
+{
+    let mut children = Vec::new(alloc);
+    for part in parts {
+        children.push(compile_part(alloc, part)?)?;
+    }
+    row(alloc, children)
+}
+
+#[cycle(compile)]
+fn compile_part(alloc: Global, part: &Part) -> Result<Node, AllocError>
+    ensures { IfOk result (HasWords (Language (part_words part.now))) }
+{
+    match part {
+        Part::Text(text) => compile_text(alloc, text),
+        Part::Var { ere, .. } => {
+            let pattern = Box::new(alloc, compile_pattern(alloc, ere)?)?;
+            Ok(build::tidy(pattern))
+        }
+        Part::Optional(parts) => optional(alloc, compile(alloc, parts)?),
+    }
+}
+
+fn compile_text(alloc: Global, text: &str) -> Result<Node, AllocError>
+    ensures { IfOk result (HasWords (Language (letters (chars text.now)))) }
+{
+    Ok(build::letters(text.chars().collect(alloc)?))
+}
+
+#[cycle(compile_pattern)]
+fn compile_pattern(alloc: Global, ere: &Ere) -> Result<Node, AllocError>
+    ensures { IfOk result (HasWords (Language (pattern_words ere.now))) }
+{
+    match ere {
+        Ere::Empty => Ok(empty_word(alloc)),
+        Ere::Char(letter) => Ok(build::one(Test::Letter(*letter))),
+        Ere::Any => Ok(build::one(Test::Any)),
+        Ere::Set(class) => Ok(build::one(Test::Class(class.copy(alloc)?))),
+        Ere::Cat(subs) => row(alloc, compile_patterns(alloc, subs)?),
+        Ere::Alt(subs) => choice(alloc, compile_patterns(alloc, subs)?),
+        Ere::Repeat { body, min, max } => match *max {
+            Some(max) if max < *min => Ok(no_word(alloc)),
+            Some(0) => Ok(empty_word(alloc)),
+            max => {
+                let body = compile_pattern(alloc, body)?;
+                repetition(alloc, body, *min, max)
+            }
+        },
+    }
+}
+
+#[cycle(compile_pattern)]
+fn compile_patterns(alloc: Global, subs: &[Ere]) -> Result<Vec<Node>, AllocError>
+    ensures { IfOk result (λ nodes. AllHaveWords nodes.items (map pattern_words subs.now)) }
+{
+    let mut nodes = Vec::new(alloc);
+    for sub in subs {
+        nodes.push(compile_pattern(alloc, sub)?)?;
+    }
+    Ok(nodes)
+}
+
+/// The empty word alone.
+fn empty_word(alloc: Global) -> Node
+    ensures { HasWords (Language empty) result }
+{
+    build::letters(Vec::new(alloc))
+}
+
+/// No word.
+fn no_word(alloc: Global) -> Node
+    ensures { HasWords (Language none) result }
+{
+    let Some(node) = build::alt(Vec::new(alloc)) else {
+        unreachable!()
+    };
+    node
+}
+
+fn has_empty_word(node: Node) -> bool
+    ensures { result ≡ is_nullable (core_of node) }
+{
+    build::is_nullable(&node)
+}
+
+/// One child after another. The children that weigh 0 are left out.
+fn row(alloc: Global, children: Vec<Node>) -> Result<Node, AllocError>
+    requires { IsTrue (list_all is_measured children.items) }
+    ensures { IfOk result (HasWords (WordsOf (cat_all (map core_of children.items)))) }
+{
+    let mut kept = Vec::new(alloc);
+    for child in children {
+        if child.weight() > 0 {
+            kept.push(child)?;
+        } else if !has_empty_word(child) {
+            return Ok(no_word(alloc));
+        }
+    }
+    joined(kept)
+}
+
+/// One child after another; one alone stands by itself.
+fn joined(mut children: Vec<Node>) -> Result<Node, AllocError>
+    requires { IsTrue (list_all is_measured children.items) }
+    ensures { IfOk result (HasWords (WordsOf (cat_all (map core_of children.items)))) }
+{
+    match children.len() {
+        1 => Ok(children.remove(0)),
+        _ => build::cat(children).ok_or(AllocError),
+    }
+}
+
+/// Any one child. Those that weigh 0 are left out, but for one that has the empty word.
+fn choice(alloc: Global, children: Vec<Node>) -> Result<Node, AllocError>
+    requires { IsTrue (list_all is_measured children.items) }
+    ensures { IfOk result (HasWords (WordsOf (alt_all (map core_of children.items)))) }
+{
+    let mut kept = Vec::new(alloc);
+    let mut has_empty = false;
+    for child in children {
+        if child.weight() > 0 {
+            kept.push(child)?;
+        } else {
+            has_empty = has_empty | has_empty_word(child);
+        }
+    }
+    if has_empty {
+        kept.push(empty_word(alloc))?;
+    }
+    build::alt(kept).ok_or(AllocError)
+}
+
+/// The body, or the empty word.
+fn optional(alloc: Global, body: Node) -> Result<Node, AllocError>
+    requires { IsTrue (is_measured body) }
+    ensures { IfOk result (HasWords (WordsOf (either nothing (core_of body)))) }
+{
+    let mut children = Vec::new(alloc);
+    children.push(empty_word(alloc))?;
+    children.push(body)?;
+    choice(alloc, children)
+}
+
+/// From `min` to `max` words of the body in a row; without `max`, `min` or more.
+fn repetition(alloc: Global, body: Node, min: u32, max: Option<u32>) -> Result<Node, AllocError>
+    requires measured { IsTrue (is_measured body) }
+    requires some { IsAtMost max min }
+    ensures { IfOk result (HasWords (Repeats (WordsOf (core_of body)) min max)) }
+{
+    if body.weight() == 0 {
+        return Ok(weightless_repetition(alloc, body, min));
+    }
+    match max {
+        Some(max) => bounded(alloc, &body, min as usize, max as usize),
+        None => unbounded(alloc, body, min as usize),
+    }
+}
+
+/// `min` words or more of a body that weighs 0, in a row: the empty word, or no word.
+fn weightless_repetition(alloc: Global, body: Node, min: u32) -> Node
+    requires { weight (core_of body) ≡ 0 }
+    ensures { (max : Option ℕ) → IsAtMost max min → HasWords (Repeats (WordsOf (core_of body)) min max) result }
+{
+    let may_be_empty = (min == 0) | has_empty_word(body);
+    if may_be_empty {
+        empty_word(alloc)
+    } else {
+        no_word(alloc)
+    }
+}
+
+/// From `min` to `max` words of the body in a row.
+fn bounded(alloc: Global, body: &Node, min: usize, max: usize) -> Result<Node, AllocError>
+    requires measured { IsTrue (is_measured body.now) }
+    requires some { min ≤ max }
+    ensures { IfOk result (HasWords (Repeats (WordsOf (core_of body.now)) min (Some max))) }
+{
+    let mut children = Vec::new(alloc);
+    children.push(copies(alloc, body, min)?)?;
+    children.push(up_to(alloc, body, max - min)?)?;
+    row(alloc, children)
+}
+
+/// `min` words of the body in a row, or more.
+fn unbounded(alloc: Global, body: Node, min: usize) -> Result<Node, AllocError>
+    requires { IsTrue (is_measured body) }
+    ensures { IfOk result (HasWords (Repeats (WordsOf (core_of body)) min None)) }
+{
+    if min == 0 {
+        return optional(alloc, build::plus(Box::new(alloc, body)?));
+    }
+    let mut children = Vec::new(alloc);
+    children.push(copies(alloc, &body, min - 1)?)?;
+    children.push(build::plus(Box::new(alloc, body)?))?;
+    row(alloc, children)
+}
+
+/// `count` words of the body in a row.
+fn copies(alloc: Global, body: &Node, count: usize) -> Result<Node, AllocError>
+    requires { IsTrue (is_measured body.now) }
+    ensures { IfOk result (IsBuilt (copies count (core_of body.now))) }
+{
+    match body {
+        Node::One(test) => Ok(build::copies(test.copy(alloc)?, count)),
+        _ => build::cat(copied(alloc, body, count)?).ok_or(AllocError),
+    }
+}
+
+/// Up to `count` words of the body in a row.
+fn up_to(alloc: Global, body: &Node, count: usize) -> Result<Node, AllocError>
+    requires { IsTrue (is_measured body.now) }
+    ensures { IfOk result (IsBuilt (up_to count (core_of body.now))) }
+{
+    match body {
+        Node::One(test) => Ok(build::up_to(test.copy(alloc)?, count)),
+        _ => build::front(copied(alloc, body, count)?).ok_or(AllocError),
+    }
+}
+
+/// The body `count` times.
+fn copied(alloc: Global, body: &Node, count: usize) -> Result<Vec<Node>, AllocError>
+    requires { IsTrue (is_measured body.now) }
+    ensures measured { IfOk result (λ nodes. IsTrue (list_all is_measured nodes.items)) }
+    ensures cores { IfOk result (λ nodes. map core_of nodes.items ≡ replicate count (core_of body.now)) }
+{
+    let mut nodes = Vec::new(alloc);
+    for _ in 0..count {
+        nodes.push(body.copy(alloc)?)?;
+    }
+    Ok(nodes)
+}
+
+#[cfg(test)]
+mod tests;

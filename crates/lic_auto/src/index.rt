@@ -1,0 +1,137 @@
+//! Which templates a text can enter, by its first letter.
+
+ghost use Rattle.std.specs.Prelude.{◌≡◌, ◌<◌, ◌-◌, ◌↔◌, ℕ, IfOk, OnOk, IsTrue, length, map, slice_index_or, vec_len, Some, Contains, nat_eq, []};
+ghost use Rattle.std.specs.HashMap.{get};
+ghost use Rattle.std.specs.List.{slice_get};
+ghost use Rattle.lic_auto.specs.Listing.{Grows};
+
+use crate::first::Firsts;
+use lic_marks::node::Node;
+use std::alloc::{AllocError, Global};
+use std::collections::HashMap;
+
+/// For each letter the numbers of the trees that have a word which begins with it.
+#[derive(Debug, Drop)]
+pub struct Index {
+    // where the list of a letter stands
+    places: HashMap<char, usize>,
+    lists: Vec<Vec<usize>>,
+    // the list of each letter that has no place
+    others: Vec<usize>,
+    ghost in_range: { (c place : ℕ) → get nat_eq places c ≡ Some place → place < vec_len lists },
+}
+
+impl Index {
+    ghost use Rattle.lic_auto.specs.Indexes.{IsIndexOf, Adds, listed};
+    ghost use Rattle.lic_auto.specs.Firsts.{IsFirst};
+
+    /// An index of trees, each under its place.
+    pub fn build(alloc: Global, trees: &[Node]) -> Result<Index, AllocError>
+        ensures { IfOk result (λ index. IsIndexOf index trees.now) }
+    {
+        let mut index = Index {
+            places: HashMap::new(alloc),
+            lists: Vec::new(alloc),
+            others: Vec::new(alloc),
+        };
+        for (number, tree) in trees.iter().enumerate() {
+            let firsts = Firsts::of(alloc, tree)?;
+            index.add(alloc, number, &firsts)?;
+        }
+        Ok(index)
+    }
+
+    /// The numbers of the trees that have a word which begins with the letter, and of some others, in rising order.
+    pub fn entered_by(&self, letter: char) -> &[usize]
+        ensures { result.now ≡ listed self.now letter }
+    {
+        match self.places.get(&letter) {
+            Some(place) => &self.lists[*place],
+            None => &self.others,
+        }
+    }
+
+    // Adds a number that is greater than all, to the lists of these letters.
+    fn add(&mut self, alloc: Global, number: usize, firsts: &Firsts) -> Result<(), AllocError>
+        ensures { OnOk result (Adds (IsFirst firsts.now) number self.old self.new) }
+    {
+        if firsts.any {
+            return self.add_to_all(number);
+        }
+        self.add_to_each(alloc, number, &firsts.letters)
+    }
+
+    fn add_to_each(
+        &mut self,
+        alloc: Global,
+        number: usize,
+        letters: &[char],
+    ) -> Result<(), AllocError>
+        ensures { OnOk result (Adds (Contains letters.now) number self.old self.new) }
+    {
+        for letter in letters {
+            self.add_to_one(alloc, number, *letter)?;
+        }
+        Ok(())
+    }
+
+    fn add_to_all(&mut self, number: usize) -> Result<(), AllocError>
+        ensures { OnOk result (Adds (λ _. Unit {0}) number self.old self.new) }
+    {
+        push_to_each(&mut self.lists, number)?;
+        push_once(&mut self.others, number)?;
+        Ok(())
+    }
+
+    fn add_to_one(&mut self, alloc: Global, number: usize, letter: char) -> Result<(), AllocError>
+        ensures { OnOk result (Adds (λ c. c ≡ letter) number self.old self.new) }
+    {
+        let place = self.place_of(alloc, letter)?;
+        push_once(&mut self.lists[place], number)
+    }
+
+    // The place of a letter's list. A letter without one gets a list of its own, of the same numbers.
+    fn place_of(&mut self, alloc: Global, letter: char) -> Result<usize, AllocError>
+        ensures placed { IfOk result (λ place. get nat_eq self.new.places letter ≡ Some place) }
+        ensures kept { OnOk result ((c : ℕ) → listed self.new c ≡ listed self.old c) }
+    {
+        if let Some(place) = self.places.get(&letter) {
+            return Ok(*place);
+        }
+        let place = self.lists.len();
+        let list = Vec::from_slice(alloc, &self.others)?;
+        self.lists.push(list)?;
+        self.places.insert(letter, place)?;
+        Ok(place)
+    }
+}
+
+fn push_to_each(lists: &mut [Vec<usize>], number: usize) -> Result<(), AllocError>
+    ensures { OnOk result ((k : ℕ) → k < length lists.old
+        → Grows number (slice_index_or (map (λ list. list.items) lists.old) k []) (slice_index_or (map (λ list. list.items) lists.new) k [])) }
+{
+    for k in 0..lists.len() {
+        let list = &mut lists[k];
+        push_once(list, number)?;
+    }
+    Ok(())
+}
+
+// Puts the number at the end, unless it stands there.
+fn push_once(list: &mut Vec<usize>, number: usize) -> Result<(), AllocError>
+    ensures { OnOk result (Grows number list.old.items list.new.items) }
+{
+    if !ends_in(list, number) {
+        list.push(number)?;
+    }
+    Ok(())
+}
+
+fn ends_in(list: &[usize], number: usize) -> bool
+    ensures { IsTrue result ↔ (slice_get list.now (length list.now - 1) ≡ Some number) }
+{
+    match list.last() {
+        Some(last) => *last == number,
+        None => false,
+    }
+}

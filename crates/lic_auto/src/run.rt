@@ -1,0 +1,124 @@
+//! All templates of a set on their way over a list of tokens.
+
+ghost use Rattle.std.specs.Prelude.{◌≡◌, ◌<◌, ◌≤◌, ◌+◌, ◌*◌, ◌-◌, ◌^◌, ◌∷◌, ◌++◌, [], ℕ, List, false, length, take, vec_len, Some, IfOk, IsTrue};
+ghost use Rattle.std.specs.List.{slice_get};
+ghost use Rattle.std.specs.Str.{chars};
+ghost use Rattle.lic_words.specs.Describing.{IsDescribed};
+ghost use Rattle.lic_phrases.specs.TokenTexts.{IsTokenText};
+ghost use Rattle.lic_auto.specs.Sets.{Known, words_of};
+ghost use Rattle.lic_auto.specs.Rising.{IsRising};
+ghost use Rattle.lic_auto.specs.Walks.{HaveTrees};
+
+use crate::set::Set;
+use crate::walk::{count_steps, enter, take_token};
+use lic_marks::run::Run as TreeRun;
+use std::alloc::{AllocError, Global};
+
+/// All templates of a set on their way over a list of tokens. It keeps no token, and takes memory in `new` alone.
+#[derive(Debug, Drop)]
+pub struct Run<'s> {
+    set: &'s Set,
+    // one for each template
+    runs: Vec<TreeRun<'s>>,
+    // the numbers of the live templates in rising order, and then anything
+    live: Vec<usize>,
+    live_count: usize,
+    is_empty: bool,
+    steps: u64,
+    ghost count: { vec_len runs ≡ length set.now },
+    ghost trees: { HaveTrees set.now runs.items },
+    ghost room: { vec_len live ≡ length set.now },
+    ghost within: { live_count ≤ vec_len live },
+    ghost rising: { IsRising (take live_count live.items) (length set.now) },
+}
+
+impl<'s> Run<'s> {
+    ghost use Rattle.lic_auto.specs.Runs.{StandsFor, set_of, steps_of, is_dead, letters_in, IsLeastDescribing};
+
+    /// A run that stands for the empty list.
+    pub fn new(alloc: Global, set: &'s Set) -> Result<Run<'s>, AllocError>
+        ensures stands { IfOk result (λ r. StandsFor r []) }
+        ensures set { IfOk result (λ r. set_of r ≡ set.now) }
+        ensures steps { IfOk result (λ r. steps_of r ≡ 0) }
+    {
+        let count = set.len();
+        let live = vec![in alloc; 0usize; count]?;
+        let mut runs = Vec::with_capacity(alloc, count)?;
+        for k in 0..count {
+            let run = TreeRun::new(alloc, set.tree(k))?;
+            runs.push(run)?;
+        }
+        Ok(Run {
+            set,
+            runs,
+            live,
+            live_count: 0,
+            is_empty: true,
+            steps: 0,
+        })
+    }
+
+    /// Begins anew with the empty list. The steps stay counted.
+    pub fn reset(&mut self)
+        ensures stands { StandsFor self.new [] }
+        ensures set { set_of self.new ≡ set_of self.old }
+        ensures steps { (steps_of self.old ≤ steps_of self.new) × (steps_of self.new ≤ steps_of self.old + 2) }
+    {
+        self.live_count = 0;
+        self.is_empty = true;
+    }
+
+    /// For every list that the run stood for, it now stands for that list with the token at its end.
+    ///
+    /// A step is one letter, or one gap before a letter, that all live templates take together; their count stays at the
+    /// greatest `u64`.
+    pub fn push(&mut self, text: &str)
+        requires { IsTokenText text.now }
+        ensures stands { (ts : List (List ℕ)) → StandsFor self.old ts → StandsFor self.new (ts ++ chars text.now ∷ []) }
+        ensures set { set_of self.new ≡ set_of self.old }
+        ensures least { is_dead self.old ≡ false → steps_of self.new < 2 ^ 64 - 1 → steps_of self.old + letters_in text.now ≤ steps_of self.new }
+        ensures most { steps_of self.new ≤ steps_of self.old + 2 * letters_in text.now }
+    {
+        let runs = self.runs.as_mut_slice();
+        let live = self.live.as_mut_slice();
+        let mut count = self.live_count;
+        if self.is_empty {
+            count = enter(self.set, runs, live, text);
+        }
+        self.live_count = take_token(runs, live, count, text);
+        self.is_empty = false;
+        self.steps = count_steps(self.steps, text);
+    }
+
+    /// The least number, from this one on, of a template that describes the list of tokens.
+    pub fn accepted(&self, from: usize) -> Option<usize>
+        ensures { (ts : List (List ℕ)) → StandsFor self.now ts → IsLeastDescribing (set_of self.now) ts from result }
+    {
+        let live = &self.live[..self.live_count];
+        for number in live {
+            if *number >= from && self.runs[*number].accepts() {
+                return Some(*number);
+            }
+        }
+        None
+    }
+
+    /// True only if no template describes a list that begins with that list of tokens.
+    pub fn dead(&self) -> bool
+        ensures value { result ≡ is_dead self.now }
+        ensures none { IsTrue result → (ts more : List (List ℕ)) (k : ℕ) (known : Known) → StandsFor self.now ts → slice_get (set_of self.now) k ≡ Some known
+            → ¬ (IsDescribed (words_of known) (ts ++ more)) }
+    {
+        !self.is_empty & (self.live_count == 0)
+    }
+
+    /// The steps that were counted, at most the greatest `u64`.
+    pub fn steps(&self) -> u64
+        ensures { result ≡ steps_of self.now }
+    {
+        self.steps
+    }
+}
+
+#[cfg(test)]
+mod tests;

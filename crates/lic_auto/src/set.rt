@@ -1,0 +1,192 @@
+//! Sets of templates.
+
+ghost use Rattle.std.specs.Prelude.{◌≡◌, ◌≢◌, ◌<◌, ◌≤◌, ◌↔◌, ◌∷◌, ℕ, List, map, length, slice_index_or, IfOk, IfSome, IfNone, OnOk, IsErrOf, IsTrue, Some, Contains};
+ghost use Rattle.std.specs.String.{string_bytes};
+ghost use Rattle.std.specs.List.{slice_get, AllAdjacentBelow};
+ghost use Rattle.lic_words.specs.Words.{blank};
+ghost use Rattle.lic_words.specs.Describing.{IsDescribed};
+ghost use Rattle.lic_marks.specs.Cores.{HasWordsOf};
+ghost use Rattle.lic_marks.specs.Nodes.{core_of, is_measured};
+ghost use Rattle.lic_auto.specs.Rising.{IsRising};
+ghost use Rattle.lic_auto.specs.Sets.{RepeatsAt, all_known, words_of};
+ghost use Rattle.lic_auto.specs.Compiling.{AllHaveWords};
+
+use crate::compile::compile;
+use crate::index::Index;
+use lic_marks::node::Node;
+use lic_markup::Template;
+use std::alloc::{AllocError, Global};
+use std::marker::Model;
+use thiserror::Error;
+
+/// The most templates that a set may have (this project's profile).
+pub const MOST_TEMPLATES: usize = 4096;
+
+/// Why a set is refused.
+#[derive(Debug, Drop, Error)]
+pub enum BuildFault {
+    /// Two templates have this identifier.
+    #[error("B1: {id}")]
+    Twice { id: String },
+    /// More than 4,096 templates.
+    #[error("B2: more than 4096 templates")]
+    TooMany,
+    /// A growth was refused.
+    #[error("B3: out of memory")]
+    Memory,
+}
+
+impl From<AllocError> for BuildFault {
+    ghost use Rattle.lic_auto.specs.declared.set.BuildFault.TheVariants.{Memory};
+
+    ghost from_gives = { λ _ fault. fault ≡ Memory };
+
+    fn from(_: AllocError) -> BuildFault {
+        BuildFault::Memory
+    }
+}
+
+/// A template, and the identifier that it is known by.
+#[derive(Debug, Drop)]
+pub struct Named {
+    pub id: String,
+    pub template: Template,
+}
+
+/// Templates, ordered by the bytes of their identifiers. A template's number is its place, from 0.
+#[derive(Debug, Drop)]
+pub struct Set {
+    named: Vec<Named>,
+    trees: Vec<Node>,
+    index: Index,
+}
+
+impl Model for Set {
+    ghost use Rattle.std.specs.Prelude.{List};
+    ghost use Rattle.std.specs.Coded.{codes};
+    ghost use Rattle.lic_markup.specs.contracts.part.Part as e;
+    ghost use Rattle.lic_auto.specs.Sets.{Known, all_known};
+    ghost use Rattle.lic_auto.specs.Compiled.{IsCompiled};
+
+    ghost Value = { List Known };
+
+    ghost coded = { Prim.hlevel (codes, e.the_row.coded) };
+
+    ghost view = { λ a. all_known a.named.items };
+
+    ghost invariant = { λ a. IsCompiled (all_known a.named.items) a.trees.items a.index };
+}
+
+impl Set {
+    ghost use Rattle.lic_auto.specs.Sets.{Known, IsSetOf, StandsTwice, pairs_known};
+
+    /// Makes a set of templates, each under its identifier, with what the search needs to look for all of them at once.
+    ///
+    /// More than 4,096 templates, two of one identifier, and want of memory are refused, in this order (this project's
+    /// profile).
+    pub fn build(alloc: Global, mut templates: Vec<(String, Template)>) -> Result<Set, BuildFault>
+        ensures holds { IfOk result (λ set. IsSetOf (pairs_known templates.items) set) }
+        ensures few { OnOk result (length templates.items ≤ 4096) }
+        ensures many { IsErrOf result BuildFault.TooMany ↔ (4096 < length templates.items) }
+        ensures twice { (id : _) → IsErrOf result (BuildFault.Twice id)
+            → (length templates.items ≤ 4096) × StandsTwice (string_bytes id) (pairs_known templates.items) }
+
+        // Want of memory is told only where nothing else stands against a set.
+        ensures memory { IsErrOf result BuildFault.Memory → (set : _) × IsSetOf (pairs_known templates.items) set }
+    {
+        if templates.len() > MOST_TEMPLATES {
+            return Err(BuildFault::TooMany);
+        }
+        templates.sort_unstable_by(|a, b| a.0.cmp(&b.0));
+        if let Some(k) = first_repeat(&templates) {
+            let (id, _) = templates.swap_remove(k);
+            return Err(BuildFault::Twice { id });
+        }
+        Ok(Set::assemble(alloc, templates)?)
+    }
+
+    // These templates in this order, with their trees and the index of these.
+    fn assemble(alloc: Global, templates: Vec<(String, Template)>) -> Result<Set, AllocError>
+        ensures { IfOk result (λ set. set ≡ pairs_known templates.items) }
+    {
+        let named: Vec<Named> = templates
+            .into_iter()
+            .map(|(id, template)| Named { id, template })
+            .collect(alloc)?;
+        let trees = compile_all(alloc, &named)?;
+        let index = Index::build(alloc, &trees)?;
+        Ok(Set {
+            named,
+            trees,
+            index,
+        })
+    }
+
+    /// How many templates there are.
+    pub fn len(&self) -> usize
+        ensures { result ≡ length self.now }
+    {
+        self.named.len()
+    }
+
+    /// The identifier of the template number `k`.
+    pub fn id(&self, k: usize) -> &str
+        requires { k < length self.now }
+        ensures { (d : _) → result.now ≡ (slice_index_or self.now k d).id }
+    {
+        self.named[k].id.as_str()
+    }
+
+    /// The template number `k`.
+    pub fn template(&self, k: usize) -> &Template
+        requires { k < length self.now }
+        ensures { (d : _) → result.now ≡ (slice_index_or self.now k d).template }
+    {
+        &self.named[k].template
+    }
+
+    /// The tree of the template number `k`.
+    pub(crate) fn tree(&self, k: usize) -> &Node
+        requires { k < length self.now }
+        ensures measured { IsTrue (is_measured result.now) }
+        ensures words { (known : Known) → slice_get self.now k ≡ Some known → ∥ HasWordsOf (core_of result.now) (words_of known) ∥₁ }
+    {
+        &self.trees[k]
+    }
+
+    /// The numbers of the templates that a text can enter that begins with this letter, in rising order.
+    pub(crate) fn entered_by(&self, letter: char) -> &[usize]
+        ensures rising { IsRising result.now (length self.now) }
+        ensures rest { (k : ℕ) (known : Known) → slice_get self.now k ≡ Some known → ¬ (Contains result.now k)
+            → (letters : List ℕ) (more : List (List ℕ)) → letter ≢ blank → ¬ (IsDescribed (words_of known) ((letter ∷ letters) ∷ more)) }
+    {
+        self.index.entered_by(letter)
+    }
+}
+
+// The words of each template as a compiled tree.
+fn compile_all(alloc: Global, named: &[Named]) -> Result<Vec<Node>, AllocError>
+    ensures { IfOk result (λ trees. AllHaveWords trees.items (map words_of (all_known named.now))) }
+{
+    let mut trees = Vec::new(alloc);
+    for one in named {
+        trees.push(compile(alloc, one.template.parts())?)?;
+    }
+    Ok(trees)
+}
+
+// The first place whose identifier is that of the place before.
+fn first_repeat(templates: &[(String, Template)]) -> Option<usize>
+    ensures found { IfSome result (RepeatsAt templates.now) }
+    ensures none { IfNone result (AllAdjacentBelow (λ a b. string_bytes a.0 ≢ string_bytes b.0) templates.now (length templates.now)) }
+{
+    for k in 1..templates.len() {
+        if templates[k - 1].0 == templates[k].0 {
+            return Some(k);
+        }
+    }
+    None
+}
+
+#[cfg(test)]
+mod tests;

@@ -1,0 +1,105 @@
+//! Runs, one for each template, of which some take a token.
+
+ghost use Rattle.std.specs.Prelude.{◌≡◌, ◌≢◌, ◌<◌, ◌≤◌, ◌+◌, ◌*◌, ◌-◌, ◌^◌, ◌∷◌, ℕ, List, length, take, Some, Contains};
+ghost use Rattle.std.specs.List.{slice_get};
+ghost use Rattle.std.specs.Str.{chars};
+ghost use Rattle.lic_words.specs.Words.{blank};
+ghost use Rattle.lic_words.specs.Describing.{IsDescribed};
+ghost use Rattle.lic_phrases.specs.TokenTexts.{IsTokenText};
+ghost use Rattle.lic_auto.specs.Sets.{Known, words_of};
+ghost use Rattle.lic_auto.specs.Rising.{IsRising};
+ghost use Rattle.lic_auto.specs.Walks.{AreChanged, AreKept, Resets, Takes};
+ghost use Rattle.lic_auto.specs.Runs.{letters_in};
+
+use crate::set::Set;
+use lic_marks::run::Run as TreeRun;
+
+/// Begins anew with the templates that a text with this first token can enter, and gives how many they are. Their numbers
+/// stand first in `live`.
+pub fn enter(set: &Set, runs: &mut [TreeRun<'_>], live: &mut [usize], token: &str) -> usize
+    requires token { IsTokenText token.now }
+    requires runs { length runs.old ≡ length set.now }
+    requires room { length live.old ≡ length set.now }
+    ensures count { result ≤ length live.new }
+    ensures rising { IsRising (take result live.new) (length set.now) }
+    ensures begun { AreChanged Resets (take result live.new) runs.old runs.new }
+    ensures others { (k : ℕ) (known : Known) → ¬ (Contains (take result live.new) k) → slice_get set.now k ≡ Some known
+        → (more : List (List ℕ)) → ¬ (IsDescribed (words_of known) (chars token.now ∷ more)) }
+{
+    let numbers = set.entered_by(first_letter(token));
+    let count = numbers.len();
+    reset_each(runs, numbers);
+    live[..count].copy_from_slice(numbers);
+    count
+}
+
+// The first letter of the text of a token.
+fn first_letter(token: &str) -> char
+    requires { IsTokenText token.now }
+    ensures first { (rest : List ℕ) × (chars token.now ≡ result ∷ rest) }
+    ensures letter { result ≢ blank }
+{
+    token.chars().next().unwrap()
+}
+
+fn reset_each(runs: &mut [TreeRun<'_>], numbers: &[usize])
+    requires { IsRising numbers.now (length runs.old) }
+    ensures { AreChanged Resets numbers.now runs.old runs.new }
+{
+    for number in numbers {
+        let run = &mut runs[*number];
+        run.reset();
+    }
+}
+
+/// Gives the token to the runs of the first numbers, puts the numbers of those that are not dead then to the front, and gives how
+/// many they are.
+pub fn take_token(runs: &mut [TreeRun<'_>], live: &mut [usize], count: usize, token: &str) -> usize
+    requires within { count ≤ length live.old }
+    requires rising { IsRising (take count live.old) (length runs.old) }
+    ensures count { result ≤ count }
+    ensures rising { IsRising (take result live.new) (length runs.old) }
+    ensures taken { AreChanged (Takes (chars token.now)) (take count live.old) runs.old runs.new }
+    ensures kept { AreKept (take count live.old) (take result live.new) runs.new }
+{
+    take_each(runs, &mut live[..count], token)
+}
+
+fn take_each(runs: &mut [TreeRun<'_>], numbers: &mut [usize], token: &str) -> usize
+    requires { IsRising numbers.old (length runs.old) }
+    ensures count { result ≤ length numbers.old }
+    ensures rising { IsRising (take result numbers.new) (length runs.old) }
+    ensures taken { AreChanged (Takes (chars token.now)) numbers.old runs.old runs.new }
+    ensures kept { AreKept numbers.old (take result numbers.new) runs.new }
+{
+    let mut kept = 0;
+    for i in 0..numbers.len() {
+        let number = numbers[i];
+        let run = &mut runs[number];
+        run.push(token);
+        if !run.is_dead() {
+            numbers[kept] = number;
+            kept += 1;
+        }
+    }
+    kept
+}
+
+/// The steps so far and those of a token: one for each letter, and one for each gap before a letter.
+pub fn count_steps(before: u64, token: &str) -> u64
+    ensures least { result < 2 ^ 64 - 1 → before + letters_in token.now ≤ result }
+    ensures most { result ≤ before + 2 * letters_in token.now }
+{
+    let mut steps = before;
+    let mut is_apart = true;
+    for c in token.chars() {
+        if c == ' ' {
+            is_apart = true;
+        } else {
+            let gap = if is_apart { 1 } else { 0 };
+            steps = steps.saturating_add(1 + gap);
+            is_apart = false;
+        }
+    }
+    steps
+}

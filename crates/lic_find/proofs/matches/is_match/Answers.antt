@@ -1,0 +1,37 @@
+use Rattle.std.proofs.Common.{◌≡◌, ◌+◌, ◌<◌, ◌≤◌, ◌∷◌, ◌++◌, [], length, sym, ◌∙◌, subst, arith}
+use Rattle.std.specs.Str.{chars}
+use Rattle.lic_norm.specs.Tokens.{TokenValue}
+use Rattle.lic_auto.specs.Runs.{StandsFor, IsLeastDescribing}
+use Rattle.lic_find.specs.Matches.{letters_between}
+use Rattle.lic_find.specs.Walks.{letters_up_to}
+use Rattle.lic_find.proofs.Asking.{IsMatch-answer, is_number}
+use Rattle.lic_find.proofs.Ranges.{letters_up_to-more}
+use Rattle.lic_find.proofs.matches.is_match.Goals as goal
+
+pub loop-number-preserved : goal.loop-number-preserved
+loop-number-preserved c =
+    let first = c.args.triple.first in
+    let tokens = c.args.text.now.tokens in
+    let number = c.loop-number.number in
+    let token : TokenValue = record { text = c.token.result.text.now; span = c.token.result.span } in
+    let within : number < length tokens = omega arith in
+    record {
+      templates = c.push.ensures.set ∙ c.loop-number.invariant.templates;
+      stands = subst (StandsFor c.push.new.self) (sym (letters_up_to-more tokens first number token c.loop-number.auto.number within))
+          (subst (λ text. StandsFor c.push.new.self (letters_up_to tokens first number ++ chars text ∷ [])) (c.token.ensures.text token)
+          (c.push.ensures.stands (letters_up_to tokens first number) c.loop-number.invariant.stands));
+    }
+
+pub returns : goal.returns
+returns c =
+    let triple = c.args.triple in
+    let tokens = c.args.text.now.tokens in
+    let order : triple.first ≤ triple.last = omega arith in
+    let within : triple.last < length tokens = omega arith in
+    let whole : c.loop-number.number ≡ triple.last + 1 = omega arith in
+    let stands : StandsFor c.loop-number.run (letters_between tokens triple.first triple.last) =
+    subst (λ n. StandsFor c.loop-number.run (letters_up_to tokens triple.first n)) whole c.loop-number.invariant.stands in
+    let least = c.accepted.ensures (letters_between tokens triple.first triple.last) stands in
+    IsMatch-answer c.args.set.now tokens triple c.accepted.result _ order within
+    (subst (λ s. IsLeastDescribing s (letters_between tokens triple.first triple.last) triple.template c.accepted.result) c.loop-number.invariant.templates least)
+    (is_number c.accepted.result triple.template c.eq.result c.eq.ensures)

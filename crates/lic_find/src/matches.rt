@@ -1,0 +1,29 @@
+//! One triple by itself.
+
+ghost use Rattle.std.specs.Prelude.{◌↔◌, IfOk, IsTrue};
+ghost use Rattle.lic_find.specs.Matches.{IsMatch};
+
+use crate::triple::Triple;
+use lic_auto::run::Run;
+use lic_auto::set::Set;
+use lic_norm::text::Text;
+use std::alloc::{AllocError, Global};
+
+/// Whether a triple is a match: it has a range of the text's tokens, and its template describes it (SPDX 2.3 Annex B,
+/// this project's profile).
+///
+/// # Errors
+///
+/// Fails where a growth is refused.
+pub fn is_match(alloc: Global, set: &Set, text: &Text, triple: Triple) -> Result<bool, AllocError>
+    ensures { IfOk result (λ yes. IsTrue yes ↔ IsMatch set.now text.now.tokens triple) }
+{
+    if triple.first > triple.last || triple.last >= text.len() {
+        return Ok(false);
+    }
+    let mut run = Run::new(alloc, set)?;
+    for number in triple.first..triple.last + 1 {
+        run.push(text.token(number).text);
+    }
+    Ok(run.accepted(triple.template) == Some(triple.template))
+}

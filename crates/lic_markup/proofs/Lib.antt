@@ -1,0 +1,9 @@
+pub mod Examples
+pub mod LocatedLemmas
+pub mod TextLemmas
+pub mod RuleLemmas
+pub mod FaultLemmas
+pub mod FieldLemmas
+pub mod ElementLemmas
+pub mod LineLemmas
+pub mod ReadingLemmas

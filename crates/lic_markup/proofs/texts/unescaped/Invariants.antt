@@ -1,0 +1,10 @@
+use Rattle.std.proofs.Common.{◌≡◌, ◌++◌, length}
+use Rattle.std.specs.String.{string_bytes}
+use Rattle.lic_markup.specs.Texts.{text_of, unescaped}
+use Rattle.lic_markup.proofs.texts.unescaped.Given as goal
+
+abbrev pub invariant-loop-first : goal.invariant-loop-first
+invariant-loop-first l = string_bytes l.text ++ text_of (unescaped l.rest) ≡ text_of (unescaped l.characters)
+
+abbrev pub decreases-loop-first : goal.decreases-loop-first
+decreases-loop-first l = length l.rest

@@ -1,0 +1,11 @@
+pub mod Signs
+pub mod Texts
+pub mod Faults
+pub mod Rules
+pub mod Elements
+pub mod Lines
+pub mod Weights
+pub mod Parts
+pub mod Reading
+pub mod Meaning
+pub mod Views

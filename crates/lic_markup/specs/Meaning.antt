@@ -1,0 +1,51 @@
+-- What a template stands for: a set of words over letters and blanks.
+use Rattle.std.specs.Prelude.{true, List, chars}
+use Rattle.lic_words.specs.Expressions as words
+use Rattle.lic_words.specs.Expressions.{Expression}
+use Rattle.lic_ere.specs.Sets.{is_in}
+use Rattle.lic_ere.specs.Trees.{Tree, Trees, empty, char, any, set, cat, alt, repeat, no_tree, one_more}
+use Rattle.lic_markup.specs.declared.part.Part.{Part}
+use Rattle.lic_markup.specs.Parts as parts
+use Rattle.lic_markup.specs.Parts.{Node, Nodes, part_of}
+
+abbrev mutual
+  -- the words of a pattern
+  pub tree_words : Tree → Expression
+  tree_words empty = words.empty
+  tree_words (char c) = words.letter c
+  tree_words any = words.one (λ _. true)
+  tree_words (set brackets) = words.one (is_in brackets)
+  tree_words (cat ts) = row_words ts
+  tree_words (alt ts) = choice_words ts
+  tree_words (repeat t min max) = words.repeat min max (tree_words t)
+
+  -- one after another
+  pub row_words : Trees → Expression
+  row_words no_tree = words.empty
+  row_words (one_more t ts) = words.cat (tree_words t) (row_words ts)
+
+  -- any one of them
+  pub choice_words : Trees → Expression
+  choice_words no_tree = words.none
+  choice_words (one_more t ts) = words.alt (tree_words t) (choice_words ts)
+
+abbrev mutual
+  -- a text has its letters alone, a variable the tidy words of its pattern, an optional part the empty word and
+  -- its body's words
+  pub node_words : Node → Expression
+  node_words (parts.letters text) = words.letters (chars text)
+  node_words (parts.variable name original pattern) = words.tidy (tree_words pattern)
+  node_words (parts.optional ns) = words.alt words.empty (nodes_words ns)
+
+  -- one after another
+  pub nodes_words : Nodes → Expression
+  nodes_words parts.no_node = words.empty
+  nodes_words (parts.one_more n ns) = words.cat (node_words n) (nodes_words ns)
+
+-- the words of parts in a row
+abbrev pub parts_words : List Node → Expression
+parts_words ns = nodes_words (parts.row ns)
+
+-- the words of a part
+abbrev pub part_words : Part → Expression
+part_words part = node_words (part_of part)

@@ -1,0 +1,133 @@
+-- Pieces and rules into the parts of a template, or the first fault.
+use Rattle.std.specs.Prelude.{ℕ, Bool, true, false, not, List, [], ◌∷◌, ◌++◌, length, nat_lt, Result, Ok, Err, if◌then◌else◌}
+use Rattle.lic_ere.specs.declared.fault.EreFault.{EreFault}
+use Rattle.lic_ere.specs.declared.fault.EreCause.{EreCause}
+use Rattle.lic_ere.specs.declared.fault.EreCause.TheVariants.{OutOfMemory}
+use Rattle.lic_ere.specs.Trees.{Tree}
+use Rattle.lic_ere.specs.Located.{Located, located}
+use Rattle.lic_ere.specs.Reading as ere
+use Rattle.lic_phrases.specs.Rewriting.{Phrase}
+use Rattle.lic_norm.specs.Pieces.{piece_of}
+use Rattle.lic_norm.specs.declared.pieces.Next.{Next}
+use Rattle.lic_markup.specs.declared.fault.MarkupFault.{MarkupFault}
+use Rattle.lic_markup.specs.declared.fault.MarkupCause.TheVariants.{EndWithoutBegin, NotEnded, Pattern, TooDeep, TooHeavy, NoLetter, TooLong}
+use Rattle.lic_markup.specs.Texts.{text_of}
+use Rattle.lic_markup.specs.Faults.{fault_at, out_of_memory, ◌>>=◌}
+use Rattle.lic_markup.specs.Rules as rules
+use Rattle.lic_markup.specs.Elements.{Element, text, rule, refused, elements}
+use Rattle.lic_markup.specs.Lines.{at_line_start, next_behind, with_next}
+use Rattle.lic_markup.specs.Parts.{Node, letters, variable, optional, row, row_weight, row_has_token, Reading}
+
+-- The template, or an open optional part: where it begins, and its parts so far.
+pub record Level : Type 0 where
+  pub place : ℕ
+  pub parts : List Node
+
+abbrev pub new_level : ℕ → Level
+new_level place = record { place = place; parts = [] }
+
+abbrev pub with_part : Node → Level → Level
+with_part n l = record l { parts = l.parts ++ n ∷ [] }
+
+-- The innermost level, and those round it from the inside out; the original text so far; and whether only white
+-- space and optional rules stand between the start of the line and here.
+pub record State : Type 0 where
+  pub level : Level
+  pub outer : List Level
+  pub original : List ℕ
+  pub at_start : Bool
+
+abbrev pub start : State
+start = record { level = new_level 0; outer = []; original = []; at_start = true }
+
+-- letters are a part; none are no part
+abbrev pub with_letters : List ℕ → Level → Level
+with_letters [] l = l
+with_letters (c ∷ cs) l = with_part (letters (c ∷ cs)) l
+
+-- a piece of text, with what follows it in its line
+abbrev pub meet_text : List Phrase → List Located → Next → State → State
+meet_text words piece follows s =
+    record {
+      level = with_letters (piece_of words s.at_start (next_behind piece follows) (text_of piece)) s.level;
+      outer = s.outer;
+      original = s.original ++ text_of piece;
+      at_start = at_line_start s.at_start piece;
+    }
+
+-- how the fault of a pattern is told, which begins at a place
+abbrev pub told_cause : EreCause → ℕ → EreFault → MarkupFault
+told_cause OutOfMemory place e = out_of_memory
+told_cause cause place e = fault_at place (Pattern e)
+
+abbrev pub told : ℕ → EreFault → MarkupFault
+told place e = told_cause e.cause place e
+
+-- a variable whose pattern has been read; `place` is that of the pattern
+abbrev pub meet_variable : List ℕ → List ℕ → ℕ → Result Tree EreFault → State → Result State MarkupFault
+meet_variable name original place (Err e) s = Err (told place e)
+meet_variable name original place (Ok tree) s =
+    Ok (record {
+      level = with_part (variable name original tree) s.level;
+      outer = s.outer;
+      original = s.original ++ original;
+      at_start = false;
+    })
+
+-- how deep optional parts may stand in one another
+abbrev pub max_depth : ℕ
+max_depth = 64
+
+abbrev pub meet_begin : ℕ → State → Result State MarkupFault
+meet_begin place s =
+    if nat_lt (length s.outer) max_depth then Ok (record s { level = new_level place; outer = s.level ∷ s.outer })
+    else Err (fault_at place TooDeep)
+
+-- the innermost optional part becomes a part of the level round it
+abbrev pub meet_end : ℕ → Level → List Level → State → Result State MarkupFault
+meet_end place level [] s = Err (fault_at place EndWithoutBegin)
+meet_end place level (o ∷ outer) s = Ok (record s { level = with_part (optional (row level.parts)) o; outer = outer })
+
+-- one more piece or rule
+unfoldable pub meet : List Phrase → Element → Next → State → Result State MarkupFault
+meet words (text piece) follows s = Ok (meet_text words piece follows s)
+meet words (rule (rules.variable name original place pattern)) follows s =
+    meet_variable name original place (ere.reading pattern) s
+meet words (rule (rules.begin place)) follows s = meet_begin place s
+meet words (rule (rules.finish place)) follows s = meet_end place s.level s.outer s
+meet words (refused e) follows s = Err e
+
+-- the greatest weight
+abbrev pub max_weight : ℕ
+max_weight = 131072
+
+-- a template is refused without a token in it, and above a weight
+abbrev pub whole : List Node → List ℕ → Result Reading MarkupFault
+whole parts original =
+    if not (row_has_token (row parts)) then Err (fault_at 0 NoLetter)
+    else (if nat_lt max_weight (row_weight (row parts)) then Err (fault_at 0 TooHeavy)
+    else Ok (record { parts = parts; weight = row_weight (row parts); original = original }))
+
+-- behind the last element: an optional part that is open is refused, the innermost one
+abbrev pub finish : Level → List Level → List ℕ → Result Reading MarkupFault
+finish level [] original = whole level.parts original
+finish level (o ∷ outer) original = Err (fault_at level.place NotEnded)
+
+-- the elements that are left
+unfoldable pub read_on : List Phrase → State → List (Element × Next) → Result Reading MarkupFault
+read_on words s [] = finish s.level s.outer s.original
+read_on words s (e ∷ es) = meet words e.0 e.1 s >>= λ t. read_on words t es
+
+-- all elements
+abbrev pub read_elements : List Phrase → List Element → Result Reading MarkupFault
+read_elements words es = read_on words start (with_next es)
+
+-- how many bytes a template may have
+abbrev pub max_length : ℕ
+max_length = 1048576
+
+-- a template's text, given as its bytes: its parts, its weight and its original text, or the fault that decides
+abbrev pub reading : List Phrase → List ℕ → Result Reading MarkupFault
+reading words template =
+    if nat_lt max_length (length template) then Err (fault_at 0 TooLong)
+    else read_elements words (elements [] 0 (located template))

@@ -1,0 +1,49 @@
+-- Characters of a template with their places: white space at the ends, and the text that they write.
+use Rattle.std.specs.Prelude.{ℕ, ◌+◌, ◌==◌, ◌&&◌, Bool, false, List, [], ◌∷◌, ◌++◌, drop, if◌then◌else◌}
+use Rattle.std.specs.Char.{is_whitespace, encode_utf8}
+use Rattle.lic_ere.specs.Located.{Located}
+use Rattle.lic_markup.specs.Signs.{backslash, semicolon}
+
+-- the UTF-8 bytes of the characters
+abbrev pub text_of : List Located → List ℕ
+text_of [] = []
+text_of (x ∷ rest) = encode_utf8 x.1 ++ text_of rest
+
+-- the byte at which the first character begins; 0 where there is none
+abbrev pub place_of : List Located → ℕ
+place_of [] = 0
+place_of (x ∷ rest) = x.0
+
+-- this character stands in front
+abbrev pub begins_with : ℕ → List Located → Bool
+begins_with c [] = false
+begins_with c (x ∷ rest) = x.1 == c
+
+-- this character stands in front, twice
+abbrev pub begins_with_two : ℕ → List Located → Bool
+begins_with_two c [] = false
+begins_with_two c (x ∷ rest) = x.1 == c && begins_with c rest
+
+-- how many white space characters stand in front
+abbrev pub spaces : List Located → ℕ
+spaces [] = 0
+spaces (x ∷ rest) = if is_whitespace x.1 then 1 + spaces rest else 0
+
+-- without the white space in front
+abbrev pub trim_front : List Located → List Located
+trim_front rest = drop (spaces rest) rest
+
+-- a character before others, or none before none where it is white space
+abbrev pub kept_before : Located → List Located → List Located
+kept_before x [] = if is_whitespace x.1 then [] else x ∷ []
+kept_before x (y ∷ rest) = x ∷ y ∷ rest
+
+-- without the white space at the end
+abbrev pub trim_end : List Located → List Located
+trim_end [] = []
+trim_end (x ∷ rest) = kept_before x (trim_end rest)
+
+-- each backslash directly before a semicolon taken out
+abbrev pub unescaped : List Located → List Located
+unescaped [] = []
+unescaped (x ∷ rest) = if x.1 == backslash && begins_with semicolon rest then unescaped rest else x ∷ unescaped rest

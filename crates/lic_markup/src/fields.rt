@@ -1,0 +1,284 @@
+//! The fields of a rule.
+ghost use Rattle.std.specs.Prelude.{◌≡◌, false};
+ghost use Rattle.lic_ere.specs.Located.{with_rest};
+ghost use Rattle.lic_markup.specs.Faults.{Gives, map_ok};
+ghost use Rattle.lic_markup.specs.Rules.{no_values, field_of, at_end, ends_quoted, ends_plain, name_at, quoted_at, plain_at, value_at, field_at, field_or_none, fields_at};
+ghost use Rattle.lic_markup.specs.Views.{values_of};
+
+use crate::fault::{MarkupCause, MarkupFault};
+use crate::tag::Tag;
+use crate::texts::{
+    begins_with, begins_with_two, place_of, text_of, trim_end, trim_front, unescaped,
+};
+use std::alloc::{AllocError, Global};
+
+/// What a field means.
+#[derive(Clone, Copy, Debug)]
+pub enum Field {
+    Name,
+    Original,
+    Match,
+    /// A field that means nothing.
+    Other,
+}
+
+/// The values of the fields of a variable, as far as they were read.
+#[derive(Drop)]
+pub struct Values {
+    pub name: Option<String>,
+    pub original: Option<String>,
+    /// The byte at which the pattern begins, and the pattern.
+    pub pattern: Option<(usize, String)>,
+}
+
+impl Values {
+    ghost use Rattle.std.specs.Prelude.{◌≡◌, OnOk};
+    ghost use Rattle.lic_markup.specs.Rules.{no_values, has_value, with_value};
+    ghost use Rattle.lic_markup.specs.Views.{values_of};
+
+    /// No value yet.
+    fn none() -> Values
+        ensures { values_of result ≡ no_values }
+    {
+        Values {
+            name: None,
+            original: None,
+            pattern: None,
+        }
+    }
+
+    /// Whether a field has a value already.
+    fn has(&self, field: Field) -> bool
+        ensures { result ≡ has_value field (values_of self.now) }
+    {
+        match field {
+            Field::Name => self.name.is_some(),
+            Field::Original => self.original.is_some(),
+            Field::Match => self.pattern.is_some(),
+            Field::Other => false,
+        }
+    }
+
+    /// Gives a field its value.
+    fn set(
+        &mut self,
+        alloc: Global,
+        field: Field,
+        value: &[(usize, char)],
+    ) -> Result<(), AllocError>
+        ensures { OnOk result (values_of self.new ≡ with_value field value.now (values_of self.old)) }
+    {
+        match field {
+            Field::Name => self.name = Some(unescaped(alloc, value)?),
+            Field::Original => self.original = Some(unescaped(alloc, value)?),
+            Field::Match => self.pattern = Some((place_of(value), text_of(alloc, value)?)),
+            Field::Other => {}
+        }
+        Ok(())
+    }
+}
+
+/// The field that a name means: the fields of an optional rule mean nothing.
+fn field_of(tag: Tag, name: &str) -> Field
+    ensures { result ≡ field_of tag name.now }
+{
+    match tag {
+        Tag::Var => match name {
+            "name" => Field::Name,
+            "original" => Field::Original,
+            "match" => Field::Match,
+            _ => Field::Other,
+        },
+        Tag::BeginOptional | Tag::EndOptional => Field::Other,
+    }
+}
+
+/// Whether `;` or `>>` stands in front.
+fn at_end(rest: &[(usize, char)]) -> bool
+    ensures { result ≡ at_end rest.now }
+{
+    begins_with(rest, ';') || begins_with_two(rest, '>')
+}
+
+/// The name of a field that begins here, with the white space behind it, and what stands behind its `=`.
+/// `rule` and `start` are the places of the rule and of the field.
+fn name(
+    rule: usize,
+    start: usize,
+    all: &[(usize, char)],
+) -> Result<(&[(usize, char)], &[(usize, char)]), MarkupFault>
+    ensures { Gives (λ x. (x.0.now, x.1.now)) result (map_ok (with_rest all.now) (name_at rule start all.now)) }
+{
+    let mut count = 0;
+    let mut rest = all;
+    while let Some((_, after)) = rest.split_first() {
+        if begins_with(rest, '=') {
+            return Ok((&all[..count], after));
+        }
+        if at_end(rest) {
+            return Err(MarkupFault {
+                place: start,
+                cause: MarkupCause::NoEquals,
+            });
+        }
+        count += 1;
+        rest = after;
+    }
+    Err(MarkupFault {
+        place: rule,
+        cause: MarkupCause::NotClosed,
+    })
+}
+
+/// Whether a `"` stands here directly before `;` or `>>`.
+fn ends_quoted(rest: &[(usize, char)]) -> bool
+    ensures { result ≡ ends_quoted rest.now }
+{
+    let [(_, first), after @ ..] = rest else {
+        return false;
+    };
+    *first == '"' && at_end(after)
+}
+
+/// A value behind its `"`, and what stands behind the `"` that ends it.
+fn quoted(
+    rule: usize,
+    all: &[(usize, char)],
+) -> Result<(&[(usize, char)], &[(usize, char)]), MarkupFault>
+    ensures { Gives (λ x. (x.0.now, x.1.now)) result (map_ok (with_rest all.now) (quoted_at rule all.now)) }
+{
+    let mut count = 0;
+    let mut rest = all;
+    while let Some((_, after)) = rest.split_first() {
+        if ends_quoted(rest) {
+            return Ok((&all[..count], after));
+        }
+        count += 1;
+        rest = after;
+    }
+    Err(MarkupFault {
+        place: rule,
+        cause: MarkupCause::NotClosed,
+    })
+}
+
+/// Whether `>>` stands here, or a `;` that no backslash stands directly before.
+fn ends_plain(rest: &[(usize, char)], escaped: bool) -> bool
+    ensures { result ≡ ends_plain escaped rest.now }
+{
+    begins_with_two(rest, '>') || (begins_with(rest, ';') && !escaped)
+}
+
+/// A value without quotes, with the white space behind it, and the `;` or `>>` that ends it with what follows.
+fn plain(
+    rule: usize,
+    all: &[(usize, char)],
+) -> Result<(&[(usize, char)], &[(usize, char)]), MarkupFault>
+    ensures { Gives (λ x. (x.0.now, x.1.now)) result (map_ok (with_rest all.now) (plain_at rule false all.now)) }
+{
+    let mut count = 0;
+    let mut escaped = false;
+    let mut rest = all;
+    while let Some((first, after)) = rest.split_first() {
+        if ends_plain(rest, escaped) {
+            return Ok((&all[..count], rest));
+        }
+        count += 1;
+        escaped = first.1 == '\\';
+        rest = after;
+    }
+    Err(MarkupFault {
+        place: rule,
+        cause: MarkupCause::NotClosed,
+    })
+}
+
+/// The value that begins here, and what stands behind it.
+#[tactic(auto, unfolding(crate::specs::Rules::value_at))]
+fn value(
+    rule: usize,
+    rest: &[(usize, char)],
+) -> Result<(&[(usize, char)], &[(usize, char)]), MarkupFault>
+    ensures { Gives (λ x. (x.0.now, x.1.now)) result (map_ok (with_rest rest.now) (value_at rule rest.now)) }
+{
+    if begins_with(rest, '"') {
+        return quoted(rule, &rest[1..]);
+    }
+    let (value, after) = plain(rule, rest)?;
+    Ok((trim_end(value), after))
+}
+
+/// Reads the field that begins here into the values, and gives what stands behind it. `rule` and `start` are the
+/// places of the rule and of the field.
+#[tactic(auto, unfolding(crate::specs::Rules::field_at))]
+fn read_field<'a>(
+    alloc: Global,
+    rule: usize,
+    start: usize,
+    tag: Tag,
+    values: &mut Values,
+    rest: &'a [(usize, char)],
+) -> Result<&'a [(usize, char)], MarkupFault>
+    ensures { Gives (λ x. (values_of values.new, x.now)) result (map_ok (with_rest rest.now) (field_at rule start tag (values_of values.old) rest.now)) }
+{
+    let (name, behind) = name(rule, start, rest)?;
+    let name = text_of(alloc, trim_end(name))?;
+    let field = field_of(tag, &name);
+    if values.has(field) {
+        return Err(MarkupFault {
+            place: start,
+            cause: MarkupCause::FieldTwice,
+        });
+    }
+    let (value, behind) = value(rule, trim_front(behind))?;
+    values.set(alloc, field, value)?;
+    Ok(behind)
+}
+
+/// Behind a `;` and white space: reads a field, unless it is empty, and gives what stands behind it.
+fn field_or_none<'a>(
+    alloc: Global,
+    rule: usize,
+    tag: Tag,
+    values: &mut Values,
+    rest: &'a [(usize, char)],
+) -> Result<&'a [(usize, char)], MarkupFault>
+    ensures { Gives (λ x. (values_of values.new, x.now)) result (map_ok (with_rest rest.now) (field_or_none rule tag (values_of values.old) rest.now)) }
+{
+    let [(start, _), ..] = rest else {
+        return Ok(rest);
+    };
+    if at_end(rest) {
+        return Ok(rest);
+    }
+    read_field(alloc, rule, *start, tag, values, rest)
+}
+
+/// The values of a rule's fields from a place where `;` or `>>` must stand, and what stands behind its `>>`.
+pub fn fields(
+    alloc: Global,
+    rule: usize,
+    tag: Tag,
+    all: &[(usize, char)],
+) -> Result<(Values, &[(usize, char)]), MarkupFault>
+    ensures { Gives (λ x. (values_of x.0, x.1.now)) result (map_ok (with_rest all.now) (fields_at rule tag no_values 0 all.now)) }
+{
+    let mut values = Values::none();
+    let mut rest = all;
+    while let Some((_, after)) = rest.split_first() {
+        if begins_with_two(rest, '>') {
+            return Ok((values, &rest[2..]));
+        }
+        if !begins_with(rest, ';') {
+            return Err(MarkupFault {
+                place: rule,
+                cause: MarkupCause::NotClosed,
+            });
+        }
+        rest = field_or_none(alloc, rule, tag, &mut values, trim_front(after))?;
+    }
+    Err(MarkupFault {
+        place: rule,
+        cause: MarkupCause::NotClosed,
+    })
+}

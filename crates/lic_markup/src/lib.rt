@@ -1,0 +1,20 @@
+//! Template markup: the templates of SPDX 2.3, Annex B, in this project's profile, read into parts.
+#![tactic(auto)]
+
+mod elements;
+mod fault;
+mod fields;
+mod lines;
+mod part;
+mod reader;
+mod reading;
+mod rule;
+mod tag;
+#[cfg(test)]
+mod tests;
+mod texts;
+mod weights;
+
+pub use fault::{MarkupCause, MarkupFault};
+pub use part::{Part, Template};
+pub use reading::read_template;

@@ -1,0 +1,102 @@
+//! How the pieces of a template lie in its lines.
+ghost use Rattle.std.specs.Prelude.{◌≡◌, IfOk, map, reverse};
+ghost use Rattle.lic_markup.specs.Lines as lines;
+ghost use Rattle.lic_markup.specs.Views.{element_of, placed_of};
+
+use crate::elements::Element;
+use crate::rule::Rule;
+use lic_kind::is_dropped;
+use lic_norm::pieces::Next;
+use std::alloc::{AllocError, Global};
+
+/// Whether a character is white space, or a dropped character, which counts as such here.
+fn is_space(character: char) -> bool
+    ensures { result ≡ lines.is_space character }
+{
+    character.is_whitespace() || is_dropped(character)
+}
+
+/// Whether only white space stands between the start of a line and the end of a piece, where `so_far` says so of
+/// what is before it.
+pub fn at_line_start(so_far: bool, piece: &[(usize, char)]) -> bool
+    ensures { result ≡ lines.at_line_start so_far piece.now }
+{
+    let mut at_start = so_far;
+    let mut rest = piece;
+    while let Some((first, after)) = rest.split_first() {
+        at_start = first.1 == '\n' || (at_start && is_space(first.1));
+        rest = after;
+    }
+    at_start
+}
+
+/// Whether only white space stands from the begin of a piece to the end of the line, where `behind` says so of what
+/// follows it.
+fn line_ends(behind: bool, piece: &[(usize, char)]) -> bool
+    ensures { result ≡ lines.line_ends behind piece.now }
+{
+    let mut rest = piece;
+    while let Some((first, after)) = rest.split_first() {
+        if first.1 == '\n' {
+            return true;
+        }
+        if !is_space(first.1) {
+            return false;
+        }
+        rest = after;
+    }
+    behind
+}
+
+/// Whether only white space and optional rules stand from an element to the end of the line, where `behind` says so
+/// of what follows it.
+fn line_ends_at(behind: bool, element: &Element) -> bool
+    ensures { result ≡ lines.line_ends_at behind (element_of element.now) }
+{
+    match element {
+        Element::Text(piece) => line_ends(behind, piece),
+        Element::Rule(Rule::Variable { .. }) => false,
+        Element::Rule(Rule::Begin(_) | Rule::End(_)) | Element::Refused(_) => behind,
+    }
+}
+
+/// What an element counts as, if the line goes on from it.
+fn counts_as(element: &Element) -> Next
+    ensures { result ≡ lines.counts_as (element_of element.now) }
+{
+    match element {
+        Element::Rule(Rule::Variable { .. }) => Next::Var,
+        _ => Next::Optional,
+    }
+}
+
+/// Whether a piece ends in a line's end.
+pub fn ends_line(piece: &[(usize, char)]) -> bool
+    ensures { result ≡ lines.ends_line piece.now }
+{
+    match piece.split_last() {
+        Some((last, _before)) => last.1 == '\n',
+        None => false,
+    }
+}
+
+/// Each element with what follows it in its line, the last element first.
+pub fn with_next(alloc: Global, elements: Vec<Element>) -> Result<Vec<(Element, Next)>, AllocError>
+    ensures { IfOk result (λ placed. map placed_of (reverse placed.items) ≡ lines.with_next (map element_of elements.items)) }
+{
+    let mut elements = elements;
+    let mut placed = Vec::new(alloc);
+    let mut line_ends = true;
+    let mut next = Next::LineEnd;
+    while let Some(element) = elements.pop() {
+        line_ends = line_ends_at(line_ends, &element);
+        let before = if line_ends {
+            Next::LineEnd
+        } else {
+            counts_as(&element)
+        };
+        placed.push((element, next))?;
+        next = before;
+    }
+    Ok(placed)
+}

@@ -1,0 +1,83 @@
+//! Parts of a template.
+
+use lic_ere::Ere;
+use std::marker::Model;
+
+/// A part of a template.
+#[derive(Debug, Drop)]
+pub enum Part {
+    /// The letters of a piece of text: there is one at least.
+    Text(String),
+    /// Text that may be replaced.
+    Var {
+        name: String,
+        /// What stands in the original text.
+        original: String,
+        /// What may stand instead.
+        ere: Ere,
+    },
+    /// Parts that may be left out together.
+    Optional(Vec<Part>),
+}
+
+/// A template that was read.
+#[derive(Debug, Drop)]
+pub struct Template {
+    parts: Vec<Part>,
+    weight: u64,
+    original: String,
+}
+
+impl Model for Template {
+    ghost use Rattle.std.specs.String.{string_bytes};
+    ghost use Rattle.std.specs.Coded.{codes};
+    ghost use Rattle.lic_markup.specs.contracts.part.Part as e;
+    ghost use Rattle.lic_markup.specs.Parts.{TemplateValue};
+
+    ghost Value = { TemplateValue };
+
+    ghost coded = { Prim.hlevel (codes, e.the_row.coded) };
+
+    ghost view = { λ t. record { parts = t.parts.items; weight = t.weight; original = string_bytes t.original } };
+}
+
+impl Template {
+    ghost use Rattle.std.specs.Prelude.{◌≡◌};
+    ghost use Rattle.std.specs.String.{string_bytes};
+
+    /// A template of these parts.
+    pub(crate) fn new(parts: Vec<Part>, weight: u64, original: String) -> Template
+        ensures parts { result.parts ≡ parts.items }
+        ensures weight { result.weight ≡ weight }
+        ensures original { result.original ≡ string_bytes original }
+    {
+        Template {
+            parts,
+            weight,
+            original,
+        }
+    }
+
+    /// The parts in their order.
+    pub fn parts(&self) -> &[Part]
+        ensures { result.now ≡ self.now.parts }
+    {
+        &self.parts
+    }
+
+    /// What the template weighs (this project's profile): the letters of its texts, blanks included, and the weights
+    /// of its patterns, where each letter, `.` and bracket weighs 1, rows and alternatives the sum, and a repetition
+    /// its body so many times.
+    pub fn weight(&self) -> u64
+        ensures { result ≡ self.now.weight }
+    {
+        self.weight
+    }
+
+    /// The template's text with the optional rules taken out and each variable replaced by its original value.
+    pub fn original(&self) -> &str
+        ensures { result.now ≡ self.now.original }
+    {
+        &self.original
+    }
+}

@@ -1,0 +1,240 @@
+//! A template and its open optional parts while they are read.
+ghost use Rattle.std.specs.Prelude.{◌≡◌, OnOk, map};
+ghost use Rattle.std.specs.String.{string_bytes};
+ghost use Rattle.lic_ere.specs.Reading as patterns;
+ghost use Rattle.lic_markup.specs.Faults.{Gives, told};
+ghost use Rattle.lic_markup.specs.Parts.{part_of, template_of};
+ghost use Rattle.lic_markup.specs.Reading as reading;
+ghost use Rattle.lic_markup.specs.Views.{element_of, level_of, state_of};
+
+use crate::elements::Element;
+use crate::fault::{MarkupCause, MarkupFault};
+use crate::lines::{at_line_start, ends_line};
+use crate::part::{Part, Template};
+use crate::rule::Rule;
+use crate::texts::text_of;
+use crate::weights::{have_token, parts_weight};
+use lic_ere::{EreCause, EreFault, read};
+use lic_norm::pieces::{Next, piece};
+use lic_norm::words::Words;
+use std::alloc::{AllocError, Global};
+use std::mem;
+
+/// How deep optional parts may stand in one another.
+const MAX_DEPTH: usize = 64;
+
+/// The greatest weight of a template.
+const MAX_WEIGHT: u64 = 131_072;
+
+/// The template, or an open optional part.
+#[derive(Drop)]
+pub struct Level {
+    /// The byte at which it begins.
+    pub place: usize,
+    pub parts: Vec<Part>,
+}
+
+impl Level {
+    /// A level with nothing read.
+    fn new(alloc: Global, place: usize) -> Level
+        ensures { level_of result ≡ reading.new_level place }
+    {
+        Level {
+            place,
+            parts: Vec::new(alloc),
+        }
+    }
+}
+
+/// The innermost level, and those round it.
+#[derive(Drop)]
+pub struct Reader {
+    pub level: Level,
+    /// The innermost one is last.
+    pub outer: Vec<Level>,
+    /// The original text so far.
+    pub original: String,
+    /// Whether only white space and optional rules stand between the start of the line and here.
+    pub at_start: bool,
+}
+
+/// How the fault of a pattern is told, which begins at a place.
+fn told(place: usize, fault: EreFault) -> MarkupFault
+    ensures { result ≡ reading.told place fault }
+{
+    match fault.cause {
+        EreCause::OutOfMemory => MarkupFault {
+            place: 0,
+            cause: MarkupCause::OutOfMemory,
+        },
+        _ => MarkupFault {
+            place,
+            cause: MarkupCause::Pattern(fault),
+        },
+    }
+}
+
+/// A fault as it is told: want of memory has no place.
+fn told_again(fault: MarkupFault) -> MarkupFault
+    ensures { result ≡ told fault }
+{
+    match fault.cause {
+        MarkupCause::OutOfMemory => MarkupFault { place: 0, ..fault },
+        _ => fault,
+    }
+}
+
+impl Reader {
+    /// Before the first element.
+    pub fn new(alloc: Global) -> Reader
+        ensures { state_of result ≡ reading.start }
+    {
+        Reader {
+            level: Level::new(alloc, 0),
+            outer: Vec::new(alloc),
+            original: String::new(alloc),
+            at_start: true,
+        }
+    }
+
+    /// A piece of text, with what follows it in its line.
+    fn text(
+        &mut self,
+        alloc: Global,
+        words: &Words,
+        characters: &[(usize, char)],
+        follows: Next,
+    ) -> Result<(), AllocError>
+        ensures { OnOk result (state_of self.new ≡ reading.meet_text words.now characters.now follows (state_of self.old)) }
+    {
+        let next = if ends_line(characters) {
+            Next::LineEnd
+        } else {
+            follows
+        };
+        let text = text_of(alloc, characters)?;
+        let letters = piece(alloc, &text, self.at_start, next, words)?;
+        if !letters.is_empty() {
+            self.level.parts.push(Part::Text(letters))?;
+        }
+        self.original.push_str(&text)?;
+        self.at_start = at_line_start(self.at_start, characters);
+        Ok(())
+    }
+
+    /// A variable, whose pattern begins at a place.
+    fn variable(
+        &mut self,
+        alloc: Global,
+        name: String,
+        original: String,
+        place: usize,
+        pattern: String,
+    ) -> Result<(), MarkupFault>
+        ensures { Gives (λ _. state_of self.new) result (reading.meet_variable (string_bytes name) (string_bytes original) place (patterns.reading (string_bytes pattern)) (state_of self.old)) }
+    {
+        let ere = match read(alloc, &pattern) {
+            Ok(ere) => ere,
+            Err(fault) => return Err(told(place, fault)),
+        };
+        self.original.push_str(&original)?;
+        self.level.parts.push(Part::Var {
+            name,
+            original,
+            ere,
+        })?;
+        self.at_start = false;
+        Ok(())
+    }
+
+    /// The begin of an optional part at a place.
+    fn begin(&mut self, alloc: Global, place: usize) -> Result<(), MarkupFault>
+        ensures { Gives (λ _. state_of self.new) result (reading.meet_begin place (state_of self.old)) }
+    {
+        if self.outer.len() >= MAX_DEPTH {
+            return Err(MarkupFault {
+                place,
+                cause: MarkupCause::TooDeep,
+            });
+        }
+        let outer = mem::replace(&mut self.level, Level::new(alloc, place));
+        self.outer.push(outer)?;
+        Ok(())
+    }
+
+    /// The end of an optional part at a place.
+    fn end(&mut self, place: usize) -> Result<(), MarkupFault>
+        ensures { Gives (λ _. state_of self.new) result (reading.meet_end place (state_of self.old).level (state_of self.old).outer (state_of self.old)) }
+    {
+        let Some(outer) = self.outer.pop() else {
+            return Err(MarkupFault {
+                place,
+                cause: MarkupCause::EndWithoutBegin,
+            });
+        };
+        let inner = mem::replace(&mut self.level, outer);
+        self.level.parts.push(Part::Optional(inner.parts))?;
+        Ok(())
+    }
+
+    /// One more element, with what follows it in its line.
+    #[tactic(auto, unfolding(crate::specs::Reading::meet))]
+    pub fn meet(
+        &mut self,
+        alloc: Global,
+        words: &Words,
+        element: Element,
+        follows: Next,
+    ) -> Result<(), MarkupFault>
+        ensures { Gives (λ _. state_of self.new) result (reading.meet words.now (element_of element) follows (state_of self.old)) }
+    {
+        match element {
+            Element::Text(characters) => self.text(alloc, words, &characters, follows)?,
+            Element::Rule(
+                Rule::Variable {
+                    name,
+                    original,
+                    place,
+                    pattern,
+                },
+            ) => self.variable(alloc, name, original, place, pattern)?,
+            Element::Rule(Rule::Begin(place)) => self.begin(alloc, place)?,
+            Element::Rule(Rule::End(place)) => self.end(place)?,
+            Element::Refused(fault) => return Err(told_again(fault)),
+        }
+        Ok(())
+    }
+
+    /// Behind the last element.
+    pub fn finish(self) -> Result<Template, MarkupFault>
+        ensures { Gives template_of result (reading.finish (state_of self).level (state_of self).outer (state_of self).original) }
+    {
+        if !self.outer.is_empty() {
+            return Err(MarkupFault {
+                place: self.level.place,
+                cause: MarkupCause::NotEnded,
+            });
+        }
+        whole(self.level.parts, self.original)
+    }
+}
+
+/// The template of these parts, unless it has no token or is too heavy.
+fn whole(parts: Vec<Part>, original: String) -> Result<Template, MarkupFault>
+    ensures { Gives template_of result (reading.whole (map part_of parts.items) (string_bytes original)) }
+{
+    if !have_token(&parts) {
+        return Err(MarkupFault {
+            place: 0,
+            cause: MarkupCause::NoLetter,
+        });
+    }
+    let weight = parts_weight(&parts);
+    if weight > MAX_WEIGHT {
+        return Err(MarkupFault {
+            place: 0,
+            cause: MarkupCause::TooHeavy,
+        });
+    }
+    Ok(Template::new(parts, weight, original))
+}

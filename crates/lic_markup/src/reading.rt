@@ -1,0 +1,52 @@
+//! Reading a template.
+ghost use Rattle.std.specs.Prelude.{◌≡◌, map, reverse};
+ghost use Rattle.lic_markup.specs.Faults.{Gives};
+ghost use Rattle.lic_markup.specs.Parts.{template_of};
+ghost use Rattle.lic_markup.specs.Reading.{start, read_on, reading};
+ghost use Rattle.lic_markup.specs.Views.{placed_of};
+
+use crate::elements::{Element, cut};
+use crate::fault::{MarkupCause, MarkupFault};
+use crate::lines::with_next;
+use crate::part::Template;
+use crate::reader::Reader;
+use crate::texts::located;
+use lic_norm::pieces::Next;
+use lic_norm::words::Words;
+use std::alloc::Global;
+
+/// How many bytes a template may have.
+const MAX_LENGTH: usize = 1_048_576;
+
+/// Reads elements with what follows each in its line, the last one first.
+fn read_elements(
+    alloc: Global,
+    words: &Words,
+    elements: Vec<(Element, Next)>,
+) -> Result<Template, MarkupFault>
+    ensures { Gives template_of result (read_on words.now start (map placed_of (reverse elements.items))) }
+{
+    let mut reader = Reader::new(alloc);
+    let mut elements = elements;
+    while let Some((element, follows)) = elements.pop() {
+        reader.meet(alloc, words, element, follows)?;
+    }
+    reader.finish()
+}
+
+/// Reads a template (SPDX 2.3, Annex B, in this project's profile) into its parts. The letters of its texts are those
+/// that `words` and the normaliser give.
+pub fn read_template(alloc: Global, text: &str, words: &Words) -> Result<Template, MarkupFault>
+    // The parts, the weight and the original text, or the fault that decides, unless memory runs out.
+    ensures exact { Gives template_of result (reading words.now text.now) }
+{
+    if text.len() > MAX_LENGTH {
+        return Err(MarkupFault {
+            place: 0,
+            cause: MarkupCause::TooLong,
+        });
+    }
+    let characters = located(alloc, text)?;
+    let elements = with_next(alloc, cut(alloc, &characters)?)?;
+    read_elements(alloc, words, elements)
+}

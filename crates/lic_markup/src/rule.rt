@@ -1,0 +1,70 @@
+//! Rules.
+ghost use Rattle.lic_ere.specs.Located.{with_rest};
+ghost use Rattle.lic_markup.specs.Faults.{Gives, map_ok};
+ghost use Rattle.lic_markup.specs.Rules as rules;
+ghost use Rattle.lic_markup.specs.Views.{values_of, rule_of};
+
+use crate::fault::{MarkupCause, MarkupFault};
+use crate::fields::{Values, fields};
+use crate::tag::Tag;
+use crate::texts::trim_front;
+use std::alloc::Global;
+
+/// A rule.
+#[derive(Drop)]
+pub enum Rule {
+    /// Text that may be replaced.
+    Variable {
+        name: String,
+        original: String,
+        /// The byte at which the pattern begins.
+        place: usize,
+        pattern: String,
+    },
+    /// The begin of an optional part, at a byte.
+    Begin(usize),
+    /// The end of an optional part, at a byte.
+    End(usize),
+}
+
+/// The rule at a place that a tag and its values are.
+fn complete(rule: usize, tag: Tag, values: Values) -> Result<Rule, MarkupFault>
+    ensures { Gives rule_of result (rules.rule_of rule tag (values_of values)) }
+{
+    match tag {
+        Tag::BeginOptional => Ok(Rule::Begin(rule)),
+        Tag::EndOptional => Ok(Rule::End(rule)),
+        Tag::Var => {
+            if let (Some(name), Some(original), Some((place, pattern))) = (
+                values.name,
+                values.original,
+                values.pattern,
+            ) {
+                return Ok(Rule::Variable {
+                    name,
+                    original,
+                    place,
+                    pattern,
+                });
+            }
+            Err(MarkupFault {
+                place: rule,
+                cause: MarkupCause::FieldMissing,
+            })
+        }
+    }
+}
+
+/// The rule at a place whose tag was read, from behind the tag on, and what stands behind it.
+#[tactic(auto, unfolding(crate::specs::Rules::rule_at))]
+pub fn read_rule(
+    alloc: Global,
+    place: usize,
+    tag: Tag,
+    rest: &[(usize, char)],
+) -> Result<(Rule, &[(usize, char)]), MarkupFault>
+    ensures { Gives (λ x. (rule_of x.0, x.1.now)) result (map_ok (with_rest rest.now) (rules.rule_at place tag rest.now)) }
+{
+    let (values, behind) = fields(alloc, place, tag, trim_front(rest))?;
+    Ok((complete(place, tag, values)?, behind))
+}
