@@ -52,8 +52,8 @@ fn shift_step(tree: &Node, at_once: &mut Row, after_blanks: &Row, spare: &mut Ro
     }
 }
 
-// One letter more, for all letters that the marks stand for.
-fn push_letter(tree: &Node, at_once: &mut Row, after_blanks: &Row, spare: &mut Row, step: Step)
+/// Takes the marks over one more letter, which is no blank. The spare row is room to work in.
+pub fn push_letter(tree: &Node, at_once: &mut Row, after_blanks: &Row, spare: &mut Row, step: Step)
     requires measured { IsTrue (is_measured tree.now) }
     requires room { weight (core_of tree.now) ≤ length at_once.old }
     requires after_blanks_len { length after_blanks.now ≡ length at_once.old }
@@ -68,8 +68,9 @@ fn push_letter(tree: &Node, at_once: &mut Row, after_blanks: &Row, spare: &mut R
     shift_step(tree, at_once, after_blanks, spare, step);
 }
 
-// Makes ready for a letter that stands apart.
-fn part(
+/// Makes the marks ready for a letter that stands apart: where the last letter does not yet, the marks after blanks are made
+/// from those at once. The spare row is room to work in.
+pub fn part(
     tree: &Node,
     at_once: &Row,
     after_blanks: &mut Row,

@@ -1,7 +1,3 @@
-pub mod Options
-pub mod Blanks
-pub mod Gaps
 pub mod Rows
-pub mod Places
 pub mod Languages
 pub mod Spellings

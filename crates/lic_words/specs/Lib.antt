@@ -3,4 +3,3 @@ pub mod Expressions
 pub mod Letters
 pub mod Spelling
 pub mod Describing
-pub mod Places
