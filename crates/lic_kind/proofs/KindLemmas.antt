@@ -1,10 +1,10 @@
 -- The tables have no character in common, so each alone decides its kind.
 use Rattle.std.proofs.Common.{◌≡◌, ℕ, zero, suc, ◌+◌, ◌-◌, ◌<◌, ◌≤◌, Bool, true, false, not, ◌&&◌, ◌||◌, if◌then◌else◌, List, [], ◌∷◌, inl, inr, refl, sym, ap, ◌∙◌, arith}
 use Rattle.std.proofs.lemmas.Bool.{true≢false, and_parts, or_cases, not-true, cases_eq, eqb-true, leb-true, cases_Bool}
-use Rattle.std.specs.Char.{is_whitespace}
+use Rattle.std.specs.Char.{is_whitespace, is_ascii_alphanumeric, is_ascii_punctuation}
 use Rattle.lic_kind.specs.declared.Kind.{Kind}
 use Rattle.lic_kind.specs.declared.Kind.TheVariants.{Blank, Dropped, Mark, Word}
-use Rattle.lic_kind.specs.Kinds.{Entry, one, range, is_entry, is_listed, dropped, ascii_punctuation, dashes, quotes, bullets, box_drawing, other_marks, is_dropped, is_dash, is_quote, is_bullet, is_box_drawing, is_other_mark, is_mark, kind_of, is_word_kind}
+use Rattle.lic_kind.specs.Kinds.{Entry, one, range, is_entry, is_listed, dropped, ascii_punctuation, dashes, quotes, bullets, box_drawing, other_marks, is_dropped, is_dash, is_quote, is_bullet, is_box_drawing, is_other_mark, is_mark, kind_of, is_word_kind, is_mark_kind}
 
 -- ---- a test that fails on a whole table
 
@@ -188,3 +188,46 @@ is_word_kind-true Blank e = cc
 is_word_kind-true Dropped e = cc
 is_word_kind-true Mark e = cc
 is_word_kind-true Word e = refl
+
+-- ---- ASCII
+
+pub is_mark_kind-true : (kind : Kind) → is_mark_kind kind ≡ true → kind ≡ Mark
+is_mark_kind-true Blank e = cc
+is_mark_kind-true Dropped e = cc
+is_mark_kind-true Mark e = refl
+is_mark_kind-true Word e = cc
+
+-- a test that passes at each of the 128 characters
+ascii_each : (p : ℕ → Bool) (c : ℕ) → fails_from (λ d. not (p d)) 0 128 ≡ true → c < 128 → p c ≡ true
+ascii_each p c each ascii = passes (p c) (fails_from-within (λ d. not (p d)) 0 128 c each (omega arith) (omega arith))
+  where
+    passes : (b : Bool) → not b ≡ false → b ≡ true
+    passes true e = refl
+    passes false e = cc
+
+implied : (a b : Bool) → (not a || b) ≡ true → a ≡ true → b ≡ true
+implied true b e h = e
+implied false b e h = cc
+
+pub kind_of-alphanumeric : (c : ℕ) → c < 128 → is_ascii_alphanumeric c ≡ true → kind_of c ≡ Word
+unfolding kind_of
+kind_of-alphanumeric c ascii is =
+    is_word_kind-true (kind_of c) (implied (is_ascii_alphanumeric c) _ (ascii_each (λ d. not (is_ascii_alphanumeric d) || is_word_kind (kind_of d)) c refl ascii) is)
+
+pub kind_of-punctuation : (c : ℕ) → c < 128 → is_ascii_punctuation c ≡ true → kind_of c ≡ Mark
+unfolding kind_of
+kind_of-punctuation c ascii is =
+    is_mark_kind-true (kind_of c) (implied (is_ascii_punctuation c) _ (ascii_each (λ d. not (is_ascii_punctuation d) || is_mark_kind (kind_of d)) c refl ascii) is)
+
+pub kind_of-ascii_other : (c : ℕ) → c < 128 → is_ascii_punctuation c ≡ false → is_whitespace c ≡ false → kind_of c ≡ Word
+unfolding kind_of
+kind_of-ascii_other c ascii no_mark dark =
+    is_word_kind-true (kind_of c) (neither (is_ascii_punctuation c) (is_whitespace c) (is_word_kind (kind_of c)) (ascii_each (λ d. is_ascii_punctuation d || is_whitespace d || is_word_kind (kind_of d)) c refl ascii) no_mark dark)
+  where
+    neither : (a b w : Bool) → (a || b || w) ≡ true → a ≡ false → b ≡ false → w ≡ true
+    neither false false w e ha hb = e
+    neither true b w e ha hb = cc
+    neither false true w e ha hb = cc
+
+-- the kinds of the characters of ASCII
+pub ruleset ascii_kinds = (kind_of-alphanumeric, kind_of-punctuation, kind_of-white, kind_of-ascii_other)

@@ -4,12 +4,14 @@
 ghost use Rattle.std.specs.Prelude.{◌≡◌};
 ghost use Rattle.lic_kind.specs.Kinds.{kind_of};
 
+mod ascii;
 pub mod laws;
 mod letters;
 mod tables;
 #[cfg(test)]
 mod tests;
 
+use ascii::ascii_kind;
 pub use letters::spell;
 pub use tables::{is_bullet, is_dash, is_dropped, is_quote};
 
@@ -27,8 +29,21 @@ pub enum Kind {
 }
 
 /// The kind of a character as it stands in the text, before folding (this project's profile).
-#[tactic(auto, unfolding(crate::specs::Kinds::kind_of))]
+#[inline(always)]
 pub fn kind_of(c: char) -> Kind
+    ensures { result ≡ kind_of c }
+{
+    if c.is_ascii() {
+        ascii_kind(c)
+    } else {
+        other_kind(c)
+    }
+}
+
+/// The kind of any character, by the tables.
+#[inline(never)]
+#[tactic(auto, unfolding(crate::specs::Kinds::kind_of))]
+fn other_kind(c: char) -> Kind
     ensures { result ≡ kind_of c }
 {
     if is_dropped(c) {

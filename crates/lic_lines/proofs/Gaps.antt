@@ -9,37 +9,77 @@ use Rattle.lic_lines.specs.Runs.{same_mark, same_family, without_separator, with
 use Rattle.lic_lines.specs.Tokens.{both_words, token_of, tokens_from, first_tokens}
 use Rattle.lic_lines.proofs.GroupLemmas.{groups_alone}
 
-no_mark_before : (c : Cell) → same_mark c Blank ≡ false
-no_mark_before Blank = refl
-no_mark_before (Mark s) = refl
-no_mark_before (Word s) = refl
+abbrev pub is_word : Cell → Bool
+is_word Blank = false
+is_word (Mark s) = false
+is_word (Word s) = true
 
-no_family_before : (c : Cell) → same_family c Blank ≡ false
-no_family_before Blank = refl
-no_family_before (Mark s) = refl
-no_family_before (Word s) = refl
+abbrev pub is_mark : Cell → Bool
+is_mark Blank = false
+is_mark (Mark s) = true
+is_mark (Word s) = false
+
+no_mark_after : (x y : Cell) → is_mark x ≡ false → same_mark x y ≡ false
+no_mark_after Blank y h = refl
+no_mark_after (Mark s) y h = cc
+no_mark_after (Word s) y h = refl
+
+no_mark_before : (x y : Cell) → is_mark x ≡ false → same_mark y x ≡ false
+no_mark_before x Blank h = refl
+no_mark_before x (Word t) h = refl
+no_mark_before Blank (Mark t) h = refl
+no_mark_before (Mark s) (Mark t) h = cc
+no_mark_before (Word s) (Mark t) h = refl
+
+no_family_after : (x y : Cell) → is_mark x ≡ false → same_family x y ≡ false
+no_family_after Blank y h = refl
+no_family_after (Mark s) y h = cc
+no_family_after (Word s) y h = refl
+
+no_family_before : (x y : Cell) → is_mark x ≡ false → same_family y x ≡ false
+no_family_before x Blank h = refl
+no_family_before x (Word t) h = refl
+no_family_before Blank (Mark t) h = refl
+no_family_before (Mark s) (Mark t) h = cc
+no_family_before (Word s) (Mark t) h = refl
+
+without_separator-one : (x : Cell) → without_separator (x ∷ []) ≡ x ∷ []
+without_separator-one Blank = refl
+without_separator-one (Mark s) = refl
+without_separator-one (Word s) = refl
+
+joined-one : (x : Cell) → joined (x ∷ []) ≡ x ∷ []
+joined-one Blank = refl
+joined-one (Mark s) = refl
+joined-one (Word s) = refl
+
+-- what is no mark is in no run, and cuts the list
+pub without_separators-at : (xs : List Cell) (x : Cell) (ys : List Cell) → is_mark x ≡ false → without_separators (xs ++ x ∷ ys) ≡ without_separators xs ++ x ∷ without_separators ys
+without_separators-at xs x ys no_mark =
+    ap (flat_map without_separator) (groups_alone same_mark xs x ys (λ y. no_mark_after x y no_mark) (λ y. no_mark_before x y no_mark))
+    ∙ flat_map-append without_separator (groups same_mark xs) ((x ∷ []) ∷ groups same_mark ys)
+    ∙ ap (λ l. without_separators xs ++ (l ++ without_separators ys)) (without_separator-one x)
+
+pub with_joined-at : (xs : List Cell) (x : Cell) (ys : List Cell) → is_mark x ≡ false → with_joined (xs ++ x ∷ ys) ≡ with_joined xs ++ x ∷ with_joined ys
+with_joined-at xs x ys no_mark =
+    ap (flat_map joined) (groups_alone same_family xs x ys (λ y. no_family_after x y no_mark) (λ y. no_family_before x y no_mark))
+    ∙ flat_map-append joined (groups same_family xs) ((x ∷ []) ∷ groups same_family ys)
+    ∙ ap (λ l. with_joined xs ++ (l ++ with_joined ys)) (joined-one x)
+
+pub runs_joined-at : (rules : LineRules) (xs : List Cell) (x : Cell) (ys : List Cell) → is_mark x ≡ false → runs_joined rules (xs ++ x ∷ ys) ≡ runs_joined rules xs ++ x ∷ runs_joined rules ys
+runs_joined-at rules xs x ys no_mark = at rules.separators
+  where
+    at : (b : Bool) → with_joined (cond b (without_separators (xs ++ x ∷ ys)) (xs ++ x ∷ ys)) ≡ with_joined (cond b (without_separators xs) xs) ++ x ∷ with_joined (cond b (without_separators ys) ys)
+    at true = ap with_joined (without_separators-at xs x ys no_mark) ∙ with_joined-at (without_separators xs) x (without_separators ys) no_mark
+    at false = with_joined-at xs x ys no_mark
+
+pub runs_joined-gap : (rules : LineRules) (xs ys : List Cell) → runs_joined rules (xs ++ Blank ∷ ys) ≡ runs_joined rules xs ++ Blank ∷ runs_joined rules ys
+runs_joined-gap rules xs ys = runs_joined-at rules xs Blank ys refl
 
 no_letter_before : (c : Cell) → both_words c Blank ≡ false
 no_letter_before Blank = refl
 no_letter_before (Mark s) = refl
 no_letter_before (Word s) = refl
-
-pub without_separators-gap : (xs ys : List Cell) → without_separators (xs ++ Blank ∷ ys) ≡ without_separators xs ++ Blank ∷ without_separators ys
-without_separators-gap xs ys =
-    ap (flat_map without_separator) (groups_alone same_mark xs Blank ys (λ y. refl) no_mark_before)
-    ∙ flat_map-append without_separator (groups same_mark xs) ((Blank ∷ []) ∷ groups same_mark ys)
-
-pub with_joined-gap : (xs ys : List Cell) → with_joined (xs ++ Blank ∷ ys) ≡ with_joined xs ++ Blank ∷ with_joined ys
-with_joined-gap xs ys =
-    ap (flat_map joined) (groups_alone same_family xs Blank ys (λ y. refl) no_family_before)
-    ∙ flat_map-append joined (groups same_family xs) ((Blank ∷ []) ∷ groups same_family ys)
-
-pub runs_joined-gap : (rules : LineRules) (xs ys : List Cell) → runs_joined rules (xs ++ Blank ∷ ys) ≡ runs_joined rules xs ++ Blank ∷ runs_joined rules ys
-runs_joined-gap rules xs ys = at rules.separators
-  where
-    at : (b : Bool) → with_joined (cond b (without_separators (xs ++ Blank ∷ ys)) (xs ++ Blank ∷ ys)) ≡ with_joined (cond b (without_separators xs) xs) ++ Blank ∷ with_joined (cond b (without_separators ys) ys)
-    at true = ap with_joined (without_separators-gap xs ys) ∙ with_joined-gap (without_separators xs) (without_separators ys)
-    at false = with_joined-gap xs ys
 
 tokens_from-gap : (after_blank : Bool) (gs hs : List (List Cell)) → tokens_from after_blank (gs ++ (Blank ∷ []) ∷ hs) ≡ tokens_from after_blank gs ++ tokens_from true hs
 tokens_from-gap after_blank [] hs = refl

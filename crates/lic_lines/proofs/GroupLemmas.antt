@@ -7,7 +7,7 @@ use Rattle.lic_lines.specs.Texts.{groups, join_group}
 
 module _ {A : Type 0} (t : A → A → Bool) where
   -- an element that does not belong to what comes next begins a group
-  join_alone : (x : A) (gs : List (List A)) → ((y : A) → t x y ≡ false) → join_group t x gs ≡ (x ∷ []) ∷ gs
+  pub join_alone : (x : A) (gs : List (List A)) → ((y : A) → t x y ≡ false) → join_group t x gs ≡ (x ∷ []) ∷ gs
   join_alone x [] alone = refl
   join_alone x ([] ∷ gs) alone = refl
   join_alone x ((y ∷ g) ∷ gs) alone = cond-false (t x y) _ _ (alone y)

@@ -17,7 +17,7 @@ space_parts [] h = absurd (false≢true h)
 space_parts (c ∷ []) h = (c, refl, h)
 space_parts (c ∷ d ∷ text) h = absurd (false≢true h)
 
-slice_one : (line : List ℕ) (before : ℕ) → before < length line → slice_range line before (before + 1) ≡ slice_index line before ∷ []
+pub slice_one : (line : List ℕ) (before : ℕ) → before < length line → slice_range line before (before + 1) ≡ slice_index line before ∷ []
 slice_one line before within =
     let none : before - before ≡ 0 = omega arith in
     slice_snoc line before before (omega arith) within ∙ ap (λ n. take n (drop before line) ++ slice_index line before ∷ []) none

@@ -9,11 +9,11 @@ pub mod Walking
 pub mod SideEnds
 pub mod TailRows
 pub mod Stops
+pub mod SpaceRows
 pub mod ItemLemmas
 pub mod Gaps
+pub mod KindRows
 pub mod CutLemmas
 pub mod TokenLemmas
 pub mod LineByLine
-mod ExamplesOfLines
-mod ExamplesOfTokens
-mod ExamplesOfRules
+mod examples

@@ -16,7 +16,7 @@ use Rattle.lic_lines.proofs.SideEnds.{walked_piece, repeats_more}
 use Rattle.lic_lines.proofs.RowLemmas.{row_ends, row_goes_on}
 use Rattle.lic_lines.proofs.Walking.{length-walked}
 
-any_some : {A : Type 0} (test : A → Bool) (xs : List A) (d : A) → list_any test xs ≡ true → (k : ℕ) × (k < length xs) × (test (slice_index_or xs k d) ≡ true)
+pub any_some : {A : Type 0} (test : A → Bool) (xs : List A) (d : A) → list_any test xs ≡ true → (k : ℕ) × (k < length xs) × (test (slice_index_or xs k d) ≡ true)
 any_some test [] d h = absurd (false≢true h)
 any_some test (x ∷ xs) d h =
     ⊎_elim
@@ -24,7 +24,7 @@ any_some test (x ∷ xs) d h =
     (λ later. let found = any_some test xs d later in let lt : found.0 < length xs = found.1 in (suc found.0, omega arith, found.2))
     (or_cases (test x) (list_any test xs) h)
 
-any_from : {A : Type 0} (test : A → Bool) (xs : List A) (k : ℕ) (d : A) → k < length xs → test (slice_index_or xs k d) ≡ true → list_any test xs ≡ true
+pub any_from : {A : Type 0} (test : A → Bool) (xs : List A) (k : ℕ) (d : A) → k < length xs → test (slice_index_or xs k d) ≡ true → list_any test xs ≡ true
 any_from test [] k d lt h = absurd (omega arith)
 any_from test (x ∷ xs) zero d lt h = or_left (test x) (list_any test xs) h
 any_from test (x ∷ xs) (suc k) d lt h = or_right (test x) (list_any test xs) (any_from test xs k d (omega arith) h)

@@ -4,10 +4,11 @@ use Rattle.std.specs.Prelude.{encode_utf8_all, IfOk, OnOk}
 use Rattle.std.specs.Char.{encode_utf8}
 use Rattle.std.specs.List.{swap}
 use Rattle.std.proofs.lemmas.Bool.{cases_lt, cond-true, cond-false}
-use Rattle.std.proofs.lemmas.List.{append-nil, map-append, take-map, drop-map, length-map, length-append, length-drop, drop_more, drop_all, take_all, take_more, take-append-drop, take-set-le, drop-set-lt, get_or-set_same, get_or-set_other, get_or_default, length-set, take_at, drop_at, get_or-drop}
+use Rattle.std.proofs.lemmas.List.{append-nil, map-append, take-map, drop-map, length-map, length-append, length-drop, drop_more, take_more, take-set-le, drop-set-lt, get_or-set_same, get_or-set_other, get_or_default, length-set, take_at, drop_at, get_or-drop}
+use Rattle.lic_kind.specs.Kinds.{spell}
 use Rattle.lic_lines.specs.Sources.{SourceChar}
 use Rattle.lic_lines.specs.LineRules.{LineRules}
-use Rattle.lic_lines.specs.Lines.{Cell, Blank, cell_of, blank_for, LineCut, left_of, cells_of_cut}
+use Rattle.lic_lines.specs.Lines.{Cell, Blank, Word, cell_of, blank_for, LineCut, left_of, cells_of_cut}
 use Rattle.lic_lines.specs.Runs.{runs_joined}
 use Rattle.lic_lines.specs.Tokens.{Token, cell_letters, letters_of, first_tokens, stretch_tokens, tokens_of_cells, is_sign_in_parentheses, sign_from, as_sign, single_signs, token_in, tokens_in}
 use Rattle.lic_lines.specs.declared.tokens.FirstToken.{FirstToken}
@@ -22,27 +23,13 @@ letters_more cells i lt =
     ap (λ l. encode_utf8_all (letters_of l)) (drop_more cells i Blank lt)
     ∙ encode_append (cell_letters (get_or cells i Blank)) (letters_of (drop (i + 1) cells))
 
+pub word_letters_more : (word : List SourceChar) (i : ℕ) (d : SourceChar) → i < length word
+    → encode_utf8_all (letters_of (map Word (drop i word))) ≡ encode_utf8_all (spell (get_or word i d).char) ++ encode_utf8_all (letters_of (map Word (drop (i + 1) word)))
+word_letters_more word i d lt =
+    ap (λ l. encode_utf8_all (letters_of (map Word l))) (drop_more word i d lt)
+    ∙ encode_append (spell (get_or word i d).char) (letters_of (map Word (drop (i + 1) word)))
+
 -- ---- stretches
-
-pub stretch_none : (rules : LineRules) → stretch_tokens rules [] ≡ []
-stretch_none rules = ap first_tokens (no_runs rules)
-
--- a blank cuts a stretch
-pub stretch_cut : (rules : LineRules) (text : List SourceChar) (n : ℕ) → n ≤ length text → (n < length text → drop n (map cell_of text) ≡ Blank ∷ map cell_of (drop (n + 1) text))
-    → stretch_tokens rules text ≡ stretch_tokens rules (take n text) ++ stretch_tokens rules (drop (n + 1) text)
-stretch_cut rules text n within blank =
-    let xs = map cell_of (take n text) in
-    let ys = map cell_of (drop (n + 1) text) in
-    ⊎_elim
-    (λ inside.
-    ap (λ l. first_tokens (runs_joined rules l)) (sym (take-append-drop n (map cell_of text)) ∙ ap₂ (λ a b. a ++ b) (take-map cell_of n text) (blank inside))
-    ∙ ap first_tokens (runs_joined-gap rules xs ys)
-    ∙ first_tokens-gap (runs_joined rules xs) (runs_joined rules ys))
-    (λ end.
-    ap (stretch_tokens rules) (sym (take_all n text end))
-    ∙ sym (append-nil (stretch_tokens rules (take n text)))
-    ∙ ap (λ l. stretch_tokens rules (take n text) ++ l) (sym (ap (stretch_tokens rules) (drop_all (n + 1) text (omega arith)) ∙ stretch_none rules)))
-    (cases_lt n (length text))
 
 -- blanks for what was taken give no token
 tokens_of_blank : (rules : LineRules) (n : ℕ) (cells : List Cell) → first_tokens (runs_joined rules (blank_for n ++ cells)) ≡ first_tokens (runs_joined rules cells)

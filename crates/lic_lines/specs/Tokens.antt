@@ -42,6 +42,14 @@ tokens_from after_blank ((Blank ∷ cells) ∷ groups) = tokens_from true groups
 tokens_from after_blank ((Mark s ∷ cells) ∷ groups) = token_of after_blank s (Mark s ∷ cells) ∷ tokens_from false groups
 tokens_from after_blank ((Word s ∷ cells) ∷ groups) = token_of after_blank s (Word s ∷ cells) ∷ tokens_from false groups
 
+-- whether a blank stands behind the last token of these groups, where one stands before the first or does not
+abbrev pub blank_behind : Bool → List (List Cell) → Bool
+blank_behind after_blank [] = after_blank
+blank_behind after_blank ([] ∷ groups) = blank_behind after_blank groups
+blank_behind after_blank ((Blank ∷ cells) ∷ groups) = blank_behind true groups
+blank_behind after_blank ((Mark s ∷ cells) ∷ groups) = blank_behind false groups
+blank_behind after_blank ((Word s ∷ cells) ∷ groups) = blank_behind false groups
+
 -- each longest run of word characters, and each mark
 abbrev pub first_tokens : List Cell → List Token
 first_tokens cells = tokens_from true (groups both_words cells)
@@ -83,6 +91,10 @@ line_tokens rules part line = tokens_of_cells rules (line_cells rules part line)
 -- the tokens of a whole text
 abbrev pub text_tokens : LineRules → List SourceChar → List Token
 text_tokens rules text = tokens_of_cells rules (cells_of rules text)
+
+-- the first tokens of characters of which nothing is taken, where a blank stands before them or does not
+abbrev pub tokens_after : LineRules → Bool → List SourceChar → List Token
+tokens_after rules after_blank text = tokens_from after_blank (groups both_words (runs_joined rules (map cell_of text)))
 
 -- the first tokens of characters of which nothing is taken
 abbrev pub stretch_tokens : LineRules → List SourceChar → List Token

@@ -1,5 +1,6 @@
 -- What the code keeps while it walks over a line from one side.
-use Rattle.std.specs.Prelude.{◌≡◌, ◌≢◌, ℕ, zero, suc, ◌-◌, ◌<◌, ◌≤◌, Bool, true, false, ◌&&◌, ◌||◌, List, [], length, take, reverse, slice_index, slice_index_or, slice_range, bytes_eq}
+use Rattle.std.specs.Prelude.{◌≡◌, ◌≢◌, ℕ, zero, suc, ◌-◌, ◌<◌, ◌≤◌, Bool, true, false, ◌&&◌, ◌||◌, ◌==◌, List, [], ◌∷◌, length, take, reverse, slice_index, slice_index_or, slice_range, bytes_eq}
+use Rattle.std.specs.List.{list_any}
 use Rattle.std.specs.Char.{is_whitespace}
 use Rattle.lic_lines.specs.Texts.{is_row, ends_in}
 use Rattle.lic_lines.specs.LineRules.{LineRules}
@@ -31,6 +32,15 @@ side_spaced rules End = rules.tail_space
 abbrev pub side_repeated : LineRules → Side → List (List ℕ)
 side_repeated rules Front = []
 side_repeated rules End = rules.tail_repeat
+
+-- whether a text begins in white space or in this character
+abbrev pub opens_in : ℕ → List ℕ → Bool
+opens_in c [] = false
+opens_in c (d ∷ text) = is_whitespace d || (d == c)
+
+-- whether one of the texts of this side does, on the way
+abbrev pub may_open : LineRules → Side → ℕ → Bool
+may_open rules side c = list_any (λ t. opens_in c (walked side t)) (side_texts rules side) || (list_any (λ t. opens_in c (walked side t)) (side_spaced rules side) || list_any (λ t. opens_in c (walked side t)) (side_repeated rules side))
 
 -- whether some number below n passes
 abbrev pub any_below : (ℕ → Bool) → ℕ → Bool

@@ -6,9 +6,9 @@ ghost use Rattle.lic_lines.specs.Lines.{cut_of};
 
 use crate::item::item_length;
 use crate::line_part::LinePart;
-use crate::rows::longest_row;
 use crate::rules::Rules;
 use crate::source::SourceChar;
+use crate::space_rows::row_length;
 use crate::walk::Side;
 use std::alloc::{AllocError, Global};
 
@@ -31,7 +31,7 @@ pub(crate) fn cut_line(
     ensures within { IfOk result (λ cut. cut.lead + cut.item + cut.tail ≤ length line.now) }
 {
     let lead = if part.has_front {
-        longest_row(alloc, rules, Side::Front, line)?
+        row_length(alloc, rules, Side::Front, line)?
     } else {
         0
     };
@@ -43,7 +43,7 @@ pub(crate) fn cut_line(
     };
     let left = &rest[item..];
     let tail = if part.has_end {
-        longest_row(alloc, rules, Side::End, left)?
+        row_length(alloc, rules, Side::End, left)?
     } else {
         0
     };

@@ -5,6 +5,7 @@
 pub mod cell;
 pub mod cut;
 mod item;
+pub mod laws;
 mod line;
 pub mod line_part;
 mod rows;
@@ -12,8 +13,10 @@ pub mod rules;
 mod runs;
 mod signs;
 pub mod source;
+mod space_rows;
 #[cfg(test)]
 mod tests;
+mod text;
 pub mod tokens;
 mod walk;
 

@@ -1,9 +1,9 @@
 //! From a line to its tokens.
-ghost use Rattle.std.specs.Prelude.{◌≡◌, ◌++◌, ◌≤◌, ◌+◌, ◌<◌, ◌∷◌, length, map, drop, IfOk, OnOk};
+ghost use Rattle.std.specs.Prelude.{◌≡◌, ◌++◌, map, IfOk, OnOk};
 ghost use Rattle.lic_lines.specs.LineRules.{rules_of};
-ghost use Rattle.lic_lines.specs.Lines.{cell_of, blank_for, line_cells, Blank};
+ghost use Rattle.lic_lines.specs.Lines.{cell_of, blank_for, line_cells};
 ghost use Rattle.lic_lines.specs.Runs.{runs_joined};
-ghost use Rattle.lic_lines.specs.Tokens.{stretch_tokens, line_tokens, tokens_in};
+ghost use Rattle.lic_lines.specs.Tokens.{line_tokens, tokens_in};
 
 use crate::cell::Cell;
 use crate::cut::cut_line;
@@ -12,7 +12,8 @@ use crate::rules::Rules;
 use crate::runs::Runs;
 use crate::signs::join_single_signs;
 use crate::source::SourceChar;
-use crate::tokens::{FirstToken, push_first_tokens};
+use crate::text::push_text;
+use crate::tokens::FirstToken;
 use lic_kind::{Kind, kind_of};
 use std::alloc::{AllocError, Global};
 
@@ -28,7 +29,7 @@ fn cell_of(s: SourceChar) -> Cell
 }
 
 /// Adds the cells of these characters.
-fn push_cells(cells: &mut Vec<Cell>, text: &[SourceChar]) -> Result<(), AllocError>
+pub(crate) fn push_cells(cells: &mut Vec<Cell>, text: &[SourceChar]) -> Result<(), AllocError>
     ensures { OnOk result (cells.new.items ≡ cells.old.items ++ map cell_of text.now) }
 {
     for s in text {
@@ -45,19 +46,6 @@ fn push_blank_for(cells: &mut Vec<Cell>, length: usize) -> Result<(), AllocError
         cells.push(Cell::Blank)?;
     }
     Ok(())
-}
-
-/// Where the first blank stands, or how many characters there are.
-fn first_blank(text: &[SourceChar]) -> usize
-    ensures within { result ≤ length text.now }
-    ensures blank { result < length text.now → drop result (map cell_of text.now) ≡ Blank ∷ map cell_of (drop (result + 1) text.now) }
-{
-    for (place, s) in text.iter().enumerate() {
-        if let Cell::Blank = cell_of(*s) {
-            return place;
-        }
-    }
-    text.len()
 }
 
 /// What a line leaves after its runs of marks are joined: the blanks, marks and word characters that its tokens
@@ -83,44 +71,6 @@ pub fn cells_of_line(
     let mut runs = Runs::new(alloc);
     let joined = runs.join(rules, &cells)?;
     Vec::from_slice(alloc, joined)
-}
-
-/// Adds the first tokens of a stretch of text. The cells and runs are room for it, whatever they hold.
-fn push_stretch(
-    alloc: Global,
-    rules: &Rules,
-    text: &[SourceChar],
-    cells: &mut Vec<Cell>,
-    runs: &mut Runs,
-    out: &mut Vec<FirstToken>,
-) -> Result<(), AllocError>
-    ensures { OnOk result (tokens_in out.new.items ≡ tokens_in out.old.items ++ stretch_tokens (rules_of rules.now) text.now) }
-{
-    cells.clear();
-    push_cells(cells, text)?;
-    push_first_tokens(alloc, out, runs.join(rules, cells)?)
-}
-
-/// Adds the first tokens of a text, one stretch between blanks after the other.
-fn push_text(
-    alloc: Global,
-    rules: &Rules,
-    text: &[SourceChar],
-    out: &mut Vec<FirstToken>,
-) -> Result<(), AllocError>
-    ensures { OnOk result (tokens_in out.new.items ≡ tokens_in out.old.items ++ stretch_tokens (rules_of rules.now) text.now) }
-{
-    let mut cells = Vec::new(alloc);
-    let mut runs = Runs::new(alloc);
-    let mut at = 0;
-    while at < text.len() {
-        let end = at + first_blank(&text[at..]);
-        if end > at {
-            push_stretch(alloc, rules, &text[at..end], &mut cells, &mut runs, out)?;
-        }
-        at = end + 1;
-    }
-    Ok(())
 }
 
 /// Adds the tokens of one line, by this project's profile of the matching guidelines of SPDX 2.3, Annex B: without

@@ -134,7 +134,7 @@ fn run_front(flags: &[bool], line: &[SourceChar], side: Side, k: usize, first: u
 }
 
 /// The texts that are pieces at this side.
-fn side_texts(rules: &Rules, side: Side) -> &Texts
+pub(crate) fn side_texts(rules: &Rules, side: Side) -> &Texts
     ensures { texts_of result.now ≡ side_texts (rules_of rules.now) side }
 {
     match side {
@@ -144,7 +144,7 @@ fn side_texts(rules: &Rules, side: Side) -> &Texts
 }
 
 /// The texts that are pieces at this side together with one white space character.
-fn side_spaced(rules: &Rules, side: Side) -> &Texts
+pub(crate) fn side_spaced(rules: &Rules, side: Side) -> &Texts
     ensures { texts_of result.now ≡ side_spaced (rules_of rules.now) side }
 {
     match side {

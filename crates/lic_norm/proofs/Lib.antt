@@ -12,4 +12,4 @@ pub mod ReadingLemmas
 pub mod TextLemmas
 pub mod PieceLines
 pub mod SpellingPlaces
-mod PieceCases
+mod examples

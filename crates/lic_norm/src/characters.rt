@@ -1,17 +1,23 @@
 //! Source characters of a text.
-ghost use Rattle.std.specs.Prelude.{◌≡◌, ◌+◌, ◌<◌, ◌^◌, length, IfOk};
+ghost use Rattle.std.specs.Prelude.{◌≡◌, ◌+◌, ◌<◌, ◌^◌, length, OnOk};
 ghost use Rattle.lic_lines.specs.Sources.{source_of, without_dropped};
 
 use lic_kind::is_dropped;
 use lic_lines::SourceChar;
-use std::alloc::{AllocError, Global};
+use std::alloc::AllocError;
 
-/// The characters of a text that begins at this byte of the input, without the dropped ones.
-pub(crate) fn characters(alloc: Global, at: u32, text: &str) -> Result<Vec<SourceChar>, AllocError>
+/// Puts the characters of a text that begins at this byte of the input, without the dropped ones, in the
+/// place of those that are there.
+pub(crate) fn read_characters(
+    characters: &mut Vec<SourceChar>,
+    at: u32,
+    text: &str,
+) -> Result<(), AllocError>
     requires { at + length text.now < 2 ^ 32 }
-    ensures { IfOk result (λ characters. characters.items ≡ without_dropped (source_of at text.now)) }
+    ensures { OnOk result (characters.new.items ≡ without_dropped (source_of at text.now)) }
 {
-    let mut characters = Vec::with_capacity(alloc, text.len())?;
+    characters.clear();
+    characters.reserve(text.len())?;
     let mut start = at;
     for char in text.chars() {
         let end = start + char.len_utf8() as u32;
@@ -20,5 +26,5 @@ pub(crate) fn characters(alloc: Global, at: u32, text: &str) -> Result<Vec<Sourc
         }
         start = end;
     }
-    Ok(characters)
+    Ok(())
 }

@@ -188,8 +188,8 @@ pub fn piece(
 {
     let Left { cells, tokens } = left_of(alloc, text, at_line_start, before)?;
     let mut rewriting = Rewriting::new(alloc, words.phrases());
-    rewriting.take(alloc, tokens)?;
-    let tokens = rewriting.finish(alloc)?;
+    rewriting.take(tokens)?;
+    let tokens = rewriting.finish()?;
     let letters = spelled(alloc, &tokens)?;
     with_edges(alloc, &cells, letters.as_str())
 }

@@ -7,7 +7,7 @@ ghost use Rattle.lic_norm.specs.Tokens.{reported};
 
 use crate::token_list::TokenList;
 use lic_lines::FirstToken;
-use lic_phrases::{Phrases, Rewriter};
+use lic_phrases::{FinalToken, Phrases, Rewriter};
 use std::alloc::{AllocError, Global};
 
 /// Takes the first tokens of a text, and lists the tokens of its rewriting.
@@ -16,6 +16,8 @@ pub(crate) struct Rewriting<'w> {
     phrases: &'w Phrases,
     rewriter: Rewriter,
     tokens: TokenList,
+    /// Room for the tokens that are settled together.
+    settled: Vec<FinalToken>,
 }
 
 impl<'w> Rewriting<'w> {
@@ -28,33 +30,35 @@ impl<'w> Rewriting<'w> {
             phrases,
             rewriter: Rewriter::new(alloc),
             tokens: TokenList::new(alloc),
+            settled: Vec::new(alloc),
         }
     }
 
     /// Takes the next tokens, and lists those that are settled then.
-    pub(crate) fn take(&mut self, alloc: Global, tokens: Vec<FirstToken>) -> Result<(), AllocError>
+    pub(crate) fn take(&mut self, tokens: Vec<FirstToken>) -> Result<(), AllocError>
         ensures taken { OnOk result ((taken : List Token) → HasTaken self.old taken → HasTaken self.new (taken ++ tokens_in tokens.items)) }
         ensures phrases { self.new.phrases.now ≡ self.old.phrases.now }
     {
-        let mut settled = Vec::new(alloc);
+        self.settled.clear();
         for token in tokens {
-            self.rewriter.push(self.phrases, token, &mut settled)?;
-            self.tokens.extend(self.phrases, &settled)?;
-            settled.clear();
+            self.rewriter.push(self.phrases, token, &mut self.settled)?;
+            self.tokens.extend(self.phrases, &self.settled)?;
+            self.settled.clear();
         }
         Ok(())
     }
 
     /// The tokens of the whole text.
-    pub(crate) fn finish(self, alloc: Global) -> Result<TokenList, AllocError>
+    pub(crate) fn finish(self) -> Result<TokenList, AllocError>
         ensures { IfOk result (λ tokens. (taken : List Token) → HasTaken self.entry taken → tokens ≡ map reported (rewritten self.entry.phrases.now.phrases taken)) }
     {
         let Rewriting {
             phrases,
             rewriter,
             mut tokens,
+            mut settled,
         } = self;
-        let mut settled = Vec::new(alloc);
+        settled.clear();
         rewriter.finish(phrases, &mut settled)?;
         tokens.extend(phrases, &settled)?;
         Ok(tokens)

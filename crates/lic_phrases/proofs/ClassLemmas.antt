@@ -40,7 +40,7 @@ pub equivalent_more : {A : Type 0} (lines more : List (List A)) (p q : A) → ((
 equivalent_more lines more p q up (xs, a) = (xs, leads_more lines more p q xs up a)
 
 -- what is alike on each line is alike along a chain
-leads_alike : {A : Type 0} {B : Type 0} (lines : List (List A)) (f : A → B) (p q : A) (xs : List A) → ((x y : A) → OnOneLine lines x y → f x ≡ f y) → Leads lines p xs q → f p ≡ f q
+pub leads_alike : {A : Type 0} {B : Type 0} (lines : List (List A)) (f : A → B) (p q : A) (xs : List A) → ((x y : A) → OnOneLine lines x y → f x ≡ f y) → Leads lines p xs q → f p ≡ f q
 leads_alike lines f p q [] alike e = ap f e
 leads_alike lines f p q (x ∷ xs) alike (one, rest) = alike p x one ∙ leads_alike lines f x q xs alike rest
 

@@ -5,7 +5,6 @@ pub mod PhraseListLemmas
 pub mod PhraseLemmas
 pub mod MergingLemmas
 pub mod SettlingLemmas
-pub mod RewritingExamples
 pub mod ClassLemmas
 pub mod LineClasses
 pub mod WordClasses
@@ -19,5 +18,5 @@ pub mod PhraseBlanks
 pub mod PhraseTokens
 pub mod WordsComputed
 pub mod ComputedLemmas
-pub mod WordExamples
+mod examples
 pub mod SpelledTexts

@@ -1,9 +1,9 @@
 //! Phrases become one token each.
-ghost use Rattle.std.specs.Prelude.{◌≡◌, ◌≤◌, ◌<◌, ◌++◌, [], ℕ, List, IfOk, IfSome, IsTrue, OnOk};
+ghost use Rattle.std.specs.Prelude.{◌≡◌, ◌≤◌, ◌<◌, ◌++◌, ◌∷◌, [], ℕ, false, None, List, IfOk, IfSome, IsTrue, OnOk};
 ghost use Rattle.std.specs.Prelude.{drop, length, map, option_map, take};
 ghost use Rattle.std.specs.Option.{ForSome};
 ghost use Rattle.std.specs.VecDeque.{deque_len};
-ghost use Rattle.lic_lines.specs.Tokens.{Token, tokens_in};
+ghost use Rattle.lic_lines.specs.Tokens.{Token, token_in, tokens_in};
 ghost use Rattle.lic_phrases.specs.Waiting.{texts_of, front_phrase, phrase_found, spanned_in};
 ghost use Rattle.lic_phrases.specs.Waiting.{count_found, first_given, GivesMore, AreKnown};
 ghost use Rattle.lic_phrases.specs.Rewriting.{end_of_last};
@@ -133,4 +133,42 @@ pub(crate) fn give_known(
         give_first(waiting, found, output)?;
     }
     Ok(())
+}
+
+/// Gives a token by itself.
+fn give_alone(token: FirstToken, output: &mut Vec<FinalToken>) -> Result<(), AllocError>
+    ensures given { OnOk result ((spellings : List (List ℕ))
+        → map (spanned_in spellings) output.new.items
+        ≡ map (spanned_in spellings) output.old.items
+        ++ first_given spellings None (token_in token ∷ [])) }
+    ensures known { (count : ℕ) → AreKnown count output.old.items → OnOk result (AreKnown count output.new.items) }
+{
+    output.push(FinalToken {
+        text: TokenText::Own(token.text),
+        start: token.start,
+        end: token.end,
+    })?;
+    Ok(())
+}
+
+/// Takes the next token, and gives waiting tokens as long as the longest phrase in front of them is known.
+pub(crate) fn take_token(
+    phrases: &Phrases,
+    token: FirstToken,
+    waiting: &mut VecDeque<FirstToken>,
+    key: &mut Vec<u8>,
+    output: &mut Vec<FinalToken>,
+) -> Result<(), AllocError>
+    ensures given { OnOk result (GivesMore phrases.now false output.old.items
+        (waiting.old.items ++ token ∷ []) output.new.items waiting.new.items) }
+    ensures few { OnOk result (deque_len waiting.new ≤ 7) }
+    ensures known { AreKnown (length phrases.now.spellings) output.old.items
+        → OnOk result (AreKnown (length phrases.now.spellings) output.new.items) }
+{
+    // Most tokens begin no phrase, and none waits before them.
+    if waiting.is_empty() && phrases.most_from(token.text.as_str()) == 0 {
+        return give_alone(token, output);
+    }
+    waiting.push_back(token)?;
+    give_known(phrases, false, waiting, key, output)
 }

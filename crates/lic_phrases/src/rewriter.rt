@@ -8,7 +8,7 @@ ghost use Rattle.lic_phrases.specs.Waiting.{spanned_in, AreKnown};
 
 use crate::address::{Window, push_address};
 use crate::final_token::FinalToken;
-use crate::merging::give_known;
+use crate::merging::{give_known, take_token};
 use crate::phrases::Phrases;
 use crate::sign_rows::push_sign;
 use lic_lines::FirstToken;
@@ -100,8 +100,7 @@ impl Rewriter {
         let Some(settled) = push_address(&mut self.address, row) else {
             return Ok(());
         };
-        self.waiting.push_back(settled)?;
-        give_known(phrases, false, &mut self.waiting, &mut self.key, output)
+        take_token(phrases, settled, &mut self.waiting, &mut self.key, output)
     }
 
     /// Ends the text: puts the tokens that were kept back at the end of the output. It is then

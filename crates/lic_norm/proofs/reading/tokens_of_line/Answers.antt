@@ -8,5 +8,5 @@ use Rattle.lic_norm.proofs.reading.tokens_of_line.Goals as goal
 pub returns : goal.returns
 returns c =
     line_tokens_of-is _ c.args.at c.args.line.now _ _
-    (c.in_ok-push_tokens_of_line.ensures ∙ ap (λ ts. tokens_in ts ++ line_tokens (rules_of c.args.rules.now) whole_line c.deref.result.now) c.new-tokens.ensures.items)
-    c.requires.profile (c.deref.ensures.value ∙ c.in_ok-characters.ensures)
+    (c.in_ok-push_tokens_of_line.ensures ∙ ap (λ ts. tokens_in ts ++ line_tokens (rules_of c.args.rules.now) whole_line c.deref.result.now) c.in_ok-tokens.ensures.items)
+    c.requires.profile (c.deref.ensures.value ∙ c.in_ok-read_characters.ensures)

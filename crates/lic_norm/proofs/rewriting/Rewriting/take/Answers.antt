@@ -19,7 +19,7 @@ loop-token-preserved c =
           let has = known.taken front before in
           let taken = front ++ tokens_in yielded in
           let given = texts c.push.new.output.items in
-          let none = nothing_waits self.phrases.now.spellings has.settled c.loop-token.settled.items known.emptied in
+          let none = nothing_waits self.phrases.now.spellings has.settled self.settled.items known.emptied in
           let settles = c.in_ok-push.ensures.settles has.settled taken (subst (λ l. Settles words taken l self.rewriter) (sym none) has.settles) in record {
             settled = has.settled ++ given;
             settles = subst (λ ts. Settles words ts (has.settled ++ given) c.push.new.self)
@@ -28,5 +28,5 @@ loop-token-preserved c =
                 (c.in_ok-extend.ensures ∙ ap (λ l. self.tokens ++ map reported (texts l)) c.deref.ensures.value);
           };
       phrases = known.phrases;
-      emptied = c.clear.ensures.items;
+      emptied = c.clear-in-loop-token.ensures.items;
     }

@@ -8,5 +8,5 @@ abbrev pub invariant-loop-token : goal.invariant-loop-token
 invariant-loop-token l = record {
   taken : (taken : List Token) → HasTaken l.fn.self taken → HasTaken l.self (taken ++ tokens_in l.yielded);
   phrases : l.self.phrases.now ≡ l.fn.self.phrases.now;
-  emptied : l.settled.items ≡ [];
+  emptied : l.self.settled.items ≡ [];
 }

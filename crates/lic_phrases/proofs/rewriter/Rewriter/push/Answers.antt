@@ -55,14 +55,14 @@ returns-clause-settles c =
     let waiting = tokens_in fields.waiting.items in
     let given = token_in c.in-Some-push_address.settled in
     let old = map (spanned_in spellings) c.args.output.now.items in
-    let new = map (spanned_in spellings) c.give_known.new.output.items in
-    let waiting' = tokens_in c.give_known.new.waiting.items in
-    OnOk-both c.give_known.result _ _ _
+    let new = map (spanned_in spellings) c.take_token.new.output.items in
+    let waiting' = tokens_in c.take_token.new.waiting.items in
+    OnOk-both c.take_token.result _ _ _
     (λ more few. λ front taken before.
     let settled = front ++ old in
     let settled' = front ++ new in
     let inside = subst (Settles words taken settled) (sym c.self.view_is) before in
-    let pushed = ap tokens_in c.in_ok-push_back.ensures.items ∙ map-append token_in fields.waiting.items (c.in-Some-push_address.settled ∷ []) in
+    let pushed = map-append token_in fields.waiting.items (c.in-Some-push_address.settled ∷ []) in
     Settles-more words taken settled settled'
     (record { sign = held fields.sign; address = tokens_in_window fields.address; phrase = waiting })
     (record { sign = held c.push_sign.new.last; address = tokens_in_window c.push_address.new.window; phrase = waiting' })
@@ -73,6 +73,6 @@ returns-clause-settles c =
     (λ rest.
     ap (λ l. settled ++ map spanned (phrases_joined words l)) (sym (append_assoc waiting (given ∷ []) rest) ∙ ap (λ l. l ++ rest) (sym pushed))
     ∙ behind_front front old new _ _ (more rest (λ e. absurd (false≢true e))))
-    (IsShort-held c.push_sign.new.last c.push_address.new.window waiting' (omega (arith, length-map c.give_known.new.waiting.items token_in, few))))
-    c.give_known.ensures.given
-    c.give_known.ensures.few
+    (IsShort-held c.push_sign.new.last c.push_address.new.window waiting' (omega (arith, length-map c.take_token.new.waiting.items token_in, few))))
+    c.take_token.ensures.given
+    c.take_token.ensures.few

@@ -5,7 +5,7 @@ use Rattle.std.specs.Str.Iter.{chars_rest}
 use Rattle.std.proofs.lemmas.Str.{encodes-chars, length-encode}
 use Rattle.lic_lines.specs.Sources.{source_of, placed, without_dropped}
 use Rattle.lic_norm.proofs.NextChars.{next_char, none_left, kept, left_out}
-use Rattle.lic_norm.proofs.characters.characters.Goals as goal
+use Rattle.lic_norm.proofs.characters.read_characters.Goals as goal
 
 pub overflow_add-end : goal.overflow_add-end
 overflow_add-end c =
@@ -19,7 +19,7 @@ loop-char-init c =
     let text = c.args.text.now in
     let all = encodes-chars text c.utf8.text in
     let rest : chars_rest c.into_iter-char-iterator.result ≡ text = ap chars_rest c.into_iter-char-iterator.ensures.into_iter_gives ∙ c.chars-char-items.ensures.rest in
-    (chars text, all ∙ sym rest, ap (λ l. c.args.at + length l) all, ap (λ l. l ++ without_dropped (source_of c.args.at text)) c.in_ok-characters.ensures.items)
+    (chars text, all ∙ sym rest, ap (λ l. c.args.at + length l) all, ap (λ l. l ++ without_dropped (source_of c.args.at text)) (c.in_ok-reserve.ensures.items ∙ c.clear.ensures.items))
 
 pub loop-char-preserved-in_ok-push : goal.loop-char-preserved-in_ok-push
 loop-char-preserved-in_ok-push c =

@@ -2,7 +2,7 @@ use Rattle.std.proofs.Common.{◌≡◌, ℕ, ◌+◌, ◌++◌, List, length}
 use Rattle.std.specs.Str.{encode_utf8_all}
 use Rattle.std.specs.Str.Iter.{chars_rest}
 use Rattle.lic_lines.specs.Sources.{source_of, placed, without_dropped}
-use Rattle.lic_norm.proofs.characters.characters.Given as goal
+use Rattle.lic_norm.proofs.characters.read_characters.Given as goal
 
 -- the characters so far, and those that are left
 abbrev pub invariant-loop-char : goal.invariant-loop-char

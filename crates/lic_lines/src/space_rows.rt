@@ -1,0 +1,111 @@
+//! The longest row of pieces at a side of a line, which is mostly white space alone.
+ghost use Rattle.std.specs.Prelude.{◌≡◌, ◌≢◌, ◌||◌, ◌+◌, ◌<◌, ◌≤◌, ℕ, true, false, length, slice_index, IfOk, IfSome};
+ghost use Rattle.std.specs.Char.{is_whitespace};
+ghost use Rattle.std.specs.List.{list_any};
+ghost use Rattle.lic_lines.specs.Sources.{chars_of};
+ghost use Rattle.lic_lines.specs.LineRules.{texts_of, rules_of};
+ghost use Rattle.lic_lines.specs.Texts.{is_row, longest_front};
+ghost use Rattle.lic_lines.specs.Walks.{walked, is_walked_piece, opens_in, may_open};
+
+use crate::rows::{longest_row, side_spaced, side_texts};
+use crate::rules::{Rules, Texts};
+use crate::source::SourceChar;
+use crate::walk::{Side, char_at};
+use std::alloc::{AllocError, Global};
+
+/// Whether a text begins, on the way from this side, in white space or in this character.
+fn opens_in(c: char, side: Side, text: &[char]) -> bool
+    ensures { result ≡ opens_in c (walked side text.now) }
+{
+    if text.is_empty() {
+        return false;
+    }
+    let first = match side {
+        Side::Front => text[0],
+        Side::End => text[text.len() - 1],
+    };
+    first.is_whitespace() | (first == c)
+}
+
+/// Whether one of these texts does.
+fn any_opens_in(c: char, side: Side, texts: &Texts) -> bool
+    ensures { result ≡ list_any (λ t. opens_in c (walked side t)) (texts_of texts.now) }
+{
+    for i in 0..texts.len() {
+        if opens_in(c, side, texts.get(i)) {
+            return true;
+        }
+    }
+    false
+}
+
+/// Whether one of the texts of a side begins in white space or in this character.
+fn may_open(rules: &Rules, side: Side, c: char) -> bool
+    ensures { result ≡ may_open (rules_of rules.now) side c }
+{
+    let texts = any_opens_in(c, side, side_texts(rules, side));
+    let spaced = any_opens_in(c, side, side_spaced(rules, side));
+    let repeated = match side {
+        Side::Front => false,
+        Side::End => any_opens_in(c, side, &rules.tail_repeat),
+    };
+    texts | (spaced | repeated)
+}
+
+/// How many characters on the way from a side are white space.
+fn spaces(side: Side, line: &[SourceChar]) -> usize
+    ensures within { result ≤ length line.now }
+    ensures all { (i : ℕ) → i < result → is_whitespace (slice_index (walked side (chars_of line.now)) i) ≡ true }
+    ensures stop { result < length line.now → is_whitespace (slice_index (walked side (chars_of line.now)) result) ≡ false }
+{
+    let mut count = 0;
+    while count < line.len() && char_at(line, side, count).is_whitespace() {
+        count += 1;
+    }
+    count
+}
+
+/// Whether three of one same character stand at this place of the way.
+fn three_alike(side: Side, line: &[SourceChar], place: usize) -> bool
+    requires { place < length line.now }
+    ensures { result ≡ false → place + 2 < length line.now
+        → slice_index (walked side (chars_of line.now)) (place + 1) ≡ slice_index (walked side (chars_of line.now)) place
+        → slice_index (walked side (chars_of line.now)) (place + 2) ≢ slice_index (walked side (chars_of line.now)) place }
+{
+    let c = char_at(line, side, place);
+    line.len() - place > 2
+        && char_at(line, side, place + 1) == c
+        && char_at(line, side, place + 2) == c
+}
+
+/// How long the longest row of pieces is where it is white space alone, as far as the character behind
+/// that tells.
+fn space_row(rules: &Rules, side: Side, line: &[SourceChar]) -> Option<usize>
+    ensures row { IfSome result (λ n. n ≡ longest_front (is_row (is_walked_piece (rules_of rules.now) side)) (walked side (chars_of line.now))) }
+    ensures within { IfSome result (λ n. n ≤ length line.now) }
+{
+    let count = spaces(side, line);
+    if count >= line.len() || three_alike(side, line, count) {
+        return None;
+    }
+    if may_open(rules, side, char_at(line, side, count)) {
+        return None;
+    }
+    Some(count)
+}
+
+/// How long the longest row of pieces is that stands at this side of a line.
+pub fn row_length(
+    alloc: Global,
+    rules: &Rules,
+    side: Side,
+    line: &[SourceChar],
+) -> Result<usize, AllocError>
+    ensures row { IfOk result (λ n. n ≡ longest_front (is_row (is_walked_piece (rules_of rules.now) side)) (walked side (chars_of line.now))) }
+    ensures within { IfOk result (λ n. n ≤ length line.now) }
+{
+    match space_row(rules, side, line) {
+        Some(count) => Ok(count),
+        None => longest_row(alloc, rules, side, line),
+    }
+}

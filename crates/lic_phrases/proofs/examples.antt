@@ -1,0 +1,3 @@
+-- Computed equations: the check of what the definitions mean. Their expected values were made by an independent program.
+mod WordExamples
+mod RewritingExamples
