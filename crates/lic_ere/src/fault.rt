@@ -77,10 +77,14 @@ pub struct EreFault {
     pub cause: EreCause,
 }
 
-impl From<AllocError> for EreFault {
-    ghost from_gives = { λ _ e. e ≡ out_of_memory };
+impl EreFault {
+    ghost use Rattle.std.specs.Prelude.{◌≡◌};
+    ghost use Rattle.lic_ere.specs.Faults.{out_of_memory};
 
-    fn from(_e: AllocError) -> EreFault {
+    /// Want of memory, which is told at 0.
+    pub(crate) fn out_of_memory() -> EreFault
+        ensures { result ≡ out_of_memory }
+    {
         EreFault {
             place: 0,
             cause: EreCause::OutOfMemory,
@@ -88,13 +92,18 @@ impl From<AllocError> for EreFault {
     }
 }
 
+impl From<AllocError> for EreFault {
+    ghost from_gives = { λ _ e. e ≡ out_of_memory };
+
+    fn from(_e: AllocError) -> EreFault {
+        EreFault::out_of_memory()
+    }
+}
+
 impl<T: Drop> From<AllocFailed<T>> for EreFault {
     ghost from_gives = { λ _ e. e ≡ out_of_memory };
 
     fn from(_e: AllocFailed<T>) -> EreFault {
-        EreFault {
-            place: 0,
-            cause: EreCause::OutOfMemory,
-        }
+        EreFault::out_of_memory()
     }
 }

@@ -6,7 +6,7 @@ use std::test::Fail;
 const LETTERS: &str = "abcxz-]' [:/A";
 
 /// Patterns, and the tree or the fault of each.
-const PATTERNS: [(&str, &str); 57] = [
+const PATTERNS: [(&str, &str); 61] = [
     ("", "empty"),
     ("a{0,2}", "repeat<a,0,2>"),
     ("[]x]", "{x]}"),
@@ -64,6 +64,16 @@ const PATTERNS: [(&str, &str); 57] = [
     ("[\u{2014}\u{201D}\u{3000}]", "{-' }"),
     ("\\\"", "'"),
     ("[Ä]", "{}"),
+    (
+        "(((){65535}){65535}){65535}",
+        "repeat<repeat<repeat<empty,65535,65535>,65535,65535>,65535,65535>",
+    ),
+    (
+        "((a{65535}){65535}){0}",
+        "repeat<repeat<repeat<a,65535,65535>,65535,65535>,0,0>",
+    ),
+    ("a{2,1}[", "E3 at 1: bad bound"),
+    ("(a[b\\", "E4 at 2: bracket not closed"),
 ];
 
 fn write_set(class: &Class, out: &mut String) -> Result<(), AllocError> {
@@ -168,5 +178,24 @@ fn a_long_pattern(rt: HostRuntime) -> Result<(), Fail> {
         told(rt.alloc(), &pattern)?.as_str(),
         "E7 at 1043000: group not closed"
     );
+    Ok(())
+}
+
+#[test]
+fn a_copy_has_the_same_letters(rt: HostRuntime) -> Result<(), Fail> {
+    for (pattern, expected) in [
+        ("[^A-C]", "{xz-]' [:/A}"),
+        ("[]x]", "{x]}"),
+        ("[a-]", "{a-}"),
+    ] {
+        let tree = read(rt.alloc(), pattern).expect(&rt, "a bracket");
+        let Ere::Set(class) = tree else {
+            panic!(rt; "a set: {pattern}");
+        };
+        let copy = class.copy(rt.alloc())?;
+        let mut out = String::new(rt.alloc());
+        write_set(&copy, &mut out)?;
+        assert_eq!(rt; out.as_str(), expected);
+    }
     Ok(())
 }

@@ -6,4 +6,9 @@ pub mod FaultLemmas
 pub mod FieldLemmas
 pub mod ElementLemmas
 pub mod LineLemmas
+pub mod MeaningLemmas
+pub mod SpelledLemmas
+pub mod PieceLemmas
+pub mod PlaceLemmas
+pub mod PlainLemmas
 pub mod ReadingLemmas

@@ -1,5 +1,8 @@
 -- What a template stands for: a set of words over letters and blanks.
-use Rattle.std.specs.Prelude.{true, List, chars}
+use Rattle.std.specs.Prelude.{ℕ, Bool, true, List, map, chars}
+use Rattle.lic_phrases.specs.Rewriting.{Phrase, rewritten}
+use Rattle.lic_norm.specs.Pieces.{piece_tokens}
+use Rattle.lic_norm.specs.declared.pieces.Next.{Next}
 use Rattle.lic_words.specs.Expressions as words
 use Rattle.lic_words.specs.Expressions.{Expression}
 use Rattle.lic_ere.specs.Sets.{is_in}
@@ -49,3 +52,7 @@ parts_words ns = nodes_words (parts.row ns)
 -- the words of a part
 abbrev pub part_words : Part → Expression
 part_words part = node_words (part_of part)
+
+-- the texts of the tokens that are read from a piece of a template's text
+abbrev pub piece_texts : List Phrase → Bool → Next → List ℕ → List (List ℕ)
+piece_texts words at_line_start before piece = map (λ t. t.text) (rewritten words (piece_tokens at_line_start before piece))

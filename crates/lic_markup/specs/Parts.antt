@@ -1,5 +1,5 @@
 -- The parts of a template, without where they lie in memory.
-use Rattle.std.specs.Prelude.{ℕ, ◌+◌, ◌==◌, ◌||◌, not, Bool, false, List, [], ◌∷◌, length, map, chars}
+use Rattle.std.specs.Prelude.{ℕ, ◌+◌, ◌==◌, ◌||◌, not, Bool, false, IsTrue, List, [], ◌∷◌, length, map, chars}
 use Rattle.std.specs.List.{list_any}
 use Rattle.std.specs.String.{string_bytes}
 use Rattle.lic_ere.specs.Trees.{Tree, tree_of}
@@ -60,6 +60,14 @@ abbrev mutual
   pub row_has_token : Nodes → Bool
   row_has_token no_node = false
   row_has_token (one_more n ns) = has_token n || row_has_token ns
+
+-- what parts weigh together
+abbrev pub weight_of : List Part → ℕ
+weight_of parts = row_weight (row (map part_of parts))
+
+-- some text of the parts has a letter that is no blank
+abbrev pub GiveToken : List Part → Type 0
+GiveToken parts = IsTrue (row_has_token (row (map part_of parts)))
 
 -- what a template is to its callers: its parts, its weight, and its original text as UTF-8 bytes
 pub record TemplateValue : Type 0 where

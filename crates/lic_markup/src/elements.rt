@@ -1,6 +1,7 @@
 //! A template cut into pieces of plain text and rules.
 ghost use Rattle.std.specs.Prelude.{◌≡◌, ◌++◌, ◌∷◌, IfOk, OnOk, [], map, Some, None};
 ghost use Rattle.std.specs.Option.{option_map};
+ghost use Rattle.lic_ere.specs.Located.{located};
 ghost use Rattle.lic_markup.specs.Elements.{elements, element_read, behind_rule};
 ghost use Rattle.lic_markup.specs.Rules.{rule_at};
 ghost use Rattle.lic_markup.specs.Faults.{IsLasting};
@@ -9,6 +10,8 @@ ghost use Rattle.lic_markup.specs.Views.{element_of};
 use crate::fault::{MarkupCause, MarkupFault};
 use crate::rule::{Rule, read_rule};
 use crate::tag::{Tag, read_tag};
+use crate::texts::located;
+use memchr::memchr;
 use std::alloc::{AllocError, Global};
 use std::mem;
 
@@ -56,7 +59,7 @@ fn push_rule<'a>(
 }
 
 /// Cuts characters into pieces and rules in turn, up to the first rule that cannot be read.
-pub fn cut(alloc: Global, all: &[(usize, char)]) -> Result<Vec<Element>, AllocError>
+fn cut(alloc: Global, all: &[(usize, char)]) -> Result<Vec<Element>, AllocError>
     ensures { IfOk result (λ found. map element_of found.items ≡ elements [] 0 all.now) }
 {
     let mut found = Vec::new(alloc);
@@ -76,4 +79,20 @@ pub fn cut(alloc: Global, all: &[(usize, char)]) -> Result<Vec<Element>, AllocEr
     }
     found.push(Element::Text(piece))?;
     Ok(found)
+}
+
+/// The pieces and rules of a template in turn, up to the first rule that cannot be read. A text without a `<` is one
+/// piece.
+pub fn pieces_and_rules(alloc: Global, text: &str) -> Result<Vec<Element>, AllocError>
+    ensures { IfOk result (λ found. map element_of found.items ≡ elements [] 0 (located text.now)) }
+{
+    let characters = located(alloc, text)?;
+    match memchr(b'<', text.as_bytes()) {
+        Some(_) => cut(alloc, &characters),
+        None => {
+            let mut found = Vec::new(alloc);
+            found.push(Element::Text(characters))?;
+            Ok(found)
+        }
+    }
 }

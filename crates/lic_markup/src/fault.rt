@@ -75,10 +75,14 @@ pub struct MarkupFault {
     pub cause: MarkupCause,
 }
 
-impl From<AllocError> for MarkupFault {
-    ghost from_gives = { λ _ e. e ≡ out_of_memory };
+impl MarkupFault {
+    ghost use Rattle.std.specs.Prelude.{◌≡◌};
+    ghost use Rattle.lic_markup.specs.Faults.{out_of_memory};
 
-    fn from(_e: AllocError) -> MarkupFault {
+    /// Want of memory, which is told at 0.
+    pub(crate) fn out_of_memory() -> MarkupFault
+        ensures { result ≡ out_of_memory }
+    {
         MarkupFault {
             place: 0,
             cause: MarkupCause::OutOfMemory,
@@ -86,13 +90,18 @@ impl From<AllocError> for MarkupFault {
     }
 }
 
+impl From<AllocError> for MarkupFault {
+    ghost from_gives = { λ _ e. e ≡ out_of_memory };
+
+    fn from(_e: AllocError) -> MarkupFault {
+        MarkupFault::out_of_memory()
+    }
+}
+
 impl<T: Drop> From<AllocFailed<T>> for MarkupFault {
     ghost from_gives = { λ _ e. e ≡ out_of_memory };
 
     fn from(_e: AllocFailed<T>) -> MarkupFault {
-        MarkupFault {
-            place: 0,
-            cause: MarkupCause::OutOfMemory,
-        }
+        MarkupFault::out_of_memory()
     }
 }

@@ -4,6 +4,7 @@
 mod elements;
 mod fault;
 mod fields;
+pub mod laws;
 mod lines;
 mod part;
 mod reader;

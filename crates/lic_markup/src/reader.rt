@@ -1,9 +1,9 @@
 //! A template and its open optional parts while they are read.
-ghost use Rattle.std.specs.Prelude.{◌≡◌, OnOk, map};
+ghost use Rattle.std.specs.Prelude.{◌≡◌, ◌≤◌, IfOk, OnOk, map};
 ghost use Rattle.std.specs.String.{string_bytes};
 ghost use Rattle.lic_ere.specs.Reading as patterns;
 ghost use Rattle.lic_markup.specs.Faults.{Gives, told};
-ghost use Rattle.lic_markup.specs.Parts.{part_of, template_of};
+ghost use Rattle.lic_markup.specs.Parts.{GiveToken, part_of, template_of, weight_of};
 ghost use Rattle.lic_markup.specs.Reading as reading;
 ghost use Rattle.lic_markup.specs.Views.{element_of, level_of, state_of};
 
@@ -63,10 +63,7 @@ fn told(place: usize, fault: EreFault) -> MarkupFault
     ensures { result ≡ reading.told place fault }
 {
     match fault.cause {
-        EreCause::OutOfMemory => MarkupFault {
-            place: 0,
-            cause: MarkupCause::OutOfMemory,
-        },
+        EreCause::OutOfMemory => MarkupFault::out_of_memory(),
         _ => MarkupFault {
             place,
             cause: MarkupCause::Pattern(fault),
@@ -207,7 +204,10 @@ impl Reader {
 
     /// Behind the last element.
     pub fn finish(self) -> Result<Template, MarkupFault>
-        ensures { Gives template_of result (reading.finish (state_of self).level (state_of self).outer (state_of self).original) }
+        ensures exact { Gives template_of result (reading.finish (state_of self).level (state_of self).outer (state_of self).original) }
+        ensures weighed { IfOk result (λ t. t.weight ≡ weight_of t.parts) }
+        ensures light { IfOk result (λ t. t.weight ≤ 131072) }
+        ensures some_token { IfOk result (λ t. GiveToken t.parts) }
     {
         if !self.outer.is_empty() {
             return Err(MarkupFault {
@@ -221,7 +221,10 @@ impl Reader {
 
 /// The template of these parts, unless it has no token or is too heavy.
 fn whole(parts: Vec<Part>, original: String) -> Result<Template, MarkupFault>
-    ensures { Gives template_of result (reading.whole (map part_of parts.items) (string_bytes original)) }
+    ensures exact { Gives template_of result (reading.whole (map part_of parts.items) (string_bytes original)) }
+    ensures weighed { IfOk result (λ t. t.weight ≡ weight_of t.parts) }
+    ensures light { IfOk result (λ t. t.weight ≤ 131072) }
+    ensures some_token { IfOk result (λ t. GiveToken t.parts) }
 {
     if !have_token(&parts) {
         return Err(MarkupFault {

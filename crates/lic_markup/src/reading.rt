@@ -1,16 +1,15 @@
 //! Reading a template.
-ghost use Rattle.std.specs.Prelude.{◌≡◌, map, reverse};
+ghost use Rattle.std.specs.Prelude.{◌≡◌, ◌≤◌, IfOk, map, reverse};
 ghost use Rattle.lic_markup.specs.Faults.{Gives};
-ghost use Rattle.lic_markup.specs.Parts.{template_of};
+ghost use Rattle.lic_markup.specs.Parts.{GiveToken, template_of, weight_of};
 ghost use Rattle.lic_markup.specs.Reading.{start, read_on, reading};
 ghost use Rattle.lic_markup.specs.Views.{placed_of};
 
-use crate::elements::{Element, cut};
+use crate::elements::{Element, pieces_and_rules};
 use crate::fault::{MarkupCause, MarkupFault};
 use crate::lines::with_next;
 use crate::part::Template;
 use crate::reader::Reader;
-use crate::texts::located;
 use lic_norm::pieces::Next;
 use lic_norm::words::Words;
 use std::alloc::Global;
@@ -24,7 +23,10 @@ fn read_elements(
     words: &Words,
     elements: Vec<(Element, Next)>,
 ) -> Result<Template, MarkupFault>
-    ensures { Gives template_of result (read_on words.now start (map placed_of (reverse elements.items))) }
+    ensures exact { Gives template_of result (read_on words.now start (map placed_of (reverse elements.items))) }
+    ensures weighed { IfOk result (λ t. t.weight ≡ weight_of t.parts) }
+    ensures light { IfOk result (λ t. t.weight ≤ 131072) }
+    ensures some_token { IfOk result (λ t. GiveToken t.parts) }
 {
     let mut reader = Reader::new(alloc);
     let mut elements = elements;
@@ -39,6 +41,10 @@ fn read_elements(
 pub fn read_template(alloc: Global, text: &str, words: &Words) -> Result<Template, MarkupFault>
     // The parts, the weight and the original text, or the fault that decides, unless memory runs out.
     ensures exact { Gives template_of result (reading words.now text.now) }
+    // What a template weighs and holds, whatever was read.
+    ensures weighed { IfOk result (λ t. t.weight ≡ weight_of t.parts) }
+    ensures light { IfOk result (λ t. t.weight ≤ 131072) }
+    ensures some_token { IfOk result (λ t. GiveToken t.parts) }
 {
     if text.len() > MAX_LENGTH {
         return Err(MarkupFault {
@@ -46,7 +52,6 @@ pub fn read_template(alloc: Global, text: &str, words: &Words) -> Result<Templat
             cause: MarkupCause::TooLong,
         });
     }
-    let characters = located(alloc, text)?;
-    let elements = with_next(alloc, cut(alloc, &characters)?)?;
+    let elements = with_next(alloc, pieces_and_rules(alloc, text)?)?;
     read_elements(alloc, words, elements)
 }

@@ -41,6 +41,31 @@ fn the_fault_that_decides_is_told(rt: HostRuntime) -> Result<(), Fail> {
             "<<beginOptional>> <<var;name>>",
             "M6 at 24: field without =",
         ),
+        // The first rule at fault decides, and in it what is met first from left to right.
+        ("<<endOptional>> <<var;name>>", "M2 at 0: end without begin"),
+        ("<<endOptional;a>>", "M6 at 14: field without ="),
+        ("<<endOptional", "M1 at 0: rule not closed"),
+        ("x <<var;name;match=[>>", "M6 at 8: field without ="),
+        (r#"x <<var;name="n";match="[">>"#, "M4 at 2: field missing"),
+        (r#"x <<var;name="n";name>>"#, "M6 at 17: field without ="),
+        (
+            r#"x <<var;name="x" ;original="o";match="b">>"#,
+            "M4 at 2: field missing",
+        ),
+        // Behind the last rule: an open part, then no letter, then the weight.
+        ("<<beginOptional>> ", "M3 at 0: optional not ended"),
+        (
+            "<<var;name=n;original=o;match=.{65535}>> <<var;name=n;original=o;match=.{65535}{2}>>",
+            "M7 at 71: E2 at 8: two repetition signs",
+        ),
+        (
+            "<<var;name=n;original=o;match=(.{65535}){3}>>",
+            "M10 at 0: no letter in it",
+        ),
+        (
+            r#"<<var;name="v";original="";match=".{65535}">>x<<var;name="v";original="";match=".{65535}">>yz"#,
+            "M9 at 0: weight over 131072",
+        ),
         ("", "M10 at 0: no letter in it"),
         (
             " <<beginOptional>> <<endOptional>>",
@@ -114,15 +139,117 @@ fn texts_are_normalised(rt: HostRuntime) -> Result<(), Fail> {
     Ok(())
 }
 
+/// The parts of a template, as they are printed.
+fn parts_of(alloc: Global, text: &str, words: &Words) -> Result<String, Fail> {
+    let template = read_template(alloc, text, words)?;
+    Ok(format!(in alloc; "{:?}", template.parts())?)
+}
+
 #[test]
 fn parts_hold_letters_and_variables(rt: HostRuntime) -> Result<(), Fail> {
+    let table: &[(&str, &str)] = &[
+        ("a << b", r#"[Text("a<<b")]"#),
+        (
+            "x <<var;name=organizationClause3;original=the copyright holder;match=.+>>",
+            r#"[Text("x "), Var { name: "organizationClause3", original: "the copyright holder", ere: Repeat { body: Any, min: 1, max: None } }]"#,
+        ),
+        (
+            r#"x <<var;name="n";original="o";match=a\;b>>"#,
+            r#"[Text("x "), Var { name: "n", original: "o", ere: Cat([Char('a'), Char(';'), Char('b')]) }]"#,
+        ),
+        (
+            "a<<beginOptional>> b<<beginOptional>> c<<endOptional>><<endOptional>> d",
+            r#"[Text("a"), Optional([Text(" b"), Optional([Text(" c")])]), Text(" d")]"#,
+        ),
+        (
+            "<<beginOptional>>1. <<endOptional>>foo <<var;name=n;original=o;match=a>>",
+            r#"[Optional([Text(" ")]), Text("foo "), Var { name: "n", original: "o", ere: Char('a') }]"#,
+        ),
+    ];
     let words = Words::none(rt.alloc());
-    let text = "<<beginOptional>>1. <<endOptional>>foo <<var;name=n;original=o;match=a>>";
-    let template = read_template(rt.alloc(), text, &words)?;
-    let told = format!(in rt.alloc(); "{:?}", template.parts())?;
-    let expected =
-        r#"[Optional([Text(" ")]), Text("foo "), Var { name: "n", original: "o", ere: Char('a') }]"#;
-    assert_eq!(&rt; told.as_str(), expected);
+    for (text, expected) in table {
+        let told = parts_of(rt.alloc(), text, &words)?;
+        assert_eq!(&rt; told.as_str(), *expected, "{text:?}");
+    }
+    Ok(())
+}
+
+#[test]
+fn pieces_lose_what_their_lines_do(rt: HostRuntime) -> Result<(), Fail> {
+    let table: &[(&str, &str)] = &[
+        // A form of an item directly before a rule is none, with a blank behind it it is one.
+        (
+            "1.<<beginOptional>>x<<endOptional>>",
+            r#"[Text("1."), Optional([Text("x")])]"#,
+        ),
+        (
+            "1. <<beginOptional>>x<<endOptional>>",
+            r#"[Text(" "), Optional([Text("x")])]"#,
+        ),
+        // A variable counts as a digit, another rule as a letter.
+        (
+            "(c) <<beginOptional>>x<<endOptional>>",
+            r#"[Text(" "), Optional([Text("x")])]"#,
+        ),
+        (
+            "(c) <<var;name=n;original=o;match=a>> x",
+            r#"[Text("copyright "), Var { name: "n", original: "o", ere: Char('a') }, Text(" x")]"#,
+        ),
+        (
+            "c) <<var;name=n;original=o;match=a>> x",
+            r#"[Text(" "), Var { name: "n", original: "o", ere: Char('a') }, Text(" x")]"#,
+        ),
+        // Optional rules and white space do not part a piece from the start of its line; what else stands there does.
+        (
+            "<<beginOptional>><<beginOptional>> 1. <<endOptional>> <<endOptional>>2. foo",
+            r#"[Optional([Optional([Text(" ")]), Text(" ")]), Text("2.foo")]"#,
+        ),
+        (
+            "<<beginOptional>> <<endOptional>>2. foo",
+            r#"[Optional([Text(" ")]), Text(" foo")]"#,
+        ),
+        (
+            "a<<beginOptional>>1. b<<endOptional>>",
+            r#"[Text("a"), Optional([Text("1.b")])]"#,
+        ),
+        (
+            "a<<beginOptional;b=\n>>1. b<<endOptional>>",
+            r#"[Text("a"), Optional([Text("1.b")])]"#,
+        ),
+        (
+            "a<<beginOptional>>\n1. b<<endOptional>>",
+            r#"[Text("a"), Optional([Text(" b")])]"#,
+        ),
+        // A tail is lost where nothing but optional rules follows in the line.
+        (
+            "foo */<<beginOptional>><<endOptional>>",
+            r#"[Text("foo "), Optional([])]"#,
+        ),
+        (
+            "foo */<<beginOptional>>x<<endOptional>>",
+            r#"[Text("foo*/"), Optional([Text("x")])]"#,
+        ),
+    ];
+    let words = Words::none(rt.alloc());
+    for (text, expected) in table {
+        let told = parts_of(rt.alloc(), text, &words)?;
+        assert_eq!(&rt; told.as_str(), *expected, "{text:?}");
+    }
+    Ok(())
+}
+
+#[test]
+fn texts_are_spelled_by_the_words(rt: HostRuntime) -> Result<(), Fail> {
+    let words = Words::read(rt.alloc(), "color,colour\n").expect(&rt, "two phrases");
+    let told = parts_of(
+        rt.alloc(),
+        "the colour<<beginOptional>> Colour<<endOptional>>",
+        &words,
+    )?;
+    assert_eq!(&rt;
+        told.as_str(),
+        r#"[Text("the color"), Optional([Text(" color")])]"#
+    );
     Ok(())
 }
 
@@ -130,6 +257,8 @@ fn parts_hold_letters_and_variables(rt: HostRuntime) -> Result<(), Fail> {
 fn great_repetitions_are_weighed_at_once(rt: HostRuntime) -> Result<(), Fail> {
     let words = Words::none(rt.alloc());
     let text = "x<<var;name=n;original=o;match=(((){65535}){65535}){65535}>>";
+    assert_eq!(&rt; read_template(rt.alloc(), text, &words)?.weight(), 1);
+    let text = "x<<var;name=n;original=o;match=((a{65535}){65535}){0}>>";
     assert_eq!(&rt; read_template(rt.alloc(), text, &words)?.weight(), 1);
     let text = "x<<var;name=n;original=o;match=((a{65535}){65535}){65535}>>";
     let fault = read_template(rt.alloc(), text, &words).err();
@@ -158,22 +287,47 @@ fn fronts_of_a_template(rt: HostRuntime) -> Result<(), Fail> {
 }
 
 #[test]
+fn groups_in_a_pattern(rt: HostRuntime) -> Result<(), Fail> {
+    let words = Words::none(rt.alloc());
+    for (depth, expected) in [(64, ""), (65, "M7 at 37: E11 at 64: deeper than 64")] {
+        let mut text = String::new(rt.alloc());
+        text.push_str(r#"x <<var;name="n";original="o";match=""#)?;
+        text.push_str(&"(".repeat(rt.alloc(), depth)?)?;
+        text.push('a')?;
+        text.push_str(&")".repeat(rt.alloc(), depth)?)?;
+        text.push_str(r#"">>"#)?;
+        let told = match read_template(rt.alloc(), &text, &words) {
+            Ok(_) => String::new(rt.alloc()),
+            Err(fault) => format!(in rt.alloc(); "{fault}")?,
+        };
+        assert_eq!(&rt; told.as_str(), expected);
+    }
+    Ok(())
+}
+
+#[test]
 fn depth_and_length(rt: HostRuntime) -> Result<(), Fail> {
     let words = Words::none(rt.alloc());
-    for (begins, ends, expected) in [(64, 64, ""), (65, 65, "M8 at 1088"), (64, 0, "M3 at 1071")] {
+    for (begins, ends, expected) in [
+        (64, 64, ""),
+        (65, 65, "M8 at 1088: deeper than 64"),
+        (64, 0, "M3 at 1071: optional not ended"),
+    ] {
         let mut text = "<<beginOptional>>".repeat(rt.alloc(), begins)?;
         text.push('a')?;
         text.push_str(&"<<endOptional>>".repeat(rt.alloc(), ends)?)?;
         let told = match read_template(rt.alloc(), &text, &words) {
             Ok(_) => String::new(rt.alloc()),
-            Err(fault) => format!(in rt.alloc(); "{} at {}", fault.cause.code(), fault.place)?,
+            Err(fault) => format!(in rt.alloc(); "{fault}")?,
         };
         assert_eq!(&rt; told.as_str(), expected);
     }
     let mut text = "<<var".repeat(rt.alloc(), 209_715)?;
     assert_eq!(&rt; code(rt.alloc(), &text, &words), "M1");
     text.push_str("<<")?;
-    assert_eq!(&rt; code(rt.alloc(), &text, &words), "M11");
+    let fault = read_template(rt.alloc(), &text, &words).err();
+    let told = format!(in rt.alloc(); "{}", fault.expect(&rt, "a template that is too long"))?;
+    assert_eq!(&rt; told.as_str(), "M11 at 0: more than 1048576 bytes");
     Ok(())
 }
 

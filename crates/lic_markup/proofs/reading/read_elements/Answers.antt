@@ -6,8 +6,8 @@ use Rattle.lic_markup.proofs.FaultLemmas.{Gives-err, Gives-same}
 use Rattle.lic_markup.proofs.ReadingLemmas.{read_taken, read_refused, read_ends}
 use Rattle.lic_markup.proofs.reading.read_elements.Goals as goal
 
-pub returns-in_err-meet : goal.returns-in_err-meet
-returns-in_err-meet c =
+pub returns-in_err-meet-clause-exact : goal.returns-in_err-meet-clause-exact
+returns-in_err-meet-clause-exact c =
     Gives-err _ _ _ _ _ c.from_residual.ensures.1
     (λ e is. read_refused c.args.words.now (state_of c.loop-element.reader) c.loop-element.elements.items c.pop.new.self.items (c.in-Some.element, c.in-Some.follows) _ c.in-Some.ensures.items c.loop-element.invariant e is)
     c.in_err-meet.ensures
@@ -16,7 +16,7 @@ pub loop-element-preserved : goal.loop-element-preserved
 loop-element-preserved c =
     read_taken c.args.words.now (state_of c.loop-element.reader) c.loop-element.elements.items c.pop.new.self.items (c.in-Some.element, c.in-Some.follows) _ c.in-Some.ensures.items c.loop-element.invariant _ c.in_ok-meet.ensures
 
-pub returns : goal.returns
-returns c =
+pub returns-clause-exact : goal.returns-clause-exact
+returns-clause-exact c =
     let none : c.loop-element.elements.items ≡ [] = first_of (search rules, grind (arith, common_steps)) in
-    Gives-same template_of c.finish.result _ _ (sym (read_ends c.args.words.now (state_of c.loop-element.reader) c.loop-element.elements.items none) ∙ c.loop-element.invariant) c.finish.ensures
+    Gives-same template_of c.finish.result _ _ (sym (read_ends c.args.words.now (state_of c.loop-element.reader) c.loop-element.elements.items none) ∙ c.loop-element.invariant) c.finish.ensures.exact

@@ -1,0 +1,70 @@
+//! Laws of what parts of templates stand for, each the contract of a function that does nothing.
+ghost use Rattle.std.specs.Prelude.{◌≡◌, ◌↔◌, ◌++◌, ◌∷◌, [], ◌==◌, ℕ, Bool, true, false, not};
+ghost use Rattle.std.specs.Prelude.{List, Vec, String, Ok, All, chars, map};
+ghost use Rattle.std.specs.Global.{Global};
+ghost use Rattle.std.specs.List.{concat, filter, list_any};
+ghost use Rattle.std.specs.Str.{IsUtf8};
+ghost use Rattle.std.specs.String.{string_bytes};
+ghost use Rattle.lic_phrases.specs.Rewriting.{Phrase};
+ghost use Rattle.lic_phrases.specs.TokenTexts.{HaveTokenTexts, IsTokenText};
+ghost use Rattle.lic_norm.specs.Pieces.{piece_of};
+ghost use Rattle.lic_norm.specs.Tokens.{tokens_of};
+ghost use Rattle.lic_norm.specs.declared.pieces.Next.{Next};
+ghost use Rattle.lic_norm.specs.declared.pieces.Next.TheVariants.{LineEnd};
+ghost use Rattle.lic_words.specs.Describing.{IsDescribed};
+ghost use Rattle.lic_words.specs.Expressions.{Language};
+ghost use Rattle.lic_words.specs.Words.{Cat, blank};
+ghost use Rattle.lic_markup.specs.declared.part.Part.{Part};
+ghost use Rattle.lic_markup.specs.declared.part.Part.TheVariants.{Text, Optional};
+ghost use Rattle.lic_markup.specs.Signs.{less};
+ghost use Rattle.lic_markup.specs.Parts.{Reading, letters, part_of};
+ghost use Rattle.lic_markup.specs.Reading.{reading};
+ghost use Rattle.lic_markup.specs.Meaning.{parts_words, part_words, piece_texts};
+
+/// Parts in a row stand for a word of the first of them and then one of the others.
+pub fn parts_in_a_row_stand_for_both()
+    ensures { (xs ys : List Part) (w : List ℕ)
+        → Language (parts_words (map part_of (xs ++ ys))) w
+        ↔ Cat (Language (parts_words (map part_of xs))) (Language (parts_words (map part_of ys))) w }
+{}
+
+/// An optional part that has only an optional part stands for what that part does.
+pub fn optional_twice_is_optional()
+    ensures { (once twice : Vec Part Global) (w : List ℕ) → twice.items ≡ Optional once ∷ []
+        → Language (part_words (Optional twice)) w ↔ Language (part_words (Optional once)) w }
+{}
+
+/// A text describes only tokens that have its letters in order, blanks aside.
+pub fn a_text_describes_its_letters_alone()
+    ensures { (text : String Global) (ts : List (List ℕ)) → IsDescribed (part_words (Text text)) ts
+        → filter (λ c. not (c == blank)) (chars (string_bytes text))
+        ≡ filter (λ c. not (c == blank)) (concat ts) }
+{}
+
+/// A text with the letters of a piece describes the tokens that are read from the piece, with the same
+/// facts of its lines and the same words, where these have the texts of tokens, in UTF-8.
+pub fn a_text_describes_the_tokens_of_its_piece()
+    ensures { (words : List Phrase) (at_line_start : Bool) (before : Next) (piece : List ℕ)
+        → (text : String Global) → string_bytes text ≡ piece_of words at_line_start before piece
+        → ¬ (piece_texts words at_line_start before piece ≡ [])
+        → All IsUtf8 (piece_texts words at_line_start before piece)
+        → All IsTokenText (piece_texts words at_line_start before piece)
+        → IsDescribed (part_words (Text text)) (map chars (piece_texts words at_line_start before piece)) }
+{}
+
+/// A text with the letters of a source, taken as whole lines, describes the tokens of that source.
+pub fn a_text_describes_its_source()
+    ensures { (words : List Phrase) (source : List ℕ) (text : String Global)
+        → HaveTokenTexts words → string_bytes text ≡ piece_of words true LineEnd source
+        → ¬ (tokens_of words source ≡ [])
+        → All IsUtf8 (map (λ t. t.text) (tokens_of words source))
+        → IsDescribed (part_words (Text text)) (map (λ t. chars t.text) (tokens_of words source)) }
+{}
+
+/// An accepted template without rules is one text, which has the letters of the whole template as a piece.
+pub fn a_template_without_rules_is_one_text()
+    ensures { (words : List Phrase) (template : List ℕ) (read : Reading)
+        → IsUtf8 template → list_any (λ c. c == less) (chars template) ≡ false
+        → reading words template ≡ Ok read
+        → read.parts ≡ letters (piece_of words true LineEnd template) ∷ [] }
+{}
