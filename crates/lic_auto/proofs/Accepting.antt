@@ -1,13 +1,11 @@
 -- Which templates describe the tokens that a run stands for.
-use Rattle.std.proofs.Common.{◌≡◌, ℕ, ◌+◌, ◌<◌, ◌≤◌, Bool, true, false, ◌==◌, ◌&&◌, not, List, [], ◌∷◌, ◌++◌, length, get_or, take, Some, vec_len, eqb-true, refl, sym, ap, ◌∙◌, subst, append-nil, arith}
+use Rattle.std.proofs.Common.{◌≡◌, ℕ, ◌<◌, ◌≤◌, Bool, true, false, ◌==◌, ◌&&◌, not, List, [], ◌++◌, length, get_or, Some, eqb-true, refl, sym, ◌∙◌, subst, append-nil, arith}
 use Rattle.std.specs.List.{slice_get, Contains}
 use Rattle.std.specs.Bool.{IsTrue}
 use Rattle.std.proofs.lemmas.List.{get_or_default, length-take}
-use Rattle.std.proofs.lemmas.Option.{slice_get_within}
 use Rattle.std.proofs.Math.Logic.{∥∥₁_elim}
 use mathlib.Core.HLevel.{⊥_prop}
 use mathlib.Core.Bool.{Bool-set}
-use borrow.Author.Count.{below_more}
 use Rattle.lic_words.specs.Expressions.{Expression}
 use Rattle.lic_words.specs.Describing.{IsDescribed}
 use Rattle.lic_marks.specs.Deciding.{is_described}

@@ -1,12 +1,12 @@
--- The first letter of a token, and the first letter of the words that spell lists which begin with it.
-use Rattle.std.proofs.Common.{◌≡◌, ◌≢◌, ℕ, true, false, ◌==◌, List, [], ◌∷◌, ◌++◌, length, reverse, Some, ne_eqb, lit<, refl, sym, ap, ◌∙◌, subst, arith}
-use Rattle.lic_words.specs.Words.{Word, blank, blanks}
+-- The first letter of a token, and the heads of the words that spell lists which begin with it.
+use Rattle.std.proofs.Common.{◌≡◌, ◌≢◌, ℕ, true, false, List, [], ◌∷◌, ◌++◌, length, reverse, Some, ne_eqb, append-nil, lit<, refl, sym, ap, ◌∙◌, arith}
+use Rattle.lic_words.specs.Words.{blank}
 use Rattle.lic_words.specs.Describing.{IsDescribed}
 use Rattle.lic_words.specs.Expressions.{Expression}
-use Rattle.lic_words.specs.Spelling.{gapped_from, row_of, gapped, SpellsGapped}
-use Rattle.lic_words.proofs.Rows.{gapped_from-letter}
 use Rattle.lic_marks.specs.Cores.{Core, WordsOf, HasWordsOf}
+use Rattle.lic_auto.specs.Heads.{head_of, BeginsWithLetter}
 use Rattle.lic_auto.specs.Beginnings.{Begins}
+use Rattle.lic_auto.proofs.Heads.{head-some, head-spelled}
 use Rattle.std.specs.List.{slice_get}
 use Rattle.std.specs.Str.{chars, IsUtf8}
 use Rattle.std.proofs.lemmas.Bool.{false≢true}
@@ -16,13 +16,12 @@ use Rattle.std.proofs.lemmas.Option.{none-some, same_Some}
 use Rattle.lic_phrases.specs.TokenTexts.{IsTokenText}
 use Rattle.lic_phrases.specs.Spelling.{ends_in_word, first_is_word}
 
--- an expression that describes tokens has a word that begins with their first letter
+-- an expression that describes tokens has a word that begins with the head of the first
 pub Begins-described : (r : Core) (e : Expression) (c : ℕ) (letters : List ℕ) (more : List (List ℕ)) → HasWordsOf r e → c ≢ blank →
-    IsDescribed e ((c ∷ letters) ∷ more) → Begins (WordsOf r) c
+    IsDescribed e ((c ∷ letters) ∷ more) → Begins (WordsOf r) (head_of (c ∷ letters))
 Begins-described r e c letters more words letter (some, w, language, spells) =
-    let first = gapped_from-letter blank true c (letters ++ row_of more) (ne_eqb c blank letter) in
-    let (n, allows, v, is, rest) = subst (SpellsGapped w) first spells in
-    (n, v, subst (WordsOf r) is ((words w).1 language))
+    let same = head-spelled w c letters more letter spells in
+    (w, [], (words w).1 language, (λ no_head. head-some c letters (ne_eqb c blank letter) (sym same ∙ no_head)), ap head_of (append-nil w) ∙ same)
 
 -- the first letter of a row
 pub first_of : (cs : List ℕ) (c : ℕ) → slice_get cs 0 ≡ Some c → (rest : List ℕ) × (cs ≡ c ∷ rest)
@@ -39,3 +38,13 @@ no_blank_first text c utf8 token h same =
     let inside : ends_in_word [] ≡ true = (token.blanks [] (encodes rest) begins).0 in
     let none : ends_in_word [] ≡ false = ap (λ cs. first_is_word (reverse cs)) chars-nil in
     false≢true (sym none ∙ inside)
+
+-- a token begins with a letter
+pub BeginsWithLetter-token : (text : List ℕ) → IsUtf8 text → IsTokenText text → BeginsWithLetter (chars text)
+BeginsWithLetter-token text utf8 token = by_chars (chars text) refl
+  where
+    by_chars : (cs : List ℕ) → chars text ≡ cs → BeginsWithLetter (chars text)
+    by_chars [] is =
+        let none : text ≡ [] = sym (encodes-chars text utf8) ∙ ap encodes is in
+        absurd (omega (arith, token.not_empty, ap length none))
+    by_chars (c ∷ rest) is = (c, rest, no_blank_first text c utf8 token (ap (λ cs. slice_get cs 0) is), is)

@@ -1,5 +1,5 @@
 -- Nodes for a body so many times.
-use Rattle.std.proofs.Common.{◌≡◌, ℕ, List, map, replicate, Option, Some, None, Result, Vec, Global, sym, ap, ◌∙◌}
+use Rattle.std.proofs.Common.{◌≡◌, ℕ, List, map, replicate, Option, Some, None, sym, ap, ◌∙◌}
 use Rattle.std.specs.Option.{IfSome, ok_or}
 use Rattle.std.specs.Result.{IfOk}
 use Rattle.lic_marks.specs.Cores.{Core, one, cat_all, any_front, copies, up_to}

@@ -1,83 +1,66 @@
--- With which letters the words of a core begin, and which of them are blanks alone.
-use Rattle.std.proofs.Common.{◌≡◌, ◌≢◌, ◌⊎◌, ℕ, zero, suc, ◌+◌, Bool, true, false, ◌==◌, ◌||◌, not, List, [], ◌∷◌, ◌++◌, map, find, replicate, Some, None, Option, eqb-true, ne_eqb, eq-eqb, refl, sym, ap, ◌∙◌, subst, inl, inr, append_assoc}
-use Rattle.std.specs.Bool.{IsTrue}
-use Rattle.std.proofs.Math.Logic.{⊎_elim}
-use Rattle.lic_words.specs.Words.{Word, Cat, Power, blank, blanks}
-use Rattle.lic_marks.specs.Cores.{Core, empty, one, cat, none, alt, plus, tidy, Star, WordsOf, cat_all, alt_all, any_front}
+-- With which heads the words of a core begin, and which of them are blanks alone.
+use Rattle.std.proofs.Common.{◌≡◌, ◌≢◌, ◌⊎◌, ℕ, zero, suc, Bool, ◌==◌, List, [], ◌∷◌, ◌++◌, replicate, eqb-true, refl, sym, ap, ◌∙◌, inl, inr, append_assoc, append-nil}
+use Rattle.lic_words.specs.Words.{Word, Cat, Power}
+use Rattle.lic_marks.specs.Cores.{Core, one, plus, tidy, Star, WordsOf, cat_all, alt_all, any_front}
 use Rattle.lic_marks.specs.Nodes.{letter_cores}
+use Rattle.lic_auto.specs.Heads.{head_of}
 use Rattle.lic_auto.specs.Beginnings.{Begins, HasBlanks}
+use Rattle.lic_auto.proofs.Heads.{head-append_blanks, head-append_letters}
 
--- no word of blanks and a letter is empty
-pub not_empty : (n c : ℕ) (v : Word) → blanks n ++ c ∷ v ≡ [] → ⊥
-not_empty zero c v e = cc
-not_empty (suc n) c v e = cc
-
--- where a word of blanks and a letter is cut, the letter begins the second part, or stands in the first
-cut : (n c : ℕ) (v x y : Word) → c ≢ blank → blanks n ++ c ∷ v ≡ x ++ y →
-    ((m : ℕ) × (u : Word) × (x ≡ blanks m ++ c ∷ u)) ⊎ ((m : ℕ) × (k : ℕ) × (x ≡ blanks m) × (y ≡ blanks k ++ c ∷ v))
-cut n c v [] y letter e = inr (0, n, refl, sym e)
-cut zero c v (d ∷ x) y letter e = let same : d ≡ c = cc in inl (0, x, ap (λ z. z ∷ x) same)
-cut (suc n) c v (d ∷ x) y letter e =
-    let same : d ≡ blank = cc in
-    let rest : blanks n ++ c ∷ v ≡ x ++ y = cc in
-    elim (cut n c v x y letter rest) [
-      | inl (m, u, is) ↦ inl (suc m, u, ap (λ z. z ∷ x) same ∙ ap (λ z. blank ∷ z) is)
-      | inr (m, k, is, then') ↦ inr (suc m, k, ap (λ z. z ∷ x) same ∙ ap (λ z. blank ∷ z) is, then')
-    ]
-
--- where blanks are cut, both parts are blanks
-cut_blanks : (n : ℕ) (x y : Word) → blanks n ≡ x ++ y → ((m : ℕ) × (x ≡ blanks m)) × ((k : ℕ) × (y ≡ blanks k))
-cut_blanks n [] y e = ((0, refl), (n, sym e))
-cut_blanks zero (d ∷ x) y e = cc
-cut_blanks (suc n) (d ∷ x) y e =
-    let same : d ≡ blank = cc in
-    let rest : blanks n ≡ x ++ y = cc in
-    let ((m, is), second) = cut_blanks n x y rest in
-    ((suc m, ap (λ z. z ∷ x) same ∙ ap (λ z. blank ∷ z) is), second)
+-- no head begins the empty word
+empty_begins : (head : List ℕ) → Begins (λ w. w ≡ []) head → ⊥
+empty_begins head (w, more, e, some, is) = some (ap head_of e)
 
 module _ (P Q : Word → Type 0) where
-  pub Begins-Cat : (c : ℕ) → c ≢ blank → Begins (Cat P Q) c → Begins P c ⊎ (HasBlanks P × Begins Q c)
-  Begins-Cat c letter (n, v, (x, y, p, q, e)) =
-      elim (cut n c v x y letter e) [
-        | inl (m, u, is) ↦ inl (m, u, subst P is p)
-        | inr (m, k, is, then') ↦ inr ((m, subst P is p), (k, v, subst Q then' q))
-      ]
+  pub Begins-Cat : (head : List ℕ) → Begins (Cat P Q) head → Begins P head ⊎ (HasBlanks P × Begins Q head)
+  Begins-Cat head (w, more, (x, y, p, q, e), some, is) = by_head (head_of x) refl
+    where
+      whole : head_of (x ++ (y ++ more)) ≡ head
+      whole = ap head_of (sym (append_assoc x y more)) ∙ ap (λ z. head_of (z ++ more)) (sym e) ∙ is
+
+      by_head : (h : List ℕ) → head_of x ≡ h → Begins P head ⊎ (HasBlanks P × Begins Q head)
+      by_head [] no_head =
+          let letter : head_of y ≢ [] = λ f. some (ap head_of e ∙ head-append_blanks x y no_head ∙ f) in
+          inr ((x, p, no_head), (y, more, q, letter, sym (head-append_blanks x (y ++ more) no_head) ∙ whole))
+      by_head (d ∷ h) first = let letter : head_of x ≢ [] = λ f. cc in inl (x, y ++ more, p, letter, whole)
 
   pub HasBlanks-Cat : HasBlanks (Cat P Q) → HasBlanks P × HasBlanks Q
-  HasBlanks-Cat (n, (x, y, p, q, e)) =
-      let ((m, is), (k, then')) = cut_blanks n x y e in
-      ((m, subst P is p), (k, subst Q then' q))
+  HasBlanks-Cat (w, (x, y, p, q, e), no_head) = by_head (head_of x) refl
+    where
+      by_head : (h : List ℕ) → head_of x ≡ h → HasBlanks P × HasBlanks Q
+      by_head [] first = ((x, p, first), (y, q, sym (head-append_blanks x y first) ∙ ap head_of (sym e) ∙ no_head))
+      by_head (d ∷ h) first = let letter : head_of x ≢ [] = λ f. cc in absurd (head-append_letters x y letter (ap head_of (sym e) ∙ no_head))
 
-Begins-Power : (P : Word → Type 0) (k c : ℕ) → c ≢ blank → Begins (Power P k) c → Begins P c
-Begins-Power P zero c letter (n, v, e) = absurd (not_empty n c v e)
-Begins-Power P (suc k) c letter b =
-    elim (Begins-Cat P (Power P k) c letter b) [ inl first ↦ first | inr (here, later) ↦ Begins-Power P k c letter later ]
+Begins-Power : (P : Word → Type 0) (k : ℕ) (head : List ℕ) → Begins (Power P k) head → Begins P head
+Begins-Power P zero head b = absurd (empty_begins head b)
+Begins-Power P (suc k) head b =
+    elim (Begins-Cat P (Power P k) head b) [ inl first ↦ first | inr (here, later) ↦ Begins-Power P k head later ]
 
-pub Begins-plus : (r : Core) (c : ℕ) → c ≢ blank → Begins (WordsOf (plus r)) c → Begins (WordsOf r) c
-Begins-plus r c letter b =
-    elim (Begins-Cat (WordsOf r) (Star (WordsOf r)) c letter b) [
+pub Begins-plus : (r : Core) (head : List ℕ) → Begins (WordsOf (plus r)) head → Begins (WordsOf r) head
+Begins-plus r head b =
+    elim (Begins-Cat (WordsOf r) (Star (WordsOf r)) head b) [
       | inl first ↦ first
-      | inr (here, (n, v, (k, later))) ↦ Begins-Power (WordsOf r) k c letter (n, v, later)
+      | inr (here, (w, more, (k, later), some, is)) ↦ Begins-Power (WordsOf r) k head (w, more, later, some, is)
     ]
 
 pub HasBlanks-plus : (r : Core) → HasBlanks (WordsOf (plus r)) → HasBlanks (WordsOf r)
 HasBlanks-plus r h = (HasBlanks-Cat (WordsOf r) (Star (WordsOf r)) h).0
 
-pub Begins-tidy : (r : Core) (c : ℕ) → Begins (WordsOf (tidy r)) c → Begins (WordsOf r) c
-Begins-tidy r c (n, v, h) = (n, v, h.0)
+pub Begins-tidy : (r : Core) (head : List ℕ) → Begins (WordsOf (tidy r)) head → Begins (WordsOf r) head
+Begins-tidy r head (w, more, h, some, is) = (w, more, h.0, some, is)
 
 pub HasBlanks-tidy : (r : Core) → HasBlanks (WordsOf (tidy r)) → HasBlanks (WordsOf r)
-HasBlanks-tidy r (n, h) = (n, h.0)
+HasBlanks-tidy r (w, h, no_head) = (w, h.0, no_head)
 
 -- ---- one core after another
 
-pub Begins-front_nil : (c : ℕ) → Begins (WordsOf (any_front [])) c → ⊥
-Begins-front_nil c (n, v, e) = not_empty n c v e
+pub Begins-front_nil : (head : List ℕ) → Begins (WordsOf (any_front [])) head → ⊥
+Begins-front_nil head b = empty_begins head b
 
-pub Begins-front_cons : (r : Core) (rs : List Core) (c : ℕ) → c ≢ blank → Begins (WordsOf (any_front (r ∷ rs))) c →
-    Begins (WordsOf r) c ⊎ (HasBlanks (WordsOf r) × Begins (WordsOf (any_front rs)) c)
-Begins-front_cons r rs c letter (n, v, inl e) = absurd (not_empty n c v e)
-Begins-front_cons r rs c letter (n, v, inr w) = Begins-Cat (WordsOf r) (WordsOf (any_front rs)) c letter (n, v, w)
+pub Begins-front_cons : (r : Core) (rs : List Core) (head : List ℕ) → Begins (WordsOf (any_front (r ∷ rs))) head →
+    Begins (WordsOf r) head ⊎ (HasBlanks (WordsOf r) × Begins (WordsOf (any_front rs)) head)
+Begins-front_cons r rs head (w, more, inl e, some, is) = absurd (some (ap head_of e))
+Begins-front_cons r rs head (w, more, inr v, some, is) = Begins-Cat (WordsOf r) (WordsOf (any_front rs)) head (w, more, v, some, is)
 
 pub HasBlanks-cat_cons : (r : Core) (rs : List Core) → HasBlanks (WordsOf (cat_all (r ∷ rs))) → HasBlanks (WordsOf r) × HasBlanks (WordsOf (cat_all rs))
 HasBlanks-cat_cons r rs h = HasBlanks-Cat (WordsOf r) (WordsOf (cat_all rs)) h
@@ -87,35 +70,21 @@ pub front_of_cat : (rs : List Core) (w : Word) → WordsOf (cat_all rs) w → Wo
 front_of_cat [] w h = h
 front_of_cat (r ∷ rs) w (x, y, p, q, e) = inr (x, y, p, front_of_cat rs y q, e)
 
-pub Begins-alt_cons : (r : Core) (rs : List Core) (c : ℕ) → Begins (WordsOf (alt_all (r ∷ rs))) c → Begins (WordsOf r) c ⊎ Begins (WordsOf (alt_all rs)) c
-Begins-alt_cons r rs c (n, v, inl w) = inl (n, v, w)
-Begins-alt_cons r rs c (n, v, inr w) = inr (n, v, w)
+pub Begins-alt_cons : (r : Core) (rs : List Core) (head : List ℕ) → Begins (WordsOf (alt_all (r ∷ rs))) head → Begins (WordsOf r) head ⊎ Begins (WordsOf (alt_all rs)) head
+Begins-alt_cons r rs head (w, more, inl v, some, is) = inl (w, more, v, some, is)
+Begins-alt_cons r rs head (w, more, inr v, some, is) = inr (w, more, v, some, is)
 
-pub Begins-alt_nil : (c : ℕ) → Begins (WordsOf (alt_all [])) c → ⊥
-Begins-alt_nil c (n, v, w) = w
+pub Begins-alt_nil : (head : List ℕ) → Begins (WordsOf (alt_all [])) head → ⊥
+Begins-alt_nil head (w, more, v, some, is) = v
 
 pub HasBlanks-alt_cons : (r : Core) (rs : List Core) → HasBlanks (WordsOf (alt_all (r ∷ rs))) → HasBlanks (WordsOf r) ⊎ HasBlanks (WordsOf (alt_all rs))
-HasBlanks-alt_cons r rs (n, inl w) = inl (n, w)
-HasBlanks-alt_cons r rs (n, inr w) = inr (n, w)
+HasBlanks-alt_cons r rs (w, inl v, no_head) = inl (w, v, no_head)
+HasBlanks-alt_cons r rs (w, inr v, no_head) = inr (w, v, no_head)
 
 pub HasBlanks-alt_nil : HasBlanks (WordsOf (alt_all [])) → ⊥
-HasBlanks-alt_nil (n, w) = w
+HasBlanks-alt_nil (w, v, no_head) = v
 
 -- ---- letters
-
-abbrev is_letter : ℕ → Bool
-is_letter c = not (c == blank)
-
-find-letter : (c : ℕ) (v : Word) → (c == blank) ≡ false → find is_letter (c ∷ v) ≡ Some c
-find-letter c v h = rw h refl
-
-pub find-begin : (n c : ℕ) (v : Word) → c ≢ blank → find is_letter (blanks n ++ c ∷ v) ≡ Some c
-find-begin zero c v letter = find-letter c v (ne_eqb c blank letter)
-find-begin (suc n) c v letter = find-begin n c v letter
-
-pub find-blanks : (n : ℕ) → find is_letter (blanks n) ≡ None
-find-blanks zero = refl
-find-blanks (suc n) = find-blanks n
 
 -- the words of letters in a row
 letters_sound : (text w : Word) → WordsOf (cat_all (letter_cores text)) w → w ≡ text
@@ -123,35 +92,37 @@ letters_sound [] w h = h
 letters_sound (c ∷ text) w (u, v, (d, p, e), q, f) =
     f ∙ ap (λ x. x ++ v) e ∙ ap (λ x. x ∷ v) (eqb-true d c p) ∙ ap (λ x. c ∷ x) (letters_sound text v q)
 
-pub Begins-letters : (text : Word) (c : ℕ) → c ≢ blank → Begins (WordsOf (cat_all (letter_cores text))) c → find is_letter text ≡ Some c
-Begins-letters text c letter (n, v, w) = ap (find is_letter) (sym (letters_sound text _ w)) ∙ find-begin n c v letter
+-- the heads of a text, whatever stands behind it
+pub Begins-letters : (text : Word) (head : List ℕ) → Begins (WordsOf (cat_all (letter_cores text))) head →
+    (head_of text ≢ []) × ((more : Word) × (head_of (text ++ more) ≡ head))
+Begins-letters text head (w, more, v, some, is) =
+    let same = letters_sound text w v in
+    ((λ no_head. some (ap head_of same ∙ no_head)), (more, ap (λ x. head_of (x ++ more)) (sym same) ∙ is))
 
-pub HasBlanks-letters : (text : Word) → HasBlanks (WordsOf (cat_all (letter_cores text))) → find is_letter text ≡ None
-HasBlanks-letters text (n, w) = ap (find is_letter) (sym (letters_sound text _ w)) ∙ find-blanks n
+pub HasBlanks-letters : (text : Word) → HasBlanks (WordsOf (cat_all (letter_cores text))) → head_of text ≡ []
+HasBlanks-letters text (w, v, no_head) = ap head_of (sym (letters_sound text w v)) ∙ no_head
 
--- ---- one letter that passes
+-- a letter is a text of one letter
+one_letter : (d : ℕ) (w : Word) → WordsOf (one (λ c. c == d)) w → WordsOf (cat_all (letter_cores (d ∷ []))) w
+one_letter d w h = (w, [], h, refl, sym (append-nil w))
 
-pub Begins-one : (passes : ℕ → Bool) (c : ℕ) → c ≢ blank → Begins (WordsOf (one passes)) c → passes c ≡ true
-Begins-one passes c letter (zero, v, (d, passed, e)) = let same : d ≡ c = cc in subst (λ x. passes x ≡ true) same passed
-Begins-one passes c letter (suc zero, v, (d, passed, e)) = cc
-Begins-one passes c letter (suc (suc n), v, (d, passed, e)) = cc
+pub Begins-one_letter : (d : ℕ) (head : List ℕ) → Begins (WordsOf (one (λ c. c == d))) head → Begins (WordsOf (cat_all (letter_cores (d ∷ [])))) head
+Begins-one_letter d head (w, more, v, some, is) = (w, more, one_letter d w v, some, is)
 
-pub HasBlanks-one : (passes : ℕ → Bool) → HasBlanks (WordsOf (one passes)) → passes blank ≡ true
-HasBlanks-one passes (zero, (d, passed, e)) = cc
-HasBlanks-one passes (suc zero, (d, passed, e)) = let same : d ≡ blank = cc in subst (λ x. passes x ≡ true) same passed
-HasBlanks-one passes (suc (suc n), (d, passed, e)) = cc
+pub HasBlanks-one_letter : (d : ℕ) → HasBlanks (WordsOf (one (λ c. c == d))) → HasBlanks (WordsOf (cat_all (letter_cores (d ∷ []))))
+HasBlanks-one_letter d (w, v, no_head) = (w, one_letter d w v, no_head)
 
 -- letters in a row that each pass
-pub Begins-up_to : (passes : ℕ → Bool) (count c : ℕ) → c ≢ blank → Begins (WordsOf (any_front (replicate count (one passes)))) c → Begins (WordsOf (one passes)) c
-Begins-up_to passes zero c letter b = absurd (Begins-front_nil c b)
-Begins-up_to passes (suc count) c letter b =
-    elim (Begins-front_cons (one passes) (replicate count (one passes)) c letter b) [
+pub Begins-up_to : (passes : ℕ → Bool) (count : ℕ) (head : List ℕ) → Begins (WordsOf (any_front (replicate count (one passes)))) head → Begins (WordsOf (one passes)) head
+Begins-up_to passes zero head b = absurd (Begins-front_nil head b)
+Begins-up_to passes (suc count) head b =
+    elim (Begins-front_cons (one passes) (replicate count (one passes)) head b) [
       | inl first ↦ first
-      | inr (here, later) ↦ Begins-up_to passes count c letter later
+      | inr (here, later) ↦ Begins-up_to passes count head later
     ]
 
-pub Begins-copies : (passes : ℕ → Bool) (count c : ℕ) → c ≢ blank → Begins (WordsOf (cat_all (replicate count (one passes)))) c → Begins (WordsOf (one passes)) c
-Begins-copies passes count c letter (n, v, w) = Begins-up_to passes count c letter (n, v, front_of_cat (replicate count (one passes)) _ w)
+pub Begins-copies : (passes : ℕ → Bool) (count : ℕ) (head : List ℕ) → Begins (WordsOf (cat_all (replicate count (one passes)))) head → Begins (WordsOf (one passes)) head
+Begins-copies passes count head (w, more, v, some, is) = Begins-up_to passes count head (w, more, front_of_cat (replicate count (one passes)) w v, some, is)
 
 pub HasBlanks-copies : (passes : ℕ → Bool) (count : ℕ) → HasBlanks (WordsOf (cat_all (replicate (suc count) (one passes)))) → HasBlanks (WordsOf (one passes))
 HasBlanks-copies passes count h = (HasBlanks-cat_cons (one passes) (replicate count (one passes)) h).0

@@ -1,24 +1,29 @@
--- Gathering the letters with which words begin, child by child.
-use Rattle.std.proofs.Common.{◌≡◌, ◌≢◌, ◌⊎◌, ℕ, suc, Bool, true, false, ◌==◌, ◌||◌, not, List, [], ◌∷◌, ◌++◌, find, replicate, Option, Some, None, eqb-true, refl, sym, ◌∙◌, subst, inl, inr}
+-- Gathering the heads with which words begin, child by child.
+use Rattle.std.proofs.Common.{◌≡◌, ◌≢◌, ◌⊎◌, ℕ, suc, Bool, true, false, ◌==◌, ◌||◌, List, [], ◌∷◌, ◌++◌, map, replicate, ne_eqb, append-nil, String, string_bytes, Global, refl, sym, ap, ◌∙◌, subst, inl, inr}
+use Rattle.std.specs.Str.{chars, IsUtf8}
+use Rattle.std.proofs.Math.Utf8.{encodes}
+use Rattle.std.proofs.lemmas.Str.{encodes-chars}
+use Rattle.std.proofs.lemmas.List.{map-append}
 use Rattle.std.specs.List.{Contains}
-use Rattle.std.proofs.lemmas.Option.{none-some, same_Some}
 use Rattle.std.proofs.lemmas.List.Elements.{Contains-push, Contains-append_left}
 use Rattle.std.specs.Bool.{IsTrue}
 use Rattle.std.proofs.Math.Logic.{⊎_elim}
 use Rattle.std.proofs.lemmas.Bool.{false≢true}
-use Rattle.lic_words.specs.Words.{Word, blank, blanks}
-use Rattle.lic_marks.specs.Cores.{Core, one, cat, plus, tidy, WordsOf, cat_all, alt_all, any_front}
+use Rattle.lic_words.specs.Words.{Word, blank}
+use Rattle.lic_marks.specs.Cores.{Core, one, plus, tidy, WordsOf, cat_all, alt_all, any_front}
+use Rattle.lic_auto.specs.Heads.{head_of, BeginsWithLetter, IsBehindBlanks}
 use Rattle.lic_auto.specs.Beginnings.{Begins, HasBlanks}
-use Rattle.lic_auto.specs.Firsts.{IsFirst, Gathers, GathersRow}
+use Rattle.lic_auto.specs.Firsts.{IsFirst, AddsHead, Gathers, GathersRow}
 use Rattle.lic_auto.specs.declared.first.Firsts.{Firsts}
-use Rattle.lic_auto.proofs.FirstLemmas.{Begins-front_nil, Begins-front_cons, HasBlanks-cat_cons, front_of_cat, Begins-alt_cons, Begins-alt_nil, HasBlanks-alt_cons, HasBlanks-alt_nil, Begins-plus, HasBlanks-plus, Begins-tidy, HasBlanks-tidy, Begins-up_to, Begins-copies, HasBlanks-copies, Begins-letters, HasBlanks-letters, Begins-one, HasBlanks-one}
+use Rattle.lic_auto.proofs.FirstLemmas.{Begins-front_nil, Begins-front_cons, HasBlanks-cat_cons, front_of_cat, Begins-alt_cons, Begins-alt_nil, HasBlanks-alt_cons, HasBlanks-alt_nil, Begins-plus, HasBlanks-plus, Begins-tidy, HasBlanks-tidy, Begins-up_to, Begins-copies, HasBlanks-copies, Begins-letters, HasBlanks-letters, Begins-one_letter, HasBlanks-one_letter}
+use Rattle.lic_auto.proofs.Heads.{head-some}
 use Rattle.lic_marks.specs.Nodes.{letter_cores}
 
 module _ (old new : Firsts) where
   pub Gathers-cat : (rs : List Core) (passes : Bool) → GathersRow rs old new passes → Gathers (cat_all rs) old new passes
   Gathers-cat rs passes g = record {
     kept = g.kept;
-    begins = λ c letter (n, v, w). g.begins c letter (n, v, front_of_cat rs _ w);
+    begins = λ q utf8 (w, more, v, some, is). g.begins q utf8 (w, more, front_of_cat rs w v, some, is);
     blanks = g.blanks;
   }
 
@@ -29,14 +34,14 @@ module _ (old new : Firsts) where
     pub Gathers-plus : Gathers (plus r) old new passes
     Gathers-plus = record {
       kept = g.kept;
-      begins = λ c letter b. g.begins c letter (Begins-plus r c letter b);
+      begins = λ q utf8 b. g.begins q utf8 (Begins-plus r (chars q) b);
       blanks = λ h. g.blanks (HasBlanks-plus r h);
     }
 
     pub Gathers-tidy : Gathers (tidy r) old new passes
     Gathers-tidy = record {
       kept = g.kept;
-      begins = λ c letter b. g.begins c letter (Begins-tidy r c b);
+      begins = λ q utf8 b. g.begins q utf8 (Begins-tidy r (chars q) b);
       blanks = λ h. g.blanks (HasBlanks-tidy r h);
     }
 
@@ -44,83 +49,83 @@ module _ (old new : Firsts) where
     pub Gathers-copies : Gathers (cat_all (replicate (suc count) (one test))) old new passes
     Gathers-copies = record {
       kept = g.kept;
-      begins = λ c letter b. g.begins c letter (Begins-copies test (suc count) c letter b);
+      begins = λ q utf8 b. g.begins q utf8 (Begins-copies test (suc count) (chars q) b);
       blanks = λ h. g.blanks (HasBlanks-copies test count h);
     }
 
     pub Gathers-up_to : Gathers (any_front (replicate count (one test))) old new true
     Gathers-up_to = record {
       kept = g.kept;
-      begins = λ c letter b. g.begins c letter (Begins-up_to test count c letter b);
+      begins = λ q utf8 b. g.begins q utf8 (Begins-up_to test count (chars q) b);
       blanks = λ h. refl;
     }
 
 -- no letter at all
 pub Gathers-nil : (firsts : Firsts) → Gathers (cat_all []) firsts firsts true
-Gathers-nil firsts = record { kept = λ c h. h; begins = λ c letter b. absurd (Begins-front_nil c b); blanks = λ h. refl }
+Gathers-nil firsts = record { kept = λ q h. h; begins = λ q utf8 b. absurd (Begins-front_nil (chars q) b); blanks = λ h. refl }
 
--- What is gathered of a row, whose last children are left. A word of the row begins with a gathered letter, or one of the rest does.
+-- What is gathered of a row, whose last children are left. A word of the row begins with a gathered head, or one of the rest does.
 pub record RowSoFar (rs rest : List Core) (old now : Firsts) : Type 0 where
-  pub kept : (c : ℕ) → IsFirst old c → IsFirst now c
-  pub begins : (c : ℕ) → c ≢ blank → Begins (WordsOf (any_front rs)) c → IsFirst now c ⊎ Begins (WordsOf (any_front rest)) c
+  pub kept : (q : List ℕ) → IsFirst old q → IsFirst now q
+  pub begins : (q : List ℕ) → IsUtf8 q → Begins (WordsOf (any_front rs)) (chars q) → IsFirst now q ⊎ Begins (WordsOf (any_front rest)) (chars q)
   pub blanks : HasBlanks (WordsOf (cat_all rs)) → HasBlanks (WordsOf (cat_all rest))
 
 -- The same of a choice.
 pub record EachSoFar (rs rest : List Core) (any : Bool) (old now : Firsts) : Type 0 where
-  pub kept : (c : ℕ) → IsFirst old c → IsFirst now c
-  pub begins : (c : ℕ) → c ≢ blank → Begins (WordsOf (alt_all rs)) c → IsFirst now c ⊎ Begins (WordsOf (alt_all rest)) c
+  pub kept : (q : List ℕ) → IsFirst old q → IsFirst now q
+  pub begins : (q : List ℕ) → IsUtf8 q → Begins (WordsOf (alt_all rs)) (chars q) → IsFirst now q ⊎ Begins (WordsOf (alt_all rest)) (chars q)
   pub blanks : HasBlanks (WordsOf (alt_all rs)) → IsTrue any ⊎ HasBlanks (WordsOf (alt_all rest))
 
 pub RowSoFar-start : (rs : List Core) (old : Firsts) → RowSoFar rs rs old old
-RowSoFar-start rs old = record { kept = λ c h. h; begins = λ c letter b. inr b; blanks = λ h. h }
+RowSoFar-start rs old = record { kept = λ q h. h; begins = λ q utf8 b. inr b; blanks = λ h. h }
 
 pub EachSoFar-start : (rs : List Core) (old : Firsts) → EachSoFar rs rs false old old
-EachSoFar-start rs old = record { kept = λ c h. h; begins = λ c letter b. inr b; blanks = λ h. inr h }
+EachSoFar-start rs old = record { kept = λ q h. h; begins = λ q utf8 b. inr b; blanks = λ h. inr h }
 
 module _ (rs rest : List Core) (r : Core) (old now new : Firsts) where
   pub RowSoFar-more : (passes : Bool) → RowSoFar rs (r ∷ rest) old now → Gathers r now new passes → RowSoFar rs rest old new
   RowSoFar-more passes so_far g = record {
-    kept = λ c h. g.kept c (so_far.kept c h);
-    begins = λ c letter b.
+    kept = λ q h. g.kept q (so_far.kept q h);
+    begins = λ q utf8 b.
         ⊎_elim
-        (λ (first : IsFirst now c). inl (g.kept c first))
-        (λ (later : Begins (WordsOf (any_front (r ∷ rest))) c).
+        (λ (first : IsFirst now q). inl (g.kept q first))
+        (λ (later : Begins (WordsOf (any_front (r ∷ rest))) (chars q)).
         ⊎_elim
-        (λ (here : Begins (WordsOf r) c). inl (g.begins c letter here))
-        (λ (past : HasBlanks (WordsOf r) × Begins (WordsOf (any_front rest)) c). inr past.1)
-        (Begins-front_cons r rest c letter later))
-        (so_far.begins c letter b);
+        (λ (here : Begins (WordsOf r) (chars q)). inl (g.begins q utf8 here))
+        (λ (past : HasBlanks (WordsOf r) × Begins (WordsOf (any_front rest)) (chars q)). inr past.1)
+        (Begins-front_cons r rest (chars q) later))
+        (so_far.begins q utf8 b);
     blanks = λ h. (HasBlanks-cat_cons r rest (so_far.blanks h)).1;
   }
 
   -- no word of the child is blanks alone
   pub RowSoFar-stop : RowSoFar rs (r ∷ rest) old now → Gathers r now new false → GathersRow rs old new false
   RowSoFar-stop so_far g = record {
-    kept = λ c h. g.kept c (so_far.kept c h);
-    begins = λ c letter b.
+    kept = λ q h. g.kept q (so_far.kept q h);
+    begins = λ q utf8 b.
         ⊎_elim
-        (λ (first : IsFirst now c). g.kept c first)
-        (λ (later : Begins (WordsOf (any_front (r ∷ rest))) c).
+        (λ (first : IsFirst now q). g.kept q first)
+        (λ (later : Begins (WordsOf (any_front (r ∷ rest))) (chars q)).
         ⊎_elim
-        (λ (here : Begins (WordsOf r) c). g.begins c letter here)
-        (λ (past : HasBlanks (WordsOf r) × Begins (WordsOf (any_front rest)) c). absurd (false≢true (g.blanks past.0)))
-        (Begins-front_cons r rest c letter later))
-        (so_far.begins c letter b);
+        (λ (here : Begins (WordsOf r) (chars q)). g.begins q utf8 here)
+        (λ (past : HasBlanks (WordsOf r) × Begins (WordsOf (any_front rest)) (chars q)). absurd (false≢true (g.blanks past.0)))
+        (Begins-front_cons r rest (chars q) later))
+        (so_far.begins q utf8 b);
     blanks = λ h. g.blanks (HasBlanks-cat_cons r rest (so_far.blanks h)).0;
   }
 
   pub EachSoFar-more : (any passes : Bool) → EachSoFar rs (r ∷ rest) any old now → Gathers r now new passes → EachSoFar rs rest (any || passes) old new
   EachSoFar-more any passes so_far g = record {
-    kept = λ c h. g.kept c (so_far.kept c h);
-    begins = λ c letter b.
+    kept = λ q h. g.kept q (so_far.kept q h);
+    begins = λ q utf8 b.
         ⊎_elim
-        (λ (first : IsFirst now c). inl (g.kept c first))
-        (λ (later : Begins (WordsOf (alt_all (r ∷ rest))) c).
+        (λ (first : IsFirst now q). inl (g.kept q first))
+        (λ (later : Begins (WordsOf (alt_all (r ∷ rest))) (chars q)).
         ⊎_elim
-        (λ (here : Begins (WordsOf r) c). inl (g.begins c letter here))
-        (λ (other : Begins (WordsOf (alt_all rest)) c). inr other)
-        (Begins-alt_cons r rest c later))
-        (so_far.begins c letter b);
+        (λ (here : Begins (WordsOf r) (chars q)). inl (g.begins q utf8 here))
+        (λ (other : Begins (WordsOf (alt_all rest)) (chars q)). inr other)
+        (Begins-alt_cons r rest (chars q) later))
+        (so_far.begins q utf8 b);
     blanks = λ h.
         ⊎_elim
         (λ (before : IsTrue any). inl (or_left any passes before))
@@ -143,61 +148,74 @@ module _ (rs rest : List Core) (r : Core) (old now new : Firsts) where
 pub RowSoFar-end : (rs : List Core) (old now : Firsts) → RowSoFar rs [] old now → GathersRow rs old now true
 RowSoFar-end rs old now so_far = record {
   kept = so_far.kept;
-  begins = λ c letter b. ⊎_elim (λ (first : IsFirst now c). first) (λ (none : Begins (WordsOf (any_front [])) c). absurd (Begins-front_nil c none)) (so_far.begins c letter b);
+  begins = λ q utf8 b. ⊎_elim (λ (first : IsFirst now q). first) (λ (none : Begins (WordsOf (any_front [])) (chars q)). absurd (Begins-front_nil (chars q) none)) (so_far.begins q utf8 b);
   blanks = λ h. refl;
 }
 
 pub EachSoFar-end : (rs : List Core) (any : Bool) (old now : Firsts) → EachSoFar rs [] any old now → Gathers (alt_all rs) old now any
 EachSoFar-end rs any old now so_far = record {
   kept = so_far.kept;
-  begins = λ c letter b. ⊎_elim (λ (first : IsFirst now c). first) (λ (none : Begins (WordsOf (alt_all [])) c). absurd (Begins-alt_nil c none)) (so_far.begins c letter b);
+  begins = λ q utf8 b. ⊎_elim (λ (first : IsFirst now q). first) (λ (none : Begins (WordsOf (alt_all [])) (chars q)). absurd (Begins-alt_nil (chars q) none)) (so_far.begins q utf8 b);
   blanks = λ h. ⊎_elim (λ (is : IsTrue any). is) (λ (none : HasBlanks (WordsOf (alt_all []))). absurd (HasBlanks-alt_nil none)) (so_far.blanks h);
 }
 
--- ---- one letter
-
-module _ (old new : Firsts) (d : ℕ) (same : new.any ≡ old.any) (more : new.letters.items ≡ old.letters.items ++ d ∷ []) where
-  IsFirst-kept : (c : ℕ) → IsFirst old c → IsFirst new c
-  IsFirst-kept c (inl any) = inl (same ∙ any)
-  IsFirst-kept c (inr there) = inr (subst (λ xs. Contains xs c) (sym more) (Contains-append_left old.letters.items (d ∷ []) c there))
-
-  IsFirst-here : (c : ℕ) → c ≡ d → IsFirst new c
-  IsFirst-here c is = inr (subst (Contains new.letters.items) (sym is) (subst (λ xs. Contains xs d) (sym more) (Contains-push old.letters.items d)))
-
-  -- each word of the core begins with this letter
-  pub Gathers-letter : (r : Core) → ((c : ℕ) → c ≢ blank → Begins (WordsOf r) c → c ≡ d) → ¬ (HasBlanks (WordsOf r)) → Gathers r old new false
-  Gathers-letter r begins blanks = record {
-    kept = IsFirst-kept;
-    begins = λ c letter b. IsFirst-here c (begins c letter b);
-    blanks = λ h. absurd (blanks h);
-  }
+-- ---- one text
 
 -- no word of the core begins with a letter
-pub Gathers-blanks : (r : Core) (firsts : Firsts) → ((c : ℕ) → c ≢ blank → ¬ (Begins (WordsOf r) c)) → Gathers r firsts firsts true
-Gathers-blanks r firsts none = record { kept = λ c h. h; begins = λ c letter b. absurd (none c letter b); blanks = λ h. refl }
+pub Gathers-blanks : (r : Core) (firsts : Firsts) → ((head : List ℕ) → ¬ (Begins (WordsOf r) head)) → Gathers r firsts firsts true
+Gathers-blanks r firsts none = record { kept = λ q h. h; begins = λ q utf8 b. absurd (none (chars q) b); blanks = λ h. refl }
 
--- any letter
+-- any head
 pub Gathers-any : (r : Core) (old new : Firsts) → new.any ≡ true → Gathers r old new true
-Gathers-any r old new any = record { kept = λ c h. inl any; begins = λ c letter b. inl any; blanks = λ h. refl }
+Gathers-any r old new any = record { kept = λ q h. inl any; begins = λ q utf8 b. inl any; blanks = λ h. refl }
 
-pub Gathers-text_some : (text : List ℕ) (d : ℕ) (old new : Firsts) → find (λ c. not (c == blank)) text ≡ Some d → new.any ≡ old.any →
-    new.letters.items ≡ old.letters.items ++ d ∷ [] → Gathers (cat_all (letter_cores text)) old new false
-Gathers-text_some text d old new first same more =
-    Gathers-letter old new d same more (cat_all (letter_cores text))
-    (λ c letter b. same_Some c d (sym (Begins-letters text c letter b) ∙ first))
-    (λ h. none-some d (sym (HasBlanks-letters text h) ∙ first))
+-- a text with a letter
+pub Gathers-text_some : (text letters : List ℕ) (old new : Firsts) → IsBehindBlanks letters text → AddsHead letters old new → Gathers (cat_all (letter_cores text)) old new false
+Gathers-text_some text letters old new behind adds = record {
+  kept = adds.kept;
+  begins = λ q utf8 b.
+      let (some, (more, is)) = Begins-letters text (chars q) b in
+      adds.added q more utf8 (sym (behind.head more) ∙ is);
+  blanks = λ h.
+      absurd (some_head letters behind.begins
+      (ap head_of (sym (append-nil letters)) ∙ sym (behind.head []) ∙ ap head_of (append-nil text) ∙ HasBlanks-letters text h));
+}
+  where
+    some_head : (w : Word) → BeginsWithLetter w → head_of w ≢ []
+    some_head w (c, rest, letter, e) none = head-some c rest (ne_eqb c blank letter) (ap head_of (sym e) ∙ none)
 
-pub Gathers-text_none : (text : List ℕ) (firsts : Firsts) → find (λ c. not (c == blank)) text ≡ None → Gathers (cat_all (letter_cores text)) firsts firsts true
-Gathers-text_none text firsts none =
-    Gathers-blanks (cat_all (letter_cores text)) firsts (λ c letter b. none-some c (sym none ∙ Begins-letters text c letter b))
+-- blanks alone
+pub Gathers-text_none : (text : List ℕ) (firsts : Firsts) → head_of text ≡ [] → Gathers (cat_all (letter_cores text)) firsts firsts true
+Gathers-text_none text firsts none = Gathers-blanks (cat_all (letter_cores text)) firsts (λ head b. (Begins-letters text head b).0 none)
 
-pub Gathers-one_some : (d : ℕ) (old new : Firsts) → d ≢ blank → new.any ≡ old.any → new.letters.items ≡ old.letters.items ++ d ∷ [] →
-    Gathers (one (λ c. c == d)) old new false
-Gathers-one_some d old new letter same more =
-    Gathers-letter old new d same more (one (λ c. c == d))
-    (λ c other b. eqb-true c d (Begins-one (λ c. c == d) c other b))
-    (λ h. letter (sym (eqb-true blank d (HasBlanks-one (λ c. c == d) h))))
+-- a letter is a text of one letter
+pub Gathers-letter : (d : ℕ) (old new : Firsts) (passes : Bool) → Gathers (cat_all (letter_cores (d ∷ []))) old new passes → Gathers (one (λ c. c == d)) old new passes
+Gathers-letter d old new passes g = record {
+  kept = g.kept;
+  begins = λ q utf8 b. g.begins q utf8 (Begins-one_letter d (chars q) b);
+  blanks = λ h. g.blanks (HasBlanks-one_letter d h);
+}
 
-pub Gathers-one_blank : (d : ℕ) (firsts : Firsts) → d ≡ blank → Gathers (one (λ c. c == d)) firsts firsts true
-Gathers-one_blank d firsts is =
-    Gathers-blanks (one (λ c. c == d)) firsts (λ c letter b. letter (eqb-true c d (Begins-one (λ c. c == d) c letter b) ∙ is))
+-- ---- one head
+
+-- the head is the same whatever stands behind the letters
+module _ (letters head : List ℕ) (old new : Firsts) (text : String Global) (known : (more : List ℕ) → head_of (letters ++ more) ≡ head)
+    (spelled : string_bytes text ≡ encodes head) (same : new.any ≡ old.any) (more_heads : new.heads.items ≡ old.heads.items ++ text ∷ []) where
+  texts_more : map string_bytes new.heads.items ≡ map string_bytes old.heads.items ++ string_bytes text ∷ []
+  texts_more = ap (map string_bytes) more_heads ∙ map-append string_bytes old.heads.items (text ∷ [])
+
+  IsFirst-kept : (q : List ℕ) → IsFirst old q → IsFirst new q
+  IsFirst-kept q (inl any) = inl (same ∙ any)
+  IsFirst-kept q (inr there) = inr (subst (λ xs. Contains xs q) (sym texts_more) (Contains-append_left (map string_bytes old.heads.items) (string_bytes text ∷ []) q there))
+
+  pub AddsHead-known : AddsHead letters old new
+  AddsHead-known = record {
+    kept = IsFirst-kept;
+    added = λ q more utf8 is.
+        let this : string_bytes text ≡ q = spelled ∙ ap encodes (sym (known more) ∙ is) ∙ encodes-chars q utf8 in
+        inr (subst (Contains (map string_bytes new.heads.items)) this
+        (subst (λ xs. Contains xs (string_bytes text)) (sym texts_more) (Contains-push (map string_bytes old.heads.items) (string_bytes text))));
+  }
+
+pub AddsHead-any : (letters : List ℕ) (old new : Firsts) → new.any ≡ true → AddsHead letters old new
+AddsHead-any letters old new any = record { kept = λ q h. inl any; added = λ q more utf8 is. inl any }

@@ -1,13 +1,16 @@
 -- What an index names when numbers are added.
-use Rattle.std.proofs.Common.{◌≡◌, ◌≢◌, ◌⊎◌, inl, inr, ℕ, zero, suc, ◌+◌, ◌<◌, ◌≤◌, List, [], ◌∷◌, ◌++◌, length, map, get_or, take, Option, Some, None, Vec, Global, refl, sym, ap, ◌∙◌, subst, arith}
+use Rattle.std.proofs.Common.{◌≡◌, ◌≢◌, ◌⊎◌, inl, inr, ℕ, zero, suc, ◌+◌, ◌<◌, ◌≤◌, List, [], ◌∷◌, ◌++◌, length, map, get_or, cond, Bool, true, false, Option, Some, None, Result, Ok, Err, OnOk, OnErr, Vec, Global, refl, sym, ap, ◌∙◌, subst, arith}
 use Rattle.std.specs.List.{slice_get, Contains}
-use Rattle.std.specs.HashMap.{get}
-use Rattle.std.specs.Prelude.{nat_eq}
+use Rattle.std.specs.HashMap.{get_by_text}
+use Rattle.std.specs.Str.{chars, IsUtf8}
 use Rattle.std.proofs.Math.ListN.{set}
 use Rattle.std.proofs.Math.Logic.{⊎_elim}
-use Rattle.std.proofs.lemmas.Bool.{cases_eq, cases_lt}
-use Rattle.std.proofs.lemmas.List.{get_or-set_same, get_or-set_other, length-set, length-map, get_or-map, get_or_append_left}
-use Rattle.lic_words.specs.Words.{blank}
+use Rattle.std.proofs.lemmas.Bool.{cases_eq}
+use Rattle.std.specs.Map.{update}
+use Rattle.std.specs.Str.{bytes_eq}
+use Rattle.std.proofs.lemmas.Slice.Eq.{bytes_eq-Decides}
+use Rattle.std.proofs.lemmas.Option.{same_Some}
+use Rattle.std.proofs.lemmas.List.{get_or-set_same, get_or-set_other, length-set, length-map, length_push, get_or-map, get_or_append_left, get_or_push, map-append}
 use Rattle.lic_marks.specs.Cores.{WordsOf}
 use Rattle.lic_marks.specs.Nodes.{core_of}
 use Rattle.lic_marks.specs.declared.node.Node.{Node}
@@ -21,40 +24,40 @@ use Rattle.lic_auto.specs.declared.index.Index.{Index}
 use Rattle.lic_auto.proofs.RisingLemmas.{IsRising-more}
 use Rattle.lic_auto.proofs.Walking.{slice_get-push}
 
--- no letter
-pub Adds-none : (number : ℕ) (index : Index) (letters : ℕ → Type 0) → ((c : ℕ) → ¬ (letters c)) → Adds letters number index index
-Adds-none number index letters none = record { kept = λ c k h. h; rising = λ c r. r; added = λ c h. absurd (none c h) }
+-- no text
+pub Adds-none : (number : ℕ) (index : Index) (texts : List ℕ → Type 0) → ((q : List ℕ) → ¬ (texts q)) → Adds texts number index index
+Adds-none number index texts none = record { kept = λ q k h. h; rising = λ q r. r; added = λ q h. absurd (none q h) }
 
--- some letters, and then some others
-pub Adds-then : (P Q R : ℕ → Type 0) (number : ℕ) (a b c : Index) → Adds P number a b → Adds Q number b c → ((d : ℕ) → R d → P d ⊎ Q d) → Adds R number a c
+-- some texts, and then some others
+pub Adds-then : (P Q R : List ℕ → Type 0) (number : ℕ) (a b c : Index) → Adds P number a b → Adds Q number b c → ((q : List ℕ) → R q → P q ⊎ Q q) → Adds R number a c
 Adds-then P Q R number a b c first second either = record {
-  kept = λ d k h. second.kept d k (first.kept d k h);
-  rising = λ d r. second.rising d (first.rising d r);
-  added = λ d h. ⊎_elim (λ (p : P d). second.kept d number (first.added d p)) (λ (q : Q d). second.added d q) (either d h);
+  kept = λ q k h. second.kept q k (first.kept q k h);
+  rising = λ q r. second.rising q (first.rising q r);
+  added = λ q h. ⊎_elim (λ (p : P q). second.kept q number (first.added q p)) (λ (here : Q q). second.added q here) (either q h);
 }
 
-pub Adds-fewer : (P Q : ℕ → Type 0) (number : ℕ) (a b : Index) → Adds P number a b → ((d : ℕ) → Q d → P d) → Adds Q number a b
-Adds-fewer P Q number a b adds less = record { kept = adds.kept; rising = adds.rising; added = λ d q. adds.added d (less d q) }
+pub Adds-fewer : (P Q : List ℕ → Type 0) (number : ℕ) (a b : Index) → Adds P number a b → ((q : List ℕ) → Q q → P q) → Adds Q number a b
+Adds-fewer P Q number a b adds less = record { kept = adds.kept; rising = adds.rising; added = λ q h. adds.added q (less q h) }
 
 -- where each list grows
-pub Adds-from : (P : ℕ → Type 0) (number : ℕ) (a b : Index) → ((c : ℕ) → Grows number (listed a c) (listed b c)) → Adds P number a b
+pub Adds-from : (P : List ℕ → Type 0) (number : ℕ) (a b : Index) → ((q : List ℕ) → Grows number (listed a q) (listed b q)) → Adds P number a b
 Adds-from P number a b grows = record {
-  kept = λ c. (grows c).kept;
-  rising = λ c. (grows c).rising;
-  added = λ c _. (grows c).added;
+  kept = λ q. (grows q).kept;
+  rising = λ q. (grows q).rising;
+  added = λ q _. (grows q).added;
 }
 
 -- one more tree
 pub IsIndexOf-push : (old new : Index) (trees : List Node) (tree : Node) (firsts : Firsts) → IsIndexOf old trees → Adds (IsFirst firsts) (length trees) old new →
-    ((c : ℕ) → c ≢ blank → Begins (WordsOf (core_of tree)) c → IsFirst firsts c) → length (trees ++ tree ∷ []) ≡ length trees + 1 → IsIndexOf new (trees ++ tree ∷ [])
+    ((q : List ℕ) → IsUtf8 q → Begins (WordsOf (core_of tree)) (chars q) → IsFirst firsts q) → length (trees ++ tree ∷ []) ≡ length trees + 1 → IsIndexOf new (trees ++ tree ∷ [])
 IsIndexOf-push old new trees tree firsts is adds covers size = record {
-  rising = λ c. subst (IsRising (listed new c)) (sym size) (adds.rising c (IsRising-more (listed old c) (length trees) (length trees + 1) (is.rising c) (omega arith)));
-  rest = λ c k t letter there gone begins.
+  rising = λ q. subst (IsRising (listed new q)) (sym size) (adds.rising q (IsRising-more (listed old q) (length trees) (length trees + 1) (is.rising q) (omega arith)));
+  rest = λ q k t utf8 there gone begins.
       ⊎_elim
-      (λ (before : slice_get trees k ≡ Some t). is.rest c k t letter before (λ h. gone (adds.kept c k h)) begins)
+      (λ (before : slice_get trees k ≡ Some t). is.rest q k t utf8 before (λ h. gone (adds.kept q k h)) begins)
       (λ (last : (k ≡ length trees) × (tree ≡ t)).
-      gone (subst (Contains (listed new c)) (sym last.0)
-      (adds.added c (covers c letter (subst (λ x. Begins (WordsOf (core_of x)) c) (sym last.1) begins)))))
+      gone (subst (Contains (listed new q)) (sym last.0)
+      (adds.added q (covers q utf8 (subst (λ x. Begins (WordsOf (core_of x)) (chars q)) (sym last.1) begins)))))
       (slice_get-push trees tree k t there);
 }
 
@@ -104,62 +107,106 @@ module _ (number n : ℕ) (old now : List (Vec ℕ Global)) (list : Vec ℕ Glob
       get_or (items_of (set now n list)) j [] ≡ get_or (items_of old) j []
   rest_more rest j h = let apart : j ≢ n = omega arith in other_list j apart ∙ rest j (omega arith)
 
--- each list grows, and that of all other letters
-pub Adds-all : (number : ℕ) (old new : Index) → ((c : ℕ) → get nat_eq new.places c ≡ get nat_eq old.places c) →
+-- each list grows, and that of all other heads
+pub Adds-all : (number : ℕ) (old new : Index) → ((q : List ℕ) → get_by_text new.places q ≡ get_by_text old.places q) →
     ((k : ℕ) → k < length old.lists.items → Grows number (get_or (items_of old.lists.items) k []) (get_or (items_of new.lists.items) k [])) →
     Grows number old.others.items new.others.items → Adds (λ _. Unit {0}) number old new
-Adds-all number old new places lists others = Adds-from (λ _. Unit {0}) number old new (λ c. grows c (get nat_eq old.places c) refl)
+Adds-all number old new places lists others = Adds-from (λ _. Unit {0}) number old new (λ q. grows q (get_by_text old.places q) refl)
   where
-    grows : (c : ℕ) (o : Option ℕ) → get nat_eq old.places c ≡ o → Grows number (listed old c) (listed new c)
-    grows c None is =
-        let was : listed old c ≡ old.others.items = ap (list_at old.lists.items old.others.items) is in
-        let now : listed new c ≡ new.others.items = ap (list_at new.lists.items new.others.items) (places c ∙ is) in
-        subst (λ x. Grows number x (listed new c)) (sym was) (subst (Grows number old.others.items) (sym now) others)
-    grows c (Some k) is =
-        let was : listed old c ≡ get_or (items_of old.lists.items) k [] = ap (list_at old.lists.items old.others.items) is in
-        let now : listed new c ≡ get_or (items_of new.lists.items) k [] = ap (list_at new.lists.items new.others.items) (places c ∙ is) in
-        let within : k < length old.lists.items = omega (arith, old.in_range c k is, old.lists.ok) in
-        subst (λ x. Grows number x (listed new c)) (sym was) (subst (Grows number (get_or (items_of old.lists.items) k [])) (sym now) (lists k within))
+    grows : (q : List ℕ) (o : Option ℕ) → get_by_text old.places q ≡ o → Grows number (listed old q) (listed new q)
+    grows q None is =
+        let was : listed old q ≡ old.others.items = ap (list_at old.lists.items old.others.items) is in
+        let now : listed new q ≡ new.others.items = ap (list_at new.lists.items new.others.items) (places q ∙ is) in
+        subst (λ x. Grows number x (listed new q)) (sym was) (subst (Grows number old.others.items) (sym now) others)
+    grows q (Some k) is =
+        let was : listed old q ≡ get_or (items_of old.lists.items) k [] = ap (list_at old.lists.items old.others.items) is in
+        let now : listed new q ≡ get_or (items_of new.lists.items) k [] = ap (list_at new.lists.items new.others.items) (places q ∙ is) in
+        let within : k < length old.lists.items = omega (arith, old.in_range q k is, old.lists.ok) in
+        subst (λ x. Grows number x (listed new q)) (sym was) (subst (Grows number (get_or (items_of old.lists.items) k [])) (sym now) (lists k within))
 
--- the list of one letter grows, and perhaps that of others with it
-pub Adds-one : (number letter place : ℕ) (old mid new : Index) (list : Vec ℕ Global) → ((c : ℕ) → listed mid c ≡ listed old c) →
-    get nat_eq mid.places letter ≡ Some place → Grows number (get_or (items_of mid.lists.items) place []) list.items →
-    ((c : ℕ) → get nat_eq new.places c ≡ get nat_eq mid.places c) → new.lists.items ≡ set mid.lists.items place list → new.others.items ≡ mid.others.items →
-    Adds (λ c. c ≡ letter) number old new
-Adds-one number letter place old mid new list before there grows places lists others = record {
-  kept = λ c k h. ⊎_elim (λ (same : listed new c ≡ listed old c). subst (λ xs. Contains xs k) (sym same) h) (λ (more : Grows number (listed old c) (listed new c)). more.kept k h) (either c);
-  rising = λ c r. ⊎_elim (λ (same : listed new c ≡ listed old c). subst (λ xs. IsRising xs (number + 1)) (sym same) r) (λ (more : Grows number (listed old c) (listed new c)). more.rising r) (either c);
-  added = λ c is. subst (λ d. Contains (listed new d) number) (sym is) (subst (λ xs. Contains xs number) (sym here) grows.added);
+-- the list of one head grows, and perhaps that of others with it
+pub Adds-one : (number : ℕ) (head : List ℕ) (place : ℕ) (old mid new : Index) (list : Vec ℕ Global) → ((q : List ℕ) → listed mid q ≡ listed old q) →
+    get_by_text mid.places head ≡ Some place → Grows number (get_or (items_of mid.lists.items) place []) list.items →
+    ((q : List ℕ) → get_by_text new.places q ≡ get_by_text mid.places q) → new.lists.items ≡ set mid.lists.items place list → new.others.items ≡ mid.others.items →
+    Adds (λ q. q ≡ head) number old new
+Adds-one number head place old mid new list before there grows places lists others = record {
+  kept = λ q k h. ⊎_elim (λ (same : listed new q ≡ listed old q). subst (λ xs. Contains xs k) (sym same) h) (λ (more : Grows number (listed old q) (listed new q)). more.kept k h) (either q);
+  rising = λ q r. ⊎_elim (λ (same : listed new q ≡ listed old q). subst (λ xs. IsRising xs (number + 1)) (sym same) r) (λ (more : Grows number (listed old q) (listed new q)). more.rising r) (either q);
+  added = λ q is. subst (λ d. Contains (listed new d) number) (sym is) (subst (λ xs. Contains xs number) (sym here) grows.added);
 }
   where
     within : place < length mid.lists.items
-    within = omega (arith, mid.in_range letter place there, mid.lists.ok)
+    within = omega (arith, mid.in_range head place there, mid.lists.ok)
 
-    here : listed new letter ≡ list.items
+    here : listed new head ≡ list.items
     here =
-        ap (list_at new.lists.items new.others.items) (places letter ∙ there) ∙ ap (λ xs. get_or (items_of xs) place []) lists
+        ap (list_at new.lists.items new.others.items) (places head ∙ there) ∙ ap (λ xs. get_or (items_of xs) place []) lists
         ∙ get_or-map (λ l. l.items) (set mid.lists.items place list) place list [] (omega (arith, length-set mid.lists.items place list, within))
         ∙ ap (λ l. l.items) (get_or-set_same mid.lists.items place list list within)
 
-    by_place : (c : ℕ) (o : Option ℕ) → get nat_eq mid.places c ≡ o → (listed new c ≡ listed mid c) ⊎ Grows number (listed mid c) (listed new c)
-    by_place c None is =
-        let was : listed mid c ≡ mid.others.items = ap (list_at mid.lists.items mid.others.items) is in
-        let now : listed new c ≡ new.others.items = ap (list_at new.lists.items new.others.items) (places c ∙ is) in
+    by_place : (q : List ℕ) (o : Option ℕ) → get_by_text mid.places q ≡ o → (listed new q ≡ listed mid q) ⊎ Grows number (listed mid q) (listed new q)
+    by_place q None is =
+        let was : listed mid q ≡ mid.others.items = ap (list_at mid.lists.items mid.others.items) is in
+        let now : listed new q ≡ new.others.items = ap (list_at new.lists.items new.others.items) (places q ∙ is) in
         inl (now ∙ others ∙ sym was)
-    by_place c (Some k) is =
-        let was : listed mid c ≡ get_or (items_of mid.lists.items) k [] = ap (list_at mid.lists.items mid.others.items) is in
-        let now : listed new c ≡ get_or (items_of (set mid.lists.items place list)) k [] =
-        ap (list_at new.lists.items new.others.items) (places c ∙ is) ∙ ap (λ xs. get_or (items_of xs) k []) lists in
-        let inside : k < length mid.lists.items = omega (arith, mid.in_range c k is, mid.lists.ok) in
+    by_place q (Some k) is =
+        let was : listed mid q ≡ get_or (items_of mid.lists.items) k [] = ap (list_at mid.lists.items mid.others.items) is in
+        let now : listed new q ≡ get_or (items_of (set mid.lists.items place list)) k [] =
+        ap (list_at new.lists.items new.others.items) (places q ∙ is) ∙ ap (λ xs. get_or (items_of xs) k []) lists in
+        let inside : k < length mid.lists.items = omega (arith, mid.in_range q k is, mid.lists.ok) in
         ⊎_elim
         (λ (same : get_or (items_of (set mid.lists.items place list)) k [] ≡ get_or (items_of mid.lists.items) k []). inl (now ∙ same ∙ sym was))
         (λ (more : Grows number (get_or (items_of mid.lists.items) k []) (get_or (items_of (set mid.lists.items place list)) k [])).
-        inr (subst (λ x. Grows number x (listed new c)) (sym was) (subst (Grows number (get_or (items_of mid.lists.items) k [])) (sym now) more)))
+        inr (subst (λ x. Grows number x (listed new q)) (sym was) (subst (Grows number (get_or (items_of mid.lists.items) k [])) (sym now) more)))
         (one_grows number place mid.lists.items list within grows k inside)
 
-    either : (c : ℕ) → (listed new c ≡ listed old c) ⊎ Grows number (listed old c) (listed new c)
-    either c =
+    either : (q : List ℕ) → (listed new q ≡ listed old q) ⊎ Grows number (listed old q) (listed new q)
+    either q =
         ⊎_elim
-        (λ (same : listed new c ≡ listed mid c). inl (same ∙ before c))
-        (λ (more : Grows number (listed mid c) (listed new c)). inr (subst (λ xs. Grows number xs (listed new c)) (before c) more))
-        (by_place c (get nat_eq mid.places c) refl)
+        (λ (same : listed new q ≡ listed mid q). inl (same ∙ before q))
+        (λ (more : Grows number (listed mid q) (listed new q)). inr (subst (λ xs. Grows number xs (listed new q)) (before q) more))
+        (by_place q (get_by_text mid.places q) refl)
+
+-- one function or the other, by the result of a call
+pub by_result : {A E P Q : Type 0} → (r : Result A E) → OnOk r P → OnErr r Q → P ⊎ Q
+by_result (Ok x) p q = inl p
+by_result (Err e) p q = inr q
+
+-- a text gets the next place
+module _ (lists : List (Vec ℕ Global)) (old new : List ℕ → Option ℕ) (head : List ℕ)
+    (in_range : (q : List ℕ) (place : ℕ) → old q ≡ Some place → place < length lists)
+    (after : (q : List ℕ) → new q ≡ update bytes_eq old head (Some (length lists)) q) where
+  found_here : (q : List ℕ) → bytes_eq head q ≡ true → new q ≡ Some (length lists)
+  found_here q h = after q ∙ ap (λ b. cond b (Some (length lists)) (old q)) h
+
+  found_before : (q : List ℕ) → bytes_eq head q ≡ false → new q ≡ old q
+  found_before q h = after q ∙ ap (λ b. cond b (Some (length lists)) (old q)) h
+
+  pub in_range-more : (q : List ℕ) (place : ℕ) → new q ≡ Some place → place < length lists + 1
+  in_range-more q place is = by_text (bytes_eq head q) refl
+    where
+      by_text : (b : Bool) → bytes_eq head q ≡ b → place < length lists + 1
+      by_text true h = let same : length lists ≡ place = same_Some (length lists) place (sym (found_here q h) ∙ is) in omega arith
+      by_text false h = let less : place < length lists = in_range q place (sym (found_before q h) ∙ is) in omega arith
+
+  -- and if it had none, with the list of all without one, each text has the list that it had
+  pub listed-more : (others : List ℕ) (list : Vec ℕ Global) → list.items ≡ others → old head ≡ None → (q : List ℕ) →
+      list_at (lists ++ list ∷ []) others (new q) ≡ list_at lists others (old q)
+  listed-more others list same fresh q = by_text (bytes_eq head q) refl
+    where
+      split : items_of (lists ++ list ∷ []) ≡ items_of lists ++ list.items ∷ []
+      split = map-append (λ l. l.items) lists (list ∷ [])
+
+      by_place : (o : Option ℕ) → old q ≡ o → list_at (lists ++ list ∷ []) others o ≡ list_at lists others o
+      by_place None is = refl
+      by_place (Some k) is =
+          let inside : k < length (items_of lists) = omega (arith, in_range q k is, length-map lists (λ l. l.items)) in
+          ap (λ xs. get_or xs k []) split ∙ get_or_append_left (items_of lists) (list.items ∷ []) [] k inside
+
+      by_text : (b : Bool) → bytes_eq head q ≡ b → list_at (lists ++ list ∷ []) others (new q) ≡ list_at lists others (old q)
+      by_text true h =
+          let is : head ≡ q = (bytes_eq-Decides head q).0 h in
+          ap (list_at (lists ++ list ∷ []) others) (found_here q h)
+          ∙ get_or-map (λ l. l.items) (lists ++ list ∷ []) (length lists) list [] (omega (arith, length_push lists list))
+          ∙ ap (λ l. l.items) (get_or_push lists list list (length lists) refl) ∙ same ∙ ap (list_at lists others) (sym (ap old (sym is) ∙ fresh))
+      by_text false h = ap (list_at (lists ++ list ∷ []) others) (found_before q h) ∙ by_place (old q) refl

@@ -1,11 +1,9 @@
 -- The compiled trees of a set of templates.
-use Rattle.std.proofs.Common.{◌≡◌, ℕ, zero, suc, ◌+◌, ◌<◌, true, List, [], ◌∷◌, ◌++◌, map, take, length, get_or, Some, refl, sym, ap, ◌∙◌, subst}
-use Rattle.std.specs.List.{slice_get, list_all}
+use Rattle.std.proofs.Common.{◌≡◌, ℕ, zero, suc, ◌+◌, ◌<◌, List, [], ◌∷◌, ◌++◌, map, take, length, get_or, Some, refl, ap, ◌∙◌, subst}
+use Rattle.std.specs.List.{slice_get}
 use Rattle.std.proofs.lemmas.List.{map-append, length-map}
 use Rattle.std.proofs.lemmas.Option.{none-some, same_Some}
 use Rattle.lic_words.specs.Expressions.{Expression, Language}
-use Rattle.lic_marks.specs.Cores.{HasWordsOf}
-use Rattle.lic_marks.specs.Nodes.{core_of}
 use Rattle.lic_marks.specs.declared.node.Node.{Node}
 use Rattle.lic_auto.specs.Sets.{Known, known_of, all_known, words_of}
 use Rattle.lic_auto.specs.Compiling.{HasWords, AllHaveWords}

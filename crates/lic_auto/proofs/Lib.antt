@@ -1,5 +1,8 @@
 pub mod RisingLemmas
 pub mod Changing
+pub mod Heads
+mod HeadExamples
+pub mod HeadTexts
 pub mod Beginning
 pub mod Walking
 pub mod Accepting

@@ -1,5 +1,5 @@
 -- The words of repetitions.
-use Rattle.std.proofs.Common.{◌≡◌, ℕ, zero, suc, ◌+◌, ◌-◌, ◌≤◌, Bool, true, List, [], ◌∷◌, ◌++◌, replicate, inl, inr, Option, Some, None, refl, sym, ap, ◌∙◌, arith, append_assoc}
+use Rattle.std.proofs.Common.{◌≡◌, ℕ, zero, suc, ◌+◌, ◌-◌, ◌≤◌, [], ◌∷◌, ◌++◌, replicate, inl, inr, Option, Some, None, refl, sym, ap, ◌∙◌, arith, append_assoc}
 use Rattle.lic_words.specs.Words.{Word, Cat, Power}
 use Rattle.lic_words.specs.Expressions.{IsAtMost}
 use Rattle.lic_marks.specs.Cores.{Core, empty, cat, alt, WordsOf, cat_all, any_front, copies, up_to, plus}

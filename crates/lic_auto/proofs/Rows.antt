@@ -1,5 +1,5 @@
 -- Cores one after another, and one of them, as the list of them grows.
-use Rattle.std.proofs.Common.{◌≡◌, List, [], ◌∷◌, ◌++◌, map, ap, subst, sym, ◌∙◌}
+use Rattle.std.proofs.Common.{List, [], ◌∷◌, ◌++◌}
 use Rattle.lic_words.specs.Words.{Word, Cat}
 use Rattle.lic_marks.specs.Cores.{Core, WordsOf, cat_all, alt_all}
 use Rattle.lic_auto.specs.Compiling.{AreSame}

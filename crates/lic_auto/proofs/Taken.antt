@@ -1,5 +1,5 @@
 -- The children that a row or a choice has taken so far.
-use Rattle.std.proofs.Common.{◌≡◌, ℕ, ◌+◌, ◌<◌, ◌≤◌, Bool, true, false, ◌||◌, List, [], ◌∷◌, ◌++◌, map, take, length, get_or, Option, Some, None, arith, refl, sym, ap, ◌∙◌, subst}
+use Rattle.std.proofs.Common.{◌≡◌, ◌<◌, Bool, true, false, ◌||◌, List, [], ◌∷◌, ◌++◌, map, take, length, get_or, Option, Some, None, arith, refl, sym, ap, ◌∙◌, subst}
 use Rattle.std.specs.List.{list_all}
 use Rattle.std.specs.Option.{IfSome, ok_or}
 use Rattle.std.specs.Result.{IfOk}
@@ -8,7 +8,7 @@ use Rattle.std.proofs.lemmas.List.Folds.{list_all-append}
 use Rattle.lic_words.specs.Words.{Word}
 use Rattle.lic_words.specs.Expressions.{Language}
 use Rattle.lic_words.specs.Expressions as words
-use Rattle.lic_marks.specs.Cores.{Core, WordsOf, cat_all, alt_all}
+use Rattle.lic_marks.specs.Cores.{WordsOf, cat_all, alt_all}
 use Rattle.lic_marks.specs.Marks.{is_nullable}
 use Rattle.lic_marks.specs.Rows.{weight}
 use Rattle.lic_marks.specs.Nodes.{core_of, is_measured, IsBuilt}
@@ -16,7 +16,7 @@ use Rattle.lic_marks.specs.declared.node.Node.{Node}
 use Rattle.lic_marks.proofs.Children.{measured_at}
 use Rattle.lic_marks.proofs.Cuts.{and_both}
 use Rattle.lic_auto.specs.Compiling.{AreSame, HasWords}
-use Rattle.lic_auto.proofs.WordSets.{AreSame-refl, AreSame-sym, AreSame-trans, Either, EmptyIf, IsEmpty, IsNone, Either-same, Either-turned, Either-none_left}
+use Rattle.lic_auto.proofs.WordSets.{AreSame-refl, AreSame-sym, AreSame-trans, Either, EmptyIf, IsEmpty, Either-same, Either-turned, Either-none_left}
 use Rattle.lic_auto.proofs.Rows.{cat_all-keep, alt_all-keep, alt_all-push}
 use Rattle.lic_auto.proofs.Weightless.{cat_all-leave_out, alt_all-leave_out, cat_all-none, weightless_none}
 use Rattle.lic_auto.proofs.Trees.{more}

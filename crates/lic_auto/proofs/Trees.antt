@@ -11,7 +11,6 @@ use Rattle.lic_ere.specs.declared.ere.Ere.TheVariants.{Cat, Alt, Repeat, rolls-C
 use Rattle.lic_ere.specs.Trees.{Tree, tree_of, node_tree}
 use Rattle.lic_ere.specs.Trees as trees
 use Rattle.lic_markup.specs.declared.part.Part.{Part}
-use Rattle.lic_markup.specs.Parts as parts
 use Rattle.lic_markup.specs.Parts.{part_of}
 use Rattle.lic_markup.specs.Meaning.{tree_words, row_words, choice_words, part_words, parts_words}
 use Rattle.lic_marks.specs.Cores.{WordsOf, cat_all, alt_all}

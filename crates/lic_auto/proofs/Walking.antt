@@ -1,13 +1,13 @@
 -- What runs stand for that began anew, or have taken a token.
 use Rattle.std.proofs.Common.{◌≡◌, ◌⊎◌, inl, inr, ℕ, zero, suc, List, [], ◌∷◌, ◌++◌, length, Some, refl, sym, ap, ◌∙◌, subst, append_assoc}
 use Rattle.std.proofs.lemmas.Option.{none-some, same_Some}
-use Rattle.std.specs.List.{slice_get, Contains}
+use Rattle.std.specs.List.{slice_get}
 use Rattle.std.proofs.Math.Logic.{∥∥₁_map, ∥∥₁_elim, ⊎_elim}
 use mathlib.Core.HLevel.{⊥_prop}
 use Rattle.lic_words.specs.Describing.{IsDescribed}
 use Rattle.lic_marks.specs.Cores.{HasWordsOf}
 use Rattle.lic_marks.specs.Nodes.{core_of}
-use Rattle.lic_marks.specs.Runs.{Stands, tree_of}
+use Rattle.lic_marks.specs.Runs.{tree_of}
 use Rattle.lic_marks.specs.declared.run.Run.{Run}
 use Rattle.lic_auto.specs.Sets.{Known, words_of}
 use Rattle.lic_auto.specs.Walks.{HaveTrees, AllStand, OthersDescribeNone, Resets, Takes, AreChanged, AreKept}

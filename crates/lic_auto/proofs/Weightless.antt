@@ -1,7 +1,7 @@
 -- Cores with no letter position: they have the empty word, or none.
-use Rattle.std.proofs.Common.{◌≡◌, ℕ, zero, suc, ◌+◌, ◌<◌, Bool, true, false, ◌||◌, List, [], ◌∷◌, ◌++◌, map, length, get_or, ◌⊎◌, inl, inr, refl, sym, ap, ◌∙◌, subst, arith, ◌==◌, eqb-true, Option}
+use Rattle.std.proofs.Common.{◌≡◌, ℕ, zero, suc, ◌<◌, Bool, true, false, ◌||◌, List, [], ◌∷◌, ◌++◌, map, length, get_or, ◌⊎◌, inl, inr, refl, sym, ap, ◌∙◌, subst, arith, ◌==◌, eqb-true, Option}
 use Rattle.std.proofs.lemmas.Bool.{eqb-false}
-use Rattle.lic_words.specs.Words.{Word, Cat, Power}
+use Rattle.lic_words.specs.Words.{Word, Power}
 use Rattle.lic_marks.specs.Cores.{Core, empty, one, cat, none, alt, plus, tidy, WordsOf, cat_all, alt_all}
 use Rattle.lic_marks.specs.Marks.{is_nullable}
 use Rattle.lic_marks.specs.Rows.{weight}
@@ -12,7 +12,7 @@ use Rattle.lic_words.specs.Expressions.{IsAtMost}
 use Rattle.lic_marks.proofs.Cuts.{or_cases}
 use Rattle.lic_auto.specs.Compiling.{AreSame, Repeats}
 use Rattle.lic_auto.proofs.Repetitions.{Repeats-left_out, Repeats-empty, Repeats-none}
-use Rattle.lic_auto.proofs.WordSets.{AreSame-refl, AreSame-sym, AreSame-trans, IsEmpty, IsNone, EmptyIf, EmptyIf-or, Either, Cat-same, Either-same, Cat-empty_right, Either-none}
+use Rattle.lic_auto.proofs.WordSets.{AreSame-refl, AreSame-sym, AreSame-trans, IsEmpty, IsNone, EmptyIf, EmptyIf-or, Either, Cat-same, Either-same, Cat-empty_right}
 use Rattle.lic_auto.proofs.Rows.{cat_all-push, alt_all-push}
 
 bool_cases : (b : Bool) → (b ≡ true) ⊎ (b ≡ false)

@@ -1,11 +1,12 @@
--- With which letters the words of a set begin, the blanks at their front left out.
-use Rattle.std.specs.Prelude.{ℕ, List, ◌∷◌, ◌++◌}
-use Rattle.lic_words.specs.Words.{Word, blanks}
+-- With which heads the words of a set begin.
+use Rattle.std.specs.Prelude.{◌≡◌, ◌≢◌, ℕ, List, [], ◌++◌}
+use Rattle.lic_words.specs.Words.{Word}
+use Rattle.lic_auto.specs.Heads.{head_of}
 
--- some word of the set is blanks, if any, and then this letter, and more
-abbrev pub Begins : (Word → Type 0) → ℕ → Type 0
-Begins P c = (n : ℕ) × (v : Word) × P (blanks n ++ c ∷ v)
+-- some word of the set has a letter, and whatever stands behind it, this is the head of both together
+abbrev pub Begins : (Word → Type 0) → List ℕ → Type 0
+Begins P head = (w more : Word) × P w × (head_of w ≢ []) × (head_of (w ++ more) ≡ head)
 
 -- some word of the set is blanks alone, or empty
 abbrev pub HasBlanks : (Word → Type 0) → Type 0
-HasBlanks P = (n : ℕ) × P (blanks n)
+HasBlanks P = (w : Word) × P w × (head_of w ≡ [])

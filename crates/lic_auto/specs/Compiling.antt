@@ -1,5 +1,5 @@
 -- Compiled trees that stand for a set of words.
-use Rattle.std.specs.Prelude.{IsTrue, ◌≤◌, ◌↔◌, ℕ, Option, List, [], ◌∷◌}
+use Rattle.std.specs.Prelude.{IsTrue, ◌≤◌, ℕ, Option, List, [], ◌∷◌}
 use Rattle.lic_words.specs.Words.{Word, Power}
 use Rattle.lic_words.specs.Expressions.{Expression, Language, IsAtMost}
 use Rattle.lic_ere.specs.declared.ere.Ere.{Ere}

@@ -1,6 +1,7 @@
 pub mod Sets
 pub mod Rising
 pub mod Listing
+pub mod Heads
 pub mod Beginnings
 pub mod Firsts
 pub mod Indexes

@@ -53,8 +53,12 @@ fn compile_text(alloc: Global, text: &str) -> Result<Node, AllocError>
     Ok(build::letters(text.chars().collect(alloc)?))
 }
 
+/// The words of a pattern, as a compiled tree.
+///
+/// # Errors
+/// Memory is lacking, or the tree weighs more than the greatest `usize`.
 #[cycle(compile_pattern)]
-fn compile_pattern(alloc: Global, ere: &Ere) -> Result<Node, AllocError>
+pub fn compile_pattern(alloc: Global, ere: &Ere) -> Result<Node, AllocError>
     ensures { IfOk result (HasWords (Language (pattern_words ere.now))) }
 {
     match ere {

@@ -1,7 +1,7 @@
-//! Which templates a text can enter, by its first letter.
+//! Which templates a text can enter, by the head of its first token.
 
-ghost use Rattle.std.specs.Prelude.{◌≡◌, ◌<◌, ◌-◌, ◌↔◌, ℕ, IfOk, OnOk, IsTrue, length, map, slice_index_or, vec_len, Some, Contains, nat_eq, []};
-ghost use Rattle.std.specs.HashMap.{get};
+ghost use Rattle.std.specs.Prelude.{◌≡◌, ◌<◌, ◌-◌, ◌↔◌, ℕ, IfOk, OnOk, IsTrue, length, map, slice_index_or, vec_len, List, Some, Contains, string_bytes, []};
+ghost use Rattle.std.specs.HashMap.{get_by_text};
 ghost use Rattle.std.specs.List.{slice_get};
 ghost use Rattle.lic_auto.specs.Listing.{Grows};
 
@@ -10,15 +10,15 @@ use lic_marks::node::Node;
 use std::alloc::{AllocError, Global};
 use std::collections::HashMap;
 
-/// For each letter the numbers of the trees that have a word which begins with it.
+/// For each head the numbers of the trees that have a word which begins with it.
 #[derive(Debug, Drop)]
 pub struct Index {
-    // where the list of a letter stands
-    places: HashMap<char, usize>,
+    // where the list of a head stands
+    places: HashMap<String, usize>,
     lists: Vec<Vec<usize>>,
-    // the list of each letter that has no place
+    // the list of each head that has no place
     others: Vec<usize>,
-    ghost in_range: { (c place : ℕ) → get nat_eq places c ≡ Some place → place < vec_len lists },
+    ghost in_range: { (text : List ℕ) (place : ℕ) → get_by_text places text ≡ Some place → place < vec_len lists },
 }
 
 impl Index {
@@ -41,36 +41,36 @@ impl Index {
         Ok(index)
     }
 
-    /// The numbers of the trees that have a word which begins with the letter, and of some others, in rising order.
-    pub fn entered_by(&self, letter: char) -> &[usize]
-        ensures { result.now ≡ listed self.now letter }
+    /// The numbers of the trees that have a word which begins with the head, and of some others, in rising order.
+    pub fn entered_by(&self, head: &str) -> &[usize]
+        ensures { result.now ≡ listed self.now head.now }
     {
-        match self.places.get(&letter) {
+        match self.places.get(head) {
             Some(place) => &self.lists[*place],
             None => &self.others,
         }
     }
 
-    // Adds a number that is greater than all, to the lists of these letters.
+    // Adds a number that is greater than all, to the lists of these heads.
     fn add(&mut self, alloc: Global, number: usize, firsts: &Firsts) -> Result<(), AllocError>
         ensures { OnOk result (Adds (IsFirst firsts.now) number self.old self.new) }
     {
         if firsts.any {
             return self.add_to_all(number);
         }
-        self.add_to_each(alloc, number, &firsts.letters)
+        self.add_to_each(alloc, number, &firsts.heads)
     }
 
     fn add_to_each(
         &mut self,
         alloc: Global,
         number: usize,
-        letters: &[char],
+        heads: &[String],
     ) -> Result<(), AllocError>
-        ensures { OnOk result (Adds (Contains letters.now) number self.old self.new) }
+        ensures { OnOk result (Adds (Contains (map string_bytes heads.now)) number self.old self.new) }
     {
-        for letter in letters {
-            self.add_to_one(alloc, number, *letter)?;
+        for head in heads {
+            self.add_to_one(alloc, number, head.as_str())?;
         }
         Ok(())
     }
@@ -83,25 +83,26 @@ impl Index {
         Ok(())
     }
 
-    fn add_to_one(&mut self, alloc: Global, number: usize, letter: char) -> Result<(), AllocError>
-        ensures { OnOk result (Adds (λ c. c ≡ letter) number self.old self.new) }
+    fn add_to_one(&mut self, alloc: Global, number: usize, head: &str) -> Result<(), AllocError>
+        ensures { OnOk result (Adds (λ text. text ≡ head.now) number self.old self.new) }
     {
-        let place = self.place_of(alloc, letter)?;
+        let place = self.place_of(alloc, head)?;
         push_once(&mut self.lists[place], number)
     }
 
-    // The place of a letter's list. A letter without one gets a list of its own, of the same numbers.
-    fn place_of(&mut self, alloc: Global, letter: char) -> Result<usize, AllocError>
-        ensures placed { IfOk result (λ place. get nat_eq self.new.places letter ≡ Some place) }
-        ensures kept { OnOk result ((c : ℕ) → listed self.new c ≡ listed self.old c) }
+    // The place of a head's list. A head without one gets a list of its own, of the same numbers.
+    fn place_of(&mut self, alloc: Global, head: &str) -> Result<usize, AllocError>
+        ensures placed { IfOk result (λ place. get_by_text self.new.places head.now ≡ Some place) }
+        ensures kept { OnOk result ((text : List ℕ) → listed self.new text ≡ listed self.old text) }
     {
-        if let Some(place) = self.places.get(&letter) {
+        if let Some(place) = self.places.get(head) {
             return Ok(*place);
         }
+        let key = String::from_str(alloc, head)?;
         let place = self.lists.len();
         let list = Vec::from_slice(alloc, &self.others)?;
         self.lists.push(list)?;
-        self.places.insert(letter, place)?;
+        self.places.insert(key, place)?;
         Ok(place)
     }
 }

@@ -1,8 +1,9 @@
 //! All templates at once: which of them describe a list of tokens that comes token by token.
 #![tactic(auto)]
 
-mod compile;
+pub mod compile;
 mod first;
+mod head;
 mod index;
 pub mod run;
 pub mod set;

@@ -78,6 +78,7 @@ impl<'s> Run<'s> {
         ensures set { set_of self.new ≡ set_of self.old }
         ensures least { is_dead self.old ≡ false → steps_of self.new < 2 ^ 64 - 1 → steps_of self.old + letters_in text.now ≤ steps_of self.new }
         ensures most { steps_of self.new ≤ steps_of self.old + 2 * letters_in text.now }
+        ensures never_fall { steps_of self.old ≤ steps_of self.new }
     {
         let runs = self.runs.as_mut_slice();
         let live = self.live.as_mut_slice();

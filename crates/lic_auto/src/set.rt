@@ -3,8 +3,9 @@
 ghost use Rattle.std.specs.Prelude.{◌≡◌, ◌≢◌, ◌<◌, ◌≤◌, ◌↔◌, ◌∷◌, ℕ, List, map, length, slice_index_or, IfOk, IfSome, IfNone, OnOk, IsErrOf, IsTrue, Some, Contains};
 ghost use Rattle.std.specs.String.{string_bytes};
 ghost use Rattle.std.specs.List.{slice_get, AllAdjacentBelow};
-ghost use Rattle.lic_words.specs.Words.{blank};
+ghost use Rattle.std.specs.Str.{chars};
 ghost use Rattle.lic_words.specs.Describing.{IsDescribed};
+ghost use Rattle.lic_phrases.specs.TokenTexts.{IsTokenText};
 ghost use Rattle.lic_marks.specs.Cores.{HasWordsOf};
 ghost use Rattle.lic_marks.specs.Nodes.{core_of, is_measured};
 ghost use Rattle.lic_auto.specs.Rising.{IsRising};
@@ -12,6 +13,7 @@ ghost use Rattle.lic_auto.specs.Sets.{RepeatsAt, all_known, words_of};
 ghost use Rattle.lic_auto.specs.Compiling.{AllHaveWords};
 
 use crate::compile::compile;
+use crate::head::head_of;
 use crate::index::Index;
 use lic_marks::node::Node;
 use lic_markup::Template;
@@ -154,13 +156,14 @@ impl Set {
         &self.trees[k]
     }
 
-    /// The numbers of the templates that a text can enter that begins with this letter, in rising order.
-    pub(crate) fn entered_by(&self, letter: char) -> &[usize]
+    /// The numbers of the templates that a text can enter whose first token this is, in rising order.
+    pub(crate) fn entered_by(&self, token: &str) -> &[usize]
+        requires { IsTokenText token.now }
         ensures rising { IsRising result.now (length self.now) }
         ensures rest { (k : ℕ) (known : Known) → slice_get self.now k ≡ Some known → ¬ (Contains result.now k)
-            → (letters : List ℕ) (more : List (List ℕ)) → letter ≢ blank → ¬ (IsDescribed (words_of known) ((letter ∷ letters) ∷ more)) }
+            → (more : List (List ℕ)) → ¬ (IsDescribed (words_of known) (chars token.now ∷ more)) }
     {
-        self.index.entered_by(letter)
+        self.index.entered_by(head_of(token))
     }
 }
 

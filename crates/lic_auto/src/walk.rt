@@ -1,9 +1,8 @@
 //! Runs, one for each template, of which some take a token.
 
-ghost use Rattle.std.specs.Prelude.{◌≡◌, ◌≢◌, ◌<◌, ◌≤◌, ◌+◌, ◌*◌, ◌-◌, ◌^◌, ◌∷◌, ℕ, List, length, take, Some, Contains};
+ghost use Rattle.std.specs.Prelude.{◌≡◌, ◌<◌, ◌≤◌, ◌+◌, ◌*◌, ◌-◌, ◌^◌, ◌∷◌, ℕ, List, length, take, Some, Contains};
 ghost use Rattle.std.specs.List.{slice_get};
 ghost use Rattle.std.specs.Str.{chars};
-ghost use Rattle.lic_words.specs.Words.{blank};
 ghost use Rattle.lic_words.specs.Describing.{IsDescribed};
 ghost use Rattle.lic_phrases.specs.TokenTexts.{IsTokenText};
 ghost use Rattle.lic_auto.specs.Sets.{Known, words_of};
@@ -26,20 +25,11 @@ pub fn enter(set: &Set, runs: &mut [TreeRun<'_>], live: &mut [usize], token: &st
     ensures others { (k : ℕ) (known : Known) → ¬ (Contains (take result live.new) k) → slice_get set.now k ≡ Some known
         → (more : List (List ℕ)) → ¬ (IsDescribed (words_of known) (chars token.now ∷ more)) }
 {
-    let numbers = set.entered_by(first_letter(token));
+    let numbers = set.entered_by(token);
     let count = numbers.len();
     reset_each(runs, numbers);
     live[..count].copy_from_slice(numbers);
     count
-}
-
-// The first letter of the text of a token.
-fn first_letter(token: &str) -> char
-    requires { IsTokenText token.now }
-    ensures first { (rest : List ℕ) × (chars token.now ≡ result ∷ rest) }
-    ensures letter { result ≢ blank }
-{
-    token.chars().next().unwrap()
 }
 
 fn reset_each(runs: &mut [TreeRun<'_>], numbers: &[usize])
@@ -89,6 +79,7 @@ fn take_each(runs: &mut [TreeRun<'_>], numbers: &mut [usize], token: &str) -> us
 pub fn count_steps(before: u64, token: &str) -> u64
     ensures least { result < 2 ^ 64 - 1 → before + letters_in token.now ≤ result }
     ensures most { result ≤ before + 2 * letters_in token.now }
+    ensures never_fall { before ≤ result }
 {
     let mut steps = before;
     let mut is_apart = true;

@@ -86,3 +86,38 @@ fn letters_and_gaps_are_steps(rt: HostRuntime) -> Result<(), Fail> {
     assert_eq!(&rt; run.steps(), 8);
     Ok(())
 }
+
+/// A word and then more; a mark; one word that is the whole template; a variable; an optional word in front.
+const HEADS: [(&str, &str); 5] = [
+    ("A", "foo bar"),
+    ("B", "[x] foo"),
+    ("C", "foo"),
+    ("D", r#"<<var;name="w";original="bar";match="[a-z]{3}">>!"#),
+    ("E", "<<beginOptional>>The <<endOptional>>foo.bar"),
+];
+
+#[test]
+fn templates_are_entered_by_their_heads(rt: HostRuntime) -> Result<(), Fail> {
+    let set = Set::build(rt.alloc(), templates_of(rt.alloc(), &HEADS)?)?;
+    let mut run = Run::new(rt.alloc(), &set)?;
+    for (tokens, number) in [
+        ("foo bar", Some(0)),
+        ("[ x ] foo", Some(1)),
+        ("foo", Some(2)),
+        ("foo !", Some(3)),
+        ("qux !", Some(3)),
+        ("foo . bar", Some(4)),
+        ("the foo . bar", Some(4)),
+        ("the", None),
+        ("[[", None),
+        ("foob ar", None),
+    ] {
+        run.reset();
+        for token in tokens.split_whitespace() {
+            assert!(&rt; is_plain(token), "{token:?}");
+            run.push(token);
+        }
+        assert_eq!(&rt; run.accepted(0), number, "{tokens}");
+    }
+    Ok(())
+}

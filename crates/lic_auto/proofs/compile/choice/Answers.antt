@@ -1,4 +1,4 @@
-use Rattle.std.proofs.Common.{◌≡◌, false, true, arith, rules, ◌∙◌, map, take, length, subst, ap}
+use Rattle.std.proofs.Common.{◌≡◌, arith, ◌∙◌, map, ap}
 use Rattle.std.proofs.lemmas.Iterator.Adapters.{YieldsList-from_vec}
 use Rattle.std.proofs.lemmas.Iterator.Consumers.{YieldsList-turn, YieldsList-end}
 use Rattle.lic_marks.specs.Cores.{WordsOf, alt_all}

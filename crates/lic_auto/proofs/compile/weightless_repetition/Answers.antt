@@ -1,4 +1,4 @@
-use Rattle.std.proofs.Common.{◌≡◌, ◌==◌, ◌||◌, true, false, rules}
+use Rattle.std.proofs.Common.{◌≡◌, ◌==◌, ◌||◌, true, false}
 use Rattle.lic_marks.specs.Marks.{is_nullable}
 use Rattle.lic_marks.specs.Nodes.{core_of}
 use Rattle.lic_auto.proofs.WordSets.{AreSame-trans}

@@ -1,9 +1,9 @@
-use Rattle.std.proofs.Common.{◌≡◌, ◌+◌, false, List, [], ◌∷◌, length, get_or, drop, map, rules, sym, ap, ◌∙◌, subst, arith}
+use Rattle.std.proofs.Common.{◌≡◌, ◌+◌, false, [], ◌∷◌, drop, map, rules, sym, ap, ◌∙◌, subst}
 use Rattle.std.proofs.lemmas.List.{drop_more, drop_all}
 use Rattle.std.proofs.lemmas.Result.{IfOk-weaker}
 use Rattle.lic_marks.specs.Nodes.{core_of}
 use Rattle.lic_marks.proofs.Nodes.{core_of-Letters, core_of-One, core_of-Copies, core_of-UpTo, core_of-Cat, core_of-Alt, core_of-Front, core_of-Plus, core_of-Tidy}
-use Rattle.lic_auto.specs.Firsts.{Gathers, GathersRow}
+use Rattle.lic_auto.specs.Firsts.{Gathers}
 use Rattle.lic_auto.proofs.Gathering.{RowSoFar, EachSoFar, RowSoFar-more, RowSoFar-stop, RowSoFar-end, EachSoFar-more, EachSoFar-end, Gathers-cat, Gathers-front, Gathers-plus, Gathers-tidy}
 use Rattle.lic_auto.proofs.first.+gather.Goals as goal
 

@@ -1,4 +1,4 @@
-use Rattle.std.proofs.Common.{◌≡◌, ◌<◌, ◌≤◌, ℕ, [], length, get_or}
+use Rattle.std.proofs.Common.{◌≡◌, ◌<◌, ◌≤◌, ℕ, [], get_or}
 use Rattle.lic_auto.specs.Listing.{Grows}
 use Rattle.lic_auto.proofs.IndexLemmas.{items_of}
 use Rattle.lic_auto.proofs.index.push_to_each.Given as goal

@@ -1,5 +1,5 @@
 use Rattle.std.proofs.Common.{map, take}
-use Rattle.lic_auto.specs.Sets.{all_known, known_of, words_of}
+use Rattle.lic_auto.specs.Sets.{all_known, words_of}
 use Rattle.lic_auto.proofs.Trees.{AllHaveWords-push}
 use Rattle.lic_auto.proofs.KnownTrees.{more_known}
 use Rattle.lic_auto.proofs.set.compile_all.Goals as goal

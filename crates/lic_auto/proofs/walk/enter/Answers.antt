@@ -1,9 +1,7 @@
-use Rattle.std.proofs.Common.{◌≡◌, ◌≤◌, ◌∷◌, ◌++◌, length, take, drop, sym, ap, ◌∙◌, subst, arith}
+use Rattle.std.proofs.Common.{◌≡◌, ◌≤◌, ◌++◌, length, take, drop, sym, ap, ◌∙◌, subst, arith}
 use Rattle.std.specs.List.{Contains}
 use Rattle.std.proofs.lemmas.List.{length-take-le}
 use Rattle.std.proofs.Math.Seq.{take-append_seam}
-use Rattle.lic_words.specs.Describing.{IsDescribed}
-use Rattle.lic_auto.specs.Sets.{words_of}
 use Rattle.lic_auto.proofs.RisingLemmas.{length-rising}
 use Rattle.lic_auto.proofs.walk.enter.Goals as goal
 
@@ -29,6 +27,4 @@ returns-clause-others c = λ k known gone is more described.
     let rest = drop (length numbers) c.args.live.now in
     let front : take (length numbers) (c.copy_from_slice.new.self ++ rest) ≡ numbers =
     ap (λ xs. take (length numbers) (xs ++ rest)) c.copy_from_slice.ensures.after ∙ take-append_seam numbers rest in
-    let (letters, first) = c.first_letter.ensures.first in
-    c.entered_by-numbers.ensures.rest k known is (λ h. gone (subst (λ xs. Contains xs k) (sym front) h)) letters more c.first_letter.ensures.letter
-    (subst (λ t. IsDescribed (words_of known) (t ∷ more)) first described)
+    c.entered_by-numbers.ensures.rest k known is (λ h. gone (subst (λ xs. Contains xs k) (sym front) h)) more described

@@ -1,4 +1,4 @@
-use Rattle.std.proofs.Common.{◌≡◌, ◌⊎◌, inl, inr, ℕ, true, false, sym, ap, ◌∙◌, subst}
+use Rattle.std.proofs.Common.{◌≡◌, map, string_bytes, sym, ap, ◌∙◌, subst}
 use Rattle.std.specs.List.{Contains}
 use Rattle.std.specs.Bool.{IsTrue}
 use Rattle.std.proofs.lemmas.Bool.{false≢true}
@@ -15,8 +15,8 @@ returns-then-firsts c =
 pub returns : goal.returns
 returns c =
     let firsts = c.args.firsts.now in
-    let letters : c.deref.result.now ≡ firsts.letters.items = c.deref.ensures.value in
+    let heads : map string_bytes c.deref.result.now ≡ map string_bytes firsts.heads.items = ap (map string_bytes) c.deref.ensures.value in
     IfOk-weaker _ _ _
-    (λ done adds. Adds-fewer (Contains c.deref.result.now) (IsFirst firsts) c.args.number c.args.self.now c.add_to_each.new.self adds
-    (λ d h. ⊎_elim (λ (any : IsTrue firsts.any). absurd (false≢true (sym c.if-firsts.false ∙ any))) (λ (there : Contains firsts.letters.items d). subst (λ xs. Contains xs d) (sym letters) there) h))
+    (λ done adds. Adds-fewer (Contains (map string_bytes c.deref.result.now)) (IsFirst firsts) c.args.number c.args.self.now c.add_to_each.new.self adds
+    (λ q h. ⊎_elim (λ (any : IsTrue firsts.any). absurd (false≢true (sym c.if-firsts.false ∙ any))) (λ (there : Contains (map string_bytes firsts.heads.items) q). subst (λ xs. Contains xs q) (sym heads) there) h))
     c.add_to_each.ensures

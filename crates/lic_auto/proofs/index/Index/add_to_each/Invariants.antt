@@ -1,7 +1,7 @@
-use Rattle.std.proofs.Common.{take}
+use Rattle.std.proofs.Common.{map, take, string_bytes}
 use Rattle.std.specs.List.{Contains}
 use Rattle.lic_auto.specs.Indexes.{Adds}
 use Rattle.lic_auto.proofs.index.Index.add_to_each.Given as goal
 
-abbrev pub invariant-loop-letter : goal.invariant-loop-letter
-invariant-loop-letter l = Adds (Contains (take l.letter-index l.letters)) l.number l.initial.self l.self
+abbrev pub invariant-loop-head : goal.invariant-loop-head
+invariant-loop-head l = Adds (Contains (map string_bytes (take l.head-index l.heads))) l.number l.initial.self l.self

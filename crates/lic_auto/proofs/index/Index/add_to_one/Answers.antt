@@ -9,10 +9,10 @@ pub returns : goal.returns
 returns c =
     let mid = c.place_of.new.self in
     let place = c.in_ok-place.place in
-    let within : place < length mid.lists.items = omega (arith, mid.in_range c.args.letter place c.in_ok-place.ensures.placed, mid.lists.ok) in
+    let within : place < length mid.lists.items = omega (arith, mid.in_range c.args.head.now place c.in_ok-place.ensures.placed, mid.lists.ok) in
     let here : c.index_mut.result.now.items ≡ get_or (items_of mid.lists.items) place [] =
     ap (λ l. l.items) c.index_mut.ensures.value ∙ sym (get_or-map (λ l. l.items) mid.lists.items place c.index_mut.result.now [] within) in
     IfOk-weaker _ _ _
-    (λ done grows. Adds-one c.args.number c.args.letter place c.args.self.now mid _ c.push_once.new.list c.in_ok-place.ensures.kept c.in_ok-place.ensures.placed
+    (λ done grows. Adds-one c.args.number c.args.head.now place c.args.self.now mid _ c.push_once.new.list c.in_ok-place.ensures.kept c.in_ok-place.ensures.placed
     (subst (λ xs. Grows c.args.number xs c.push_once.new.list.items) here grows) (λ d. refl) refl refl)
     c.push_once.ensures

@@ -3,10 +3,7 @@ use Rattle.std.proofs.lemmas.List.Sorted.{answers_always, ranks_by}
 use Rattle.std.specs.List.{AllAdjacentBelow}
 use Rattle.std.specs.Ordering.{is_lt}
 use Rattle.std.specs.String.{string_cmp, string_cmp_total, string_bytes}
-use Rattle.std.specs.Global.{Global}
-use Rattle.std.specs.Prelude.{String}
-use Rattle.lic_markup.specs.Parts.{TemplateValue}
-use Rattle.lic_auto.specs.Sets.{IsSetOf, RepeatsAt, StandsTwice, pairs_known}
+use Rattle.lic_auto.specs.Sets.{RepeatsAt, StandsTwice, pairs_known}
 use Rattle.lic_auto.proofs.Ordering.{IsSetOf-from_sort, StandsTwice-from_repeat}
 use Rattle.lic_auto.proofs.set.Set.build.Goals as goal
 

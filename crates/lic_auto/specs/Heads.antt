@@ -1,0 +1,18 @@
+-- The heads of words, by which templates are looked up.
+use Rattle.std.specs.Prelude.{◌≡◌, ◌≢◌, ℕ, List, [], ◌∷◌, ◌++◌, ◌==◌, if◌then◌else◌, take_while}
+use Rattle.lic_words.specs.Words.{Word, blank}
+use Rattle.lic_words.specs.Letters.{is_word}
+
+-- The blanks at the front left out: the letters of words that stand in front, or else the first letter alone.
+abbrev pub head_of : Word → List ℕ
+head_of [] = []
+head_of (c ∷ w) = if c == blank then head_of w else (if is_word c then take_while is_word (c ∷ w) else c ∷ [])
+
+-- the first letter is no blank
+abbrev pub BeginsWithLetter : Word → Type 0
+BeginsWithLetter w = (c : ℕ) × (rest : Word) × (c ≢ blank) × (w ≡ c ∷ rest)
+
+-- the letters of a text from the first one that is no blank: whatever stands behind, the head is theirs
+pub record IsBehindBlanks (letters text : Word) : Type 0 where
+  pub begins : BeginsWithLetter letters
+  pub head : (more : Word) → head_of (text ++ more) ≡ head_of (letters ++ more)
