@@ -1,1 +1,10 @@
 pub mod Filters
+pub mod Derivations
+pub mod Values
+pub mod Moves
+pub mod Recorded
+pub mod Cuts
+pub mod Takes
+pub mod Rows
+pub mod Ends
+pub mod Views

@@ -1,5 +1,13 @@
-//! What a scan reports of its matches: the tight ones, and the outer ones among these.
+//! What a scan reports of its matches: the tight ones, the outer ones among these, and what the variables stand for.
 #![tactic(auto)]
 
+mod choose;
+mod fill;
 pub mod filters;
 pub mod laws;
+mod letters;
+mod steps;
+mod table;
+pub mod values;
+mod variable;
+mod wanted;

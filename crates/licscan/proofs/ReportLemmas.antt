@@ -1,5 +1,5 @@
 -- Lemmas on matches that are asked for, and on their lines.
-use Rattle.std.proofs.Common.{◌≡◌, ◌≢◌, ℕ, ◌+◌, ◌-◌, ◌<◌, ◌≤◌, List, [], ◌∷◌, ◌++◌, take, length, Option, None, Some, Bool, true, refl, sym, ◌∙◌, ap, arith, nat_lt, length-append, subst, zero, suc, Result, Ok, Err, OnErr}
+use Rattle.std.proofs.Common.{◌≡◌, ◌≢◌, ℕ, ◌+◌, ◌-◌, ◌<◌, ◌≤◌, List, [], ◌∷◌, ◌++◌, take, length, Option, None, Some, Bool, true, refl, sym, ◌∙◌, ap, arith, nat_lt, length-append, subst, zero, suc, Result, Ok, Err, IfOk, OnErr}
 use Rattle.std.specs.Prelude.{MatchOption}
 use Rattle.std.proofs.Math.Seq.{take-nil}
 use Rattle.std.proofs.lemmas.Grind.{common_steps}
@@ -13,7 +13,7 @@ use Rattle.lic_find.specs.Matches.{AreMatches}
 use Rattle.lic_find.specs.declared.triple.Triple.{Triple}
 use Rattle.licscan.specs.Stream.{BeginsWith}
 use Rattle.licscan.specs.Fields.{escaped}
-use Rattle.licscan.specs.Report.{match_line, token_line, token_lines, no_token, first_of, IsReportOf}
+use Rattle.licscan.specs.Report.{match_line, token_line, token_lines, no_token, first_of, AreAllLines, AreLines}
 use Rattle.licscan.proofs.Written.{IsPut, put_line, put_whole}
 use Rattle.lic_norm.specs.declared.token.Span.{Span}
 use Rattle.licscan.specs.declared.engine.Ask.{Ask}
@@ -39,7 +39,7 @@ some_lines f [] long = refl
 some_lines f (x ∷ xs) long = let h = long x in let e = length-append (f x) (flat_map f xs) in grind (arith, nat_tests, common_steps)
 
 -- no line is empty
-line_long : (name : List ℕ) (set : List Known) (tokens : List TokenValue) (t : Triple) → 0 < length (match_line name set tokens t)
+pub line_long : (name : List ℕ) (set : List Known) (tokens : List TokenValue) (t : Triple) → 0 < length (match_line name set tokens t)
 line_long name set tokens t =
     let head : List ℕ = escaped name in
     let e = length-append head (0x09 ∷ []) in
@@ -52,7 +52,7 @@ module _ (name : List ℕ) (set : List Known) (ask : Ask) (tokens : List TokenVa
   pub begins_report : {A E : Type 0} (r : Result A E) (a b : Option (List ℕ))
       → ((others : List Triple) → AreMatches set tokens ask.after others → first_of ask.limit others ≡ wanted)
       → BeginsWith a b (flat_map (match_line name set tokens) wanted)
-      → OnErr r ((lines : List ℕ) → IsReportOf name set ask tokens lines → BeginsWith a b lines)
+      → OnErr r ((lines : List ℕ) → AreAllLines name set ask tokens lines → BeginsWith a b lines)
   begins_report (Ok x) a b only p = tt
   begins_report (Err x) a b only p = λ lines report.
       subst (λ l. BeginsWith a b l) (sym (report.lines ∙ ap (flat_map (match_line name set tokens)) (only report.found report.matches))) p
@@ -61,13 +61,29 @@ module _ (name : List ℕ) (set : List Known) (ask : Ask) (tokens : List TokenVa
   pub whole_lines : (some : Bool) (a b : Option (List ℕ))
       → ((found : List Triple) × AreMatches set tokens ask.after found × (wanted ≡ first_of ask.limit found))
       → Appends a b (flat_map (match_line name set tokens) wanted) → some ≡ nat_lt 0 (length wanted)
-      → (lines : List ℕ) × IsReportOf name set ask tokens lines × Appends a b lines × (some ≡ nat_lt 0 (length lines))
+      → (lines : List ℕ) × AreAllLines name set ask tokens lines × Appends a b lines × (some ≡ nat_lt 0 (length lines))
   whole_lines some a b all p s = (
     flat_map (match_line name set tokens) wanted,
     record { found = all.0; matches = all.1; lines = ap (flat_map (match_line name set tokens)) all.2 },
     p,
     s ∙ some_lines (match_line name set tokens) wanted (line_long name set tokens),
   )
+
+-- ---- reports
+
+module _ (name : List ℕ) (set : List Known) (ask : Ask) (source : List ℕ) (tokens : List TokenValue) where
+  -- what is so of the lines of this kind of report is so of the report that is asked for
+  pub report_of_kind : {E : Type 0} (r : Result Bool E) (kind : Bool) (a b : Option (List ℕ)) → ask.all ≡ kind
+      → IfOk r (λ some. (lines : List ℕ) × AreLines kind name set ask source tokens lines × Appends a b lines × (some ≡ nat_lt 0 (length lines)))
+      → IfOk r (λ some. (lines : List ℕ) × AreLines ask.all name set ask source tokens lines × Appends a b lines × (some ≡ nat_lt 0 (length lines)))
+  report_of_kind r kind a b e p =
+      subst (λ k. IfOk r (λ some. (lines : List ℕ) × AreLines k name set ask source tokens lines × Appends a b lines × (some ≡ nat_lt 0 (length lines)))) (sym e) p
+
+  pub part_of_kind : {E : Type 0} (r : Result Bool E) (kind : Bool) (a b : Option (List ℕ)) → ask.all ≡ kind
+      → OnErr r ((lines : List ℕ) → AreLines kind name set ask source tokens lines → BeginsWith a b lines)
+      → OnErr r ((lines : List ℕ) → AreLines ask.all name set ask source tokens lines → BeginsWith a b lines)
+  part_of_kind r kind a b e p =
+      subst (λ k. OnErr r ((lines : List ℕ) → AreLines k name set ask source tokens lines → BeginsWith a b lines)) (sym e) p
 
 -- ---- lines of tokens
 

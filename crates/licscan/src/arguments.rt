@@ -1,6 +1,6 @@
 //! The command line.
 
-ghost use Rattle.std.specs.Prelude.{◌≡◌, IfOk, IsTrue, is_some};
+ghost use Rattle.std.specs.Prelude.{◌≡◌, IfOk, is_some};
 
 use crate::engine::Ask;
 use crate::faults::{ArgumentFault, Stop};
@@ -11,28 +11,66 @@ use std::alloc::{AllocError, Global};
 
 const ABOUT: &str = "Finds the ranges of texts that licence templates describe";
 
-const SCAN_ABOUT: &str =
-    "Writes a line for each match: a range of a file that a template describes";
+const SCAN_ABOUT: &str = "Writes a line for each range of a file that a template describes";
 
 const SCAN_DETAILS: &str = "\
-Templates are the files of DIR whose names end in .template.txt, with an identifier before that.
+Templates are the files of DIR whose names end in .template.txt; what stands
+before that is the identifier.
 
-A line has six fields with a tab between two: the file, the template's identifier, the numbers of the match's
-first and last token, counted from 0, the byte at which it starts, and the byte behind its end.
+Without --all a match is left out where a shorter one of the same template lies
+within it, and of the rest one that lies within a longer one of another
+template. With --all every match is written.
 
-Status: 0 if a line was written, 1 if none was, 2 if anything was refused or could not be read or written.
+A match is a line of six fields with a tab between two: the file, the
+template's identifier, the numbers of the first and the last token, counted
+from 0, the byte at which the match starts, and the byte behind its end.
 
-Example: licscan scan --all --templates templates LICENSE README";
+Without --all a line for each variable of the template follows: an empty field,
+the variable's name, the byte at which its value starts, the byte behind its
+end, and the value. Where a variable stands for nothing, a - follows its name.
+
+F:L:ID are the numbers of a first and a last token, and an identifier.
+
+Status: 0 if a line was written, 1 if none was, 2 if anything was refused or
+could not be read or written.
+
+Example: licscan scan --templates templates LICENSE README";
+
+const CHECK_ABOUT: &str = "Says of each template whether it describes its own original text";
+
+const CHECK_DETAILS: &str = "\
+Templates are the files of DIR whose names end in .template.txt; what stands
+before that is the identifier.
+
+A template is a line of three fields with a tab between two: the identifier,
+the weight, and yes or no. The original text is the template with each
+variable's original value in its place and with all optional parts.
+
+Status: 1 if a line says no, else 0; 2 if anything was refused or could not be
+read or written.
+
+Example: licscan check --templates templates";
 
 const TOKENS_ABOUT: &str = "Writes a line for each token of a file";
 
 const TOKENS_DETAILS: &str = "\
-A line has four fields with a tab between two: the file, the byte at which the token starts, the byte behind its
-end, and its text.
+A line has four fields with a tab between two: the file, the byte at which the
+token starts, the byte behind its end, and the token's text.
 
-Status: 0 if a line was written, 1 if none was, 2 if anything was refused or could not be read or written.
+Status: 0 if a line was written, 1 if none was, 2 if anything was refused or
+could not be read or written.
 
 Example: licscan tokens LICENSE";
+
+/// The folder of the templates.
+fn templates_option<'a>(alloc: Global) -> Arg<'a> {
+    Arg::new(alloc, "templates")
+        .long("templates")
+        .value_name("DIR")
+        .help("The folder of the templates")
+        .required(true)
+        .action(ArgAction::Set)
+}
 
 /// The file of the list of equivalent words.
 fn words_option<'a>(alloc: Global) -> Arg<'a> {
@@ -54,36 +92,39 @@ fn files_argument<'a>(alloc: Global) -> Arg<'a> {
 
 /// The options and files of `scan`.
 fn scan_command<'a>(alloc: Global) -> Result<Command<'a>, AllocError> {
-    let templates = Arg::new(alloc, "templates")
-        .long("templates")
-        .value_name("DIR")
-        .help("The folder of the templates")
-        .required(true)
-        .action(ArgAction::Set);
     let all = Arg::new(alloc, "all")
         .long("all")
-        .help("Write every match, also those that overlap (must be given)")
+        .help("Write every match, and no variables")
         .action(ArgAction::SetTrue);
     let after = Arg::new(alloc, "after")
         .long("after")
         .value_name("F:L:ID")
-        .help("Write only what comes after first token F, last token L, template ID")
+        .help("With --all: only what comes after this match")
         .action(ArgAction::Set);
     let limit = Arg::new(alloc, "limit")
         .long("limit")
         .value_name("N")
-        .help("Write at most N lines for each file")
+        .help("With --all: at most N lines for each file")
         .value_parser(value_parser!(u32).range(1..))
         .action(ArgAction::Set);
     Command::new(alloc, "scan")
         .about(SCAN_ABOUT)
         .after_help(SCAN_DETAILS)
-        .arg(all)?
-        .arg(templates)?
+        .arg(templates_option(alloc))?
         .arg(words_option(alloc))?
+        .arg(all)?
         .arg(after)?
         .arg(limit)?
         .arg(files_argument(alloc))
+}
+
+/// The options of `check`.
+fn check_command<'a>(alloc: Global) -> Result<Command<'a>, AllocError> {
+    Command::new(alloc, "check")
+        .about(CHECK_ABOUT)
+        .after_help(CHECK_DETAILS)
+        .arg(templates_option(alloc))?
+        .arg(words_option(alloc))
 }
 
 /// The options and files of `tokens`.
@@ -101,6 +142,7 @@ pub fn parse<'a>(alloc: Global, words: &'a [&'a str]) -> Result<ArgMatches<'a>, 
         .about(ABOUT)
         .subcommand_required(true)
         .subcommand(scan_command(alloc)?)?
+        .subcommand(check_command(alloc)?)?
         .subcommand(tokens_command(alloc)?)?
         .try_get_matches_from(words)
 }
@@ -164,39 +206,75 @@ impl<'a> TokensArguments<'a> {
     }
 }
 
-/// The arguments of `scan`.
-#[derive(Debug, Drop)]
-pub struct ScanArguments<'a> {
+/// The arguments of `check`.
+#[derive(Clone, Copy, Debug)]
+pub struct CheckArguments<'a> {
+    /// The folder of the templates.
     pub folder: &'a str,
     /// The file of the list of equivalent words.
     pub words: Option<&'a str>,
+}
+
+impl<'a> CheckArguments<'a> {
+    /// Reads what the parser found.
+    pub fn read(found: &ArgMatches<'a>) -> CheckArguments<'a> {
+        CheckArguments {
+            folder: found.get_str("templates").unwrap_or(""),
+            words: found.get_str("words"),
+        }
+    }
+}
+
+/// The arguments of `scan`.
+#[derive(Debug, Drop)]
+pub struct ScanArguments<'a> {
+    /// The folder of the templates.
+    pub folder: &'a str,
+    /// The file of the list of equivalent words.
+    pub words: Option<&'a str>,
+    /// All matches; without it the outer ones.
+    pub all: bool,
+    /// Only what comes after this triple; given with `all` alone.
     pub after: Option<After<'a>>,
+    /// At most so many lines for each file; given with `all` alone.
     pub limit: Option<u64>,
     /// Standard input alone where no file is given.
     pub files: Vec<&'a str>,
 }
 
+/// The triple that is given, if one is. Of several faults the first is told: no `--all`, `--limit` without it, several files,
+/// a bad triple.
+fn after_given<'a>(found: &ArgMatches<'a>, files: usize) -> Result<Option<After<'a>>, Stop> {
+    let given = found.get_str("after");
+    if !found.get_flag("all") {
+        if given.is_some() {
+            return Err(Stop::Arguments(ArgumentFault::AfterNeedsAll));
+        }
+        if found.get_one::<u32>("limit").is_some() {
+            return Err(Stop::Arguments(ArgumentFault::LimitNeedsAll));
+        }
+    }
+    let Some(text) = given else {
+        return Ok(None);
+    };
+    if files > 1 {
+        return Err(Stop::Arguments(ArgumentFault::AfterFiles));
+    }
+    match read_after(text) {
+        Some(after) => Ok(Some(after)),
+        None => Err(Stop::Arguments(ArgumentFault::BadTriple)),
+    }
+}
+
 impl<'a> ScanArguments<'a> {
-    /// Reads what the parser found. Of several faults the first is told: no `--all`, `--after` with several
-    /// files, a bad triple.
+    /// Reads what the parser found.
     pub fn read(alloc: Global, found: &ArgMatches<'a>) -> Result<ScanArguments<'a>, Stop> {
-        if !found.get_flag("all") {
-            return Err(Stop::Arguments(ArgumentFault::NeedsAll));
-        }
         let files = files_given(alloc, found)?;
-        let mut after = None;
-        if let Some(text) = found.get_str("after") {
-            if files.len() > 1 {
-                return Err(Stop::Arguments(ArgumentFault::AfterFiles));
-            }
-            after = read_after(text);
-            if after.is_none() {
-                return Err(Stop::Arguments(ArgumentFault::BadTriple));
-            }
-        }
+        let after = after_given(found, files.len())?;
         Ok(ScanArguments {
             folder: found.get_str("templates").unwrap_or(""),
             words: found.get_str("words"),
+            all: found.get_flag("all"),
             after,
             limit: found.get_one::<u32>("limit").map(u64::from),
             files,
@@ -211,12 +289,12 @@ fn number_of(set: &Set, id: &str) -> Option<usize> {
 
 /// What is asked of each file, once the templates are known.
 pub fn ask_of(alloc: Global, arguments: &ScanArguments<'_>, set: &Set) -> Result<Ask, Stop>
-    ensures all { IfOk result (λ ask. IsTrue ask.all) }
+    ensures all { IfOk result (λ ask. ask.all ≡ arguments.now.all) }
     ensures limit { IfOk result (λ ask. ask.limit ≡ arguments.now.limit) }
     ensures after { IfOk result (λ ask. is_some ask.after ≡ is_some arguments.now.after) }
 {
     let mut ask = Ask {
-        all: true,
+        all: arguments.all,
         after: None,
         limit: arguments.limit,
     };

@@ -1,16 +1,18 @@
 //! From the bytes of an input to the bytes of its report.
 
-ghost use Rattle.std.specs.Prelude.{◌≡◌, ◌≢◌, ◌≤◌, ◌⊎◌, ◌++◌, ℕ, List, length, IfOk, OnOk, OnErr, IsErrOf, Some, None, IsTrue, nat_lt};
+ghost use Rattle.std.specs.Prelude.{◌≡◌, ◌≢◌, ◌≤◌, ◌⊎◌, ◌++◌, ℕ, List, length, IfOk, OnOk, OnErr, IsErrOf, Some, None, nat_lt};
 ghost use Rattle.std.specs.Io.KnownBytes.{Consumes, Appends, IsAtEnd};
 ghost use Rattle.lic_norm.specs.Refusal.{refusal_of};
 ghost use Rattle.licscan.specs.Stream.{one_more, BeginsWith};
 ghost use Rattle.lic_norm.specs.Tokens.{tokens_of};
-ghost use Rattle.licscan.specs.Report.{IsReport, IsReportOf, token_lines};
+ghost use Rattle.lic_norm.specs.Spans.{AreSpans};
+ghost use Rattle.licscan.specs.Report.{AreAllLines, IsReport, IsReportOf, token_lines};
 ghost use Rattle.licscan.specs.declared.engine.RunFault.TheVariants.{Write, Memory};
 
 use crate::lines::{add_match, add_token};
+use crate::outer::report_outer;
 use crate::stream::{Sink, Source};
-use crate::transfer::{ReadFault, WriteFailed, put_all, read_up_to};
+use crate::transfer::{ReadFault, WriteFailed, put_all, put_gathered, read_up_to};
 use crate::wanted::Wanted;
 use lic_auto::set::Set;
 use lic_find::triple::Triple;
@@ -23,17 +25,14 @@ use thiserror::Error;
 /// The most bytes that are read of an input: one more than an input may have.
 pub const MOST_READ: usize = 67_108_865;
 
-/// As many bytes of lines are gathered before they are written.
-const GATHERED: usize = 65_536;
-
 /// What is asked of a scan.
 #[derive(Clone, Copy, Debug, PartialEq, Eq)]
 pub struct Ask {
-    /// All matches.
+    /// All matches; without it the outer ones, each with the values of its variables.
     pub all: bool,
-    /// Only those that come after a triple, which need be no match.
+    /// Of all matches only those that come after a triple, which need be no match.
     pub after: Option<Triple>,
-    /// Only the first so many.
+    /// Of all matches only the first so many.
     pub limit: Option<u64>,
 }
 
@@ -76,7 +75,9 @@ fn read_text<R: Source>(alloc: Global, input: &mut R, words: &Words) -> Result<T
         × Consumes (R.left input.old) (R.left input.new) bytes
         × IsAtEnd (R.left input.new)
         × (refusal_of bytes ≡ None)
+        × (text.source ≡ bytes)
         × (text.tokens ≡ tokens_of words.now bytes)) }
+    ensures spans { IfOk result (λ text. AreSpans text.source text.tokens) }
     ensures refused { (fault : _) → IsErrOf result (RunFault.Text fault) → fault ≢ TextFault.Memory → (bytes : List ℕ)
         × Consumes (R.left input.old) (R.left input.new) bytes
         × (refusal_of bytes ≡ Some fault)
@@ -98,23 +99,8 @@ fn read_text<R: Source>(alloc: Global, input: &mut R, words: &Words) -> Result<T
     }
 }
 
-/// Writes the gathered lines and empties the list, where there are enough of them.
-fn put_gathered<W: Sink>(out: &mut W, lines: &mut Vec<u8>) -> Result<(), WriteFailed>
-    ensures ok { OnOk result ((put : List ℕ) × Appends (W.taken out.old) (W.taken out.new) put × (lines.old.items ≡ put ++ lines.new.items)) }
-    ensures part { OnErr result (BeginsWith (W.taken out.old) (W.taken out.new) lines.old.items) }
-    ensures sound { OnOk result (W.failed out.new ≡ W.failed out.old) }
-    ensures failed { OnErr result (W.failed out.new ≡ one_more (W.failed out.old)) }
-{
-    if lines.len() < GATHERED {
-        return Ok(());
-    }
-    put_all(out, lines.as_slice())?;
-    lines.clear();
-    Ok(())
-}
-
-/// Writes the lines of the matches that are asked for, and says whether there was one.
-fn report<W: Sink>(
+/// Writes the lines of all matches that are asked for, and says whether there was one.
+fn report_all<W: Sink>(
     alloc: Global,
     name: &str,
     text: &Text,
@@ -123,10 +109,10 @@ fn report<W: Sink>(
     ask: &Ask,
 ) -> Result<bool, RunFault>
     ensures written { IfOk result (λ some. (lines : List ℕ)
-        × IsReportOf name.now set.now ask.now text.now.tokens lines
+        × AreAllLines name.now set.now ask.now text.now.tokens lines
         × Appends (W.taken out.old) (W.taken out.new) lines
         × (some ≡ nat_lt 0 (length lines))) }
-    ensures part { OnErr result ((lines : List ℕ) → IsReportOf name.now set.now ask.now text.now.tokens lines
+    ensures part { OnErr result ((lines : List ℕ) → AreAllLines name.now set.now ask.now text.now.tokens lines
         → BeginsWith (W.taken out.old) (W.taken out.new) lines) }
     ensures sound { OnOk result (W.failed out.new ≡ W.failed out.old) }
     ensures write { IsErrOf result RunFault.Write → W.failed out.new ≡ one_more (W.failed out.old) }
@@ -145,7 +131,36 @@ fn report<W: Sink>(
     Ok(some)
 }
 
-/// Reads an input to its end, and writes the report of it. The answer says whether a match was reported.
+/// Writes the report of a text, and says whether there was a match.
+fn report<W: Sink>(
+    alloc: Global,
+    name: &str,
+    text: &Text,
+    out: &mut W,
+    set: &Set,
+    ask: &Ask,
+) -> Result<bool, RunFault>
+    requires { AreSpans text.now.source text.now.tokens }
+    ensures written { IfOk result (λ some. (lines : List ℕ)
+        × IsReportOf name.now set.now ask.now text.now.source text.now.tokens lines
+        × Appends (W.taken out.old) (W.taken out.new) lines
+        × (some ≡ nat_lt 0 (length lines))) }
+    ensures part { OnErr result ((lines : List ℕ) → IsReportOf name.now set.now ask.now text.now.source text.now.tokens lines
+        → BeginsWith (W.taken out.old) (W.taken out.new) lines) }
+    ensures sound { OnOk result (W.failed out.new ≡ W.failed out.old) }
+    ensures write { IsErrOf result RunFault.Write → W.failed out.new ≡ one_more (W.failed out.old) }
+    ensures no_read { ¬ (IsErrOf result RunFault.Read) }
+    ensures no_text { (fault : _) → ¬ (IsErrOf result (RunFault.Text fault)) }
+{
+    if ask.all {
+        report_all(alloc, name, text, out, set, ask)
+    } else {
+        report_outer(alloc, name, text, out, set)
+    }
+}
+
+/// Reads an input to its end, and writes the report of it: a line for each match that is asked for; or, where not all are
+/// asked for, for each outer match and its variables. The answer says whether a match was reported.
 ///
 /// At most 67,108,865 bytes are read. `name` stands first in each line. A refused input, and one that cannot
 /// be read, gives no line; after a write that failed, and where memory is wanted, what was written is a
@@ -159,7 +174,6 @@ pub fn run<R: Source, W: Sink>(
     words: &Words,
     ask: &Ask,
 ) -> Result<bool, RunFault>
-    requires { IsTrue ask.now.all }
     // The whole report of what was read to the end.
     ensures report { IfOk result (λ some. (bytes lines : List ℕ)
         × Consumes (R.left input.old) (R.left input.new) bytes

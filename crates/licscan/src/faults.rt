@@ -4,6 +4,7 @@ ghost use Rattle.std.specs.Prelude.{◌≡◌, ◌↔◌, IsTrue};
 ghost use Rattle.std.specs.IoError.{error_kind};
 ghost use Rattle.licscan.specs.declared.faults.Stop.TheVariants.{Memory};
 
+use crate::engine::RunFault;
 use crate::fields::Escaped;
 use crate::stream::Sink;
 use crate::transfer::put_all;
@@ -21,8 +22,10 @@ pub enum ArgumentFault {
     NotUtf8,
     #[error("no command")]
     NoCommand,
-    #[error("scan needs --all")]
-    NeedsAll,
+    #[error("--after needs --all")]
+    AfterNeedsAll,
+    #[error("--limit needs --all")]
+    LimitNeedsAll,
     #[error("--after takes one file")]
     AfterFiles,
     #[error("--after: bad triple")]
@@ -55,6 +58,8 @@ pub enum Stop {
     Listing,
     #[error("templates: {0}")]
     Set(BuildFault),
+    #[error("check: {0}")]
+    Check(RunFault),
     #[error("standard output: cannot be written")]
     Write,
     #[error("out of memory")]

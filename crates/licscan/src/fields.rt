@@ -46,7 +46,7 @@ pub fn add_text(line: &mut Vec<u8>, bytes: &[u8], mark: u8) -> Result<(), AllocE
 }
 
 /// Adds a number as a field in decimal digits, and the tab or the line end behind it.
-pub fn add_number(line: &mut Vec<u8>, n: usize, mark: u8) -> Result<(), AllocError>
+pub fn add_number(line: &mut Vec<u8>, n: u64, mark: u8) -> Result<(), AllocError>
     ensures { OnOk result (line.new.items ≡ line.old.items ++ field (decimal n) mark) }
 {
     let mut buffer = Buffer::new();

@@ -1,7 +1,5 @@
 //! The files that lines are written about.
 
-ghost use Rattle.licscan.specs.Work.{AsksAll};
-
 use crate::engine::{Ask, RunFault, run, run_tokens};
 use crate::faults::{Stop, tell, wants_memory};
 use crate::fields::Escaped;
@@ -43,9 +41,7 @@ fn write_lines<R: Source, W: Sink>(
     input: &mut R,
     out: &mut W,
     work: Work<'_>,
-) -> Result<bool, RunFault>
-    requires { AsksAll work }
-{
+) -> Result<bool, RunFault> {
     match work {
         Work::Scan(Search { set, words, ask }) => run(alloc, name, input, out, set, words, ask),
         Work::Tokens(words) => run_tokens(alloc, name, input, out, words),
@@ -60,9 +56,7 @@ fn write_file<Rt: Files, R: Source, W: Sink>(
     input: &mut R,
     out: &mut W,
     work: Work<'_>,
-) -> Result<Result<bool, RunFault>, Stop>
-    requires { AsksAll work }
-{
+) -> Result<Result<bool, RunFault>, Stop> {
     if name == "-" {
         return Ok(write_lines(alloc, name, input, out, work));
     }
@@ -85,9 +79,7 @@ pub fn write_files<Rt: Files, R: Source, W: Sink, E: Sink>(
     out: &mut W,
     err: &mut E,
     work: Work<'_>,
-) -> Result<Written, Stop>
-    requires { AsksAll work }
-{
+) -> Result<Written, Stop> {
     let mut written = Written {
         has_line: false,
         is_refused: false,

@@ -2,12 +2,15 @@
 #![tactic(auto)]
 
 pub mod arguments;
+pub mod check;
 pub mod engine;
 pub mod faults;
 pub mod fields;
 pub mod files;
 pub mod lines;
+pub mod outer;
 pub mod program;
+pub mod shortest;
 pub mod stream;
 pub mod templates;
 #[cfg(test)]

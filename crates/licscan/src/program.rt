@@ -1,6 +1,8 @@
 //! The whole program.
 
-use crate::arguments::{ScanArguments, TokensArguments, ask_of, parse};
+use crate::arguments::{CheckArguments, ScanArguments, TokensArguments, ask_of, parse};
+use crate::check::check;
+use crate::engine::RunFault;
 use crate::faults::{ArgumentFault, Stop, tell, tell_stop};
 use crate::files::{Search, Work, Written, write_files};
 use crate::stream::{Sink, Source};
@@ -16,6 +18,10 @@ use std::rt::Files;
 const FOUND: u8 = 0;
 
 const NOTHING: u8 = 1;
+
+const ALL_DESCRIBED: u8 = 0;
+
+const SOME_NOT_DESCRIBED: u8 = 1;
 
 const REFUSED: u8 = 2;
 
@@ -52,6 +58,26 @@ fn scan<Rt: Files + AllocGlobal + Clone + Drop, R: Source, W: Sink, E: Sink>(
     let mut written = write_files(rt, alloc, files, input, out, err, Work::Scan(search))?;
     written.is_refused |= loaded.is_refused;
     Ok(status_of(written))
+}
+
+/// The command `check`: the arguments, the word list, the templates by identifier.
+fn check_templates<Rt: Files + AllocGlobal + Clone + Drop, W: Sink, E: Sink>(
+    rt: &Rt,
+    alloc: Global,
+    found: &ArgMatches<'_>,
+    out: &mut W,
+    err: &mut E,
+) -> Result<u8, Stop> {
+    let arguments = CheckArguments::read(found);
+    let words = load_words(rt, alloc, arguments.words)?;
+    let loaded = load_all(rt, alloc, arguments.folder, &words, err)?;
+    match check(alloc, &loaded.set, &words, out) {
+        Ok(_) if loaded.is_refused => Ok(REFUSED),
+        Ok(true) => Ok(ALL_DESCRIBED),
+        Ok(false) => Ok(SOME_NOT_DESCRIBED),
+        Err(RunFault::Write) => Err(Stop::Write),
+        Err(fault) => Err(Stop::Check(fault)),
+    }
 }
 
 /// The command `tokens`: the arguments, the word list, the files as given.
@@ -107,6 +133,8 @@ fn try_command<Rt: Files + AllocGlobal + Clone + Drop, R: Source, W: Sink, E: Si
         Ok(matches) => {
             if let Some(found) = matches.subcommand_matches("scan") {
                 scan(rt, alloc, found, input, out, err)
+            } else if let Some(found) = matches.subcommand_matches("check") {
+                check_templates(rt, alloc, found, out, err)
             } else if let Some(found) = matches.subcommand_matches("tokens") {
                 tokens(rt, alloc, found, input, out, err)
             } else {
@@ -117,8 +145,8 @@ fn try_command<Rt: Files + AllocGlobal + Clone + Drop, R: Source, W: Sink, E: Si
     }
 }
 
-/// The whole program, over the words after its name. The answer is its status: 0 if a line was written, 1 if
-/// none was, 2 if anything was refused or failed.
+/// The whole program, over the words after its name. The answer is its status. `scan` and `tokens`: 0 if a line was
+/// written, 1 if none was. `check`: 1 if a line says `no`, else 0. All: 2 if anything was refused or failed.
 ///
 /// It opens the files and the folder itself. What is refused is told on `err`, a line each.
 pub fn command<Rt: Files + AllocGlobal + Clone + Drop, R: Source, W: Sink, E: Sink>(

@@ -1,8 +1,11 @@
 mod arguments;
 mod cases;
+mod checks;
 mod help;
+mod markup;
 mod matches;
 mod refusals;
 mod streams;
 mod tokens;
+mod variables;
 mod word_lists;

@@ -1,6 +1,6 @@
 //! Whole inputs and whole pieces, in as many calls as they take.
 
-ghost use Rattle.std.specs.Prelude.{◌≡◌, ◌<◌, ◌≤◌, ℕ, List, length, IfOk, OnOk, OnErr, IsErrOf};
+ghost use Rattle.std.specs.Prelude.{◌≡◌, ◌++◌, ◌<◌, ◌≤◌, ℕ, List, length, IfOk, OnOk, OnErr, IsErrOf};
 ghost use Rattle.std.specs.Io.KnownBytes.{Consumes, Appends, IsAtEnd};
 ghost use Rattle.licscan.specs.Stream.{one_more, BeginsWith};
 
@@ -71,5 +71,23 @@ pub fn put_all<W: Sink>(out: &mut W, piece: &[u8]) -> Result<(), WriteFailed>
             Ok(n) => at += n,
         }
     }
+    Ok(())
+}
+
+/// As many bytes of lines are gathered before they are written.
+const GATHERED: usize = 65_536;
+
+/// Writes the gathered lines and empties the list, where there are enough of them.
+pub fn put_gathered<W: Sink>(out: &mut W, lines: &mut Vec<u8>) -> Result<(), WriteFailed>
+    ensures ok { OnOk result ((put : List ℕ) × Appends (W.taken out.old) (W.taken out.new) put × (lines.old.items ≡ put ++ lines.new.items)) }
+    ensures part { OnErr result (BeginsWith (W.taken out.old) (W.taken out.new) lines.old.items) }
+    ensures sound { OnOk result (W.failed out.new ≡ W.failed out.old) }
+    ensures failed { OnErr result (W.failed out.new ≡ one_more (W.failed out.old)) }
+{
+    if lines.len() < GATHERED {
+        return Ok(());
+    }
+    put_all(out, lines.as_slice())?;
+    lines.clear();
     Ok(())
 }

@@ -35,7 +35,7 @@ fn read_bytes<Rt: Files>(rt: &Rt, alloc: Global, path: &str) -> Result<Vec<u8>, 
 
 /// The list that some bytes hold.
 fn read_words(alloc: Global, bytes: &[u8]) -> Result<Words, ListFault>
-    ensures { IfOk result (AreWords (phrase_lines bytes.now)) }
+    ensures { IfOk result (λ words. AreWords (phrase_lines bytes.now) words) }
 {
     match simdutf8::compat::from_utf8(bytes) {
         Ok(text) => Words::read(alloc, text).map_err(ListFault::Refused),

@@ -14,7 +14,11 @@ fn the_first_fault_is_told(rt: HostRuntime) -> Result<(), Fail> {
     )?;
     let refused = "licscan: template E: M10 at 0: no letter in it\n";
     for (args, err) in [
-        (["--after", "x", "a", "b"], "licscan: scan needs --all\n"),
+        (
+            ["--limit=1", "--after=x", "a", "b"],
+            "licscan: --after needs --all\n",
+        ),
+        (["--limit", "1", "a", "b"], "licscan: --limit needs --all\n"),
         (
             ["--all", "--after=x", "a", "b"],
             "licscan: --after takes one file\n",

@@ -8,7 +8,8 @@ Finds the ranges of texts that licence templates describe
 Usage: licscan <COMMAND>
 
 Commands:
-  scan    Writes a line for each match: a range of a file that a template describes
+  scan    Writes a line for each range of a file that a template describes
+  check   Says of each template whether it describes its own original text
   tokens  Writes a line for each token of a file
   help    Print this message or the help of the given subcommand(s)
 
@@ -17,7 +18,7 @@ Options:
 ";
 
 const SCAN_HELP: &str = "\
-Writes a line for each match: a range of a file that a template describes
+Writes a line for each range of a file that a template describes
 
 Usage: licscan scan [OPTIONS] --templates <DIR> [FILES]...
 
@@ -25,21 +26,57 @@ Arguments:
   [FILES]...  The files to read; none, or -, is standard input
 
 Options:
-      --all              Write every match, also those that overlap (must be given)
       --templates <DIR>  The folder of the templates
       --words <FILE>     The list of words that count as the same
-      --after <F:L:ID>   Write only what comes after first token F, last token L, template ID
-      --limit <N>        Write at most N lines for each file
+      --all              Write every match, and no variables
+      --after <F:L:ID>   With --all: only what comes after this match
+      --limit <N>        With --all: at most N lines for each file
   -h, --help             Print help
 
-Templates are the files of DIR whose names end in .template.txt, with an identifier before that.
+Templates are the files of DIR whose names end in .template.txt; what stands
+before that is the identifier.
 
-A line has six fields with a tab between two: the file, the template's identifier, the numbers of the match's
-first and last token, counted from 0, the byte at which it starts, and the byte behind its end.
+Without --all a match is left out where a shorter one of the same template lies
+within it, and of the rest one that lies within a longer one of another
+template. With --all every match is written.
 
-Status: 0 if a line was written, 1 if none was, 2 if anything was refused or could not be read or written.
+A match is a line of six fields with a tab between two: the file, the
+template's identifier, the numbers of the first and the last token, counted
+from 0, the byte at which the match starts, and the byte behind its end.
 
-Example: licscan scan --all --templates templates LICENSE README
+Without --all a line for each variable of the template follows: an empty field,
+the variable's name, the byte at which its value starts, the byte behind its
+end, and the value. Where a variable stands for nothing, a - follows its name.
+
+F:L:ID are the numbers of a first and a last token, and an identifier.
+
+Status: 0 if a line was written, 1 if none was, 2 if anything was refused or
+could not be read or written.
+
+Example: licscan scan --templates templates LICENSE README
+";
+
+const CHECK_HELP: &str = "\
+Says of each template whether it describes its own original text
+
+Usage: licscan check [OPTIONS] --templates <DIR>
+
+Options:
+      --templates <DIR>  The folder of the templates
+      --words <FILE>     The list of words that count as the same
+  -h, --help             Print help
+
+Templates are the files of DIR whose names end in .template.txt; what stands
+before that is the identifier.
+
+A template is a line of three fields with a tab between two: the identifier,
+the weight, and yes or no. The original text is the template with each
+variable's original value in its place and with all optional parts.
+
+Status: 1 if a line says no, else 0; 2 if anything was refused or could not be
+read or written.
+
+Example: licscan check --templates templates
 ";
 
 const TOKENS_HELP: &str = "\
@@ -54,17 +91,18 @@ Options:
       --words <FILE>  The list of words that count as the same
   -h, --help          Print help
 
-A line has four fields with a tab between two: the file, the byte at which the token starts, the byte behind its
-end, and its text.
+A line has four fields with a tab between two: the file, the byte at which the
+token starts, the byte behind its end, and the token's text.
 
-Status: 0 if a line was written, 1 if none was, 2 if anything was refused or could not be read or written.
+Status: 0 if a line was written, 1 if none was, 2 if anything was refused or
+could not be read or written.
 
 Example: licscan tokens LICENSE
 ";
 
 const NO_COMMAND: &str = "\
 error: 'licscan' requires a subcommand but one was not provided
-  [subcommands: scan, tokens, help]
+  [subcommands: scan, check, tokens, help]
 
 Usage: licscan <COMMAND>
 
@@ -104,6 +142,13 @@ fn help_and_usage_are_shown(rt: HostRuntime) {
                 input: "",
                 status: 0,
                 out: SCAN_HELP,
+                err: "",
+            },
+            Case {
+                args: &["check", "--help"],
+                input: "",
+                status: 0,
+                out: CHECK_HELP,
                 err: "",
             },
             Case {

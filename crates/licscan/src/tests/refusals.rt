@@ -118,3 +118,38 @@ fn more_templates_than_a_set_may_have_end_the_run(rt: HostRuntime) -> Result<(),
     fs::remove_dir_all(&rt, folder)?;
     Ok(())
 }
+
+#[test]
+fn a_fault_of_markup_is_told_with_its_place(rt: HostRuntime) -> Result<(), Fail> {
+    let folder = "licscan-test-markup";
+    make_folder(
+        &rt,
+        folder,
+        &[
+            ("A.template.txt", b"foo bar"),
+            ("P1.template.txt", b"x <<beginOptional>> y"),
+            (
+                "P2.template.txt",
+                b"x <<var;name=\"n\";original=\"o\";match=\"[[:alpha:]]\">>",
+            ),
+            (
+                "P3.template.txt",
+                b"x <<var;name=\"n\";original=\"o\";match=\"a**\">>",
+            ),
+            ("P4.template.txt", b"x <<var;name>>"),
+        ],
+    )?;
+    let case = Case {
+        args: &["scan", "--templates", folder],
+        input: "foo bar",
+        status: 2,
+        out: "-\tA\t0\t1\t0\t7\n",
+        err: "licscan: template P1: M3 at 2: optional not ended\n\
+            licscan: template P2: M7 at 37: E5 at 1: bracket extension\n\
+            licscan: template P3: M7 at 37: E2 at 2: two repetition signs\n\
+            licscan: template P4: M6 at 8: field without =\n",
+    };
+    expect(&rt, &[case]);
+    fs::remove_dir_all(&rt, folder)?;
+    Ok(())
+}

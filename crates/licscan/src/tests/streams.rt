@@ -1,5 +1,6 @@
 //! Readers and writers that fail.
 
+use crate::check::check;
 use crate::engine::{Ask, RunFault, run};
 use crate::program::command;
 use crate::stream::{Counted, Sink, Source};
@@ -80,13 +81,19 @@ const ASK: Ask = Ask {
     limit: None,
 };
 
+const OUTER: Ask = Ask {
+    all: false,
+    after: None,
+    limit: Some(1),
+};
+
 const INPUT: &[u8] = b"foo bar foo bar";
 
 const REPORT: &[u8] = b"-\tA\t0\t1\t0\t7\n-\tA\t2\t3\t8\t15\n";
 
-/// The set with the one template `A`.
-fn one_template(alloc: Global, words: &Words) -> Result<Set, Fail> {
-    let template = read_template(alloc, "foo bar", words)?;
+/// The set with this one template, of the identifier `A`.
+fn set_of(alloc: Global, text: &str, words: &Words) -> Result<Set, Fail> {
+    let template = read_template(alloc, text, words)?;
     let mut templates = Vec::new(alloc);
     templates.push(("A".to_string(alloc)?, template))?;
     Ok(Set::build(alloc, templates)?)
@@ -95,7 +102,7 @@ fn one_template(alloc: Global, words: &Words) -> Result<Set, Fail> {
 #[test]
 fn a_failed_read_writes_nothing(rt: HostRuntime) -> Result<(), Fail> {
     let words = Words::none(rt.alloc());
-    let set = one_template(rt.alloc(), &words)?;
+    let set = set_of(rt.alloc(), "foo bar", &words)?;
     for k in 1..18u64 {
         let mut input = Failing {
             rest: INPUT,
@@ -123,7 +130,7 @@ fn a_failed_read_writes_nothing(rt: HostRuntime) -> Result<(), Fail> {
 #[test]
 fn a_failed_write_keeps_a_beginning(rt: HostRuntime) -> Result<(), Fail> {
     let words = Words::none(rt.alloc());
-    let set = one_template(rt.alloc(), &words)?;
+    let set = set_of(rt.alloc(), "foo bar", &words)?;
     for k in 0..REPORT.len() + 1 {
         let mut rest = INPUT;
         let mut input = Counted::new(&mut rest);
@@ -149,6 +156,54 @@ fn a_failed_write_keeps_a_beginning(rt: HostRuntime) -> Result<(), Fail> {
 }
 
 #[test]
+fn a_failed_write_keeps_a_beginning_of_outer_matches(rt: HostRuntime) -> Result<(), Fail> {
+    let words = Words::none(rt.alloc());
+    let template = "foo <<var;name=\"v\";original=\"\";match=\".{3}\">>";
+    let set = set_of(rt.alloc(), template, &words)?;
+    let report =
+        b"-\tA\t0\t1\t0\t7\n\tv\t4\t7\tbar\n-\tA\t2\t3\t8\t15\n\tv\t12\t15\tbar\n".as_slice();
+    for k in 0..report.len() + 1 {
+        let mut rest = INPUT;
+        let mut input = Counted::new(&mut rest);
+        let mut out = Full {
+            bytes: Vec::new(rt.alloc()),
+            room: k,
+            failed: 0,
+        };
+        let result = run(rt.alloc(), "-", &mut input, &mut out, &set, &words, &OUTER);
+        if k < report.len() {
+            assert_eq!(rt; result, Err(RunFault::Write), "with room for {k}");
+        } else {
+            assert_eq!(rt; result, Ok(true), "with room for {k}");
+        }
+        assert_eq!(rt; out.bytes.as_slice(), &report[..k], "with room for {k}");
+    }
+    Ok(())
+}
+
+#[test]
+fn a_failed_write_keeps_a_beginning_of_a_check(rt: HostRuntime) -> Result<(), Fail> {
+    let words = Words::none(rt.alloc());
+    let set = set_of(rt.alloc(), "foo bar", &words)?;
+    let report = b"A\t7\tyes\n".as_slice();
+    for k in 0..report.len() + 1 {
+        let mut out = Full {
+            bytes: Vec::new(rt.alloc()),
+            room: k,
+            failed: 0,
+        };
+        let result = check(rt.alloc(), &set, &words, &mut out);
+        if k < report.len() {
+            assert_eq!(rt; result, Err(RunFault::Write), "with room for {k}");
+        } else {
+            assert_eq!(rt; result, Ok(true), "with room for {k}");
+        }
+        assert_eq!(rt; out.bytes.as_slice(), &report[..k], "with room for {k}");
+    }
+    Ok(())
+}
+
+#[test]
 fn the_program_tells_failed_streams(rt: HostRuntime) -> Result<(), Fail> {
     let folder = "licscan-test-streams";
     crate::tests::cases::make_folder(&rt, folder, &[("A.template.txt", b"foo")])?;
@@ -169,7 +224,7 @@ fn the_program_tells_failed_streams(rt: HostRuntime) -> Result<(), Fail> {
         };
         let mut told = Vec::new(rt.alloc());
         let mut err = Counted::new(&mut told);
-        let args = ["scan", "--all", "--templates", folder];
+        let args = ["scan", "--templates", folder];
         let status = command(&rt, rt.alloc(), &args, &mut input, &mut out, &mut err);
         assert_eq!(rt; status, 2, "{said}");
         assert_eq!(rt; told.as_slice(), said.as_bytes(), "{said}");

@@ -137,11 +137,20 @@ fn a_list_that_cannot_be_read_ends_the_run(rt: HostRuntime) -> Result<(), Fail> 
         expect(&rt, &[case]);
     }
     // The arguments are looked at before the list, and the list before the templates.
-    let both = ["scan", "--templates", "none", "--words", "none"];
+    let both = [
+        "scan",
+        "--after=0:0:A",
+        "--templates",
+        "none",
+        "--words",
+        "none",
+    ];
     let list = ["scan", "--all", "--templates", "none", "--words", "none"];
+    let check = ["check", "--templates", "none", "--words", "none"];
     for (args, err) in [
-        (&both[..], "licscan: scan needs --all\n"),
+        (&both[..], "licscan: --after needs --all\n"),
         (&list[..], "licscan: words: cannot be read\n"),
+        (&check[..], "licscan: words: cannot be read\n"),
     ] {
         let case = Case {
             args,

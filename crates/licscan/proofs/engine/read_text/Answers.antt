@@ -5,8 +5,8 @@ use Rattle.licscan.proofs.engine.read_text.Goals as goal
 
 pub returns-in-Ok-read-clause-whole : goal.returns-in-Ok-read-clause-whole
 returns-in-Ok-read-clause-whole g c =
-    whole_text c.args.words.now c.in-Ok-read.text.tokens c.in-Ok.bytes.items _ _
-    c.in-Ok.ensures.bytes c.in-Ok.ensures.end c.in-Ok-read.ensures.accepted c.in-Ok-read.ensures.tokens
+    whole_text c.args.words.now c.in-Ok-read.text.source c.in-Ok-read.text.tokens c.in-Ok.bytes.items _ _
+    c.in-Ok.ensures.bytes c.in-Ok.ensures.end c.in-Ok-read.ensures.accepted c.in-Ok-read.ensures.source c.in-Ok-read.ensures.tokens
 
 pub returns-in-Err-clause-refused : goal.returns-in-Err-clause-refused
 returns-in-Err-clause-refused g c = λ fault is not_memory.

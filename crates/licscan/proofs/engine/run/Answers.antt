@@ -4,11 +4,11 @@ use Rattle.licscan.proofs.engine.run.Goals as goal
 pub returns-clause-report : goal.returns-clause-report
 returns-clause-report g c =
     let whole = c.in_ok-text.ensures.whole in
-    whole_report c.args.name.now c.args.set.now c.args.words.now c.args.ask.now c.report.result c.in_ok-text.text.tokens whole.0 _ _ _ _
-    (record { read = whole.1; end = whole.2; accepted = whole.3; same = whole.4 }) c.report.ensures.written
+    whole_report c.args.name.now c.args.set.now c.args.words.now c.args.ask.now c.report.result c.in_ok-text.text.source c.in_ok-text.text.tokens whole.0 _ _ _ _
+    (record { read = whole.1; end = whole.2; accepted = whole.3; bytes_same = whole.4; same = whole.5 }) c.report.ensures.written
 
 pub returns-clause-part : goal.returns-clause-part
 returns-clause-part g c = λ fault is which.
     let whole = c.in_ok-text.ensures.whole in
-    part_report c.args.name.now c.args.set.now c.args.words.now c.args.ask.now c.report.result fault c.in_ok-text.text.tokens whole.0 _ _ _ _
-    (record { read = whole.1; end = whole.2; accepted = whole.3; same = whole.4 }) c.report.ensures.part is
+    part_report c.args.name.now c.args.set.now c.args.words.now c.args.ask.now c.report.result fault c.in_ok-text.text.source c.in_ok-text.text.tokens whole.0 _ _ _ _
+    (record { read = whole.1; end = whole.2; accepted = whole.3; bytes_same = whole.4; same = whole.5 }) c.report.ensures.part is

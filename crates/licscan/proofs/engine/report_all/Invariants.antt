@@ -3,7 +3,7 @@ use Rattle.std.specs.List.{flat_map}
 use Rattle.licscan.specs.Report.{match_line}
 use Rattle.licscan.specs.Wanted.{wanted_of}
 use Rattle.licscan.proofs.Written.{IsPut}
-use Rattle.licscan.proofs.engine.report.Given as goal
+use Rattle.licscan.proofs.engine.report_all.Given as goal
 
 abbrev pub invariant-loop-triple : goal.invariant-loop-triple
 invariant-loop-triple g l =

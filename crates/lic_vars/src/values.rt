@@ -1,0 +1,155 @@
+//! What the variables of a template stand for in a match.
+
+ghost use Rattle.std.specs.Prelude.{◌≡◌, ◌==◌, false, IfOk, map, take, drop, slice_index_or, if◌then◌else◌};
+ghost use Rattle.lic_find.specs.Matches.{IsMatch};
+ghost use Rattle.lic_vars.specs.Values.{AreValues, covered};
+ghost use Rattle.lic_vars.specs.Moves.{CanFinish, Least, NoBlanks};
+ghost use Rattle.lic_vars.specs.Cuts.{gapped_of, spans_of, moves_of, IsCompiled};
+ghost use Rattle.lic_vars.specs.Recorded.{recorded};
+ghost use Rattle.lic_vars.specs.Views.{value_of};
+ghost use Rattle.std.specs.List.{All};
+
+use crate::choose::choose;
+use crate::fill::make_rows;
+use crate::letters::{Letter, letter_count, letters_of};
+use crate::steps::{Step, steps_of};
+use crate::wanted::wanted_cuts;
+use lic_auto::set::Set;
+use lic_find::triple::Triple;
+use lic_norm::text::Text;
+use lic_norm::token::Span;
+use std::alloc::{AllocError, Global};
+
+/// What a variable stands for.
+#[derive(Clone, Copy, Debug)]
+pub struct Value<'s> {
+    /// The variable's name, as the template has it.
+    pub name: &'s str,
+    /// The bytes of the source from the start of the first token of which it has a letter to the end of the last such token.
+    /// `None` where it has no letter, or stands in an optional part that was left out.
+    pub span: Option<Span>,
+}
+
+/// The values of a template's variables in a match, one for each variable, in the template's order (this project's
+/// profile of SPDX 2.3 Annex B). Spans are bytes of the text's source. The values are those of the derivation with the
+/// least record: optional parts are present where that is possible, and earlier variables as short as possible.
+///
+/// # Errors
+///
+/// Fails where a growth is refused.
+pub fn assign<'s>(
+    alloc: Global,
+    set: &'s Set,
+    text: &Text,
+    triple: Triple,
+) -> Result<Vec<Value<'s>>, AllocError>
+    requires { IsMatch set.now text.now.tokens triple }
+    ensures { IfOk result (λ values. AreValues set.now text.now.tokens triple (map value_of values.items)) }
+{
+    let letters = letters_of(alloc, text, triple.first, triple.last)?;
+    let steps = steps_of(alloc, set.template(triple.template).parts())?;
+    let numbers = least_record(alloc, &steps, &letters)?;
+    values_of(alloc, &steps, &letters, &numbers)
+}
+
+// The least record with which the steps can take all letters.
+fn least_record(alloc: Global, steps: &[Step], letters: &[Letter]) -> Result<Vec<usize>, AllocError>
+    requires compiled { All IsCompiled steps.now }
+    requires letters { NoBlanks (gapped_of letters.now) }
+    requires can { CanFinish (moves_of steps.now) (gapped_of letters.now) false }
+    ensures { IfOk result (λ found. Least (moves_of steps.now) (gapped_of letters.now) false found.items) }
+{
+    let wanted = wanted_cuts(alloc, steps, letters)?;
+    let rows = make_rows(alloc, &wanted, steps, letters)?;
+    choose(alloc, &rows, &wanted, steps, letters)
+}
+
+// The values that a record gives.
+fn values_of<'s>(
+    alloc: Global,
+    steps: &[Step<'s>],
+    mut letters: &[Letter],
+    mut numbers: &[usize],
+) -> Result<Vec<Value<'s>>, AllocError>
+    ensures { IfOk result (λ values. map value_of values.items ≡ recorded 0 (moves_of steps.now) numbers.now (spans_of letters.now)) }
+{
+    let mut values = Vec::new(alloc);
+    let mut left_out = 0;
+    let mut i = 0;
+    while i < steps.len() {
+        let step = &steps[i];
+        i += 1;
+        if left_out > 0 {
+            left_out -= 1;
+            if let Step::Variable { name, .. } = step {
+                values.push(Value { name, span: None })?;
+            }
+            continue;
+        }
+        match step {
+            Step::Text(text) => letters = behind(letters, letter_count(text)),
+            Step::Variable { name, .. } => {
+                let count = first_number(numbers);
+                let span = covered(front(letters, count));
+                values.push(Value { name, span })?;
+                letters = behind(letters, count);
+                numbers = other_numbers(numbers);
+            }
+            Step::Optional(size) => {
+                left_out = left_out_by(first_number(numbers), *size);
+                numbers = other_numbers(numbers);
+            }
+        }
+    }
+    Ok(values)
+}
+
+// The first number, or 0.
+fn first_number(numbers: &[usize]) -> usize
+    ensures { result ≡ slice_index_or numbers.now 0 0 }
+{
+    if numbers.is_empty() { 0 } else { numbers[0] }
+}
+
+// The numbers behind the first.
+fn other_numbers(numbers: &[usize]) -> &[usize]
+    ensures { result.now ≡ drop 1 numbers.now }
+{
+    &numbers[1.min(numbers.len())..]
+}
+
+// How many steps an optional part leaves out by its choice: 0 is present.
+fn left_out_by(choice: usize, size: usize) -> usize
+    ensures { result ≡ (if choice == 0 then 0 else size) }
+{
+    if choice == 0 { 0 } else { size }
+}
+
+// The first so many letters.
+fn front(letters: &[Letter], count: usize) -> &[Letter]
+    ensures { result.now ≡ take count letters.now }
+{
+    &letters[..count.min(letters.len())]
+}
+
+// The letters behind the first so many.
+fn behind(letters: &[Letter], count: usize) -> &[Letter]
+    ensures { result.now ≡ drop count letters.now }
+{
+    &letters[count.min(letters.len())..]
+}
+
+// From the start of the first letter's token to the end of the last letter's.
+fn covered(letters: &[Letter]) -> Option<Span>
+    ensures { result ≡ covered (spans_of letters.now) }
+{
+    let first = letters.first()?;
+    let last = letters.last()?;
+    Some(Span {
+        start: first.span.start,
+        end: last.span.end,
+    })
+}
+
+#[cfg(test)]
+mod tests;
