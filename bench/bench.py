@@ -5,7 +5,9 @@ It takes the licence texts and copyright files that a Debian system carries, cut
 - tokenising 50 MB of such texts (a scan for a template that never occurs, and `tokens` with its output), against `wc -m`;
 - letters that enter no template, with 10, 100 and 700 templates, each against 10;
 - real text with 10, 100 and 700 templates;
-- how long the sets take to be read, and the memory of each run.
+- how long the sets take to be read, and the memory of each run;
+- the report of outer matches on 1 MB of real text, with the example templates and with one that begins with a wide variable, against
+  the list of all matches.
 """
 import glob, os, random, resource, subprocess, sys, tempfile, time
 
@@ -87,6 +89,14 @@ def main():
                     reading[count] = seconds
                 first = first or seconds
                 print(f'{name:12} {count:4} templates {seconds:8.2f} s  {seconds / first:6.1f} times 10 templates  at most {most} MB so far')
+        os.makedirs(at('wide'))
+        with open(at('wide/wide.template.txt'), 'w') as out:
+            out.write('<<var;name="front";original="x";match=".{1,500}">> without warranty\n')
+        examples = os.path.join(os.path.dirname(os.path.abspath(__file__)), '..', 'examples', 'templates')
+        for name, templates in [('examples', examples), ('a wide variable first', at('wide'))]:
+            every, _ = timed([program, 'scan', '--all', '--templates', templates, at('short.txt')])
+            seconds, most = timed([program, 'scan', '--templates', templates, at('short.txt')])
+            print(f'{name:25} {seconds:8.2f} s  {seconds / every:6.1f} times all matches  at most {most} MB so far')
 
 
 main()

@@ -21,6 +21,12 @@ CASES = [
     (SCAN + ['--after', '0:1:A', 'good.txt', '-'], FOUND),
     (SCAN + ['--limit', '0'], FOUND),
     (['scan', '--templates', 'T'], FOUND),
+    (['scan', '--templates', 'V', '--words', 'list'], b'x of colour of z; q'),
+    (['scan', '--templates', 'T', '--limit', '1'], FOUND),
+    (['check', '--templates', 'V', '--words', 'list'], b''),
+    (['check', '--templates', 'T'], b''),
+    (['check', '--templates', 'none'], b''),
+    (['tokens', '--words', 'list', 'good.txt', '-'], b'The Colour'),
     (['scan', '--all', '--templates', 'none'], FOUND),
     (['scan', '--all'], b''),
     (['scan', '--help'], b''),
@@ -32,6 +38,9 @@ FILES = {
     'T/A.template.txt': b'foo bar',
     'T/E.template.txt': b' ',
     'T/U.template.txt': b'\xff',
+    'V/V.template.txt': b'<<var;name="a";original="p";match=".+">> of <<var;name="b";original="q";match=".+">>',
+    'V/O.template.txt': b'q<<beginOptional>> <<var;name="o";original="p";match="[a-z]{2}">><<endOptional>>',
+    'list': b'color, colour\n',
     'good.txt': b'foo bar',
     'bad.txt': b'foo bar \xff',
 }
@@ -63,6 +72,7 @@ def main():
         library = os.path.join(folder, 'fail_nth.so')
         subprocess.run(['cc', '-shared', '-fPIC', '-O1', '-o', library, os.path.join(HERE, 'fail_nth.c'), '-ldl'], check=True)
         os.makedirs(os.path.join(folder, 'T', 'D.template.txt'))
+        os.makedirs(os.path.join(folder, 'V'))
         with open(os.path.join(folder.encode(), b'T', b'\xff.template.txt'), 'wb'):
             pass
         for name, text in FILES.items():
