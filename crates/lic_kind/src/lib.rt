@@ -2,7 +2,7 @@
 #![tactic(auto)]
 
 ghost use Rattle.std.specs.Prelude.{◌≡◌};
-ghost use Rattle.lic_kind.specs.Kinds.{kind_of};
+ghost use Rattle.lic_kind.specs.Kinds.{kind_of, is_word_kind};
 
 mod ascii;
 pub mod laws;
@@ -38,6 +38,15 @@ pub fn kind_of(c: char) -> Kind
     } else {
         other_kind(c)
     }
+}
+
+/// Whether the character is a letter of words: one of kind `Word` (this project's profile). Between two of
+/// them a gap is written as a blank at least.
+#[inline(always)]
+pub fn is_word(c: char) -> bool
+    ensures { result ≡ is_word_kind (kind_of c) }
+{
+    kind_of(c) == Kind::Word
 }
 
 /// The kind of any character, by the tables.

@@ -40,6 +40,7 @@ fn kinds_and_letters_of_marks(rt: HostRuntime) -> Result<(), Fail> {
     ];
     for (c, letter) in table {
         assert_eq!(rt; kind_of(*c), Mark, "at {c:?}");
+        assert!(rt; !is_word(*c), "at {c:?}");
         assert_eq!(rt;
             spell(rt.alloc(), *c)?.as_slice(),
             [*letter].as_slice(),
@@ -94,6 +95,7 @@ fn words_are_folded(rt: HostRuntime) -> Result<(), Fail> {
     ];
     for (c, letters) in table {
         assert_eq!(rt; kind_of(*c), Word, "at {c:?}");
+        assert!(rt; is_word(*c), "at {c:?}");
         assert_eq!(rt; spell(rt.alloc(), *c)?.as_slice(), *letters, "at {c:?}");
     }
     Ok(())

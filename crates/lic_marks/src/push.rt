@@ -3,7 +3,6 @@
 ghost use Rattle.std.specs.Prelude.{◌≡◌, ◌≢◌, ℕ, ◌≤◌, ◌&&◌, false, true, IsTrue, List, [], ◌∷◌, ◌++◌, length};
 ghost use Rattle.std.specs.Str.{chars};
 ghost use Rattle.lic_words.specs.Words.{blank};
-ghost use Rattle.lic_words.specs.Letters.{is_word};
 ghost use Rattle.lic_words.specs.Spelling.{Gap, gap_of, gapped_from, last_letter};
 ghost use Rattle.lic_marks.specs.Marks.{shift};
 ghost use Rattle.lic_marks.specs.Rows.{weight, marks_of};
@@ -13,7 +12,7 @@ ghost use Rattle.lic_marks.specs.Standing.{StandsAtOnce, StandsFor, StandsSoFar,
 use crate::close::close;
 use crate::node::Node;
 use crate::row::Row;
-use lic_kind::{Kind, kind_of};
+use lic_kind::is_word;
 
 /// A letter that is no blank, and how it stands behind the letters before it.
 #[derive(Clone, Copy, Debug)]
@@ -68,9 +67,9 @@ pub fn push_letter(tree: &Node, at_once: &mut Row, after_blanks: &Row, spare: &m
     shift_step(tree, at_once, after_blanks, spare, step);
 }
 
-/// Makes the marks ready for a letter that stands apart: where the last letter does not yet, the marks after blanks are made
-/// from those at once. The spare row is room to work in.
-pub fn part(
+/// Takes the marks over a gap, so that the next letter may stand apart: where no gap has come yet behind the last letter,
+/// the marks after blanks are made from those at once. The spare row is room to work in.
+pub fn push_gap(
     tree: &Node,
     at_once: &Row,
     after_blanks: &mut Row,
@@ -119,11 +118,11 @@ pub fn push_token(
     let mut is_apart = true;
     for c in token.chars() {
         if c == ' ' {
-            part(tree, at_once, after_blanks, spare, entry, is_apart);
+            push_gap(tree, at_once, after_blanks, spare, entry, is_apart);
             is_apart = true;
             continue;
         }
-        let are_words = is_letter_of_word(last) & is_letter_of_word(c);
+        let are_words = is_word(last) & is_word(c);
         let step = Step {
             letter: c,
             entry,
@@ -135,12 +134,6 @@ pub fn push_token(
         last = c;
         is_apart = false;
     }
-    part(tree, at_once, after_blanks, spare, entry, is_apart);
+    push_gap(tree, at_once, after_blanks, spare, entry, is_apart);
     (entry, last)
-}
-
-fn is_letter_of_word(c: char) -> bool
-    ensures { result ≡ is_word c }
-{
-    kind_of(c) == Kind::Word
 }

@@ -4,12 +4,12 @@ use Rattle.std.proofs.lemmas.List.{drop_more, drop-drop, drop-map, length-map, l
 use Rattle.lic_words.specs.Words.{Word, IsTidy, blank, blanks}
 use Rattle.lic_words.specs.Expressions.{Expression, Language, tidy}
 use Rattle.lic_words.specs.Spelling.{Gap, no_gap, Allows}
+use Rattle.lic_words.specs.Letters.{letters_in}
 use Rattle.lic_marks.specs.Cores.{Core, WordsOf, HasWordsOf}
 use Rattle.lic_marks.specs.Marks.{is_nullable}
 use Rattle.lic_marks.specs.Standing.{After}
 use Rattle.lic_marks.proofs.Shifting.{is_nullable_sound, is_nullable_complete}
 use Rattle.lic_marks.proofs.TidyLetters.{tidy_first}
-use Rattle.lic_vars.specs.Derivations.{letters_in}
 use Rattle.lic_vars.specs.Moves.{State, NoBlanks, fits, pick, read_word, Move, CanFinish}
 use Rattle.lic_vars.specs.Cuts.{gapped_of, gap_before, left_from}
 use Rattle.lic_vars.specs.Takes.{after_tidy, Takes, NoneBelow, IsShortest, IsStuck}

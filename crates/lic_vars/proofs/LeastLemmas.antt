@@ -3,7 +3,8 @@ use Rattle.std.proofs.Common.{◌≡◌, ℕ, suc, zero, ◌<◌, Bool, List, []
 use Rattle.lic_words.specs.Words.{Word}
 use Rattle.lic_words.specs.Expressions.{Expression, tidy, Language}
 use Rattle.lic_words.specs.Spelling.{Gap}
-use Rattle.lic_vars.specs.Derivations.{letters_in, NotAfter}
+use Rattle.lic_words.specs.Letters.{letters_in}
+use Rattle.lic_vars.specs.Derivations.{NotAfter}
 use Rattle.lic_vars.specs.Moves.{State, read_word, Move, text, variable, optional, Finishes, finished, reads, takes, enters, skips, CanFinish, Least}
 use Rattle.lic_vars.proofs.ReadLemmas.{tidy-state}
 

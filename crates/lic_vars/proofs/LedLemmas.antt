@@ -3,7 +3,7 @@ use Rattle.std.proofs.Common.{◌≡◌, ℕ, zero, suc, ◌+◌, ◌-◌, ◌<�
 use Rattle.std.proofs.lemmas.Option.{slice_get-get_or, slice_get_within}
 use Rattle.std.specs.Option.{is_some}
 use Rattle.lic_words.specs.Words.{Word}
-use Rattle.lic_vars.specs.Derivations.{letters_in}
+use Rattle.lic_words.specs.Letters.{letters_in}
 use Rattle.lic_vars.specs.Moves.{State, read_word}
 use Rattle.lic_vars.specs.Cuts.{left_from, states}
 use Rattle.lic_vars.specs.Takes.{after_tidy}

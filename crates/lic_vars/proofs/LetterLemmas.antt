@@ -5,11 +5,11 @@ use Rattle.std.specs.List.{slice_range}
 use Rattle.std.specs.Str.{chars}
 use Rattle.lic_words.specs.Words.{blank}
 use Rattle.lic_words.specs.Spelling.{Gap, gapped, gapped_from, last_letter, last_of}
+use Rattle.lic_words.specs.Letters.{letters_in}
 use Rattle.lic_words.proofs.Rows.{last_of-snoc}
 use Rattle.lic_marks.proofs.TokenRows.{gapped-snoc}
 use Rattle.lic_norm.specs.Tokens.{TokenValue}
 use Rattle.lic_norm.specs.declared.token.Span.{Span}
-use Rattle.lic_vars.specs.Derivations.{letters_in}
 use Rattle.lic_vars.specs.Values.{letter_spans}
 use Rattle.lic_vars.specs.Cuts.{gap_before, gapped_of, spans_of}
 use Rattle.lic_vars.specs.declared.letters.Letter.{Letter}

@@ -2,9 +2,9 @@
 use Rattle.std.proofs.Common.{◌≡◌, ℕ, suc, ◌==◌, ◌&&◌, Bool, true, false, List, [], ◌∷◌, ◌++◌, drop, Option, Some, None, refl, sym, ap, ◌∙◌, if◌then◌else◌}
 use Rattle.lic_words.specs.Words.{Word, IsTidy, blank}
 use Rattle.lic_words.specs.Spelling.{Gap}
+use Rattle.lic_words.specs.Letters.{letters_in}
 use Rattle.lic_marks.specs.Rests.{IsTidyAfter}
 use Rattle.lic_marks.proofs.TidyLetters.{tidy_first, tidy_rest}
-use Rattle.lic_vars.specs.Derivations.{letters_in}
 use Rattle.lic_vars.specs.Takes.{after_tidy}
 use Rattle.lic_vars.specs.Moves.{State, fits, pick, read_word}
 

@@ -2,8 +2,8 @@
 use Rattle.std.proofs.Common.{◌≡◌, ℕ, ◌==◌, ◌&&◌, suc, zero, Bool, true, false, List, [], ◌∷◌, ◌++◌, length, Some, refl, sym, ap, ◌∙◌, subst, append_assoc, eqb-true, if◌then◌else◌, arith}
 use Rattle.lic_words.specs.Words.{Word, blank, blanks}
 use Rattle.lic_words.specs.Spelling.{Gap, no_gap, free, needed, Allows}
+use Rattle.lic_words.specs.Letters.{letters_in}
 use Rattle.lic_marks.specs.Standing.{After}
-use Rattle.lic_vars.specs.Derivations.{letters_in}
 use Rattle.lic_vars.specs.Moves.{State, NoBlanks, fits, pick, read_word}
 use Rattle.lic_vars.proofs.SpellLemmas.{read_gap, fits_allowed, apart_by, and_left, and_right}
 use Rattle.lic_vars.proofs.ReadLemmas.{read-apart, ends_apart}

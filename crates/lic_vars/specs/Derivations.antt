@@ -1,6 +1,7 @@
 -- Derivations of a list of tokens by a template, and their records. A template is its parts as nodes in a row.
-use Rattle.std.specs.Prelude.{◌≡◌, ℕ, suc, ◌<◌, ◌==◌, List, [], ◌∷◌, ◌++◌, Option, Some, None, ◌⊎◌, chars, if◌then◌else◌}
-use Rattle.lic_words.specs.Words.{Word, IsTidy, blank}
+use Rattle.std.specs.Prelude.{◌≡◌, ℕ, ◌<◌, List, [], ◌∷◌, ◌++◌, Option, Some, None, ◌⊎◌, chars}
+use Rattle.lic_words.specs.Words.{Word, IsTidy}
+use Rattle.lic_words.specs.Letters.{letters_in}
 use Rattle.lic_words.specs.Expressions.{Language}
 use Rattle.lic_words.specs.Spelling.{Spells}
 use Rattle.lic_markup.specs.Parts.{Nodes, no_node, one_more, letters, variable, optional}
@@ -29,11 +30,6 @@ IsAllowed (one_more (letters text) rest) d = IsAllowed rest d
 IsAllowed (one_more (variable name original pattern) rest) (u, d) = Language (tree_words pattern) u × IsTidy u × IsAllowed rest d
 IsAllowed (one_more (optional body) rest) (None, d) = IsAllowed rest d
 IsAllowed (one_more (optional body) rest) (Some b, d) = IsAllowed body b × IsAllowed rest d
-
--- how many letters of a word are not blanks
-abbrev pub letters_in : Word → ℕ
-letters_in [] = 0
-letters_in (c ∷ w) = if c == blank then letters_in w else suc (letters_in w)
 
 -- From left to right: 0 and then the body's record for a present optional part, 1 for an absent one, the number of
 -- letters that are not blanks for a variable.

@@ -3,10 +3,11 @@ use Rattle.std.specs.Prelude.{◌≡◌, ℕ, ◌==◌, ◌&&◌, not, Bool, tru
 use Rattle.lic_words.specs.Words.{Word, blank}
 use Rattle.lic_words.specs.Expressions.{Expression, tidy, Language}
 use Rattle.lic_words.specs.Spelling.{Gap, no_gap, free, needed}
+use Rattle.lic_words.specs.Letters.{letters_in}
 use Rattle.lic_markup.specs.Parts.{Nodes, no_node, one_more}
 use Rattle.lic_markup.specs.Parts as parts
 use Rattle.lic_markup.specs.Meaning.{tree_words}
-use Rattle.lic_vars.specs.Derivations.{letters_in, NotAfter}
+use Rattle.lic_vars.specs.Derivations.{NotAfter}
 
 -- what is left of the letters, and whether blanks were written before them
 abbrev pub State : Type 0

@@ -2,7 +2,7 @@
 use Rattle.std.specs.Prelude.{◌≡◌, ℕ, zero, suc, ◌+◌, ◌<◌, ◌≤◌, Bool, false, List, length, Some}
 use Rattle.lic_words.specs.Words.{Word}
 use Rattle.lic_words.specs.Expressions.{Expression, tidy, Language}
-use Rattle.lic_vars.specs.Derivations.{letters_in}
+use Rattle.lic_words.specs.Letters.{letters_in}
 use Rattle.lic_vars.specs.Moves.{State, Move, read_word, CanFinish}
 use Rattle.lic_vars.specs.Cuts.{left_from}
 use Rattle.lic_vars.specs.declared.letters.Letter.{Letter}

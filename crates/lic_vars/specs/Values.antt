@@ -6,7 +6,8 @@ use Rattle.lic_markup.specs.Parts.{Nodes, no_node, one_more, letters, variable, 
 use Rattle.lic_auto.specs.Sets.{Known}
 use Rattle.lic_find.specs.Matches.{letters_between}
 use Rattle.lic_find.specs.declared.triple.Triple.{Triple}
-use Rattle.lic_vars.specs.Derivations.{Choice, Derivation, IsLeast, letters_in, word_of}
+use Rattle.lic_words.specs.Letters.{letters_in}
+use Rattle.lic_vars.specs.Derivations.{Choice, Derivation, IsLeast, word_of}
 
 -- a variable's name, as UTF-8 bytes, and the bytes of the source that it stood for
 pub record Assigned : Type 0 where

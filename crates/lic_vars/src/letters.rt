@@ -2,15 +2,14 @@
 
 ghost use Rattle.std.specs.Prelude.{◌≡◌, ◌<◌, ◌≤◌, ◌+◌, ◌&&◌, ◌++◌, true, length, replicate, slice_range, IfOk, IfSome, OnOk};
 ghost use Rattle.std.specs.Str.{chars};
-ghost use Rattle.lic_words.specs.Letters.{is_word};
 ghost use Rattle.lic_words.specs.Spelling.{gapped, gapped_from, last_letter};
+ghost use Rattle.lic_words.specs.Letters.{letters_in};
 ghost use Rattle.lic_find.specs.Matches.{letters_between};
-ghost use Rattle.lic_vars.specs.Derivations.{letters_in};
 ghost use Rattle.lic_vars.specs.Values.{letter_spans};
 ghost use Rattle.lic_vars.specs.Moves.{read_word, fits};
 ghost use Rattle.lic_vars.specs.Cuts.{gap_before, gapped_of, spans_of, states, left_from};
 
-use lic_kind::{Kind, kind_of};
+use lic_kind::is_word;
 use lic_norm::text::Text;
 use lic_norm::token::Span;
 use std::alloc::{AllocError, Global};
@@ -75,7 +74,7 @@ fn push_letters(
             is_apart = true;
             continue;
         }
-        let are_words = is_letter_of_word(before) & is_letter_of_word(c);
+        let are_words = is_word(before) & is_word(c);
         letters.push(Letter {
             letter: c,
             is_apart,
@@ -86,12 +85,6 @@ fn push_letters(
         is_apart = false;
     }
     Ok(before)
-}
-
-fn is_letter_of_word(c: char) -> bool
-    ensures { result ≡ is_word c }
-{
-    kind_of(c) == Kind::Word
 }
 
 /// How many letters are not blanks.

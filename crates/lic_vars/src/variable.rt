@@ -20,7 +20,7 @@ use crate::letters::{Cut, Letter, may_follow};
 use crate::table::{Row, has};
 use lic_marks::build::is_nullable;
 use lic_marks::node::Node;
-use lic_marks::push::{Step, part, push_letter};
+use lic_marks::push::{Step, push_gap, push_letter};
 use lic_marks::row::Row as Marks;
 use std::alloc::{AllocError, Global};
 
@@ -153,7 +153,7 @@ fn take_letter(
 {
     let is_apart = letter.is_apart & !is_first;
     if is_apart {
-        part(tree, at_once, after_blanks, spare, is_first, false);
+        push_gap(tree, at_once, after_blanks, spare, is_first, false);
     }
     let step = Step {
         letter: letter.letter,

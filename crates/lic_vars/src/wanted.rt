@@ -1,7 +1,7 @@
 //! The cuts that are wanted at each step: those that the steps before it can come to, and some more.
 
 ghost use Rattle.std.specs.Prelude.{◌≡◌, ◌+◌, ◌<◌, ◌≤◌, ℕ, Bool, Some, true, false, IfOk, IsTrue, length, slice_get};
-ghost use Rattle.lic_vars.specs.Derivations.{letters_in};
+ghost use Rattle.lic_words.specs.Letters.{letters_in};
 ghost use Rattle.lic_vars.specs.Moves.{State, read_word};
 ghost use Rattle.lic_vars.specs.Cuts.{left_from, state_at};
 ghost use Rattle.lic_vars.specs.Rows.{AreWanted, HasFlags, IsSet, TextLeads, EndsAt, WordLeads, IsBegun, IsCopy, Follows, GoesTo};

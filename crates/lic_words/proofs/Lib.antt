@@ -1,3 +1,5 @@
 pub mod Rows
 pub mod Languages
 pub mod Spellings
+pub mod Tokens
+pub mod Counts

@@ -36,7 +36,7 @@ HasNoBlank-from last apart (c ∷ row) = by_letter (λ l a. HasNoBlank-from l a 
     by_letter rest false h = rw h (not_blank c h, rest c false)
 
 -- a blank is no letter of a word
-gap-behind_blank : (c : ℕ) → gap_of true (is_word blank && is_word c) ≡ free
+pub gap-behind_blank : (c : ℕ) → gap_of true (is_word blank && is_word c) ≡ free
 unfolding kind_of
 gap-behind_blank c = refl
 

@@ -1,11 +1,12 @@
 //! Laws of the definitions, each the contract of a function that does nothing.
 
-ghost use Rattle.std.specs.Prelude.{◌≡◌, ◌↔◌, ◌++◌, ◌∷◌, [], ◌==◌, ℕ, List, map, not};
+ghost use Rattle.std.specs.Prelude.{◌≡◌, ◌≢◌, ◌≤◌, ◌↔◌, ◌++◌, ◌∷◌, [], ◌==◌, ℕ, List, All, IsTrue, map, not};
 ghost use Rattle.std.specs.List.{concat, filter};
 ghost use Rattle.lic_words.specs.Describing.{IsDescribed};
 ghost use Rattle.lic_words.specs.Expressions.{Expression, Language, alt, cat_all, empty, letters};
+ghost use Rattle.lic_words.specs.Letters.{is_word};
 ghost use Rattle.lic_words.specs.Spelling.{Spells};
-ghost use Rattle.lic_words.specs.Words.{Cat, blank};
+ghost use Rattle.lic_words.specs.Words.{Cat, blank, blanks};
 
 /// Letters stand for themselves alone.
 pub fn letters_stand_for_themselves()
@@ -49,4 +50,22 @@ pub fn a_blank_before_is_free()
 /// A blank at the end makes no difference.
 pub fn a_blank_behind_is_free()
     ensures { (w : List ℕ) (ts : List (List ℕ)) → Spells w ts ↔ Spells (w ++ blank ∷ []) ts }
+{}
+
+/// A token with no blank is written whole: its letters side by side, and no blanks but before and behind them.
+pub fn a_token_is_written_whole()
+    ensures { (t w : List ℕ) → All (λ c. c ≢ blank) t
+        → Spells w (t ∷ []) ↔ ((before behind : ℕ) × (w ≡ blanks before ++ t ++ blanks behind)) }
+{}
+
+/// Where two tokens with no blank meet in letters of words, a blank at least is written between them.
+pub fn words_stand_apart()
+    ensures { (t u : List ℕ) (a b : ℕ) (w : List ℕ) → All (λ c. c ≢ blank) t → All (λ c. c ≢ blank) u → IsTrue (is_word a) → IsTrue (is_word b)
+        → Spells w ((t ++ a ∷ []) ∷ (b ∷ u) ∷ [])
+        ↔ ((before between behind : ℕ) × (1 ≤ between) × (w ≡ blanks before ++ (t ++ a ∷ []) ++ blanks between ++ (b ∷ u) ++ blanks behind)) }
+{}
+
+/// A blank within a token is a gap as between two tokens.
+pub fn a_blank_within_a_token_is_a_gap()
+    ensures { (t u w : List ℕ) (ts : List (List ℕ)) → Spells w ((t ++ blank ∷ u) ∷ ts) ↔ Spells w (t ∷ u ∷ ts) }
 {}

@@ -34,13 +34,13 @@ loop-c-preserved-then-c-eq32 c =
     let gap = eq-eqb c.in-Some.c blank c.if-c-eq32.true in
     record {
       at_once_len = c.loop-c.invariant.at_once_len;
-      after_blanks_len = omega (arith, c.part.ensures.after_blanks_len);
-      spare_len = omega (arith, c.part.ensures.spare_len);
+      after_blanks_len = omega (arith, c.push_gap.ensures.after_blanks_len);
+      spare_len = omega (arith, c.push_gap.ensures.spare_len);
       stands = (
         c.loop-c.invariant.stands.0,
         rw (split, gapped_from-blank c.loop-c.last c.loop-c.is_apart c.in-Some.c _ gap) at c.loop-c.invariant.stands.1,
         λ letters s.
-            let apart = c.part.ensures.stands (letters ++ c.loop-c.invariant.stands.0) (c.loop-c.invariant.stands.2 letters s) in
+            let apart = c.push_gap.ensures.stands (letters ++ c.loop-c.invariant.stands.0) (c.loop-c.invariant.stands.2 letters s) in
             record { now = apart.now; apart = λ _. apart },
       );
       last = rw (split, last_letter-blank c.loop-c.last true c.in-Some.c _ gap) at c.loop-c.invariant.last;
@@ -65,7 +65,7 @@ loop-c-preserved c =
         more ++ one ∷ [],
         row ∙ sym (append_assoc more (one ∷ []) (gapped_from c.in-Some.c false rest)),
         λ letters s. record {
-          now = rw (← append_assoc letters more (one ∷ [])) (rw (c.is_letter_of_word.ensures, c.is_letter_of_word-in-loop-c.ensures) at
+          now = rw (← append_assoc letters more (one ∷ [])) (rw (c.is_word.ensures, c.is_word-in-loop-c.ensures) at
               (c.push_letter.ensures.stands (letters ++ more) (c.loop-c.invariant.stands.2 letters s)));
           apart = λ h. never h;
         },
@@ -80,7 +80,7 @@ returns-clause-stands c =
     let done : drop (length c.loop-c.yielded) (chars c.args.token.now) ≡ [] = drop_all (length c.loop-c.yielded) (chars c.args.token.now) (omega arith) in
     let all = rw (done, append-nil c.loop-c.invariant.stands.0) at c.loop-c.invariant.stands.1 in
     λ letters s.
-    rw all (c.part-2.ensures.stands (letters ++ c.loop-c.invariant.stands.0) (c.loop-c.invariant.stands.2 letters s))
+    rw all (c.push_gap-2.ensures.stands (letters ++ c.loop-c.invariant.stands.0) (c.loop-c.invariant.stands.2 letters s))
 
 pub returns-clause-last : goal.returns-clause-last
 returns-clause-last c =

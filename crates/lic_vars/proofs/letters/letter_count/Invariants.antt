@@ -1,5 +1,5 @@
 use Rattle.std.proofs.Common.{◌≡◌, ◌+◌, ◌≤◌, drop}
-use Rattle.lic_vars.specs.Derivations.{letters_in}
+use Rattle.lic_words.specs.Letters.{letters_in}
 use Rattle.lic_vars.proofs.letters.letter_count.Given as goal
 
 abbrev pub invariant-loop-c : goal.invariant-loop-c

@@ -31,8 +31,8 @@ loop-c-preserved c =
     let letter = ne_eqb c.in-Some.c blank c.if-c-eq32.false in
     let rest : List ℕ = drop (length (c.loop-c.yielded ++ c.in-Some.c ∷ [])) (chars c.args.text.now) in
     let one : Gap × ℕ = (gap_of c.loop-c.is_apart (is_word c.loop-c.before && is_word c.in-Some.c), c.in-Some.c) in
-    let same : (gap_of c.loop-c.is_apart (c.is_letter_of_word.result && c.is_letter_of_word-in-loop-c.result), c.in-Some.c) ≡ one =
-    rw (c.is_letter_of_word.ensures, c.is_letter_of_word-in-loop-c.ensures) refl in
+    let same : (gap_of c.loop-c.is_apart (c.is_word.result && c.is_word-in-loop-c.result), c.in-Some.c) ≡ one =
+    rw (c.is_word.ensures, c.is_word-in-loop-c.ensures) refl in
     record {
       gapped = gapped-pushed _ _ _ one (gapped_from c.in-Some.c false rest) c.in_ok-push.ensures.items same
           ∙ (rw (split, gapped_from-letter c.loop-c.before c.loop-c.is_apart c.in-Some.c rest letter) at c.loop-c.invariant.gapped);

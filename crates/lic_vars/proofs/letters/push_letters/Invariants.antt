@@ -1,7 +1,7 @@
 use Rattle.std.proofs.Common.{◌≡◌, ◌++◌, true, length, drop, replicate}
 use Rattle.std.specs.Str.{chars}
 use Rattle.lic_words.specs.Spelling.{gapped_from, last_letter}
-use Rattle.lic_vars.specs.Derivations.{letters_in}
+use Rattle.lic_words.specs.Letters.{letters_in}
 use Rattle.lic_vars.specs.Cuts.{gapped_of, spans_of}
 use Rattle.lic_vars.proofs.letters.push_letters.Given as goal
 

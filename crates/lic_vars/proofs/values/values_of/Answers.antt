@@ -1,7 +1,7 @@
 use Rattle.std.proofs.Common.{◌++◌, ℕ, drop, map, sym, ap, ◌∙◌, arith}
 use Rattle.lic_ere.specs.Trees.{tree_of}
 use Rattle.lic_markup.specs.Meaning.{tree_words}
-use Rattle.lic_vars.specs.Derivations.{letters_in}
+use Rattle.lic_words.specs.Letters.{letters_in}
 use Rattle.lic_vars.specs.Views.{value_of}
 use Rattle.lic_vars.proofs.FillLemmas.{moves-more}
 use Rattle.lic_vars.proofs.AssignLemmas.{taken-text, taken-variable, taken-optional, value-pushed}

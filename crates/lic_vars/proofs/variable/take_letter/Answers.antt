@@ -10,7 +10,7 @@ returns-clause-stands c = λ before s.
     c.push_letter.ensures.stands before (elim c.if-is_apart.branch [
       | then-is_apart w ↦ record {
         now = s;
-        apart = λ e. rw w.after_blanks-is (w.part.ensures.stands before (record { now = s; apart = λ f. never f }));
+        apart = λ e. rw w.after_blanks-is (w.push_gap.ensures.stands before (record { now = s; apart = λ f. never f }));
       }
       | else-is_apart w ↦ record { now = s; apart = λ e. absurd (let f = w.if-is_apart.false in cc) }
     ])

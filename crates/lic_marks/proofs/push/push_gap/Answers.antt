@@ -1,6 +1,6 @@
 use Rattle.lic_marks.specs.Nodes.{core_of}
 use Rattle.lic_marks.proofs.Standing.{StandsFor-close}
-use Rattle.lic_marks.proofs.push.part.Goals as goal
+use Rattle.lic_marks.proofs.push.push_gap.Goals as goal
 
 pub returns-then-not-is_apart-clause-stands : goal.returns-then-not-is_apart-clause-stands
 returns-then-not-is_apart-clause-stands c = λ letters s.
