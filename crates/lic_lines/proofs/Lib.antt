@@ -2,6 +2,7 @@ pub mod RowLemmas
 pub mod PieceEnds
 pub mod KindEnds
 pub mod RunFronts
+pub mod SourceLemmas
 pub mod FlagSteps
 pub mod GroupLemmas
 pub mod TextLemmas

@@ -61,6 +61,18 @@ repeated_opens rules End c x some first h =
     any_from (λ u. opens_in c (reverse u)) rules.tail_repeat found.0 [] found.1
     (opens c (reverse t) (omega (arith, length-reverse t)) (⊎_elim (λ w. inl (ap is_whitespace same ∙ w)) (λ e. inr (same ∙ e)) first))
 
+-- a white space character is a piece
+space_is_piece : (rules : LineRules) (side : Side) (c : ℕ) → is_whitespace c ≡ true → is_walked_piece rules side (c ∷ []) ≡ true
+space_is_piece rules side c white =
+    let x = c ∷ [] in
+    walked_piece rules side x
+    ∙ or_left ((is_space x || (rules.separators && is_separator x)) || list_any (λ t. bytes_eq (walked side t) x) (side_texts rules side)) _
+    (or_left (is_space x || (rules.separators && is_separator x)) _ (or_left (is_space x) _ white))
+
+greatest_itself : (test : ℕ → Bool) (k : ℕ) → test k ≡ true → greatest test k ≡ k
+greatest_itself test zero h = refl
+greatest_itself test (suc k) h = search h
+
 module _ (rules : LineRules) (side : Side) (line : List ℕ) (n : ℕ) (inside : n < length line)
     (white : (i : ℕ) → i < n → is_whitespace (slice_index line i) ≡ true) (dark : is_whitespace (slice_index line n) ≡ false)
     (closed : may_open rules side (slice_index line n) ≡ false)
@@ -77,11 +89,7 @@ module _ (rules : LineRules) (side : Side) (line : List ℕ) (n : ℕ) (inside :
   is_space_row (suc m) le =
       let next : m + 1 ≡ suc m = omega arith in
       let one : slice_range line m (suc m) ≡ slice_index line m ∷ [] = ap (slice_range line m) (sym next) ∙ slice_one line m (omega arith) in
-      let x = slice_index line m ∷ [] in
-      let piece : p x ≡ true = walked_piece rules side x
-      ∙ or_left ((is_space x || (rules.separators && is_separator x)) || list_any (λ t. bytes_eq (walked side t) x) (side_texts rules side)) _
-      (or_left (is_space x || (rules.separators && is_separator x)) _ (or_left (is_space x) _ (white m (omega arith)))) in
-      row_goes_on p line m (suc m) (omega arith) (is_space_row m (omega arith)) (ap p one ∙ piece)
+      row_goes_on p line m (suc m) (omega arith) (is_space_row m (omega arith)) (ap p one ∙ space_is_piece rules side (slice_index line m) (white m (omega arith)))
 
   -- no text of the side begins as a part does that begins in the white space, or behind it
   never_opens : (ts : List (List ℕ)) (k : ℕ) (d : ℕ) → list_any (λ t. opens_in c (walked side t)) ts ≡ false → k < length ts → (is_whitespace d ≡ true) ⊎ (d ≡ c) → 0 < length (walked side (slice_index_or ts k [])) → get_or (walked side (slice_index_or ts k [])) 0 0 ≢ d
@@ -204,11 +212,22 @@ module _ (rules : LineRules) (side : Side) (line : List ℕ) (n : ℕ) (inside :
       (λ none. none)
       (cases_Bool (is_row p (take m line)))
 
-  greatest_own : (test : ℕ → Bool) (k : ℕ) → test k ≡ true → greatest test k ≡ k
-  greatest_own test zero h = refl
-  greatest_own test (suc k) h = search h
-
   pub longest_spaces : n ≡ longest_front (is_row p) line
   longest_spaces =
       let test = λ (m : ℕ). is_row p (take m line) in
-      sym (greatest_stays test n (length line) (omega arith) (λ m more le. beyond m m (omega arith) more le) ∙ greatest_own test n (is_space_row n (omega arith)))
+      sym (greatest_stays test n (length line) (omega arith) (λ m more le. beyond m m (omega arith) more le) ∙ greatest_itself test n (is_space_row n (omega arith)))
+
+-- a line of white space alone is a row
+module _ (rules : LineRules) (side : Side) (line : List ℕ) (white : (i : ℕ) → i < length line → is_whitespace (slice_index line i) ≡ true) where
+  abbrev piece : List ℕ → Bool
+  piece = is_walked_piece rules side
+
+  all_spaces : (m : ℕ) → m ≤ length line → is_row piece (take m line) ≡ true
+  all_spaces zero le = refl
+  all_spaces (suc m) le =
+      let next : m + 1 ≡ suc m = omega arith in
+      let one : slice_range line m (suc m) ≡ slice_index line m ∷ [] = ap (slice_range line m) (sym next) ∙ slice_one line m (omega arith) in
+      row_goes_on piece line m (suc m) (omega arith) (all_spaces m (omega arith)) (ap piece one ∙ space_is_piece rules side (slice_index line m) (white m (omega arith)))
+
+  pub longest_of_spaces : length line ≡ longest_front (is_row piece) line
+  longest_of_spaces = sym (greatest_itself (λ m. is_row piece (take m line)) (length line) (all_spaces (length line) (omega arith)))

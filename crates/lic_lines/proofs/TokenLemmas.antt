@@ -1,16 +1,17 @@
 -- Letters of cells, tokens of stretches, and single signs, step by step.
-use Rattle.std.proofs.Common.{◌≡◌, ℕ, zero, suc, ◌+◌, ◌-◌, ◌<◌, ◌≤◌, true, false, List, [], ◌∷◌, ◌++◌, Result, Ok, Err, length, take, drop, map, get_or, set, refl, sym, ap, ap₂, ◌∙◌, ⊎_elim, append_assoc, arith}
-use Rattle.std.specs.Prelude.{encode_utf8_all, IfOk, OnOk}
+use Rattle.std.proofs.Common.{◌≡◌, ℕ, zero, suc, ◌+◌, ◌-◌, ◌<◌, ◌≤◌, Bool, true, false, List, [], ◌∷◌, ◌++◌, Result, Ok, Err, length, take, drop, map, get_or, set, refl, sym, ap, ap₂, ◌∙◌, ⊎_elim, append_assoc, arith}
+use Rattle.std.specs.Prelude.{encode_utf8_all, IfOk}
 use Rattle.std.specs.Char.{encode_utf8}
 use Rattle.std.specs.List.{swap}
 use Rattle.std.proofs.lemmas.Bool.{cases_lt, cond-true, cond-false}
+use Rattle.std.proofs.lemmas.Grind.{flat_map-append}
 use Rattle.std.proofs.lemmas.List.{append-nil, map-append, take-map, drop-map, length-map, length-append, length-drop, drop_more, take_more, take-set-le, drop-set-lt, get_or-set_same, get_or-set_other, get_or_default, length-set, take_at, drop_at, get_or-drop}
 use Rattle.lic_kind.specs.Kinds.{spell}
 use Rattle.lic_lines.specs.Sources.{SourceChar}
 use Rattle.lic_lines.specs.LineRules.{LineRules}
 use Rattle.lic_lines.specs.Lines.{Cell, Blank, Word, cell_of, blank_for, LineCut, left_of, cells_of_cut}
-use Rattle.lic_lines.specs.Runs.{runs_joined}
-use Rattle.lic_lines.specs.Tokens.{Token, cell_letters, letters_of, first_tokens, stretch_tokens, tokens_of_cells, is_sign_in_parentheses, sign_from, as_sign, single_signs, token_in, tokens_in}
+use Rattle.lic_lines.specs.Runs.{end_after, runs_joined}
+use Rattle.lic_lines.specs.Tokens.{Token, tokens_from, cell_letters, letters_of, first_tokens, stretch_tokens, tokens_of_cells, is_sign_in_parentheses, sign_from, as_sign, single_signs, token_in, tokens_in}
 use Rattle.lic_lines.specs.declared.tokens.FirstToken.{FirstToken}
 use Rattle.lic_lines.proofs.Gaps.{no_runs, runs_joined-gap, first_tokens-gap}
 
@@ -24,10 +25,30 @@ letters_more cells i lt =
     ∙ encode_append (cell_letters (get_or cells i Blank)) (letters_of (drop (i + 1) cells))
 
 pub word_letters_more : (word : List SourceChar) (i : ℕ) (d : SourceChar) → i < length word
-    → encode_utf8_all (letters_of (map Word (drop i word))) ≡ encode_utf8_all (spell (get_or word i d).char) ++ encode_utf8_all (letters_of (map Word (drop (i + 1) word)))
+    → encode_utf8_all (letters_of (map Word (take (i + 1) word))) ≡ encode_utf8_all (letters_of (map Word (take i word))) ++ encode_utf8_all (spell (get_or word i d).char)
 word_letters_more word i d lt =
-    ap (λ l. encode_utf8_all (letters_of (map Word l))) (drop_more word i d lt)
-    ∙ encode_append (spell (get_or word i d).char) (letters_of (map Word (drop (i + 1) word)))
+    let front = map Word (take i word) in
+    let x = get_or word i d in
+    ap (λ l. encode_utf8_all (letters_of (map Word l))) (take_more word i d lt)
+    ∙ ap (λ l. encode_utf8_all (letters_of l)) (map-append Word (take i word) (x ∷ []))
+    ∙ ap encode_utf8_all (flat_map-append cell_letters front (Word x ∷ []))
+    ∙ encode_append (letters_of front) (spell x.char ++ [])
+    ∙ ap (λ l. encode_utf8_all (letters_of front) ++ encode_utf8_all l) (append-nil (spell x.char))
+
+-- the last of some word characters ends where they end
+pub end_of_word : (at : ℕ) (word : List SourceChar) (d : SourceChar) → 0 < length word → end_after at (map Word word) ≡ (get_or word (length word - 1) d).end
+end_of_word at [] d some = absurd (omega arith)
+end_of_word at (s ∷ []) d some = refl
+end_of_word at (s ∷ t ∷ word) d some =
+    let place : length (s ∷ t ∷ word) - 1 ≡ suc (length (t ∷ word) - 1) = omega arith in
+    end_of_word s.end (t ∷ word) d (omega arith) ∙ ap (λ i. (get_or (s ∷ t ∷ word) i d).end) (sym place)
+
+-- the token of some word characters
+pub word_is_token : (after_blank : Bool) (word : List SourceChar) (d : SourceChar) (text : List ℕ) → 0 < length word → text ≡ encode_utf8_all (letters_of (map Word word))
+    → record { text = text; start = (get_or word 0 d).start; end = (get_or word (length word - 1) d).end; after_blank = after_blank } ∷ [] ≡ tokens_from after_blank (map Word word ∷ [])
+word_is_token after_blank [] d text some is = absurd (omega arith)
+word_is_token after_blank (s ∷ word) d text some is =
+    ap₂ (λ letters end. let t : Token = record { text = letters; start = s.start; end = end; after_blank = after_blank } in t ∷ []) is (sym (end_of_word s.start (s ∷ word) d some))
 
 -- ---- stretches
 
@@ -58,10 +79,6 @@ pub left_of-range : (cut : LineCut) (line : List SourceChar) → take (length li
 left_of-range cut line =
     let size : length line - cut.tail - (cut.lead + cut.item) ≡ length (drop (cut.lead + cut.item) line) - cut.tail = omega (arith, length-drop (cut.lead + cut.item) line) in
     ap (λ n. take n (drop (cut.lead + cut.item) line)) size
-
-pub OnOk-map : {T E P Q : Type 0} (r : Result T E) → (P → Q) → OnOk r P → OnOk r Q
-OnOk-map (Ok x) f h = f h
-OnOk-map (Err e) f h = h
 
 pub IfOk-map : {T E : Type 0} {P Q : T → Type 0} (r : Result T E) → ((x : T) → P x → Q x) → IfOk r P → IfOk r Q
 IfOk-map (Ok x) f h = f x h

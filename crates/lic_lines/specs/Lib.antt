@@ -3,6 +3,7 @@ pub mod Sources
 pub mod LineRules
 pub mod Lines
 pub mod Runs
+pub mod SmallStrings
 pub mod Tokens
 pub mod Groupings
 pub mod Walks

@@ -18,6 +18,10 @@ placed at (c ∷ cs) = record { char = c; start = at; end = at + len_utf8 c } �
 abbrev pub source_of : ℕ → List ℕ → List SourceChar
 source_of at bytes = placed at (chars bytes)
 
+-- the characters of a text that is no source: where they stand has no effect
+abbrev pub unplaced : List ℕ → List SourceChar
+unplaced = map (λ c. record { char = c; start = 0; end = 0 })
+
 -- a text without its dropped characters
 abbrev pub without_dropped : List SourceChar → List SourceChar
 without_dropped = filter (λ s. not (is_dropped s.char))

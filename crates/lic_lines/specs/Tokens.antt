@@ -1,5 +1,5 @@
 -- First tokens, and single signs.
-use Rattle.std.specs.Prelude.{ℕ, Bool, true, false, not, ◌&&◌, if◌then◌else◌, List, [], ◌∷◌, map, bytes_eq, codes, string_bytes, encode_utf8_all}
+use Rattle.std.specs.Prelude.{ℕ, Bool, true, false, not, ◌&&◌, if◌then◌else◌, List, [], ◌∷◌, map, bytes_eq, codes, encode_utf8_all}
 use Rattle.std.specs.List.{flat_map}
 use Rattle.lic_kind.specs.Kinds.{spell}
 use Rattle.lic_lines.specs.Texts.{groups}
@@ -7,6 +7,8 @@ use Rattle.lic_lines.specs.Sources.{SourceChar}
 use Rattle.lic_lines.specs.LineRules.{LineRules}
 use Rattle.lic_lines.specs.Lines.{Cell, Blank, Mark, Word, cell_of, LinePart, line_cells, cells_of}
 use Rattle.lic_lines.specs.Runs.{end_after, runs_joined}
+use Rattle.lic_lines.specs.SmallStrings.{bytes_at}
+use Rattle.lic_lines.specs.declared.small_string.SmallString.{SmallString}
 use Rattle.lic_lines.specs.declared.tokens.FirstToken.{FirstToken}
 
 -- a token: its text in UTF-8, its span in bytes, and whether a blank stands before it
@@ -100,9 +102,13 @@ tokens_after rules after_blank text = tokens_from after_blank (groups both_words
 abbrev pub stretch_tokens : LineRules → List SourceChar → List Token
 stretch_tokens rules text = first_tokens (runs_joined rules (map cell_of text))
 
+-- the bytes of a string
+abbrev pub small_bytes : SmallString → List ℕ
+small_bytes s = bytes_at s.place
+
 -- the token that a value of the code holds
 abbrev pub token_in : FirstToken → Token
-token_in t = record { text = string_bytes t.text; start = t.start; end = t.end; after_blank = t.after_blank }
+token_in t = record { text = small_bytes t.text; start = t.start; end = t.end; after_blank = t.after_blank }
 
 abbrev pub tokens_in : List FirstToken → List Token
 tokens_in = map token_in

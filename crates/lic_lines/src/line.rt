@@ -8,6 +8,7 @@ ghost use Rattle.lic_lines.specs.Tokens.{line_tokens, tokens_in};
 use crate::cell::Cell;
 use crate::cut::cut_line;
 use crate::line_part::LinePart;
+use crate::room::Room;
 use crate::rules::Rules;
 use crate::runs::Runs;
 use crate::signs::join_single_signs;
@@ -76,7 +77,7 @@ pub fn cells_of_line(
 /// Adds the tokens of one line, by this project's profile of the matching guidelines of SPDX 2.3, Annex B: without
 /// its lead, item and tail, its separators taken as blanks, each run of quotes and of dashes as one, and each
 /// copyright sign by itself as the token `copyright`. Dropped characters are taken out of the line already; spans
-/// are in bytes. What a line before or behind this one holds has no effect.
+/// are in bytes. What a line before or behind this one holds has no effect, nor what the room holds.
 ///
 /// The error is want of memory; `out` then holds some of the line's tokens, and is of no use.
 pub fn push_tokens_of_line(
@@ -84,6 +85,7 @@ pub fn push_tokens_of_line(
     rules: &Rules,
     part: LinePart,
     line: &[SourceChar],
+    room: &mut Room,
     out: &mut Vec<FirstToken>,
 ) -> Result<(), AllocError>
     ensures { OnOk result (tokens_in out.new.items ≡ tokens_in out.old.items ++ line_tokens (rules_of rules.now) part line.now) }
@@ -91,6 +93,7 @@ pub fn push_tokens_of_line(
     let cut = cut_line(alloc, rules, part, line)?;
     let left = &line[cut.lead + cut.item..line.len() - cut.tail];
     let from = out.len();
-    push_text(alloc, rules, left, out)?;
-    join_single_signs(alloc, out, from)
+    push_text(alloc, rules, left, room, out)?;
+    join_single_signs(out, from);
+    Ok(())
 }

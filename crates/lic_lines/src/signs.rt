@@ -1,9 +1,9 @@
 //! Single copyright signs.
-ghost use Rattle.std.specs.Prelude.{◌≡◌, ◌+◌, ◌++◌, ◌<◌, ◌≤◌, length, take, drop, codes, IfOk, OnOk};
+ghost use Rattle.std.specs.Prelude.{◌≡◌, ◌+◌, ◌++◌, ◌<◌, ◌≤◌, length, take, drop, codes};
 ghost use Rattle.lic_lines.specs.Tokens.{is_text, is_sign_in_parentheses, as_sign, single_signs, token_in, tokens_in};
 
+use crate::small_string::SmallString;
 use crate::tokens::FirstToken;
-use std::alloc::{AllocError, Global};
 
 /// Whether this is the text of the token.
 fn has_text(token: &FirstToken, text: &str) -> bool
@@ -20,66 +20,55 @@ fn is_sign_in_parentheses(a: &FirstToken, b: &FirstToken, c: &FirstToken) -> boo
 }
 
 /// Makes the token a sign that ends here.
-fn make_sign(alloc: Global, token: &mut FirstToken, end: u32) -> Result<(), AllocError>
-    ensures { OnOk result (token_in token.new ≡ record (token_in token.old) { text = codes "copyright"; end = end }) }
+fn make_sign(token: &mut FirstToken, end: u32)
+    ensures { token_in token.new ≡ record (token_in token.old) { text = codes "copyright"; end = end } }
 {
-    token.text = String::from_str(alloc, "copyright")?;
+    token.text = SmallString::short("copyright");
     token.end = end;
-    Ok(())
 }
 
 /// Makes the token of U+00A9 a sign.
-fn make_single_sign(alloc: Global, token: &mut FirstToken) -> Result<(), AllocError>
-    ensures { OnOk result (token_in token.new ≡ as_sign (token_in token.old)) }
+fn make_single_sign(token: &mut FirstToken)
+    ensures { token_in token.new ≡ as_sign (token_in token.old) }
 {
     if has_text(token, "\u{A9}") {
         let end = token.end;
-        make_sign(alloc, token, end)?;
+        make_sign(token, end);
     }
-    Ok(())
 }
 
 /// Moves the token at one place to another before it, as a sign where it is one or begins one; gives the
 /// place of the next token.
-fn settle(
-    alloc: Global,
-    tokens: &mut [FirstToken],
-    kept: usize,
-    at: usize,
-) -> Result<usize, AllocError>
+fn settle(tokens: &mut [FirstToken], kept: usize, at: usize) -> usize
     requires order { kept ≤ at }
     requires within { at < length tokens.old }
-    ensures next { IfOk result (λ next. (at < next) × (next ≤ length tokens.old)) }
-    ensures settled { IfOk result (λ next. tokens_in (take (kept + 1) tokens.new) ++ single_signs (tokens_in (drop next tokens.new)) ≡ tokens_in (take kept tokens.old) ++ single_signs (tokens_in (drop at tokens.old))) }
+    ensures after { at < result }
+    ensures within { result ≤ length tokens.old }
+    ensures settled { tokens_in (take (kept + 1) tokens.new) ++ single_signs (tokens_in (drop result tokens.new)) ≡ tokens_in (take kept tokens.old) ++ single_signs (tokens_in (drop at tokens.old)) }
 {
     tokens.swap(kept, at);
     if tokens.len() - at > 2
         && is_sign_in_parentheses(&tokens[kept], &tokens[at + 1], &tokens[at + 2])
     {
         let end = tokens[at + 2].end;
-        make_sign(alloc, &mut tokens[kept], end)?;
-        Ok(at + 3)
+        make_sign(&mut tokens[kept], end);
+        at + 3
     } else {
-        make_single_sign(alloc, &mut tokens[kept])?;
-        Ok(at + 1)
+        make_single_sign(&mut tokens[kept]);
+        at + 1
     }
 }
 
 /// Makes each copyright sign from this token on one token by itself.
-pub fn join_single_signs(
-    alloc: Global,
-    tokens: &mut Vec<FirstToken>,
-    from: usize,
-) -> Result<(), AllocError>
+pub fn join_single_signs(tokens: &mut Vec<FirstToken>, from: usize)
     requires { from ≤ length tokens.old.items }
-    ensures { OnOk result (tokens_in tokens.new.items ≡ tokens_in (take from tokens.old.items) ++ single_signs (tokens_in (drop from tokens.old.items))) }
+    ensures { tokens_in tokens.new.items ≡ tokens_in (take from tokens.old.items) ++ single_signs (tokens_in (drop from tokens.old.items)) }
 {
     let mut kept = from;
     let mut at = from;
     while at < tokens.len() {
-        at = settle(alloc, tokens, kept, at)?;
+        at = settle(tokens, kept, at);
         kept += 1;
     }
     tokens.truncate(kept);
-    Ok(())
 }

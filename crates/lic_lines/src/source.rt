@@ -1,4 +1,10 @@
 //! Source characters.
+ghost use Rattle.std.specs.Prelude.{◌≡◌, IfOk};
+ghost use Rattle.std.specs.Str.{chars};
+ghost use Rattle.lic_lines.specs.Sources.{unplaced, without_dropped};
+
+use lic_kind::is_dropped;
+use std::alloc::{AllocError, Global};
 
 /// A character with the bytes that it was read from.
 #[derive(Clone, Copy, Debug, PartialEq, Eq)]
@@ -8,4 +14,22 @@ pub struct SourceChar {
     pub start: u32,
     /// The byte behind its last.
     pub end: u32,
+}
+
+/// The characters of a text that is no source, where only letters count: without the dropped ones, each placed at
+/// byte 0. The error is want of memory.
+pub fn unplaced(alloc: Global, text: &str) -> Result<Vec<SourceChar>, AllocError>
+    ensures { IfOk result (λ characters. characters.items ≡ without_dropped (unplaced (chars text.now))) }
+{
+    let mut characters = Vec::new(alloc);
+    for char in text.chars() {
+        if !is_dropped(char) {
+            characters.push(SourceChar {
+                char,
+                start: 0,
+                end: 0,
+            })?;
+        }
+    }
+    Ok(characters)
 }

@@ -79,13 +79,16 @@ fn three_alike(side: Side, line: &[SourceChar], place: usize) -> bool
 }
 
 /// How long the longest row of pieces is where it is white space alone, as far as the character behind
-/// that tells.
+/// that tells, if there is one.
 fn space_row(rules: &Rules, side: Side, line: &[SourceChar]) -> Option<usize>
     ensures row { IfSome result (λ n. n ≡ longest_front (is_row (is_walked_piece (rules_of rules.now) side)) (walked side (chars_of line.now))) }
     ensures within { IfSome result (λ n. n ≤ length line.now) }
 {
     let count = spaces(side, line);
-    if count >= line.len() || three_alike(side, line, count) {
+    if count >= line.len() {
+        return Some(count);
+    }
+    if three_alike(side, line, count) {
         return None;
     }
     if may_open(rules, side, char_at(line, side, count)) {

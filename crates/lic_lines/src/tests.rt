@@ -2,8 +2,10 @@
 use crate::cell::Cell;
 use crate::line::{cells_of_line, push_tokens_of_line};
 use crate::line_part::LinePart;
+use crate::room::Room;
 use crate::rules::{Rules, Texts};
-use crate::source::SourceChar;
+use crate::small_string::SmallString;
+use crate::source::{SourceChar, unplaced};
 use lic_kind::is_dropped;
 use std::alloc::{AllocError, Global};
 
@@ -29,10 +31,17 @@ fn source_chars(alloc: Global, text: &str) -> Result<Vec<SourceChar>, AllocError
 fn shown(alloc: Global, rules: &Rules, part: LinePart, line: &str) -> Result<String, AllocError> {
     let line = source_chars(alloc, line)?;
     let mut tokens = Vec::new(alloc);
-    push_tokens_of_line(alloc, rules, part, &line, &mut tokens)?;
+    push_tokens_of_line(
+        alloc,
+        rules,
+        part,
+        &line,
+        &mut Room::new(alloc),
+        &mut tokens,
+    )?;
     let mut shown = String::new(alloc);
     for token in &tokens {
-        let item = format!(in alloc; "{}-{} {},", token.start, token.end, token.text)?;
+        let item = format!(in alloc; "{}-{} {},", token.start, token.end, token.text.as_str())?;
         shown.push_str(&item)?;
     }
     Ok(shown)
@@ -143,5 +152,35 @@ fn cells(rt: HostRuntime) -> Result<(), AllocError> {
         end: 7,
     };
     assert!(&rt; cells.as_slice() == [Cell::Blank, Cell::Word(x), Cell::Blank].as_slice());
+    Ok(())
+}
+
+#[test]
+fn short_and_long_strings(rt: HostRuntime) -> Result<(), AllocError> {
+    let texts = [
+        "",
+        "copyright",
+        "abcdefghijklmnopqrstuvwx",
+        "abcdefghijklmnopqrstuvwxy",
+        "\u{4E2D}\u{6587}\u{4E2D}\u{6587}\u{4E2D}\u{6587}\u{4E2D}\u{6587}\u{4E2D}",
+    ];
+    let alloc = rt.alloc();
+    for text in &texts {
+        let string = SmallString::from_str(alloc, text)?;
+        assert!(&rt; string.as_str() == *text, "{text}");
+    }
+    assert!(&rt; SmallString::short("copyright").as_str() == "copyright");
+    Ok(())
+}
+
+#[test]
+fn characters_of_no_source(rt: HostRuntime) -> Result<(), AllocError> {
+    let characters = unplaced(rt.alloc(), "\u{FEFF}a\u{AD}\u{E9}")?;
+    let wanted = ['a', '\u{E9}'].map(|char| SourceChar {
+        char,
+        start: 0,
+        end: 0,
+    });
+    assert!(&rt; characters.as_slice() == &wanted[..]);
     Ok(())
 }

@@ -9,19 +9,12 @@ ghost use Rattle.lic_lines.specs.Tokens.{both_words, tokens_from, blank_behind, 
 
 use crate::cell::Cell;
 use crate::line::push_cells;
+use crate::room::Room;
 use crate::rules::Rules;
-use crate::runs::Runs;
 use crate::source::SourceChar;
-use crate::tokens::{FirstToken, mark_token, push_first_tokens, word_token};
+use crate::tokens::{FirstToken, mark_token, push_first_tokens, spell_word, word_token};
 use lic_kind::{Kind, kind_of};
 use std::alloc::{AllocError, Global};
-
-/// Room for the runs of a row of marks, kept from one row to the next.
-#[derive(Drop)]
-struct MarkRoom {
-    cells: Vec<Cell>,
-    runs: Runs,
-}
 
 /// A row of characters of one kind that stands in front of a text.
 #[derive(Clone, Copy)]
@@ -31,15 +24,14 @@ struct FrontRow {
     blank_behind: bool,
 }
 
-/// How many characters in front of a text are of this kind.
-#[inline(always)]
-fn front_length(kind: Kind, text: &[SourceChar]) -> usize
+/// How many characters in front of a text are marks.
+fn mark_count(text: &[SourceChar]) -> usize
     ensures within { result ≤ length text.now }
-    ensures all { (i : ℕ) (d : SourceChar) → i < result → kind_of (slice_index_or text.now i d).char ≡ kind }
-    ensures stop { (d : SourceChar) → result < length text.now → kind_of (slice_index_or text.now result d).char ≢ kind }
+    ensures all { (i : ℕ) (d : SourceChar) → i < result → kind_of (slice_index_or text.now i d).char ≡ Kind.Mark }
+    ensures stop { (d : SourceChar) → result < length text.now → kind_of (slice_index_or text.now result d).char ≢ Kind.Mark }
 {
     let mut end = 0;
-    while end < text.len() && kind_of(text[end].char) == kind {
+    while end < text.len() && kind_of(text[end].char) == Kind::Mark {
         end += 1;
     }
     end
@@ -52,7 +44,7 @@ fn push_marks(
     rules: &Rules,
     after_blank: bool,
     marks: &[SourceChar],
-    room: &mut MarkRoom,
+    room: &mut Room,
     out: &mut Vec<FirstToken>,
 ) -> Result<bool, AllocError>
     requires { All (λ s. kind_of s.char ≡ Kind.Mark) marks.now }
@@ -60,12 +52,13 @@ fn push_marks(
     ensures blank { IfOk result (λ blank. blank ≡ blank_behind after_blank (groups both_words (runs_joined (rules_of rules.now) (map cell_of marks.now)))) }
 {
     if let [mark] = marks {
-        out.push(mark_token(alloc, after_blank, *mark)?)?;
+        out.push(mark_token(alloc, after_blank, *mark, &mut room.letters)?)?;
         return Ok(false);
     }
     room.cells.clear();
     push_cells(&mut room.cells, marks)?;
-    push_first_tokens(alloc, after_blank, out, room.runs.join(rules, &room.cells)?)
+    let joined = room.runs.join(rules, &room.cells)?;
+    push_first_tokens(alloc, after_blank, out, joined, &mut room.letters)
 }
 
 /// Adds the tokens of the longest row of characters of one kind in front of a text.
@@ -74,7 +67,7 @@ fn push_front(
     rules: &Rules,
     after_blank: bool,
     text: &[SourceChar],
-    room: &mut MarkRoom,
+    room: &mut Room,
     out: &mut Vec<FirstToken>,
 ) -> Result<FrontRow, AllocError>
     requires { 0 < length text.now }
@@ -88,15 +81,16 @@ fn push_front(
             blank_behind: true,
         }),
         Kind::Word => {
-            let length = front_length(Kind::Word, text);
-            out.push(word_token(alloc, after_blank, &text[..length])?)?;
+            let length = spell_word(alloc, text, &mut room.letters)?;
+            let letters = room.letters.as_str();
+            out.push(word_token(alloc, after_blank, &text[..length], letters)?)?;
             Ok(FrontRow {
                 length,
                 blank_behind: false,
             })
         }
         Kind::Mark => {
-            let length = front_length(Kind::Mark, text);
+            let length = mark_count(text);
             let blank_behind = push_marks(alloc, rules, after_blank, &text[..length], room, out)?;
             Ok(FrontRow {
                 length,
@@ -112,18 +106,15 @@ pub(crate) fn push_text(
     alloc: Global,
     rules: &Rules,
     text: &[SourceChar],
+    room: &mut Room,
     out: &mut Vec<FirstToken>,
 ) -> Result<(), AllocError>
     ensures { OnOk result (tokens_in out.new.items ≡ tokens_in out.old.items ++ stretch_tokens (rules_of rules.now) text.now) }
 {
-    let mut room = MarkRoom {
-        cells: Vec::new(alloc),
-        runs: Runs::new(alloc),
-    };
     let mut after_blank = true;
     let mut at = 0;
     while at < text.len() {
-        let row = push_front(alloc, rules, after_blank, &text[at..], &mut room, out)?;
+        let row = push_front(alloc, rules, after_blank, &text[at..], room, out)?;
         after_blank = row.blank_behind;
         at += row.length;
     }

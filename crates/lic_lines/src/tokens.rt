@@ -1,5 +1,5 @@
 //! First tokens.
-ghost use Rattle.std.specs.Prelude.{◌≡◌, ◌++◌, ◌∷◌, ◌<◌, [], All, IfOk, OnOk, length, map, string_bytes, encode_utf8_all};
+ghost use Rattle.std.specs.Prelude.{◌≡◌, ◌≢◌, ◌++◌, ◌∷◌, ◌<◌, ◌≤◌, [], ℕ, IfOk, OnOk, length, map, take, slice_index_or, string_bytes, encode_utf8_all};
 ghost use Rattle.lic_kind.specs.Kinds.{kind_of, spell};
 ghost use Rattle.lic_lines.specs.Texts.{groups};
 ghost use Rattle.lic_lines.specs.Lines.{Mark, Word};
@@ -7,15 +7,16 @@ ghost use Rattle.lic_lines.specs.Tokens.{both_words, cell_letters, letters_of, t
 
 use crate::cell::Cell;
 use crate::runs::{Grouping, end_after, group_end};
+use crate::small_string::SmallString;
 use crate::source::SourceChar;
 use lic_kind::laws::words_are_folded;
-use lic_kind::{Kind, spell};
+use lic_kind::{Kind, kind_of, spell};
 use std::alloc::{AllocError, Global};
 
 /// A token: its text, its span in bytes of the input, and whether a blank stands before it.
 #[derive(Drop)]
 pub struct FirstToken {
-    pub text: String,
+    pub text: SmallString,
     /// The first byte of its first source character.
     pub start: u32,
     /// The byte behind its last source character.
@@ -57,73 +58,89 @@ fn push_letters(alloc: Global, text: &mut String, cell: &Cell) -> Result<(), All
     }
 }
 
-/// The letters of these cells, in a row.
-fn letters_of(alloc: Global, cells: &[Cell]) -> Result<String, AllocError>
-    ensures { IfOk result (λ text. string_bytes text ≡ encode_utf8_all (letters_of cells.now)) }
+/// Puts the letters of these cells, in a row, in the place of those that are there.
+fn spell_cells(alloc: Global, cells: &[Cell], text: &mut String) -> Result<(), AllocError>
+    ensures { OnOk result (string_bytes text.new ≡ encode_utf8_all (letters_of cells.now)) }
 {
-    let mut text = String::new(alloc);
+    text.clear();
     for cell in cells {
-        push_letters(alloc, &mut text, cell)?;
+        push_letters(alloc, text, cell)?;
     }
-    Ok(text)
+    Ok(())
 }
 
-/// The token of a group of cells, of which the first was read from this character.
+/// The token of a group of cells, of which the first was read from this character. The room may hold anything.
 fn token_of(
     alloc: Global,
     after_blank: bool,
     first: SourceChar,
     group: &[Cell],
+    room: &mut String,
 ) -> Result<FirstToken, AllocError>
     ensures { IfOk result (λ token. token_in token ≡ token_of after_blank first group.now) }
 {
-    let text = letters_of(alloc, group)?;
-    let end = end_after(first.start, group);
+    spell_cells(alloc, group, room)?;
     Ok(FirstToken {
-        text,
+        text: SmallString::from_str(alloc, room.as_str())?,
         start: first.start,
-        end,
+        end: end_after(first.start, group),
         after_blank,
     })
 }
 
-/// The token of a row of word characters.
+/// Puts the letters of the word characters in front of a text in the place of those that are there, and says
+/// how many characters these are.
+pub(crate) fn spell_word(
+    alloc: Global,
+    text: &[SourceChar],
+    letters: &mut String,
+) -> Result<usize, AllocError>
+    ensures within { IfOk result (λ count. count ≤ length text.now) }
+    ensures words { IfOk result (λ count. (i : ℕ) (d : SourceChar) → i < count → kind_of (slice_index_or text.now i d).char ≡ Kind.Word) }
+    ensures stop { IfOk result (λ count. (d : SourceChar) → count < length text.now → kind_of (slice_index_or text.now count d).char ≢ Kind.Word) }
+    ensures letters { IfOk result (λ count. string_bytes letters.new ≡ encode_utf8_all (letters_of (map Word (take count text.now)))) }
+{
+    letters.clear();
+    let mut count = 0;
+    while count < text.len() && kind_of(text[count].char) == Kind::Word {
+        push_word_letters(alloc, letters, text[count].char)?;
+        count += 1;
+    }
+    Ok(count)
+}
+
+/// The token of a row of word characters with these letters.
 pub(crate) fn word_token(
     alloc: Global,
     after_blank: bool,
     word: &[SourceChar],
+    letters: &str,
 ) -> Result<FirstToken, AllocError>
     requires some { 0 < length word.now }
-    requires words { All (λ s. kind_of s.char ≡ Kind.Word) word.now }
+    requires letters { letters.now ≡ encode_utf8_all (letters_of (map Word word.now)) }
     ensures { IfOk result (λ token. token_in token ∷ [] ≡ tokens_from after_blank (map Word word.now ∷ [])) }
 {
-    let start = word[0].start;
-    let mut text = String::with_capacity(alloc, word.len())?;
-    let mut end = start;
-    for s in word {
-        push_word_letters(alloc, &mut text, s.char)?;
-        end = s.end;
-    }
     Ok(FirstToken {
-        text,
-        start,
-        end,
+        text: SmallString::from_str(alloc, letters)?,
+        start: word[0].start,
+        end: word[word.len() - 1].end,
         after_blank,
     })
 }
 
-/// The token of a mark by itself.
+/// The token of a mark by itself. The room may hold anything.
 pub(crate) fn mark_token(
     alloc: Global,
     after_blank: bool,
     mark: SourceChar,
+    room: &mut String,
 ) -> Result<FirstToken, AllocError>
     ensures { IfOk result (λ token. token_in token ≡ token_of after_blank mark (Mark mark ∷ [])) }
 {
-    let mut text = String::with_capacity(alloc, mark.char.len_utf8())?;
-    push_spelled(alloc, &mut text, mark.char)?;
+    room.clear();
+    push_spelled(alloc, room, mark.char)?;
     Ok(FirstToken {
-        text,
+        text: SmallString::from_str(alloc, room.as_str())?,
         start: mark.start,
         end: mark.end,
         after_blank,
@@ -131,12 +148,13 @@ pub(crate) fn mark_token(
 }
 
 /// Adds the tokens of these cells, where a blank stands before them or does not, and says whether one
-/// stands behind them.
+/// stands behind them. The room may hold anything.
 pub(crate) fn push_first_tokens(
     alloc: Global,
     mut after_blank: bool,
     out: &mut Vec<FirstToken>,
     cells: &[Cell],
+    room: &mut String,
 ) -> Result<bool, AllocError>
     ensures tokens { OnOk result (tokens_in out.new.items ≡ tokens_in out.old.items ++ tokens_from after_blank (groups both_words cells.now)) }
     ensures blank { IfOk result (λ blank. blank ≡ blank_behind after_blank (groups both_words cells.now)) }
@@ -147,7 +165,7 @@ pub(crate) fn push_first_tokens(
         match cells[at] {
             Cell::Blank => after_blank = true,
             Cell::Mark(first) | Cell::Word(first) => {
-                let token = token_of(alloc, after_blank, first, &cells[at..end])?;
+                let token = token_of(alloc, after_blank, first, &cells[at..end], room)?;
                 out.push(token)?;
                 after_blank = false;
             }

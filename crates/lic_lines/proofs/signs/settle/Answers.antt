@@ -5,8 +5,8 @@ use Rattle.lic_lines.proofs.TokenLemmas.{swap_kept, swap_behind, sign_step, sing
 use Rattle.lic_lines.proofs.signs.settle.Goals as goal
 use Rattle.lic_lines.proofs.signs.settle.Goals.{else-tokens-at-gt2-via-then-tokens-at-gt2+else-is_sign_in_parentheses, else-tokens-at-gt2-via-else-tokens-at-gt2}
 
-pub returns-in_ok-make_sign : goal.returns-in_ok-make_sign
-returns-in_ok-make_sign c =
+pub returns-then-is_sign_in_parentheses-clause-settled : goal.returns-then-is_sign_in_parentheses-clause-settled
+returns-then-is_sign_in_parentheses-clause-settled c =
     let xs = c.args.tokens.now in
     let kept = c.args.kept in
     let at = c.args.at in
@@ -23,16 +23,12 @@ returns-in_ok-make_sign c =
     let sign : is_sign_in_parentheses (token_in (get_or xs at d)) (token_in (get_or xs (at + 1) d)) (token_in (get_or xs (at + 2) d)) ≡ true =
     sym (c.if-is_sign_in_parentheses.ensures ∙ (λ i. is_sign_in_parentheses (token_in (first i)) (token_in (second i)) (token_in (third i)))) in
     let value : token_in c.make_sign.new.token ≡ sign_from (token_in (get_or xs at d)) (token_in (get_or xs (at + 2) d)) =
-    c.in_ok-make_sign.ensures ∙ (λ i. sign_from (token_in (begins i)) (token_in (ends i))) in
-    record {
-      next = (omega arith, omega arith);
-      settled =
-          ap (λ l. tokens_in (take (kept + 1) (set l kept c.make_sign.new.token)) ++ single_signs (tokens_in (drop (at + 3) (set l kept c.make_sign.new.token)))) c.swap.ensures.after
-          ∙ sign_step xs kept at order within d (omega arith) sign c.make_sign.new.token value;
-    }
+    c.make_sign.ensures ∙ (λ i. sign_from (token_in (begins i)) (token_in (ends i))) in
+    ap (λ l. tokens_in (take (kept + 1) (set l kept c.make_sign.new.token)) ++ single_signs (tokens_in (drop (at + 3) (set l kept c.make_sign.new.token)))) c.swap.ensures.after
+    ∙ sign_step xs kept at order within d (omega arith) sign c.make_sign.new.token value
 
-pub returns-in_ok-make_single_sign : goal.returns-in_ok-make_single_sign
-returns-in_ok-make_single_sign c =
+pub returns-else-tokens-at-gt2-clause-settled : goal.returns-else-tokens-at-gt2-clause-settled
+returns-else-tokens-at-gt2-clause-settled c =
     let xs = c.args.tokens.now in
     let kept = c.args.kept in
     let at = c.args.at in
@@ -50,10 +46,6 @@ returns-in_ok-make_single_sign c =
           sym ((λ i. is_sign_in_parentheses (token_in (first i)) (token_in (second i)) (token_in (third i)))) ∙ sym w.is_sign_in_parentheses.ensures ∙ w.if-is_sign_in_parentheses.false)
       | else-tokens-at-gt2-via-else-tokens-at-gt2 w ↦ absurd (omega arith)
     ] in
-    let value : token_in c.make_single_sign.new.token ≡ as_sign (token_in (get_or xs at d)) = c.in_ok-make_single_sign.ensures ∙ ap (λ t. as_sign (token_in t)) kept_is in
-    record {
-      next = (omega arith, omega arith);
-      settled =
-          ap (λ l. tokens_in (take (kept + 1) (set l kept c.make_single_sign.new.token)) ++ single_signs (tokens_in (drop (at + 1) (set l kept c.make_single_sign.new.token)))) c.swap.ensures.after
-          ∙ single_step xs kept at order within d no_sign c.make_single_sign.new.token value;
-    }
+    let value : token_in c.make_single_sign.new.token ≡ as_sign (token_in (get_or xs at d)) = c.make_single_sign.ensures ∙ ap (λ t. as_sign (token_in t)) kept_is in
+    ap (λ l. tokens_in (take (kept + 1) (set l kept c.make_single_sign.new.token)) ++ single_signs (tokens_in (drop (at + 1) (set l kept c.make_single_sign.new.token)))) c.swap.ensures.after
+    ∙ single_step xs kept at order within d no_sign c.make_single_sign.new.token value

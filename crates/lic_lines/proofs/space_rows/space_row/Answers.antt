@@ -1,8 +1,8 @@
-use Rattle.std.proofs.Common.{◌∙◌, sym, ap, arith}
+use Rattle.std.proofs.Common.{◌≡◌, ◌∙◌, length, sym, ap, arith}
 use Rattle.lic_lines.specs.Sources.{chars_of}
 use Rattle.lic_lines.specs.LineRules.{rules_of}
 use Rattle.lic_lines.specs.Walks.{walked, may_open}
-use Rattle.lic_lines.proofs.SpaceRows.{longest_spaces}
+use Rattle.lic_lines.proofs.SpaceRows.{longest_spaces, longest_of_spaces}
 use Rattle.lic_lines.proofs.Walking.{length-walked_chars}
 use Rattle.lic_lines.proofs.space_rows.space_row.Goals as goal
 
@@ -17,3 +17,10 @@ returns-clause-row c =
     longest_spaces rules side line n (omega arith) known.all (known.stop (omega arith))
     (ap (may_open rules side) (sym c.char_at.ensures) ∙ sym c.may_open.ensures ∙ c.if-may_open.false)
     (λ lt. c.three_alike.ensures c.if-three_alike.false (omega arith))
+
+pub returns-then-count-line-clause-row : goal.returns-then-count-line-clause-row
+returns-then-count-line-clause-row c =
+    let line = walked c.args.side (chars_of c.args.line.now) in
+    let many = length-walked_chars c.args.side c.args.line.now in
+    let all : c.spaces-count.result ≡ length line = omega arith in
+    all ∙ longest_of_spaces (rules_of c.args.rules.now) c.args.side line (λ i lt. c.spaces-count.ensures.all i (omega arith))

@@ -13,23 +13,23 @@ returns-in_ok-push-in-Word-clause-tokens c =
     let rules = rules_of c.args.rules.now in
     let text = c.args.text.now in
     let old = c.args.out.now.items in
-    let n = c.front_length-length.result in
-    let row = c.front_length-length.ensures in
+    let n = c.in_ok-length-in-Word.length in
+    let row = c.in_ok-length-in-Word.ensures in
     let token = c.in_ok-word_token-in-Word.field-0 in
     let rest = tokens_after rules false (drop n text) in
     ap (λ l. tokens_in l ++ rest) c.in_ok-push-in-Word.ensures.items
     ∙ ap (λ l. l ++ rest) (map-append token_in old (token ∷ []))
     ∙ append_assoc (tokens_in old) (token_in token ∷ []) rest
     ∙ ap (λ l. tokens_in old ++ (l ++ rest)) c.in_ok-word_token-in-Word.ensures
-    ∙ ap (λ l. tokens_in old ++ l) (words_row rules c.args.after_blank text n row.within (some_front _ text n c.requires (sym c.kind_of.ensures ∙ c.in-Word.is) row.stop) row.all row.stop)
+    ∙ ap (λ l. tokens_in old ++ l) (words_row rules c.args.after_blank text n row.within (some_front _ text n c.requires (sym c.kind_of.ensures ∙ c.in-Word.is) row.stop) row.words row.stop)
 
 pub returns-in_ok-blank_behind-in-Mark-clause-tokens : goal.returns-in_ok-blank_behind-in-Mark-clause-tokens
 returns-in_ok-blank_behind-in-Mark-clause-tokens c =
     let rules = rules_of c.args.rules.now in
     let text = c.args.text.now in
     let old = tokens_in c.args.out.now.items in
-    let n = c.front_length-length-in-Mark.result in
-    let row = c.front_length-length-in-Mark.ensures in
+    let n = c.mark_count-length.result in
+    let row = c.mark_count-length.ensures in
     let told = c.in_ok-blank_behind-in-Mark.ensures in
     let gs = groups both_words (runs_joined rules (map cell_of (take n text))) in
     ap₂ (λ l b. l ++ tokens_after rules b (drop n text)) told.tokens told.blank

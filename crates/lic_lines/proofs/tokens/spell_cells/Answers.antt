@@ -3,7 +3,7 @@ use Rattle.std.specs.Prelude.{string_bytes, encode_utf8_all}
 use Rattle.lic_lines.specs.Lines.{Blank}
 use Rattle.lic_lines.specs.Tokens.{cell_letters, letters_of}
 use Rattle.lic_lines.proofs.TokenLemmas.{letters_more}
-use Rattle.lic_lines.proofs.tokens.letters_of.Goals as goal
+use Rattle.lic_lines.proofs.tokens.spell_cells.Goals as goal
 
 pub loop-cell-preserved : goal.loop-cell-preserved
 loop-cell-preserved c =

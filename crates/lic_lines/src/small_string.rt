@@ -1,0 +1,60 @@
+//! Strings that ask for memory only where they are long.
+ghost use Rattle.std.specs.Prelude.{◌≡◌, ◌≤◌, IfOk, length};
+ghost use Rattle.std.specs.Str.{IsUtf8};
+ghost use Rattle.lic_lines.specs.SmallStrings.{bytes_at};
+
+use arrayvec::ArrayString;
+use std::alloc::{AllocError, Global};
+
+/// Where the bytes of a string lie.
+#[derive(Drop)]
+enum Place {
+    /// In the value itself.
+    Here(ArrayString<24>),
+    Apart(String),
+}
+
+/// A string of which up to 24 bytes lie in the value itself.
+#[derive(Drop)]
+pub struct SmallString {
+    place: Place,
+    ghost utf8: { ∥ IsUtf8 (bytes_at place) ∥₁ },
+}
+
+impl SmallString {
+    ghost use Rattle.lic_lines.specs.Tokens.{small_bytes};
+
+    /// A string of at most 24 bytes of UTF-8. Takes no memory.
+    pub fn short(text: &str) -> SmallString
+        requires { length text.now ≤ 24 }
+        ensures { small_bytes result ≡ text.now }
+    {
+        let mut here = ArrayString::new();
+        here.push_str(text);
+        SmallString {
+            place: Place::Here(here),
+        }
+    }
+
+    /// A string of any length. Takes memory where it has more than 24 bytes; the error is want of it.
+    pub fn from_str(alloc: Global, text: &str) -> Result<SmallString, AllocError>
+        ensures { IfOk result (λ string. small_bytes string ≡ text.now) }
+    {
+        if text.len() <= 24 {
+            return Ok(SmallString::short(text));
+        }
+        Ok(SmallString {
+            place: Place::Apart(String::from_str(alloc, text)?),
+        })
+    }
+
+    /// The string.
+    pub fn as_str(&self) -> &str
+        ensures { result.now ≡ small_bytes self.now }
+    {
+        match &self.place {
+            Place::Here(text) => text.as_str(),
+            Place::Apart(text) => text.as_str(),
+        }
+    }
+}
