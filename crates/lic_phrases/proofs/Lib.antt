@@ -1,5 +1,6 @@
 pub mod GroupLemmas
 pub mod SignLemmas
+pub mod AddressLemmas
 pub mod PhraseKeyLemmas
 pub mod PhraseListLemmas
 pub mod PhraseLemmas

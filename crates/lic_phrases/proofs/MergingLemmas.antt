@@ -1,11 +1,11 @@
 -- Phrases of waiting tokens, by their keys.
-use Rattle.std.proofs.Common.{◌≡◌, ℕ, zero, suc, ◌-◌, ◌<◌, ◌≤◌, ◌⊎◌, Bool, true, min, List, [], ◌∷◌, ◌++◌, length, take, drop, get_or, map, Option, Some, None, refl, sym, ap, ap₂, ◌∙◌, subst, ⊎_elim, append_assoc, append-nil, string_bytes, arith}
+use Rattle.std.proofs.Common.{◌≡◌, ℕ, zero, suc, ◌-◌, ◌<◌, ◌≤◌, ◌⊎◌, Bool, true, min, List, [], ◌∷◌, ◌++◌, length, take, drop, get_or, map, Option, Some, None, refl, sym, ap, ap₂, ◌∙◌, subst, ⊎_elim, append_assoc, append-nil, arith}
 use Rattle.std.proofs.Math.Seq.{drop-cons}
-use Rattle.std.specs.Prelude.{option_map, slice_index_or, IfSome}
+use Rattle.std.specs.Prelude.{option_map, slice_index_or, IfSome, Result, Ok, Err, OnOk}
 use Rattle.std.specs.Option.{option_or}
-use Rattle.std.proofs.lemmas.Str.{IsUtf8-string_bytes}
+use Rattle.std.proofs.lemmas.Str.{IsUtf8-had}
 use Rattle.std.proofs.lemmas.List.{get_or-map, length-map, length-take-le, drop-map}
-use Rattle.lic_lines.specs.Tokens.{Token, token_in, tokens_in}
+use Rattle.lic_lines.specs.Tokens.{Token, small_bytes, token_in, tokens_in}
 use Rattle.lic_lines.specs.declared.tokens.FirstToken.{FirstToken}
 use Rattle.lic_phrases.specs.Rewriting.{Phrase, SpannedText, spanned, end_of_last, longest_phrase, count_behind, first_as, phrases_joined}
 use Rattle.lic_phrases.specs.PhraseLists.{PhraseList, HaveTokens, longest_from, phrase_with, phrase_of, key_of, key_texts, IsKey}
@@ -17,10 +17,10 @@ use Rattle.lic_phrases.proofs.PhraseLemmas.{StandWithin, StandWithin-min, StandW
 
 tokens_have_none : (items : List FirstToken) → HaveNoSeparator (texts_of (tokens_in items))
 tokens_have_none [] = tt
-tokens_have_none (t ∷ items) = (utf8_has_none (string_bytes t.text) (IsUtf8-string_bytes t.text), tokens_have_none items)
+tokens_have_none (t ∷ items) = (utf8_has_none (small_bytes t.text) (IsUtf8-had (small_bytes t.text) t.text.utf8), tokens_have_none items)
 
 -- the text of a waiting token
-pub waiting_text : (items : List FirstToken) (n : ℕ) (t : FirstToken) (d : List ℕ) → n < length items → t ≡ get_or items n t → get_or (texts_of (tokens_in items)) n d ≡ string_bytes t.text
+pub waiting_text : (items : List FirstToken) (n : ℕ) (t : FirstToken) (d : List ℕ) → n < length items → t ≡ get_or items n t → get_or (texts_of (tokens_in items)) n d ≡ small_bytes t.text
 waiting_text items n t d lt is =
     get_or-map (λ u. u.text) (tokens_in items) n (token_in t) d (omega (arith, length-map items token_in))
     ∙ ap (λ u. u.text) (get_or-map token_in items n t (token_in t) lt ∙ ap token_in (sym is))
@@ -38,6 +38,15 @@ class-front words spellings items n key class is looked_up =
 pub none_from : {A : Type 0} (o : Option A) → ((x : A) → o ≡ Some x → ⊥) → o ≡ None
 none_from None never = refl
 none_from (Some x) never = absurd (never x refl)
+
+pub empty_list : {A : Type 0} (xs : List A) → length xs ≡ 0 → xs ≡ []
+empty_list [] none = refl
+empty_list (x ∷ xs) none = absurd (omega arith)
+
+-- what follows from a fact of an answer
+pub OnOk-one : {X E : Type 0} (r : Result X E) (P Q : Type 0) → (P → Q) → OnOk r P → OnOk r Q
+OnOk-one (Ok x) P Q follows p = follows p
+OnOk-one (Err e) P Q follows p = tt
 
 -- one more token, with which the texts are a phrase
 pub front_phrase-some : (words : List Phrase) (texts : List (List ℕ)) (n m : ℕ) (p : Phrase) → m ≡ suc n → Some p ≡ phrase_with words (take m texts) → Some p ≡ front_phrase words texts m
@@ -81,7 +90,7 @@ left_behind spellings (Some f) t items within = by f.count within
 
 -- the first of the waiting tokens is given
 pub GivesMore-first : (list : PhraseList) (at_end : Bool) (given : List FinalToken) (items : List FirstToken) (first : FirstToken) (most : ℕ) (found : Option Found) (given' : List FinalToken) (items' : List FirstToken)
-    → 0 < length items → first ≡ get_or items 0 first → HaveTokens list.phrases → longest_from list.phrases (string_bytes first.text) ≤ most → (at_end ≡ true) ⊎ (most ≤ length items)
+    → 0 < length items → first ≡ get_or items 0 first → HaveTokens list.phrases → longest_from list.phrases (small_bytes first.text) ≤ most → (at_end ≡ true) ⊎ (most ≤ length items)
     → option_map (phrase_found list.spellings (tokens_in items)) found ≡ front_phrase list.phrases (texts_of (tokens_in items)) (min most (length items))
     → IfSome found (λ f. (0 < f.count) × (f.count ≤ min most (length items)))
     → items' ≡ drop (count_found found) items
@@ -92,7 +101,7 @@ GivesMore-first list at_end given (t ∷ items) first most found given' items' s
     let words = list.phrases in
     let ts = tokens_in items in
     let size : length ts ≡ length items = length-map items token_in in
-    let from_t : longest_from words (string_bytes t.text) ≤ most = subst (λ u. longest_from words (string_bytes u.text) ≤ most) is bound in
+    let from_t : longest_from words (small_bytes t.text) ≤ most = subst (λ u. longest_from words (small_bytes u.text) ≤ most) is bound in
     let n = min most (length (t ∷ items)) in
     let standing : StandWithin n words (token_in t ∷ ts) =
     StandWithin-min most (length (t ∷ items)) words (token_in t ∷ ts) (StandWithin-from most words (token_in t) ts tokens from_t)

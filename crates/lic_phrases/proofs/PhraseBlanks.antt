@@ -11,13 +11,14 @@ use Rattle.lic_kind.proofs.LetterLemmas.{spell-Mark, mark_letters, word_has_lett
 use Rattle.lic_lines.specs.declared.cell.Cell.{Cell}
 use Rattle.lic_lines.specs.declared.cell.Cell.TheVariants.{Blank, Mark, Word}
 use Rattle.lic_lines.specs.declared.source.SourceChar.{SourceChar}
+use Rattle.lic_lines.specs.Sources.{unplaced, without_dropped}
 use Rattle.lic_lines.specs.Texts.{groups, join_group}
 use Rattle.lic_lines.specs.Lines.{cell_of}
 use Rattle.lic_lines.specs.Runs.{without_separator, without_separators, joined, with_joined, same_mark, same_family}
 use Rattle.lic_lines.specs.Tokens.{Token, both_words, letters_of, tokens_from, first_tokens, is_text, is_sign_in_parentheses, as_sign, sign_from, single_signs}
 use Rattle.lic_phrases.specs.Keys.{HasNoBlank, HaveNoBlank}
 use Rattle.lic_phrases.specs.Rewriting.{both_signs, sign_of_row, sign_rows, begins_authority, https_as_http}
-use Rattle.lic_phrases.specs.WordLists.{characters_of, texts_of, phrase_texts}
+use Rattle.lic_phrases.specs.WordLists.{texts_of, phrase_texts}
 
 -- each element has the property
 abbrev Each : {A : Type 0} → (A → Type 0) → List A → Type 0
@@ -190,10 +191,10 @@ texts_of-plain (t ∷ ts) known = (known.0, texts_of-plain ts known.1)
 
 pub phrase_is_solid : (cs : List ℕ) → AreSolid (phrase_texts cs)
 phrase_is_solid cs =
-    let cells = map cell_of (characters_of cs) in
+    let cells = map cell_of (without_dropped (unplaced cs)) in
     let parted = without_separators cells in
     let joint = with_joined parted in
-    let sound = cells-sound (characters_of cs) in
+    let sound = cells-sound (without_dropped (unplaced cs)) in
     let parted_sound = each-flat_map (Each IsSound) IsSound without_separator without_separator-sound (groups same_mark cells) (each-groups IsSound same_mark cells sound) in
     let joint_sound = each-flat_map (Each IsSound) IsSound joined joined-sound (groups same_family parted) (each-groups IsSound same_family parted parted_sound) in
     let signs = single_signs (first_tokens joint) in

@@ -1,5 +1,5 @@
--- The tokens of a phrase, when all of them are settled.
-use Rattle.std.proofs.Common.{◌≡◌, ℕ, Bool, true, false, cond, ◌&&◌, List, [], ◌∷◌, codes, Option, Some, None, refl, ap, ap₂, ◌∙◌, ◌++◌, ◌-◌, length, take, drop, map, filter, not, append-nil, take_all, arith}
+-- The tokens of a phrase.
+use Rattle.std.proofs.Common.{◌≡◌, ℕ, true, false, cond, List, [], ◌∷◌, None, refl, ap, ◌∙◌, ◌++◌, ◌-◌, length, take, drop, map, filter, not, append-nil, take_all, arith}
 use Rattle.std.proofs.lemmas.List.{map-append}
 use Rattle.std.proofs.lemmas.List.Elements.{filter-append}
 use Rattle.lic_kind.specs.Kinds.{is_dropped}
@@ -7,37 +7,29 @@ use Rattle.lic_lines.specs.declared.source.SourceChar.{SourceChar}
 use Rattle.lic_lines.specs.declared.line_part.LinePart.{LinePart}
 use Rattle.lic_lines.specs.LineRules.{LineRules}
 use Rattle.lic_lines.specs.Lines.{cell_of, line_cells}
-use Rattle.lic_phrases.specs.WordLists.{characters_of}
-use Rattle.lic_lines.specs.Tokens.{Token, is_text, token_in}
-use Rattle.lic_phrases.specs.Held.{held, tokens_in_window}
-use Rattle.lic_phrases.specs.Rewriting.{begins_authority, without_secure, https_as_http, sign_rows}
-use Rattle.lic_phrases.specs.declared.address.Window.{Window}
-use Rattle.lic_phrases.specs.declared.address.Window.TheVariants.{Empty, One, Two, Three}
-use Rattle.lic_lines.specs.declared.tokens.FirstToken.{FirstToken}
+use Rattle.lic_phrases.specs.WordLists.{texts_of}
+use Rattle.lic_lines.specs.Tokens.{Token}
+use Rattle.lic_phrases.specs.Waiting.{spanned_in}
+use Rattle.lic_phrases.specs.declared.final_token.FinalToken.{FinalToken}
+use Rattle.lic_phrases.specs.Rewriting.{spanned, https_as_http, sign_rows, phrases_joined, rewritten}
 
--- one token is a row of its own
-pub sign_rows-held : (last : Option FirstToken) → sign_rows (held last) ≡ held last
-sign_rows-held None = refl
-sign_rows-held (Some t) = refl
+-- where there are no phrases, none are joined
+pub phrases_joined-none : (ts : List Token) → phrases_joined [] ts ≡ ts
+phrases_joined-none [] = refl
+phrases_joined-none (t ∷ ts) = ap (λ l. t ∷ l) (phrases_joined-none ts)
 
-same_cond : {A : Type 0} (b : Bool) (x y : A) → b ≡ false → cond b x y ≡ y
-same_cond b x y e = ap (λ c. cond c x y) e
+texts_of-spanned : (ts : List Token) → map (λ t. t.text) (map spanned ts) ≡ texts_of ts
+texts_of-spanned [] = refl
+texts_of-spanned (t ∷ ts) = ap (λ l. t.text ∷ l) (texts_of-spanned ts)
 
-and-false : (b : Bool) → b && false ≡ false
-and-false true = refl
-and-false false = refl
+-- the texts of tokens that are rewritten without phrases
+pub texts_of-rewritten : (ts : List Token) → map (λ t. t.text) (rewritten [] ts) ≡ texts_of (https_as_http (sign_rows ts))
+texts_of-rewritten ts = ap (λ l. map (λ t. t.text) (map spanned l)) (phrases_joined-none (https_as_http (sign_rows ts))) ∙ texts_of-spanned (https_as_http (sign_rows ts))
 
-unsecured : (t : Token) (ts : List Token) → begins_authority ts ≡ false → without_secure t ts ≡ t
-unsecured t ts none = same_cond (is_text (codes "https") t && begins_authority ts) (record t { text = codes "http" }) t (ap (λ b. is_text (codes "https") t && b) none ∙ and-false (is_text (codes "https") t))
-
--- the last three tokens have no room for an address
-pub https_as_http-window : (window : Window) → https_as_http (tokens_in_window window) ≡ tokens_in_window window
-https_as_http-window Empty = refl
-https_as_http-window (One a) = ap (λ t. t ∷ []) (unsecured (token_in a) [] refl)
-https_as_http-window (Two a b) = ap₂ (λ t u. t ∷ u ∷ []) (unsecured (token_in a) (token_in b ∷ []) refl) (unsecured (token_in b) [] refl)
-https_as_http-window (Three a b c) =
-    ap₂ (λ t ts. t ∷ ts) (unsecured (token_in a) (token_in b ∷ token_in c ∷ []) refl)
-    (ap₂ (λ t u. t ∷ u ∷ []) (unsecured (token_in b) (token_in c ∷ []) refl) (unsecured (token_in c) [] refl))
+-- the texts of settled tokens
+pub texts_of-settled : (spellings : List (List ℕ)) (ts : List FinalToken) → map (λ t. (spanned_in spellings t).text) ts ≡ map (λ t. t.text) (map (spanned_in spellings) ts)
+texts_of-settled spellings [] = refl
+texts_of-settled spellings (t ∷ ts) = ap (λ l. (spanned_in spellings t).text ∷ l) (texts_of-settled spellings ts)
 
 -- ---- a phrase is no line
 
@@ -49,20 +41,3 @@ pub line_cells-inside : (rules : LineRules) (line : List SourceChar) → line_ce
 line_cells-inside rules line =
     append-nil (map cell_of (take (length (drop 0 line) - 0) (drop 0 line)))
     ∙ ap (map cell_of) (take_all (length (drop 0 line) - 0) (drop 0 line) (omega arith))
-
--- one character more
-pub characters_of-push : (cs : List ℕ) (c : ℕ) → characters_of (cs ++ c ∷ []) ≡ characters_of cs ++ characters_of (c ∷ [])
-characters_of-push cs c =
-    let placed : ℕ → SourceChar = λ d. record { char = d; start = 0; end = 0 } in
-    ap (map placed) (filter-append (λ d. not (is_dropped d)) cs (c ∷ []))
-    ∙ map-append placed (filter (λ d. not (is_dropped d)) cs) (filter (λ d. not (is_dropped d)) (c ∷ []))
-
-pub characters_of-kept : (cs : List ℕ) (c : ℕ) → is_dropped c ≡ false → characters_of (cs ++ c ∷ []) ≡ characters_of cs ++ record { char = c; start = 0; end = 0 } ∷ []
-characters_of-kept cs c kept =
-    characters_of-push cs c ∙ ap (λ b. characters_of cs ++ map (λ d. let s : SourceChar = record { char = d; start = 0; end = 0 } in s) (cond (not b) (c ∷ []) [])) kept
-
-pub characters_of-dropped : (cs : List ℕ) (c : ℕ) → is_dropped c ≡ true → characters_of (cs ++ c ∷ []) ≡ characters_of cs
-characters_of-dropped cs c dropped =
-    characters_of-push cs c
-    ∙ ap (λ b. characters_of cs ++ map (λ d. let s : SourceChar = record { char = d; start = 0; end = 0 } in s) (cond (not b) (c ∷ []) [])) dropped
-    ∙ append-nil (characters_of cs)

@@ -1,17 +1,19 @@
 -- The three steps of the rewriting in a row.
-use Rattle.std.proofs.Common.{◌≡◌, ℕ, ◌+◌, ◌≤◌, false, List, [], ◌∷◌, ◌++◌, length, map, Option, Some, None, zero, suc, refl, sym, ap, ap₂, ◌∙◌, subst, ⊎_elim, append_assoc, append-nil, length-append, arith}
+use Rattle.std.proofs.Common.{◌≡◌, ℕ, ◌+◌, ◌≤◌, false, List, [], ◌∷◌, ◌++◌, length, map, Option, Some, None, zero, suc, refl, sym, ap, ◌∙◌, subst, ⊎_elim, append_assoc, append-nil, length-append, arith}
 use Rattle.std.specs.Prelude.{codes, Result, Ok, Err, OnOk}
 use Rattle.std.specs.List.{flat_map}
-use Rattle.std.proofs.lemmas.Bool.{cases_Bool, cond-true, cond-false, and_right}
-use Rattle.std.proofs.lemmas.List.{length-map}
+use Rattle.std.proofs.lemmas.Bool.{cases_Bool, cond-true, cond-false, false≢true}
+use Rattle.std.proofs.lemmas.List.{length-map, map-append}
 use Rattle.lic_lines.specs.Texts.{groups, join_group}
-use Rattle.lic_lines.specs.Tokens.{Token, is_text, token_in}
+use Rattle.lic_lines.specs.Tokens.{Token, is_text, token_in, tokens_in}
 use Rattle.lic_lines.specs.declared.tokens.FirstToken.{FirstToken}
-use Rattle.lic_phrases.specs.Rewriting.{Phrase, SpannedText, spanned, both_signs, sign_of_row, sign_rows, begins_authority, without_secure, https_as_http, longest_phrase, count_behind, phrases_behind, phrases_joined, rewritten}
-use Rattle.lic_phrases.specs.Settling.{Kept, nothing_kept, IsShort, left_of, Settles}
-use Rattle.lic_phrases.specs.Held.{held, tokens_in_window}
-use Rattle.lic_phrases.specs.declared.address.Window.{Window}
-use Rattle.lic_phrases.specs.declared.address.Window.TheVariants.{Empty, One, Two, Three}
+use Rattle.lic_phrases.specs.Rewriting.{Phrase, SpannedText, spanned, both_signs, sign_of_row, sign_rows, https_as_http, longest_phrase, count_behind, phrases_behind, phrases_joined, rewritten}
+use Rattle.lic_phrases.specs.Settling.{Kept, nothing_kept, IsShort, left_of, left_of_rows, GivesRows, Settles}
+use Rattle.lic_phrases.specs.Held.{held}
+use Rattle.lic_phrases.specs.PhraseLists.{PhraseList}
+use Rattle.lic_phrases.specs.Waiting.{spanned_in, GivesMore}
+use Rattle.lic_phrases.specs.declared.final_token.FinalToken.{FinalToken}
+use Rattle.lic_phrases.proofs.AddressLemmas.{https_as_http-other, https_as_http-few}
 
 -- ---- no step makes tokens
 
@@ -54,19 +56,13 @@ length-left_of words kept =
       ap length (append-nil kept.sign),
     )
 
--- the code keeps as little
-pub IsShort-held : (sign : Option FirstToken) (address : Window) (phrase : List Token) → length phrase ≤ 7 → IsShort (record { sign = held sign; address = tokens_in_window address; phrase = phrase })
-IsShort-held sign address phrase few = record { sign = one sign; address = three address; phrase = few }
-  where
-    one : (o : Option FirstToken) → length (held o) ≤ 1
-    one None = omega arith
-    one (Some t) = omega arith
+-- two lists that are the same are so behind any front
+pub behind_front : (front xs ys xs' ys' : List SpannedText) → xs ++ xs' ≡ ys ++ ys' → (front ++ xs) ++ xs' ≡ (front ++ ys) ++ ys'
+behind_front front xs ys xs' ys' same = append_assoc front xs xs' ∙ ap (λ l. front ++ l) same ∙ sym (append_assoc front ys ys')
 
-    three : (w : Window) → length (tokens_in_window w) ≤ 3
-    three Empty = omega arith
-    three (One a) = omega arith
-    three (Two a b) = omega arith
-    three (Three a b c) = omega arith
+pub length-held : (o : Option FirstToken) → length (held o) ≤ 1
+length-held None = omega arith
+length-held (Some t) = omega arith
 
 -- ---- one token more
 
@@ -87,23 +83,39 @@ Settles-short words taken settled kept goes_on short = record {
   );
 }
 
--- The first step takes a token and gives some; the second takes these and gives some; and the third takes those.
-pub Settles-more : (words : List Phrase) (taken : List Token) (settled settled' : List SpannedText) (kept kept' : Kept) (t : Token) (rows addresses : List Token)
+-- The first step takes a token and passes rows on, and the steps behind it take these.
+pub Settles-more : (words : List Phrase) (taken : List Token) (settled settled' : List SpannedText) (kept kept' : Kept) (t : Token) (rows : List Token)
     → Settles words taken settled kept
     → ((rest : List Token) → sign_rows (kept.sign ++ t ∷ rest) ≡ rows ++ sign_rows (kept'.sign ++ rest))
-    → ((rest : List Token) → https_as_http (kept.address ++ (rows ++ rest)) ≡ addresses ++ https_as_http (kept'.address ++ rest))
-    → ((rest : List Token) → settled ++ map spanned (phrases_joined words (kept.phrase ++ (addresses ++ rest))) ≡ settled' ++ map spanned (phrases_joined words (kept'.phrase ++ rest)))
+    → GivesRows words settled kept rows settled' kept'
     → IsShort kept'
     → Settles words (taken ++ t ∷ []) settled' kept'
-Settles-more words taken settled settled' kept kept' t rows addresses before sign_eq address_eq phrase_eq short =
+Settles-more words taken settled settled' kept kept' t rows before sign_eq gives short =
     Settles-short words (taken ++ t ∷ []) settled' kept'
     (λ rest.
     ap (rewritten words) (append_assoc taken (t ∷ []) rest)
     ∙ before.goes_on (t ∷ rest)
-    ∙ ap (λ l. settled ++ map spanned (phrases_joined words (kept.phrase ++ https_as_http (kept.address ++ l)))) (sign_eq rest)
-    ∙ ap (λ l. settled ++ map spanned (phrases_joined words (kept.phrase ++ l))) (address_eq (sign_rows (kept'.sign ++ rest)))
-    ∙ phrase_eq (https_as_http (kept'.address ++ sign_rows (kept'.sign ++ rest))))
+    ∙ ap (λ l. settled ++ left_of_rows words kept l) (sign_eq rest)
+    ∙ gives (sign_rows (kept'.sign ++ rest)))
     short
+
+-- rows that are taken one after the other
+pub GivesRows-both : (words : List Phrase) (given given' given'' : List SpannedText) (kept kept' kept'' : Kept) (rows more : List Token) → GivesRows words given kept rows given' kept' → GivesRows words given' kept' more given'' kept'' → GivesRows words given kept (rows ++ more) given'' kept''
+GivesRows-both words given given' given'' kept kept' kept'' rows more first second = λ rest. ap (λ l. given ++ left_of_rows words kept l) (append_assoc rows more rest) ∙ first (more ++ rest) ∙ second rest
+
+-- what was given before stays in front
+pub GivesRows-behind : (words : List Phrase) (front given given' : List SpannedText) (kept kept' : Kept) (rows : List Token) → GivesRows words given kept rows given' kept' → GivesRows words (front ++ given) kept rows (front ++ given') kept'
+GivesRows-behind words front given given' kept kept' rows gives = λ rest. behind_front front given given' (left_of_rows words kept (rows ++ rest)) (left_of_rows words kept' rest) (gives rest)
+
+-- a token that is no `https` goes straight on where none waits before it
+pub GivesRows-plain : (list : PhraseList) (given given' : List FinalToken) (waiting waiting' : List FirstToken) (row : FirstToken) (sign : List Token) → is_text (codes "https") (token_in row) ≡ false → GivesMore list false given (waiting ++ row ∷ []) given' waiting'
+    → GivesRows list.phrases (map (spanned_in list.spellings) given) (record { sign = sign; address = []; phrase = tokens_in waiting }) (token_in row ∷ []) (map (spanned_in list.spellings) given') (record { sign = sign; address = []; phrase = tokens_in waiting' })
+GivesRows-plain list given given' waiting waiting' row sign other more = λ rest.
+    let old = map (spanned_in list.spellings) given in
+    let behind = https_as_http rest in
+    ap (λ l. old ++ map spanned (phrases_joined list.phrases (tokens_in waiting ++ l))) (https_as_http-other (token_in row) rest other)
+    ∙ ap (λ l. old ++ map spanned (phrases_joined list.phrases l)) (sym (append_assoc (tokens_in waiting) (token_in row ∷ []) behind) ∙ ap (λ l. l ++ behind) (sym (map-append token_in waiting (row ∷ []))))
+    ∙ more behind (λ e. absurd (false≢true e))
 
 pub Settles-new : (words : List Phrase) → Settles words [] [] nothing_kept
 Settles-new words = record {
@@ -114,45 +126,39 @@ Settles-new words = record {
 
 -- ---- the end of a text
 
-pub sign_rows-held : (o : Option FirstToken) → sign_rows (held o ++ []) ≡ held o
-sign_rows-held None = refl
-sign_rows-held (Some t) = refl
-
--- nothing changes before fewer than three tokens
-alone : (t : Token) (ts : List Token) → begins_authority ts ≡ false → without_secure t ts ≡ t
-alone t ts none = cond-false _ _ _ (and_right (is_text (codes "https") t) (begins_authority ts) none)
-
-pub https_as_http-window : (w : Window) → https_as_http (tokens_in_window w ++ []) ≡ tokens_in_window w
-https_as_http-window Empty = refl
-https_as_http-window (One a) = ap (λ t. t ∷ []) (alone (token_in a) [] refl)
-https_as_http-window (Two a b) = ap₂ (λ t u. t ∷ u ∷ []) (alone (token_in a) (token_in b ∷ []) refl) (alone (token_in b) [] refl)
-https_as_http-window (Three a b c) =
-    ap₂ (λ t ts. t ∷ ts) (alone (token_in a) (token_in b ∷ token_in c ∷ []) refl)
-    (ap₂ (λ t u. t ∷ u ∷ []) (alone (token_in b) (token_in c ∷ []) refl) (alone (token_in c) [] refl))
+sign_rows-one : (ts : List Token) → length ts ≤ 1 → sign_rows (ts ++ []) ≡ ts ++ []
+sign_rows-one [] one = refl
+sign_rows-one (t ∷ []) one = refl
+sign_rows-one (t ∷ u ∷ ts) one = absurd (omega arith)
 
 -- at the end of a text the steps give what they keep
-pub Settles-end : (words : List Phrase) (taken : List Token) (settled settled' : List SpannedText) (kept : Kept) (rows addresses : List Token) (waiting : List Token)
+pub Settles-end : (words : List Phrase) (taken : List Token) (settled settled' settled'' : List SpannedText) (kept kept' : Kept) (waiting : List Token)
     → Settles words taken settled kept
-    → sign_rows (kept.sign ++ []) ≡ rows
-    → https_as_http (kept.address ++ rows) ≡ addresses
-    → waiting ≡ kept.phrase ++ addresses
-    → settled ++ map spanned (phrases_joined words (waiting ++ [])) ≡ settled' ++ []
-    → settled' ≡ rewritten words taken
-Settles-end words taken settled settled' kept rows addresses waiting before sign_eq address_eq gathered given =
+    → GivesRows words settled kept kept.sign settled' kept'
+    → IsShort kept'
+    → waiting ≡ kept'.phrase ++ kept'.address
+    → settled' ++ map spanned (phrases_joined words (waiting ++ [])) ≡ settled'' ++ []
+    → settled'' ≡ rewritten words taken
+Settles-end words taken settled settled' settled'' kept kept' waiting before gives short gathered given =
     sym
     (ap (rewritten words) (sym (append-nil taken))
     ∙ before.goes_on []
-    ∙ ap (λ l. settled ++ map spanned (phrases_joined words (kept.phrase ++ https_as_http (kept.address ++ l)))) sign_eq
-    ∙ ap (λ l. settled ++ map spanned (phrases_joined words (kept.phrase ++ l))) address_eq
-    ∙ ap (λ l. settled ++ map spanned (phrases_joined words l)) (sym gathered ∙ sym (append-nil waiting))
+    ∙ ap (λ l. settled ++ left_of_rows words kept l) (sign_rows-one kept.sign before.short.sign)
+    ∙ gives []
+    ∙ ap (λ l. settled' ++ map spanned (phrases_joined words (kept'.phrase ++ https_as_http l))) (append-nil kept'.address)
+    ∙ ap (λ l. settled' ++ map spanned (phrases_joined words (kept'.phrase ++ l))) (https_as_http-few kept'.address short.address)
+    ∙ ap (λ l. settled' ++ map spanned (phrases_joined words l)) (sym gathered ∙ sym (append-nil waiting))
     ∙ given
-    ∙ append-nil settled')
+    ∙ append-nil settled'')
+
+-- ---- answers
 
 -- what follows from two facts of an answer
 pub OnOk-both : {X E : Type 0} (r : Result X E) (P Q R : Type 0) → (P → Q → R) → OnOk r P → OnOk r Q → OnOk r R
 OnOk-both (Ok x) P Q R follows p q = follows p q
 OnOk-both (Err e) P Q R follows p q = tt
 
--- two lists that are the same are so behind any front
-pub behind_front : (front xs ys xs' ys' : List SpannedText) → xs ++ xs' ≡ ys ++ ys' → (front ++ xs) ++ xs' ≡ (front ++ ys) ++ ys'
-behind_front front xs ys xs' ys' same = append_assoc front xs xs' ∙ ap (λ l. front ++ l) same ∙ sym (append_assoc front ys ys')
+-- an answer whose fact stands on another
+pub OnOk-from : {X E : Type 0} (r : Result X E) (P Q : Type 0) → (P → OnOk r Q) → OnOk r (P → Q)
+OnOk-from (Ok x) P Q follows = follows
+OnOk-from (Err e) P Q follows = tt

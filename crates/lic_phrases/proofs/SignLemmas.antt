@@ -1,5 +1,5 @@
 -- Rows of signs, token by token.
-use Rattle.std.proofs.Common.{◌≡◌, ◌&&◌, true, false, List, [], ◌∷◌, sym, ap, ◌∙◌, ⊎_elim}
+use Rattle.std.proofs.Common.{◌≡◌, ◌&&◌, true, false, List, [], ◌∷◌, refl, sym, ap, ◌∙◌, ⊎_elim}
 use Rattle.std.specs.List.{flat_map}
 use Rattle.std.proofs.lemmas.Bool.{cases_Bool, cond-true, cond-false, and_parts}
 use Rattle.lic_lines.specs.Texts.{groups, join_group}
@@ -39,3 +39,8 @@ sign_rows-settled a b rest apart =
     ap (λ l. flat_map sign_of_row (join_group both_signs a l)) head.2
     ∙ ap (flat_map sign_of_row) (cond-false (both_signs a b) ((a ∷ b ∷ head.0) ∷ head.1) ((a ∷ []) ∷ (b ∷ head.0) ∷ head.1) apart)
     ∙ ap (λ l. a ∷ flat_map sign_of_row l) (sym head.2)
+
+-- a token that is no sign is a row of its own
+pub sign_rows-other : (a : Token) (rest : List Token) → is_sign a ≡ false → sign_rows (a ∷ rest) ≡ a ∷ sign_rows rest
+sign_rows-other a [] other = refl
+sign_rows-other a (b ∷ rest) other = sign_rows-settled a b rest (ap (λ v. v && is_sign b) other)

@@ -1,8 +1,8 @@
 -- The step of the rewriting that joins phrases, as it goes: what waits, what it has found, and what it has given.
-use Rattle.std.specs.Prelude.{◌≡◌, ℕ, zero, suc, ◌<◌, Bool, true, List, [], ◌∷◌, ◌++◌, take, map, option_map, slice_index_or, string_bytes, Option, Some, None}
+use Rattle.std.specs.Prelude.{◌≡◌, ℕ, zero, suc, ◌<◌, Bool, true, List, [], ◌∷◌, ◌++◌, take, map, option_map, slice_index_or, Option, Some, None}
 use Rattle.std.specs.List.{All}
 use Rattle.std.specs.Option.{option_or}
-use Rattle.lic_lines.specs.Tokens.{Token, tokens_in}
+use Rattle.lic_lines.specs.Tokens.{Token, small_bytes, tokens_in}
 use Rattle.lic_lines.specs.declared.tokens.FirstToken.{FirstToken}
 use Rattle.lic_phrases.specs.Rewriting.{Phrase, SpannedText, spanned, first_as, phrases_joined}
 use Rattle.lic_phrases.specs.PhraseLists.{PhraseList, phrase_with}
@@ -27,7 +27,7 @@ phrase_found spellings ts found = record { texts = take found.count (texts_of ts
 
 -- the text of a token, where the classes have these spellings
 abbrev pub text_in : List (List ℕ) → TokenText → List ℕ
-text_in spellings (Own text) = string_bytes text
+text_in spellings (Own text) = small_bytes text
 text_in spellings (Class class) = slice_index_or spellings class []
 
 abbrev pub spanned_in : List (List ℕ) → FinalToken → SpannedText

@@ -5,7 +5,7 @@ use Rattle.std.specs.Str.{chars}
 use Rattle.std.specs.List.{flat_map, slice_split, Contains}
 use Rattle.std.specs.Option.{option_map_or}
 use Rattle.lic_kind.specs.Kinds.{is_dropped}
-use Rattle.lic_lines.specs.declared.source.SourceChar.{SourceChar}
+use Rattle.lic_lines.specs.Sources.{unplaced, without_dropped}
 use Rattle.lic_lines.specs.LineRules.{profile}
 use Rattle.lic_lines.specs.Lines.{cell_of}
 use Rattle.lic_lines.specs.Tokens.{Token, tokens_of_cells}
@@ -18,16 +18,12 @@ use Rattle.lic_phrases.specs.declared.fault.WordsFault.{WordsFault}
 
 -- ---- phrases
 
--- the characters of a phrase without the dropped ones; where they stand does not matter, since of its tokens the texts alone count
-abbrev pub characters_of : List ℕ → List SourceChar
-characters_of cs = map (λ c. record { char = c; start = 0; end = 0 }) (filter (λ c. not (is_dropped c)) cs)
-
 abbrev pub texts_of : List Token → List (List ℕ)
 texts_of tokens = map (λ t. t.text) tokens
 
--- the texts of the tokens of a phrase: it has no lines, signs are joined and https is http, and no phrase is looked for
+-- the texts of the tokens of a phrase: where its characters stand has no effect, it has no lines, signs are joined and https is http, and no phrase is looked for
 abbrev pub phrase_texts : List ℕ → List (List ℕ)
-phrase_texts cs = texts_of (https_as_http (sign_rows (tokens_of_cells profile (map cell_of (characters_of cs)))))
+phrase_texts cs = texts_of (https_as_http (sign_rows (tokens_of_cells profile (map cell_of (without_dropped (unplaced cs))))))
 
 -- ---- lines
 

@@ -1,20 +1,13 @@
 //! The scheme of web addresses: `https` becomes `http`.
-ghost use Rattle.std.specs.Prelude.{◌≡◌, ◌∷◌, ◌++◌, [], List};
-ghost use Rattle.lic_lines.specs.Tokens.{Token, is_text, token_in};
-ghost use Rattle.lic_phrases.specs.Held.{held, tokens_in_window};
+ghost use Rattle.std.specs.Prelude.{◌≡◌, ◌++◌, ◌+◌, ◌≤◌, List, codes, length};
+ghost use Rattle.std.specs.Option.{IfNone};
+ghost use Rattle.std.specs.VecDeque.{deque_len};
+ghost use Rattle.lic_lines.specs.Tokens.{Token, is_text, token_in, tokens_in};
+ghost use Rattle.lic_phrases.specs.Held.{held};
 ghost use Rattle.lic_phrases.specs.Rewriting.{begins_authority, without_secure, https_as_http};
 
-use lic_lines::FirstToken;
-use std::mem;
-
-/// The last tokens, of which the first may be an `https`.
-#[derive(Drop)]
-pub(crate) enum Window {
-    Empty,
-    One(FirstToken),
-    Two(FirstToken, FirstToken),
-    Three(FirstToken, FirstToken, FirstToken),
-}
+use lic_lines::{FirstToken, SmallString};
+use std::collections::VecDeque;
 
 /// Whether the token has this text.
 fn is_text(text: &str, token: &FirstToken) -> bool
@@ -23,48 +16,44 @@ fn is_text(text: &str, token: &FirstToken) -> bool
     text == token.text.as_str()
 }
 
-/// Whether the three tokens are `:`, `/` and `/`.
-fn is_authority(a: &FirstToken, b: &FirstToken, c: &FirstToken) -> bool
-    ensures { result
-        ≡ begins_authority (token_in a.now ∷ token_in b.now ∷ token_in c.now ∷ []) }
+/// Whether the token is `https`, so that it has to wait for the three behind it.
+pub(crate) fn is_https(token: &FirstToken) -> bool
+    ensures { result ≡ is_text (codes "https") (token_in token.now) }
 {
-    is_text(":", a) && is_text("/", b) && is_text("/", c)
+    is_text("https", token)
 }
 
-/// Makes `http` of `https` where the other three tokens, which stand behind it, are `:`, `/`, `/`.
-fn drop_secure(token: &mut FirstToken, a: &FirstToken, b: &FirstToken, c: &FirstToken)
-    ensures { token_in token.new
-        ≡ without_secure (token_in token.old)
-        (token_in a.now ∷ token_in b.now ∷ token_in c.now ∷ []) }
+/// Whether `:`, `/` and `/` stand in front.
+fn begins_authority(tokens: &VecDeque<FirstToken>) -> bool
+    ensures { result ≡ begins_authority (tokens_in tokens.now.items) }
 {
-    if is_text("https", token) && is_authority(a, b, c) {
-        token.text.truncate("http".len());
+    tokens.len() >= 3
+        && is_text(":", &tokens[0])
+        && is_text("/", &tokens[1])
+        && is_text("/", &tokens[2])
+}
+
+/// Makes `http` of `https` where the tokens behind it begin with `:`, `/` and `/`.
+fn drop_secure(token: &mut FirstToken, behind: &VecDeque<FirstToken>)
+    ensures { token_in token.new ≡ without_secure (token_in token.old) (tokens_in behind.now.items) }
+{
+    if is_https(token) && begins_authority(behind) {
+        token.text = SmallString::short("http");
     }
 }
 
-/// Takes the next token, and gives the one that has three behind it, which is settled.
-pub(crate) fn push_address(window: &mut Window, next: FirstToken) -> Option<FirstToken>
-    ensures { (rest : List Token)
-        → https_as_http (tokens_in_window window.old ++ token_in next ∷ rest)
-        ≡ held result ++ https_as_http (tokens_in_window window.new ++ rest) }
+/// Takes out the first token where it is settled: it is no `https`, or three stand behind it.
+pub(crate) fn pop_settled(address: &mut VecDeque<FirstToken>) -> Option<FirstToken>
+    ensures given { (rest : List Token) → https_as_http (tokens_in address.old.items ++ rest)
+        ≡ held result ++ https_as_http (tokens_in address.new.items ++ rest) }
+    ensures fewer { deque_len address.new + length (held result) ≡ deque_len address.old }
+    ensures few { IfNone result (deque_len address.new ≤ 3) }
 {
-    match mem::replace(window, Window::Empty) {
-        Window::Empty => {
-            *window = Window::One(next);
-            None
-        }
-        Window::One(a) => {
-            *window = Window::Two(a, next);
-            None
-        }
-        Window::Two(a, b) => {
-            *window = Window::Three(a, b, next);
-            None
-        }
-        Window::Three(mut first, a, b) => {
-            drop_secure(&mut first, &a, &b, &next);
-            *window = Window::Three(a, b, next);
-            Some(first)
-        }
+    let first = address.front()?;
+    if is_https(first) && address.len() < 4 {
+        return None;
     }
+    let mut settled = address.pop_front()?;
+    drop_secure(&mut settled, address);
+    Some(settled)
 }

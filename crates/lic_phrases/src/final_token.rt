@@ -1,10 +1,12 @@
 //! Tokens as they are reported.
 
+use lic_lines::SmallString;
+
 /// The text of a token.
 #[derive(Drop)]
 pub enum TokenText {
     /// The token's own text.
-    Own(String),
+    Own(SmallString),
     /// The spelling of this class of equivalent words.
     Class(usize),
 }

@@ -12,6 +12,7 @@ mod phrases;
 mod reader;
 mod rewriter;
 mod sign_rows;
+mod spelling;
 mod tokens;
 mod words;
 
@@ -19,6 +20,7 @@ pub use fault::{WordsCause, WordsFault};
 pub use final_token::{FinalToken, TokenText};
 pub use phrases::{MAX_TOKENS, Phrases};
 pub use rewriter::Rewriter;
+pub use spelling::{begins_in_word, ends_in_word};
 pub use words::Words;
 
 #[cfg(test)]

@@ -39,7 +39,7 @@ fn front_phrase(
     key.clear();
     let mut found = None;
     for n in 0..most {
-        key.extend_from_slice(waiting[n].text.as_bytes())?;
+        key.extend_from_slice(waiting[n].text.as_str().as_bytes())?;
         key.push(SEPARATOR)?;
         if let Some(class) = phrases.class_of(key.as_slice()) {
             found = Some(Found {
@@ -49,6 +49,13 @@ fn front_phrase(
         }
     }
     Ok(found)
+}
+
+/// Where a token ends.
+fn end_of(token: FirstToken) -> u32
+    ensures { result ≡ token.end }
+{
+    token.end
 }
 
 /// Drops so many tokens from the front, and gives where the last of them ends: where there is
@@ -61,7 +68,7 @@ fn drop_front(waiting: &mut VecDeque<FirstToken>, count: usize, mut end: u32) ->
 {
     for _ in 0..count {
         if let Some(token) = waiting.pop_front() {
-            end = token.end;
+            end = end_of(token);
         }
     }
     end
@@ -152,6 +159,7 @@ fn give_alone(token: FirstToken, output: &mut Vec<FinalToken>) -> Result<(), All
 }
 
 /// Takes the next token, and gives waiting tokens as long as the longest phrase in front of them is known.
+#[inline(always)]
 pub(crate) fn take_token(
     phrases: &Phrases,
     token: FirstToken,

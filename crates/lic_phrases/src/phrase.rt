@@ -2,20 +2,16 @@
 ghost use Rattle.std.specs.Prelude.{◌≡◌, ◌<◌, ◌||◌, ◌⊎◌, not, None, Some, IfOk, IfErr, OnOk, length, string_bytes};
 ghost use Rattle.std.specs.Char.{is_whitespace};
 ghost use Rattle.std.specs.Str.{chars};
-ghost use Rattle.lic_kind.specs.Kinds.{is_dropped, is_word_kind, kind_of};
-ghost use Rattle.lic_phrases.specs.Spelling.{
-  begins_in_word,
-  ends_in_word,
-  is_parted_at,
-  spelled,
-};
+ghost use Rattle.lic_kind.specs.Kinds.{is_dropped};
+ghost use Rattle.lic_phrases.specs.Spelling.{is_parted_at, spelled};
 ghost use Rattle.lic_phrases.specs.Keys.{HaveNoBlank, key_of, texts_in};
 ghost use Rattle.lic_phrases.specs.TokenTexts.{IsTokenText};
 ghost use Rattle.lic_phrases.specs.WordLists.{fault_of_phrase, is_skipped, phrase_texts};
 
 use crate::fault::WordsCause;
+use crate::spelling::{begins_in_word, ends_in_word};
 use crate::tokens::phrase_tokens;
-use lic_kind::{Kind, is_dropped, kind_of};
+use lic_kind::is_dropped;
 use std::alloc::{AllocError, Global};
 
 /// The most tokens of a phrase.
@@ -74,31 +70,6 @@ pub(crate) fn is_skipped(line: &str) -> bool
         None => true,
         Some(first) => first == '#',
     }
-}
-
-fn is_word(c: char) -> bool
-    ensures { result ≡ is_word_kind (kind_of c) }
-{
-    kind_of(c) == Kind::Word
-}
-
-fn begins_in_word(text: &str) -> bool
-    ensures { result ≡ begins_in_word text.now }
-{
-    match text.chars().next() {
-        None => false,
-        Some(first) => is_word(first),
-    }
-}
-
-fn ends_in_word(text: &str) -> bool
-    ensures { result ≡ ends_in_word text.now }
-{
-    let mut in_word = false;
-    for c in text.chars() {
-        in_word = is_word(c);
-    }
-    in_word
 }
 
 /// Whether a blank stands before the text at this place.

@@ -1,16 +1,15 @@
 //! The three steps of the rewriting in a row, token by token.
 ghost use Rattle.std.specs.Prelude.{◌≡◌, ◌∷◌, ◌++◌, [], List, OnOk, length, map};
 ghost use Rattle.lic_lines.specs.Tokens.{Token, token_in, tokens_in};
-ghost use Rattle.lic_phrases.specs.Held.{tokens_in_window};
 ghost use Rattle.lic_phrases.specs.Rewriting.{SpannedText, rewritten};
-ghost use Rattle.lic_phrases.specs.Settling.{Settles, nothing_kept};
+ghost use Rattle.lic_phrases.specs.Settling.{Settles, GivesRows, IsShort, nothing_kept};
 ghost use Rattle.lic_phrases.specs.Waiting.{spanned_in, AreKnown};
 
-use crate::address::{Window, push_address};
+use crate::address::{is_https, pop_settled};
 use crate::final_token::FinalToken;
 use crate::merging::{give_known, take_token};
 use crate::phrases::Phrases;
-use crate::sign_rows::push_sign;
+use crate::sign_rows::{is_sign, join_sign};
 use lic_lines::FirstToken;
 use std::alloc::{AllocError, Global};
 use std::collections::VecDeque;
@@ -18,12 +17,16 @@ use std::marker::Model;
 
 /// Rewrites the tokens of a text as they come (SPDX 2.3, Annex B; this project's profile). Each
 /// longest row of copyright signs becomes one sign, `https` before `:`, `/` and `/` becomes `http`,
-/// and then, from the left, the longest phrase becomes one token. At most 11 tokens are kept back,
-/// to which others may come. After an error it is of no use.
+/// and then, from the left, the longest phrase becomes one token. A token is kept back only where it
+/// is a sign, stands from an `https` on, or may begin a phrase; these are 11 at most. After an error
+/// it is of no use.
 #[derive(Drop)]
 pub struct Rewriter {
+    /// A copyright sign, to which others may come.
     sign: Option<FirstToken>,
-    address: Window,
+    /// Tokens of which the first is `https`, up to the three that decide it.
+    address: VecDeque<FirstToken>,
+    /// Tokens that may begin a longer phrase.
     waiting: VecDeque<FirstToken>,
     /// A buffer for keys of phrases.
     key: Vec<u8>,
@@ -31,37 +34,16 @@ pub struct Rewriter {
 
 impl Model for Rewriter {
     ghost use Rattle.lic_lines.specs.Tokens.{tokens_in};
-    ghost use Rattle.lic_phrases.specs.Held.{held, tokens_in_window};
+    ghost use Rattle.lic_phrases.specs.Held.{held};
     ghost use Rattle.lic_phrases.specs.Settling.{Kept};
 
     ghost Value = { Kept };
 
     ghost view = { λ a. record {
       sign = held a.sign;
-      address = tokens_in_window a.address;
+      address = tokens_in a.address.items;
       phrase = tokens_in a.waiting.items;
     } };
-}
-
-/// Moves the tokens of the window to the end of those that wait.
-fn pour(window: Window, waiting: &mut VecDeque<FirstToken>) -> Result<(), AllocError>
-    ensures { OnOk result (tokens_in waiting.new.items
-        ≡ tokens_in waiting.old.items ++ tokens_in_window window) }
-{
-    match window {
-        Window::Empty => {}
-        Window::One(a) => waiting.push_back(a)?,
-        Window::Two(a, b) => {
-            waiting.push_back(a)?;
-            waiting.push_back(b)?;
-        }
-        Window::Three(a, b, c) => {
-            waiting.push_back(a)?;
-            waiting.push_back(b)?;
-            waiting.push_back(c)?;
-        }
-    }
-    Ok(())
 }
 
 impl Rewriter {
@@ -71,7 +53,7 @@ impl Rewriter {
     {
         Rewriter {
             sign: None,
-            address: Window::Empty,
+            address: VecDeque::new(alloc),
             waiting: VecDeque::new(alloc),
             key: Vec::new(alloc),
         }
@@ -94,13 +76,15 @@ impl Rewriter {
         ensures known { AreKnown (length phrases.now.spellings) output.old.items
             → OnOk result (AreKnown (length phrases.now.spellings) output.new.items) }
     {
-        let Some(row) = push_sign(&mut self.sign, token) else {
+        if join_sign(&mut self.sign, &token) {
             return Ok(());
-        };
-        let Some(settled) = push_address(&mut self.address, row) else {
+        }
+        self.take_sign(phrases, output)?;
+        if is_sign(&token) {
+            self.sign = Some(token);
             return Ok(());
-        };
-        take_token(phrases, settled, &mut self.waiting, &mut self.key, output)
+        }
+        self.take_row(phrases, token, output)
     }
 
     /// Ends the text: puts the tokens that were kept back at the end of the output. It is then
@@ -114,18 +98,67 @@ impl Rewriter {
         ensures known { AreKnown (length phrases.now.spellings) output.old.items
             → OnOk result (AreKnown (length phrases.now.spellings) output.new.items) }
     {
-        let Rewriter {
-            sign,
-            mut address,
-            mut waiting,
-            mut key,
-        } = self;
-        if let Some(row) = sign {
-            if let Some(settled) = push_address(&mut address, row) {
-                waiting.push_back(settled)?;
-            }
+        let mut rewriter = self;
+        rewriter.take_sign(phrases, output)?;
+        rewriter.waiting.append(&mut rewriter.address)?;
+        give_known(
+            phrases,
+            true,
+            &mut rewriter.waiting,
+            &mut rewriter.key,
+            output,
+        )
+    }
+
+    /// The sign that is kept, if there is one, goes on to the next step.
+    #[inline(always)]
+    fn take_sign(
+        &mut self,
+        phrases: &Phrases,
+        output: &mut Vec<FinalToken>,
+    ) -> Result<(), AllocError>
+        ensures given { OnOk result (GivesRows phrases.now.phrases
+            (map (spanned_in phrases.now.spellings) output.old.items) self.old self.old.sign
+            (map (spanned_in phrases.now.spellings) output.new.items) self.new) }
+        ensures sign { self.new.sign ≡ [] }
+        ensures short { IsShort self.old → OnOk result (IsShort self.new) }
+        ensures known { AreKnown (length phrases.now.spellings) output.old.items
+            → OnOk result (AreKnown (length phrases.now.spellings) output.new.items) }
+    {
+        // Mostly there is none, and a look costs less than taking it out.
+        if self.sign.is_none() {
+            return Ok(());
         }
-        pour(address, &mut waiting)?;
-        give_known(phrases, true, &mut waiting, &mut key, output)
+        match self.sign.take() {
+            None => Ok(()),
+            Some(row) => self.take_row(phrases, row, output),
+        }
+    }
+
+    /// Takes a row of signs or another token, and gives the tokens that are now settled. Where none
+    /// waits for an address, the token need not wait for one either unless it is `https`.
+    #[inline(always)]
+    fn take_row(
+        &mut self,
+        phrases: &Phrases,
+        row: FirstToken,
+        output: &mut Vec<FinalToken>,
+    ) -> Result<(), AllocError>
+        ensures given { OnOk result (GivesRows phrases.now.phrases
+            (map (spanned_in phrases.now.spellings) output.old.items) self.old (token_in row ∷ [])
+            (map (spanned_in phrases.now.spellings) output.new.items) self.new) }
+        ensures sign { self.new.sign ≡ self.old.sign }
+        ensures short { IsShort self.old → OnOk result (IsShort self.new) }
+        ensures known { AreKnown (length phrases.now.spellings) output.old.items
+            → OnOk result (AreKnown (length phrases.now.spellings) output.new.items) }
+    {
+        if self.address.is_empty() && !is_https(&row) {
+            return take_token(phrases, row, &mut self.waiting, &mut self.key, output);
+        }
+        self.address.push_back(row)?;
+        while let Some(settled) = pop_settled(&mut self.address) {
+            take_token(phrases, settled, &mut self.waiting, &mut self.key, output)?;
+        }
+        Ok(())
     }
 }

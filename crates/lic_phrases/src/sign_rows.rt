@@ -1,5 +1,5 @@
 //! Rows of signs become one.
-ghost use Rattle.std.specs.Prelude.{◌≡◌, ◌∷◌, ◌++◌, List};
+ghost use Rattle.std.specs.Prelude.{◌≡◌, ◌∷◌, ◌++◌, IsFalse, IsTrue, List};
 ghost use Rattle.lic_lines.specs.Tokens.{Token, token_in};
 ghost use Rattle.lic_phrases.specs.Held.{held};
 ghost use Rattle.lic_phrases.specs.Rewriting.{is_sign, both_signs, sign_rows};
@@ -7,7 +7,7 @@ ghost use Rattle.lic_phrases.specs.Rewriting.{is_sign, both_signs, sign_rows};
 use lic_lines::FirstToken;
 
 /// Whether the token is a copyright sign.
-fn is_sign(token: &FirstToken) -> bool
+pub(crate) fn is_sign(token: &FirstToken) -> bool
     ensures { result ≡ is_sign (token_in token.now) }
 {
     "copyright" == token.text.as_str()
@@ -20,26 +20,20 @@ fn are_signs(first: &FirstToken, second: &FirstToken) -> bool
     is_sign(first) && is_sign(second)
 }
 
-/// Takes the next token, and gives the one before it where that is settled. It keeps one token
-/// back, to which signs may come.
-pub(crate) fn push_sign(last: &mut Option<FirstToken>, next: FirstToken) -> Option<FirstToken>
-    ensures { (rest : List Token) → sign_rows (held last.old ++ token_in next ∷ rest)
-        ≡ held result ++ sign_rows (held last.new ++ rest) }
+/// Takes the next token into the row of signs that is kept, and answers whether it could: where one
+/// of them is no sign, the kept one is settled.
+pub(crate) fn join_sign(kept: &mut Option<FirstToken>, next: &FirstToken) -> bool
+    ensures joined { IsTrue result → (rest : List Token)
+        → sign_rows (held kept.old ++ token_in next.now ∷ rest) ≡ sign_rows (held kept.new ++ rest) }
+    ensures apart { IsFalse result → (kept.new ≡ kept.old) × ((rest : List Token)
+        → sign_rows (held kept.old ++ token_in next.now ∷ rest)
+        ≡ held kept.old ++ sign_rows (token_in next.now ∷ rest)) }
 {
-    match last.take() {
-        None => {
-            *last = Some(next);
-            None
+    match kept {
+        Some(row) if are_signs(row, next) => {
+            row.end = next.end;
+            true
         }
-        Some(mut row) => {
-            if are_signs(&row, &next) {
-                row.end = next.end;
-                *last = Some(row);
-                None
-            } else {
-                *last = Some(next);
-                Some(row)
-            }
-        }
+        _ => false,
     }
 }

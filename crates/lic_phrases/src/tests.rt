@@ -98,6 +98,14 @@ fn rewrites_tokens(rt: HostRuntime) -> Result<(), Fail> {
         ("https : / / x", "http 0-5, : 6-7, / 8-9, / 10-11, x 12-13"),
         ("https : / x", "https 0-5, : 6-7, / 8-9, x 10-11"),
         (
+            "https https : / / x",
+            "https 0-5, http 6-11, : 12-13, / 14-15, / 16-17, x 18-19",
+        ),
+        (
+            "https : copyright copyright a b c",
+            "https 0-5, : 6-7, copyright 8-27, alphabet 28-33",
+        ),
+        (
             "sub - license sublicense sub license sub",
             "sub-license 0-13, sub-license 14-24, sub-license 25-36, sub 37-40",
         ),
@@ -170,6 +178,20 @@ fn tells_the_text_of_a_token(rt: HostRuntime) -> Result<(), Fail> {
     assert_eq!(rt; phrases.text_of(&word), "a");
     assert_eq!(rt; phrases.text_of(&phrase), "alphabet");
     Ok(())
+}
+
+#[test]
+fn tells_the_edges_of_a_text(rt: HostRuntime) {
+    for (text, begins, ends) in [
+        ("", false, false),
+        ("word", true, true),
+        ("-", false, false),
+        ("sub-", true, false),
+        ("-2", false, true),
+    ] {
+        assert_eq!(rt; begins_in_word(text), begins, "of {text:?}");
+        assert_eq!(rt; ends_in_word(text), ends, "of {text:?}");
+    }
 }
 
 #[test]

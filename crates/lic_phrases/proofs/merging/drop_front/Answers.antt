@@ -20,7 +20,7 @@ loop-preserved c =
           record {
             left = parts.1 ∙ ap (λ k. drop k items) (sym (add-one n));
             ends = λ t same.
-                w.end-is
+                w.end-is ∙ w.end_of-end.ensures
                 ∙ sym (ap (λ u. u.end) (get_or-map token_in items n token (token_in token) inside ∙ ap token_in parts.0))
                 ∙ sym (end_of_last-more t (tokens_in items) n (token_in token) (omega (arith, length-map items token_in)))
                 ∙ ap (λ k. end_of_last t (take k (tokens_in items))) (sym (add-one n));

@@ -28,7 +28,7 @@ loop-n-preserved c =
     let many : n < length texts = omega (arith, length-map tokens (λ t. t.text), length-map items token_in, inside) in
     let keyed : c.push.new.self.items ≡ key_of (take (n + 1) texts) =
     c.in_ok-push.ensures.items
-    ∙ ap (λ l. l ++ 0xFF ∷ []) (c.in_ok-extend_from_slice.ensures.items ∙ ap₂ (λ a b. a ++ b) c.loop-n.invariant.keyed (c.as_bytes.ensures.value ∙ sym (waiting_text items n c.index.result.now [] inside c.index.ensures)))
+    ∙ ap (λ l. l ++ 0xFF ∷ []) (c.in_ok-extend_from_slice.ensures.items ∙ ap₂ (λ a b. a ++ b) c.loop-n.invariant.keyed (c.as_bytes.ensures.value ∙ c.as_str.ensures ∙ sym (waiting_text items n c.index.result.now [] inside c.index.ensures)))
     ∙ sym (key_of-more texts n [] many)
     ∙ ap (λ k. key_of (take k texts)) (sym (add-one n)) in
     let found_as : ℕ → Phrase = λ class. record { texts = take (n + 1) texts; spelling = slice_index_or spellings class [] } in

@@ -1,7 +1,7 @@
 -- The first of the waiting tokens is given.
-use Rattle.std.proofs.Common.{◌≡◌, ◌≤◌, ◌<◌, ◌⊎◌, ◌∙◌, ℕ, true, length, min, inl, inr, refl, ap, subst, string_bytes, arith}
+use Rattle.std.proofs.Common.{◌≡◌, ◌≤◌, ◌<◌, ◌⊎◌, ◌∙◌, ℕ, true, length, min, inl, inr, refl, ap, subst, arith}
 use Rattle.std.specs.Prelude.{option_map, IfSome}
-use Rattle.lic_lines.specs.Tokens.{tokens_in}
+use Rattle.lic_lines.specs.Tokens.{small_bytes, tokens_in}
 use Rattle.lic_phrases.specs.PhraseLists.{longest_from}
 use Rattle.lic_phrases.specs.Waiting.{texts_of, front_phrase, phrase_found}
 use Rattle.lic_phrases.proofs.MergingLemmas.{GivesMore-first}
@@ -15,7 +15,7 @@ loop-first-preserved c =
     let tokens = tokens_in items in
     let first = c.in-Some.first.now in
     let most : ℕ = c.most_from-most.result in
-    let bound : longest_from list.phrases (string_bytes first.text) ≤ most = subst (λ text. longest_from list.phrases text ≤ most) c.as_str.ensures.value c.most_from-most.ensures.bound in
+    let bound : longest_from list.phrases (small_bytes first.text) ≤ most = subst (λ text. longest_from list.phrases text ≤ most) c.as_str.ensures c.most_from-most.ensures.bound in
     let known : (c.args.at_end ≡ true) ⊎ (most ≤ length items) =
     elim c.else-not-at_end.branch [ else-not-at_end-via-then-not-at_end+else-len-most w ↦ inr (omega (arith, w.len.ensures, w.if-len-most.false)) | else-not-at_end-via-else-not-at_end w ↦ inl w.if-not-at_end.false ] in
     let at_most : c.min.result ≡ min most (length items) = omega arith in

@@ -1,20 +1,11 @@
 -- A token that begins no phrase, where none waits, is given by itself.
-use Rattle.std.proofs.Common.{◌≡◌, ◌≤◌, ◌++◌, ◌∷◌, ◌∙◌, [], List, None, Result, Ok, Err, inr, false, length, min, refl, sym, ap, subst, string_bytes, arith}
-use Rattle.std.specs.Prelude.{OnOk}
+use Rattle.std.proofs.Common.{◌≡◌, ◌≤◌, ◌++◌, ◌∷◌, ◌∙◌, [], None, inr, false, length, min, refl, sym, ap, subst, arith}
 use Rattle.std.proofs.lemmas.Bool.{eqb-true}
-use Rattle.lic_lines.specs.Tokens.{tokens_in}
+use Rattle.lic_lines.specs.Tokens.{small_bytes, tokens_in}
 use Rattle.lic_phrases.specs.PhraseLists.{longest_from}
 use Rattle.lic_phrases.specs.Waiting.{texts_of, front_phrase, GivesMore}
-use Rattle.lic_phrases.proofs.MergingLemmas.{GivesMore-first}
+use Rattle.lic_phrases.proofs.MergingLemmas.{empty_list, GivesMore-first, OnOk-one}
 use Rattle.lic_phrases.proofs.merging.take_token.Goals as goal
-
-empty_list : {A : Type 0} (xs : List A) → length xs ≡ 0 → xs ≡ []
-empty_list [] none = refl
-empty_list (x ∷ xs) none = absurd (omega arith)
-
-on_ok : {X E P Q : Type 0} (r : Result X E) → (P → Q) → OnOk r P → OnOk r Q
-on_ok (Ok x) follows p = follows p
-on_ok (Err e) follows p = tt
 
 pub returns-then-most_from-eq0-clause-given : goal.returns-then-most_from-eq0-clause-given
 returns-then-most_from-eq0-clause-given c =
@@ -26,9 +17,9 @@ returns-then-most_from-eq0-clause-given c =
     let one = token ∷ [] in
     let none : c.args.waiting.now.len ≡ 0 = eqb-true _ _ (sym c.is_empty.ensures ∙ c.if-is_empty.true) in
     let empty : items ≡ [] = empty_list items (omega (arith, c.args.waiting.now.ok.0)) in
-    let bound : longest_from list.phrases (string_bytes token.text) ≤ c.most_from.result = subst (λ text. longest_from list.phrases text ≤ c.most_from.result) c.as_str.ensures.value c.most_from.ensures.bound in
+    let bound : longest_from list.phrases (small_bytes token.text) ≤ c.most_from.result = subst (λ text. longest_from list.phrases text ≤ c.most_from.result) c.as_str.ensures c.most_from.ensures.bound in
     let zero_is : 0 ≡ min 0 (length one) = omega arith in
-    on_ok c.give_alone.result
+    OnOk-one c.give_alone.result _ _
     (λ more.
     subst (λ l. GivesMore list false given (l ++ one) given' items) (sym empty)
     (GivesMore-first list false given one token 0 None given' items (omega arith) refl c.most_from.ensures.some (omega arith) (inr (omega arith))

@@ -4,7 +4,7 @@ use Rattle.std.proofs.lemmas.Iterator.Consumers.{YieldsList-end}
 use Rattle.std.proofs.lemmas.List.{reverse-append}
 use Rattle.lic_phrases.specs.Spelling.{first_is_word}
 use Rattle.lic_phrases.proofs.SpellingLemmas.{map-itself}
-use Rattle.lic_phrases.proofs.phrase.ends_in_word.Goals as goal
+use Rattle.lic_phrases.proofs.spelling.ends_in_word.Goals as goal
 
 pub loop-c-preserved : goal.loop-c-preserved
 loop-c-preserved c = c.is_word-in_word.ensures ∙ ap first_is_word (sym (reverse-append c.loop-c.yielded (c.in-Some.c ∷ [])))
