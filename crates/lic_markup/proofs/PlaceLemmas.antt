@@ -7,7 +7,7 @@ use Rattle.std.specs.Str.{chars}
 use Rattle.std.proofs.lemmas.List.{drop-map, length-map, map-append, take-map}
 use Rattle.lic_kind.specs.Kinds.{is_dropped, is_mark_kind, is_word_kind, kind_of, spell}
 use Rattle.lic_lines.specs.Texts.{groups, join_group}
-use Rattle.lic_lines.specs.Sources.{chars_of, lines_of, placed, source_of, without_dropped}
+use Rattle.lic_lines.specs.Sources.{chars_of, lines_of, placed, source_of, unplaced, without_dropped}
 use Rattle.lic_lines.specs.declared.source.SourceChar.{SourceChar}
 use Rattle.lic_lines.specs.declared.cell.Cell.{Cell}
 use Rattle.lic_lines.specs.declared.cell.Cell.TheVariants.{Blank, Mark, Word}
@@ -18,7 +18,7 @@ use Rattle.lic_lines.specs.Lines.{whole_line, blank_for, cell_of, cells_of_cut, 
 use Rattle.lic_lines.specs.Runs.{end_after, joined, runs_joined, same_family, same_mark, with_joined, without_separator, without_separators}
 use Rattle.lic_lines.specs.Tokens.{Token, as_sign, both_words, first_tokens, is_sign_in_parentheses, is_text, letters_of, sign_from, single_signs, token_of, tokens_from}
 use Rattle.lic_phrases.specs.Rewriting.{Phrase, SpannedText, begins_authority, both_signs, count_behind, end_of_last, first_as, https_as_http, longer, longest_phrase, phrases_behind, phrases_joined, rewritten, sign_of_row, sign_rows, spanned, stands, without_secure}
-use Rattle.lic_norm.specs.Pieces.{cells_of_lines, ends_in_feed, part_of, piece_cells, piece_tokens, unplaced}
+use Rattle.lic_norm.specs.Pieces.{cells_of_lines, ends_in_feed, part_of, piece_cells, piece_tokens}
 use Rattle.lic_norm.specs.Tokens.{first_tokens_of, reported, tokens_of}
 use Rattle.lic_norm.specs.declared.pieces.Next.TheVariants.{LineEnd}
 use Rattle.lic_markup.specs.Meaning.{piece_texts}

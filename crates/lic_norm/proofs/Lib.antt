@@ -7,7 +7,6 @@ pub mod Lying
 pub mod CellSpans
 pub mod TokenSpans
 pub mod TokenTexts
-pub mod Yielded
 pub mod ReadingLemmas
 pub mod TextLemmas
 pub mod PieceLines

@@ -24,8 +24,8 @@ none_left [] bytes left none = refl
 none_left (d ∷ cs) bytes left none = absurd (omega (arith, ap length left, length-append (encode_utf8 d) (encode_utf8_all cs), length-encode d, len_utf8_bounds d))
 
 -- a character is kept, or dropped
-pub kept : (out : List SourceChar) (s : SourceChar) (rest : List SourceChar) → is_dropped s.char ≡ false → out ++ without_dropped (s ∷ rest) ≡ (out ++ s ∷ []) ++ without_dropped rest
-kept out s rest stays = ap (λ l. out ++ l) (cond-true (not (is_dropped s.char)) _ _ (ap not stays)) ∙ sym (append_assoc out (s ∷ []) (without_dropped rest))
+pub kept : (out : List SourceChar) (s : SourceChar) (rest : List SourceChar) → not (is_dropped s.char) ≡ true → out ++ without_dropped (s ∷ rest) ≡ (out ++ s ∷ []) ++ without_dropped rest
+kept out s rest stays = ap (λ l. out ++ l) (cond-true (not (is_dropped s.char)) _ _ stays) ∙ sym (append_assoc out (s ∷ []) (without_dropped rest))
 
-pub left_out : (out : List SourceChar) (s : SourceChar) (rest : List SourceChar) → is_dropped s.char ≡ true → out ++ without_dropped (s ∷ rest) ≡ out ++ without_dropped rest
-left_out out s rest drops = ap (λ l. out ++ l) (cond-false (not (is_dropped s.char)) _ _ (ap not drops))
+pub left_out : (out : List SourceChar) (s : SourceChar) (rest : List SourceChar) → not (is_dropped s.char) ≡ false → out ++ without_dropped (s ∷ rest) ≡ out ++ without_dropped rest
+left_out out s rest drops = ap (λ l. out ++ l) (cond-false (not (is_dropped s.char)) _ _ drops)

@@ -9,7 +9,7 @@ use Rattle.std.proofs.lemmas.List.Elements.{filter-append}
 use Rattle.std.proofs.lemmas.Str.{chars-nil, chars-append, IsUtf8-take, IsUtf8-drop}
 use Rattle.lic_kind.specs.Kinds.{is_dropped}
 use Rattle.lic_lines.specs.Texts.{ends_in}
-use Rattle.lic_lines.specs.Sources.{chars_of, without_dropped, lines_of}
+use Rattle.lic_lines.specs.Sources.{chars_of, unplaced, without_dropped, lines_of}
 use Rattle.lic_lines.specs.declared.source.SourceChar.{SourceChar}
 use Rattle.lic_lines.specs.declared.cell.Cell.{Cell}
 use Rattle.lic_lines.specs.declared.line_part.LinePart.{LinePart}
@@ -25,27 +25,12 @@ use Rattle.lic_lines.proofs.PieceEnds.{ends_in-snoc}
 use Rattle.lic_norm.specs.declared.pieces.Next.{Next}
 use Rattle.lic_norm.specs.declared.pieces.Next.TheVariants.{LineEnd, Var, Optional}
 use Rattle.lic_norm.specs.LineEnds.{IsFirstLine}
-use Rattle.lic_norm.specs.Pieces.{unplaced, ends_in_feed, part_of, cells_of_lines, piece_cells, piece_tokens, is_line_end, counts_as}
+use Rattle.lic_norm.specs.Pieces.{ends_in_feed, part_of, cells_of_lines, piece_cells, piece_tokens, is_line_end, counts_as}
 use Rattle.lic_norm.proofs.FirstLines.{as_line, as_line-some, ends_line, kept_feed, lines_of-first}
 
 chars_of-unplaced : (cs : List ℕ) → chars_of (unplaced cs) ≡ cs
 chars_of-unplaced [] = refl
 chars_of-unplaced (c ∷ cs) = ap (λ l. c ∷ l) (chars_of-unplaced cs)
-
--- one more character, which is kept or dropped
-abbrev keeps : SourceChar → Bool
-keeps s = not (is_dropped s.char)
-
-pub one_kept : (cs : List ℕ) (c : ℕ) → is_dropped c ≡ false → without_dropped (unplaced (cs ++ c ∷ [])) ≡ without_dropped (unplaced cs) ++ record { char = c; start = 0; end = 0 } ∷ []
-one_kept cs c stays =
-    ap without_dropped (map-append _ cs (c ∷ [])) ∙ filter-append keeps (unplaced cs) (unplaced (c ∷ []))
-    ∙ ap (λ l. without_dropped (unplaced cs) ++ l) (cond-true (not (is_dropped c)) (unplaced (c ∷ [])) [] (ap not stays))
-
-pub one_dropped : (cs : List ℕ) (c : ℕ) → is_dropped c ≡ true → without_dropped (unplaced (cs ++ c ∷ [])) ≡ without_dropped (unplaced cs)
-one_dropped cs c drops =
-    ap without_dropped (map-append _ cs (c ∷ [])) ∙ filter-append keeps (unplaced cs) (unplaced (c ∷ []))
-    ∙ ap (λ l. without_dropped (unplaced cs) ++ l) (cond-false (not (is_dropped c)) (unplaced (c ∷ [])) [] (ap not drops))
-    ∙ append-nil (without_dropped (unplaced cs))
 
 feed_last : (front : List SourceChar) (feed : SourceChar) → feed.char ≡ 0x0A → ends_in_feed (front ++ feed ∷ []) ≡ true
 feed_last front feed is =

@@ -3,7 +3,7 @@ use Rattle.std.specs.Prelude.{ℕ, Bool, true, false, ◌==◌, if◌then◌else
 use Rattle.std.specs.Str.{chars}
 use Rattle.std.specs.List.{list_all}
 use Rattle.lic_lines.specs.Texts.{ends_in}
-use Rattle.lic_lines.specs.Sources.{chars_of, without_dropped, lines_of}
+use Rattle.lic_lines.specs.Sources.{chars_of, unplaced, without_dropped, lines_of}
 use Rattle.lic_lines.specs.declared.source.SourceChar.{SourceChar}
 use Rattle.lic_lines.specs.declared.line_part.LinePart.{LinePart}
 use Rattle.lic_lines.specs.declared.cell.Cell.{Cell}
@@ -16,10 +16,6 @@ use Rattle.lic_phrases.specs.Rewriting.{Phrase, rewritten}
 use Rattle.lic_phrases.specs.Spelling.{blank_if, spelled}
 use Rattle.lic_norm.specs.declared.pieces.Next.{Next}
 use Rattle.lic_norm.specs.declared.pieces.Next.TheVariants.{LineEnd, Var, Optional}
-
--- characters of a template; where they stand has no effect on letters
-abbrev pub unplaced : List ℕ → List SourceChar
-unplaced = map (λ c. record { char = c; start = 0; end = 0 })
 
 -- the character that the following rule counts as for the item rule: a variable as a digit, an optional rule as a letter
 abbrev pub counts_as : Next → Option ℕ

@@ -1,21 +1,19 @@
 //! Pieces of a template's text.
 ghost use Rattle.std.specs.Prelude.{◌≡◌, ◌++◌, IfOk, OnOk, string_bytes};
 ghost use Rattle.std.specs.List.{list_all};
-ghost use Rattle.std.specs.Str.{chars};
 ghost use Rattle.lic_lines.specs.LineRules.{rules_of};
 ghost use Rattle.lic_lines.specs.Lines.{line_cells};
 ghost use Rattle.lic_lines.specs.Runs.{runs_joined};
-ghost use Rattle.lic_lines.specs.Sources.{without_dropped};
 ghost use Rattle.lic_lines.specs.Tokens.{line_tokens, tokens_in};
-ghost use Rattle.lic_norm.specs.Pieces.{unplaced, ends_in_feed, part_of, piece_cells, piece_tokens, is_blank, begins_in_blank, ends_in_blank, with_edges, piece_of};
+ghost use Rattle.lic_norm.specs.Pieces.{ends_in_feed, part_of, piece_cells, piece_tokens, is_blank, begins_in_blank, ends_in_blank, with_edges, piece_of};
 
 use crate::lines::line_end;
 use crate::rewriting::Rewriting;
 use crate::spelling::spelled;
 use crate::words::Words;
-use lic_kind::is_dropped;
 use lic_lines::{
-    Cell, FirstToken, LinePart, Rules, SourceChar, cells_of_line, push_tokens_of_line,
+    Cell, FirstToken, LinePart, Room, Rules, SourceChar, cells_of_line, push_tokens_of_line,
+    unplaced,
 };
 use std::alloc::{AllocError, Global};
 
@@ -35,24 +33,6 @@ pub enum Next {
 struct Left {
     cells: Vec<Cell>,
     tokens: Vec<FirstToken>,
-}
-
-/// The characters of a template's text without the dropped ones. Where they stand has no effect on
-/// letters.
-fn characters_of(alloc: Global, text: &str) -> Result<Vec<SourceChar>, AllocError>
-    ensures { IfOk result (λ characters. characters.items ≡ without_dropped (unplaced (chars text.now))) }
-{
-    let mut characters = Vec::new(alloc);
-    for char in text.chars() {
-        if !is_dropped(char) {
-            characters.push(SourceChar {
-                char,
-                start: 0,
-                end: 0,
-            })?;
-        }
-    }
-    Ok(characters)
 }
 
 /// Whether a line ends in U+000A.
@@ -93,13 +73,14 @@ impl Left {
         rules: &Rules,
         part: LinePart,
         line: &[SourceChar],
+        room: &mut Room,
     ) -> Result<(), AllocError>
         ensures cells { OnOk result (self.new.cells.items ≡ self.old.cells.items ++ runs_joined (rules_of rules.now) (line_cells (rules_of rules.now) part line.now)) }
         ensures tokens { OnOk result (tokens_in self.new.tokens.items ≡ tokens_in self.old.tokens.items ++ line_tokens (rules_of rules.now) part line.now) }
     {
         let cells = cells_of_line(alloc, rules, part, line)?;
         self.cells.extend_from_slice(&cells)?;
-        push_tokens_of_line(alloc, rules, part, line, &mut self.tokens)
+        push_tokens_of_line(alloc, rules, part, line, room, &mut self.tokens)
     }
 }
 
@@ -113,12 +94,14 @@ fn left_of(alloc: Global, text: &str, at_line_start: bool, before: Next) -> Resu
         cells: Vec::new(alloc),
         tokens: Vec::new(alloc),
     };
+    let mut room = Room::new(alloc);
     let mut has_front = at_line_start;
     let mut at = 0;
     while at < text.len() {
         let end = at + line_end(&text[at..]);
-        let line = characters_of(alloc, &text[at..end])?;
-        left.push_line(alloc, &rules, part_of(has_front, before, &line), &line)?;
+        let line = unplaced(alloc, &text[at..end])?;
+        let part = part_of(has_front, before, &line);
+        left.push_line(alloc, &rules, part, &line, &mut room)?;
         has_front = true;
         at = end;
     }

@@ -9,7 +9,7 @@ use crate::lines::line_end;
 use crate::rewriting::Rewriting;
 use crate::token_list::TokenList;
 use crate::words::Words;
-use lic_lines::{FirstToken, LinePart, Rules, SourceChar, push_tokens_of_line};
+use lic_lines::{FirstToken, LinePart, Room, Rules, SourceChar, push_tokens_of_line};
 use std::alloc::{AllocError, Global};
 
 /// So many characters a list may keep room for from one line to the next.
@@ -32,13 +32,14 @@ fn give_back(alloc: Global, characters: &mut Vec<SourceChar>)
 }
 
 /// The tokens of a line that begins at this byte of the text, before the rewriting (this project's
-/// profile). The characters are room for those of the line, whatever they hold.
+/// profile). The characters are room for those of the line, whatever they hold, and so is the room.
 fn tokens_of_line(
     alloc: Global,
     rules: &Rules,
     at: u32,
     line: &str,
     characters: &mut Vec<SourceChar>,
+    room: &mut Room,
 ) -> Result<Vec<FirstToken>, AllocError>
     requires profile { rules_of rules.now ≡ profile }
     requires fits { at + length line.now < 2 ^ 32 }
@@ -47,7 +48,7 @@ fn tokens_of_line(
     read_characters(characters, at, line)?;
     // A token takes some five bytes of a text.
     let mut tokens = Vec::with_capacity(alloc, line.len() / 4)?;
-    push_tokens_of_line(alloc, rules, WHOLE_LINE, characters, &mut tokens)?;
+    push_tokens_of_line(alloc, rules, WHOLE_LINE, characters, room, &mut tokens)?;
     give_back(alloc, characters);
     Ok(tokens)
 }
@@ -64,10 +65,12 @@ pub(crate) fn tokens_of_text(
     let rules = Rules::profile(alloc);
     let mut rewriting = Rewriting::new(alloc, words.phrases());
     let mut characters = Vec::new(alloc);
+    let mut room = Room::new(alloc);
     let mut at = 0;
     while at < text.len() {
         let end = at + line_end(&text[at..]);
-        let tokens = tokens_of_line(alloc, &rules, at as u32, &text[at..end], &mut characters)?;
+        let line = &text[at..end];
+        let tokens = tokens_of_line(alloc, &rules, at as u32, line, &mut characters, &mut room)?;
         rewriting.take(tokens)?;
         at = end;
     }

@@ -1,36 +1,10 @@
 //! Canonical spelling of tokens.
 ghost use Rattle.std.specs.Prelude.{◌≡◌, ◌<◌, length, map, IfOk, string_bytes};
-ghost use Rattle.lic_kind.specs.Kinds.{is_word_kind, kind_of};
-ghost use Rattle.lic_phrases.specs.Spelling.{begins_in_word, ends_in_word, is_parted_at, spelled};
+ghost use Rattle.lic_phrases.specs.Spelling.{is_parted_at, spelled};
 
 use crate::token_list::TokenList;
-use lic_kind::{Kind, kind_of};
+use lic_phrases::{begins_in_word, ends_in_word};
 use std::alloc::{AllocError, Global};
-
-fn is_word(c: char) -> bool
-    ensures { result ≡ is_word_kind (kind_of c) }
-{
-    kind_of(c) == Kind::Word
-}
-
-fn begins_in_word(text: &str) -> bool
-    ensures { result ≡ begins_in_word text.now }
-{
-    match text.chars().next() {
-        None => false,
-        Some(first) => is_word(first),
-    }
-}
-
-fn ends_in_word(text: &str) -> bool
-    ensures { result ≡ ends_in_word text.now }
-{
-    let mut in_word = false;
-    for c in text.chars() {
-        in_word = is_word(c);
-    }
-    in_word
-}
 
 /// Whether a blank stands before the token at this place.
 fn is_parted_at(tokens: &TokenList, place: usize) -> bool

@@ -12,7 +12,7 @@ overflow_add-end c =
     let known = c.loop-char.invariant in
     let char = c.in-Some.char in
     let next = next_char known.0 char _ _ known.1 c.in-Some.ensures.steps.0 in
-    omega (arith, c.requires, known.2, ap (λ l. length (encode_utf8_all l)) next.all, length-append (encode_utf8 char) (encode_utf8_all next.others), length-encode char, c.len_utf8.ensures.value)
+    omega (arith, c.requires, known.2, ap (λ l. length (encode_utf8_all l)) next.all, length-append (encode_utf8 char) (encode_utf8_all next.others), length-encode char, c.width.ensures)
 
 pub loop-char-init : goal.loop-char-init
 loop-char-init c =
@@ -29,14 +29,14 @@ loop-char-preserved-in_ok-push c =
     let out = c.loop-char.characters.items in
     let next = next_char known.0 char _ _ known.1 c.in-Some.ensures.steps.0 in
     let others = next.others in
-    let wide : c.len_utf8.result ≡ len_utf8 char = c.len_utf8.ensures.value in
+    let wide : c.width.result ≡ len_utf8 char = c.width.ensures in
     let pushed = c.in_ok-push.ensures.items in (
       others,
       next.left,
       omega (arith, known.2, ap (λ l. length (encode_utf8_all l)) next.all, length-append (encode_utf8 char) (encode_utf8_all others), length-encode char, wide),
-      ap (λ l. l ++ without_dropped (placed (start + c.len_utf8.result) others)) pushed
+      ap (λ l. l ++ without_dropped (placed (start + c.width.result) others)) pushed
           ∙ ap (λ n. (out ++ record { char = char; start = start; end = start + n } ∷ []) ++ without_dropped (placed (start + n) others)) wide
-          ∙ sym (kept out (record { char = char; start = start; end = start + len_utf8 char }) (placed (start + len_utf8 char) others) (sym c.is_dropped.ensures ∙ c.if-not-is_dropped.true))
+          ∙ sym (kept out (record { char = char; start = start; end = start + len_utf8 char }) (placed (start + len_utf8 char) others) (sym c.is_kept.ensures ∙ c.if-is_kept.true))
           ∙ ap (λ l. out ++ without_dropped (placed start l)) (sym next.all)
           ∙ known.3,
     )
@@ -49,12 +49,12 @@ loop-char-preserved c =
     let out = c.loop-char.characters.items in
     let next = next_char known.0 char _ _ known.1 c.in-Some.ensures.steps.0 in
     let others = next.others in
-    let wide : c.len_utf8.result ≡ len_utf8 char = c.len_utf8.ensures.value in (
+    let wide : c.width.result ≡ len_utf8 char = c.width.ensures in (
       others,
       next.left,
       omega (arith, known.2, ap (λ l. length (encode_utf8_all l)) next.all, length-append (encode_utf8 char) (encode_utf8_all others), length-encode char, wide),
       ap (λ n. out ++ without_dropped (placed (start + n) others)) wide
-          ∙ sym (left_out out (record { char = char; start = start; end = start + len_utf8 char }) (placed (start + len_utf8 char) others) (sym c.is_dropped.ensures ∙ c.if-not-is_dropped.false))
+          ∙ sym (left_out out (record { char = char; start = start; end = start + len_utf8 char }) (placed (start + len_utf8 char) others) (sym c.is_kept.ensures ∙ c.if-is_kept.false))
           ∙ ap (λ l. out ++ without_dropped (placed start l)) (sym next.all)
           ∙ known.3,
     )

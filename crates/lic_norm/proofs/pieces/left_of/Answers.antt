@@ -2,10 +2,10 @@ use Rattle.std.proofs.Common.{◌≡◌, ◌+◌, ◌++◌, true, take, drop, ap
 use Rattle.std.specs.List.{slice_range}
 use Rattle.std.specs.Str.{IsCharBoundary, chars}
 use Rattle.std.proofs.lemmas.Str.{IsCharBoundary-from_rest, IsCharBoundary-start}
-use Rattle.lic_lines.specs.Sources.{without_dropped}
+use Rattle.lic_lines.specs.Sources.{unplaced, without_dropped}
 use Rattle.lic_lines.specs.Tokens.{tokens_in}
 use Rattle.lic_norm.specs.LineEnds.{IsFirstLine}
-use Rattle.lic_norm.specs.Pieces.{unplaced, piece_cells, piece_tokens}
+use Rattle.lic_norm.specs.Pieces.{piece_cells, piece_tokens}
 use Rattle.lic_norm.proofs.PieceLines.{line_and_rest, line_cells-is, line_tokens-is, piece_cells-first, piece_tokens-first, no_more_cells, no_more_tokens}
 use Rattle.lic_norm.proofs.pieces.left_of.Goals as goal
 
@@ -32,12 +32,12 @@ loop-at-preserved c =
     let here = c.in_ok-line.line.items in
     let is : here ≡ without_dropped (unplaced (chars (slice_range text at (at + n)))) = c.in_ok-line.ensures ∙ ap (λ l. without_dropped (unplaced (chars l))) c.range.ensures.value in record {
       cells = ap (λ l. l ++ piece_cells true before rest)
-          (c.in_ok-push_line.ensures.cells ∙ ap (λ l. c.loop-at.left.cells.items ++ l) (line_cells-is _ _ front before here _ _ c.profile-rules.ensures c.deref.ensures.value c.deref-in-loop-at.ensures.value c.part_of.ensures))
+          (c.in_ok-push_line.ensures.cells ∙ ap (λ l. c.loop-at.left.cells.items ++ l) (line_cells-is _ _ front before here _ _ c.profile-rules.ensures c.deref.ensures.value c.deref-in-loop-at.ensures.value c.part_of-part.ensures))
           ∙ append_assoc c.loop-at.left.cells.items _ (piece_cells true before rest)
           ∙ ap (λ l. c.loop-at.left.cells.items ++ l) (sym (piece_cells-first front before (drop at text) (slice_range text at (at + n)) rest here cut.parts cut.utf8 cut.first is))
           ∙ known.cells;
       tokens = ap (λ l. l ++ piece_tokens true before rest)
-          (c.in_ok-push_line.ensures.tokens ∙ ap (λ l. tokens_in c.loop-at.left.tokens.items ++ l) (line_tokens-is _ _ front before here _ _ c.profile-rules.ensures c.deref.ensures.value c.deref-in-loop-at.ensures.value c.part_of.ensures))
+          (c.in_ok-push_line.ensures.tokens ∙ ap (λ l. tokens_in c.loop-at.left.tokens.items ++ l) (line_tokens-is _ _ front before here _ _ c.profile-rules.ensures c.deref.ensures.value c.deref-in-loop-at.ensures.value c.part_of-part.ensures))
           ∙ append_assoc (tokens_in c.loop-at.left.tokens.items) _ (piece_tokens true before rest)
           ∙ ap (λ l. tokens_in c.loop-at.left.tokens.items ++ l) (sym (piece_tokens-first front before (drop at text) (slice_range text at (at + n)) rest here cut.parts cut.utf8 cut.first is))
           ∙ known.tokens;
