@@ -1,3 +1,4 @@
+pub mod PlainLengths
 pub mod RisingLemmas
 pub mod Changing
 pub mod Heads

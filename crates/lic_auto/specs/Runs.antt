@@ -1,8 +1,6 @@
 -- For which lists of tokens a run over all templates of a set stands, and what it has counted.
-use Rattle.std.specs.Prelude.{◌≡◌, ℕ, ◌<◌, ◌≤◌, ◌==◌, ◌&&◌, ◌↔◌, Bool, false, not, List, [], take, count_by, Option, Some, None, IsTrue}
+use Rattle.std.specs.Prelude.{◌≡◌, ℕ, ◌<◌, ◌≤◌, ◌==◌, ◌&&◌, ◌↔◌, Bool, false, not, List, [], take, Option, Some, None, IsTrue}
 use Rattle.std.specs.List.{slice_get}
-use Rattle.std.specs.Str.{chars}
-use Rattle.lic_words.specs.Words.{blank}
 use Rattle.lic_words.specs.Describing.{IsDescribed}
 use Rattle.lic_auto.specs.Sets.{Known, words_of}
 use Rattle.lic_auto.specs.Walks.{AllStand, OthersDescribeNone}
@@ -30,10 +28,6 @@ steps_of run = run.steps
 -- a token has come, and no template is live
 abbrev pub is_dead : Run → Bool
 is_dead run = not run.is_empty && (run.live_count == 0)
-
--- how many letters of a text are no blanks
-abbrev pub letters_in : List ℕ → ℕ
-letters_in text = count_by (λ c. not (c == blank)) (chars text)
 
 -- no template of these numbers describes the tokens
 abbrev pub NoneDescribes : List Known → List (List ℕ) → ℕ → ℕ → Type 0

@@ -3,11 +3,10 @@
 ghost use Rattle.std.specs.Prelude.{◌≡◌, ◌≢◌, ◌∷◌, ◌++◌, ℕ, List, [], IfSome, IfNone};
 ghost use Rattle.std.specs.Str.{chars};
 ghost use Rattle.lic_words.specs.Words.{blank};
-ghost use Rattle.lic_words.specs.Letters.{is_word};
 ghost use Rattle.lic_phrases.specs.TokenTexts.{IsTokenText};
 ghost use Rattle.lic_auto.specs.Heads.{head_of, BeginsWithLetter, IsBehindBlanks};
 
-use lic_kind::{Kind, kind_of};
+use lic_kind::is_word;
 
 /// The head of the text of a token.
 pub fn head_of(token: &str) -> &str
@@ -15,10 +14,10 @@ pub fn head_of(token: &str) -> &str
     ensures { chars result.now ≡ head_of (chars token.now) }
 {
     let first = first_letter(token);
-    if !is_letter_of_word(first) {
+    if !is_word(first) {
         return &token[..first.len_utf8()];
     }
-    match token.find(|c: char| !is_letter_of_word(c)) {
+    match token.find(|c: char| !is_word(c)) {
         Some(end) => &token[..end],
         None => token,
     }
@@ -46,17 +45,11 @@ pub fn known_head(text: &[char]) -> Option<&[char]>
     requires { BeginsWithLetter text.now }
     ensures { IfSome result (λ head. (more : List ℕ) → head_of (text.now ++ more) ≡ head.now) }
 {
-    if !is_letter_of_word(text[0]) {
+    if !is_word(text[0]) {
         return Some(&text[..1]);
     }
-    let end = text.iter().position(|c| !is_letter_of_word(*c))?;
+    let end = text.iter().position(|c| !is_word(*c))?;
     Some(&text[..end])
-}
-
-fn is_letter_of_word(c: char) -> bool
-    ensures { result ≡ is_word c }
-{
-    kind_of(c) == Kind::Word
 }
 
 #[cfg(test)]

@@ -4,6 +4,7 @@ ghost use Rattle.std.specs.Prelude.{◌≡◌, ◌<◌, ◌≤◌, ◌+◌, ◌*
 ghost use Rattle.std.specs.List.{slice_get};
 ghost use Rattle.std.specs.Str.{chars};
 ghost use Rattle.lic_words.specs.Describing.{IsDescribed};
+ghost use Rattle.lic_words.specs.Letters.{letters_in};
 ghost use Rattle.lic_phrases.specs.TokenTexts.{IsTokenText};
 ghost use Rattle.lic_auto.specs.Sets.{Known, words_of};
 ghost use Rattle.lic_auto.specs.Rising.{IsRising};
@@ -33,7 +34,7 @@ pub struct Run<'s> {
 }
 
 impl<'s> Run<'s> {
-    ghost use Rattle.lic_auto.specs.Runs.{StandsFor, set_of, steps_of, is_dead, letters_in, IsLeastDescribing};
+    ghost use Rattle.lic_auto.specs.Runs.{StandsFor, set_of, steps_of, is_dead, IsLeastDescribing};
 
     /// A run that stands for the empty list.
     pub fn new(alloc: Global, set: &'s Set) -> Result<Run<'s>, AllocError>
@@ -76,8 +77,8 @@ impl<'s> Run<'s> {
         requires { IsTokenText text.now }
         ensures stands { (ts : List (List ℕ)) → StandsFor self.old ts → StandsFor self.new (ts ++ chars text.now ∷ []) }
         ensures set { set_of self.new ≡ set_of self.old }
-        ensures least { is_dead self.old ≡ false → steps_of self.new < 2 ^ 64 - 1 → steps_of self.old + letters_in text.now ≤ steps_of self.new }
-        ensures most { steps_of self.new ≤ steps_of self.old + 2 * letters_in text.now }
+        ensures least { is_dead self.old ≡ false → steps_of self.new < 2 ^ 64 - 1 → steps_of self.old + letters_in (chars text.now) ≤ steps_of self.new }
+        ensures most { steps_of self.new ≤ steps_of self.old + 2 * letters_in (chars text.now) }
         ensures never_fall { steps_of self.old ≤ steps_of self.new }
     {
         let runs = self.runs.as_mut_slice();

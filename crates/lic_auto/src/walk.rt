@@ -1,14 +1,14 @@
 //! Runs, one for each template, of which some take a token.
 
-ghost use Rattle.std.specs.Prelude.{◌≡◌, ◌<◌, ◌≤◌, ◌+◌, ◌*◌, ◌-◌, ◌^◌, ◌∷◌, ℕ, List, length, take, Some, Contains};
+ghost use Rattle.std.specs.Prelude.{◌≡◌, ◌<◌, ◌≤◌, ◌+◌, ◌*◌, ◌-◌, ◌^◌, ◌∷◌, ℕ, List, length, take, IfSome, Some, Contains};
 ghost use Rattle.std.specs.List.{slice_get};
 ghost use Rattle.std.specs.Str.{chars};
 ghost use Rattle.lic_words.specs.Describing.{IsDescribed};
+ghost use Rattle.lic_words.specs.Letters.{letters_in};
 ghost use Rattle.lic_phrases.specs.TokenTexts.{IsTokenText};
 ghost use Rattle.lic_auto.specs.Sets.{Known, words_of};
 ghost use Rattle.lic_auto.specs.Rising.{IsRising};
 ghost use Rattle.lic_auto.specs.Walks.{AreChanged, AreKept, Resets, Takes};
-ghost use Rattle.lic_auto.specs.Runs.{letters_in};
 
 use crate::set::Set;
 use lic_marks::run::Run as TreeRun;
@@ -75,10 +75,36 @@ fn take_each(runs: &mut [TreeRun<'_>], numbers: &mut [usize], token: &str) -> us
     kept
 }
 
+/// How many bytes a text has that is ASCII without a blank: as many as it has letters.
+fn plain_length(token: &str) -> Option<usize>
+    ensures { IfSome result (λ count. letters_in (chars token.now) ≡ count) }
+{
+    let bytes = token.as_bytes();
+    for byte in bytes {
+        if *byte == b' ' || *byte >= 128 {
+            return None;
+        }
+    }
+    Some(bytes.len())
+}
+
 /// The steps so far and those of a token: one for each letter, and one for each gap before a letter.
 pub fn count_steps(before: u64, token: &str) -> u64
-    ensures least { result < 2 ^ 64 - 1 → before + letters_in token.now ≤ result }
-    ensures most { result ≤ before + 2 * letters_in token.now }
+    ensures least { result < 2 ^ 64 - 1 → before + letters_in (chars token.now) ≤ result }
+    ensures most { result ≤ before + 2 * letters_in (chars token.now) }
+    ensures never_fall { before ≤ result }
+{
+    match plain_length(token) {
+        Some(0) => before,
+        Some(letters) => before.saturating_add(letters as u64).saturating_add(1),
+        None => count_letters(before, token),
+    }
+}
+
+/// The same, letter by letter.
+fn count_letters(before: u64, token: &str) -> u64
+    ensures least { result < 2 ^ 64 - 1 → before + letters_in (chars token.now) ≤ result }
+    ensures most { result ≤ before + 2 * letters_in (chars token.now) }
     ensures never_fall { before ≤ result }
 {
     let mut steps = before;

@@ -1,6 +1,6 @@
 use Rattle.std.proofs.Common.{◌<◌, ◌≤◌, ◌+◌, ◌*◌, ◌-◌, ◌^◌, ◌==◌, not, count_by}
 use Rattle.lic_words.specs.Words.{blank}
-use Rattle.lic_auto.proofs.walk.count_steps.Given as goal
+use Rattle.lic_auto.proofs.walk.count_letters.Given as goal
 
 abbrev pub invariant-loop-c : goal.invariant-loop-c
 invariant-loop-c l = record {
