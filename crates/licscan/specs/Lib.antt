@@ -1,3 +1,4 @@
+pub mod Arguments
 pub mod Stream
 pub mod Counts
 pub mod Causes

@@ -1,6 +1,8 @@
 //! The command line.
 
-ghost use Rattle.std.specs.Prelude.{◌≡◌, IfOk, is_some};
+ghost use Rattle.std.specs.Prelude.{◌≡◌, ◌⊎◌, ℕ, IfOk, IfErr, IfSome, IfNone};
+ghost use Rattle.std.specs.Option.{ForSome};
+ghost use Rattle.licscan.specs.Arguments.{IsNamed, IsTripleOf};
 
 use crate::engine::Ask;
 use crate::faults::{ArgumentFault, Stop};
@@ -283,15 +285,24 @@ impl<'a> ScanArguments<'a> {
 }
 
 /// The number of the template with this identifier.
-fn number_of(set: &Set, id: &str) -> Option<usize> {
-    (0..set.len()).find(|k| set.id(*k) == id)
+fn number_of(set: &Set, id: &str) -> Option<usize>
+    ensures some { IfSome result (λ k. IsNamed set.now id.now k) }
+    ensures none { IfNone result ((k : ℕ) → ¬ (IsNamed set.now id.now k)) }
+{
+    for k in 0..set.len() {
+        if set.id(k) == id {
+            return Some(k);
+        }
+    }
+    None
 }
 
 /// What is asked of each file, once the templates are known.
 pub fn ask_of(alloc: Global, arguments: &ScanArguments<'_>, set: &Set) -> Result<Ask, Stop>
     ensures all { IfOk result (λ ask. ask.all ≡ arguments.now.all) }
     ensures limit { IfOk result (λ ask. ask.limit ≡ arguments.now.limit) }
-    ensures after { IfOk result (λ ask. is_some ask.after ≡ is_some arguments.now.after) }
+    ensures after { IfOk result (λ ask. IsTripleOf set.now arguments.now.after ask.after) }
+    ensures fault { IfErr result (λ stop. (stop ≡ Stop.Memory) ⊎ ForSome arguments.now.after (λ after. (k : ℕ) → ¬ (IsNamed set.now after.id.now k))) }
 {
     let mut ask = Ask {
         all: arguments.all,
