@@ -1,6 +1,6 @@
 //! Tests of the rewriting.
 use super::*;
-use lic_lines::FirstToken;
+use lic_lines::{FirstToken, SmallString};
 use std::alloc::{AllocError, Global};
 use std::test::Fail;
 
@@ -22,7 +22,7 @@ fn first_tokens(alloc: Global, text: &str) -> Result<Vec<FirstToken>, AllocError
     for word in text.split_whitespace() {
         let end = start.saturating_add(u32::try_from(word.len()).unwrap_or(u32::MAX));
         tokens.push(FirstToken {
-            text: String::from_str(alloc, word)?,
+            text: SmallString::from_str(alloc, word)?,
             start,
             end,
             after_blank: true,
@@ -166,7 +166,7 @@ fn tells_the_text_of_a_token(rt: HostRuntime) -> Result<(), Fail> {
     let mut phrases = Phrases::new(alloc);
     let class = phrases.add_class(String::from_str(alloc, "alphabet")?)?;
     let word = FinalToken {
-        text: TokenText::Own(String::from_str(alloc, "a")?),
+        text: TokenText::Own(SmallString::short("a")),
         start: 0,
         end: 1,
     };
