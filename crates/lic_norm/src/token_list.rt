@@ -57,6 +57,7 @@ impl TokenList {
     }
 
     /// Adds a token.
+    #[inline(always)]
     pub(crate) fn push(&mut self, text: &str, start: u32, end: u32) -> Result<(), AllocError>
         ensures { OnOk result (self.new ≡ self.old ++ (record { text = text.now; span = record { start = start; end = end } }) ∷ []) }
     {
@@ -73,6 +74,7 @@ impl TokenList {
     }
 
     /// Adds tokens as the rewriting gives them.
+    #[inline(always)]
     pub(crate) fn extend(
         &mut self,
         phrases: &Phrases,

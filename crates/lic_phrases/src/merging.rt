@@ -143,6 +143,7 @@ pub(crate) fn give_known(
 }
 
 /// Gives a token by itself.
+#[inline(always)]
 fn give_alone(token: FirstToken, output: &mut Vec<FinalToken>) -> Result<(), AllocError>
     ensures given { OnOk result ((spellings : List (List ℕ))
         → map (spanned_in spellings) output.new.items

@@ -62,6 +62,7 @@ impl Rewriter {
     /// Takes the next token, and puts those that are now settled at the end of the output. All
     /// tokens of a text are taken with the same phrases. The caller may take tokens out of the output
     /// between calls: those that were given `before` stand in front of it.
+    #[inline(always)]
     pub fn push(
         &mut self,
         phrases: &Phrases,
