@@ -259,6 +259,3 @@ fn copied(alloc: Global, body: &Node, count: usize) -> Result<Vec<Node>, AllocEr
     }
     Ok(nodes)
 }
-
-#[cfg(test)]
-mod tests;

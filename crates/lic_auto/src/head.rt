@@ -51,6 +51,3 @@ pub fn known_head(text: &[char]) -> Option<&[char]>
     let end = text.iter().position(|c| !is_word(*c))?;
     Some(&text[..end])
 }
-
-#[cfg(test)]
-mod tests;

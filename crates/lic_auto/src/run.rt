@@ -121,6 +121,3 @@ impl<'s> Run<'s> {
         self.steps
     }
 }
-
-#[cfg(test)]
-mod tests;

@@ -190,6 +190,3 @@ fn first_repeat(templates: &[(String, Template)]) -> Option<usize>
     }
     None
 }
-
-#[cfg(test)]
-mod tests;

@@ -16,6 +16,3 @@ pub use class::Class;
 pub use ere::Ere;
 pub use fault::{EreCause, EreFault};
 pub use reading::read;
-
-#[cfg(test)]
-mod tests;

@@ -4,6 +4,4 @@
 pub mod finder;
 pub mod laws;
 pub mod matches;
-#[cfg(test)]
-mod tests;
 pub mod triple;

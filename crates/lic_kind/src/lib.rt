@@ -8,8 +8,6 @@ mod ascii;
 pub mod laws;
 mod letters;
 mod tables;
-#[cfg(test)]
-mod tests;
 
 use ascii::ascii_kind;
 pub use letters::spell;

@@ -16,8 +16,6 @@ mod signs;
 pub mod small_string;
 pub mod source;
 mod space_rows;
-#[cfg(test)]
-mod tests;
 mod text;
 pub mod tokens;
 mod walk;

@@ -13,7 +13,5 @@ pub mod rows;
 pub mod run;
 pub mod shift;
 pub mod test;
-#[cfg(test)]
-mod tests;
 pub mod walk;
 pub mod window;

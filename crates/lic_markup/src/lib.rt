@@ -11,8 +11,6 @@ mod reader;
 mod reading;
 mod rule;
 mod tag;
-#[cfg(test)]
-mod tests;
 mod texts;
 mod weights;
 

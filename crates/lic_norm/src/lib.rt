@@ -9,8 +9,6 @@ mod reading;
 pub mod refusal;
 mod rewriting;
 mod spelling;
-#[cfg(test)]
-mod tests;
 pub mod text;
 pub mod token;
 mod token_list;

@@ -22,6 +22,3 @@ pub use phrases::{MAX_TOKENS, Phrases};
 pub use rewriter::Rewriter;
 pub use spelling::{begins_in_word, ends_in_word};
 pub use words::Words;
-
-#[cfg(test)]
-mod tests;

@@ -11,8 +11,6 @@ use crate::reader::Reader;
 use std::alloc::{AllocError, Global};
 use std::marker::Model;
 
-#[cfg(test)]
-mod tests;
 
 /// The phrases of a list of equivalent words, each with the spelling of its class.
 #[derive(Drop)]

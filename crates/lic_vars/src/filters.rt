@@ -75,6 +75,3 @@ fn is_member(sorted: &[Triple], triple: &Triple) -> bool
 {
     sorted.binary_search(triple).is_ok()
 }
-
-#[cfg(test)]
-mod tests;

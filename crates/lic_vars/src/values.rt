@@ -150,6 +150,3 @@ fn covered(letters: &[Letter]) -> Option<Span>
         end: last.span.end,
     })
 }
-
-#[cfg(test)]
-mod tests;

@@ -1,11 +1,14 @@
 //! The files that lines are written about.
 
-use crate::engine::{Ask, RunFault, run, run_tokens};
-use crate::faults::{Stop, tell, wants_memory};
-use crate::fields::Escaped;
-use crate::stream::{Counted, Sink, Source};
+use crate::faults::Stop;
 use lic_auto::set::Set;
+use lic_engine::engine::{run, run_tokens};
+use lic_engine::fault::RunFault;
+use lic_load::fault::{tell, wants_memory};
 use lic_norm::words::Words;
+use lic_report::ask::Ask;
+use lic_report::fields::Escaped;
+use lic_stream::stream::{Counted, Sink, Source};
 use std::alloc::Global;
 use std::fs::File;
 use std::rt::Files;

@@ -1,27 +1,21 @@
 //! The licence scanner: finds the ranges of a text that a licence template describes.
 #![tactic(auto)]
 
-pub mod arguments;
-pub mod check;
-pub mod engine;
 pub mod faults;
-pub mod fields;
 pub mod files;
-pub mod lines;
-pub mod outer;
 pub mod program;
-pub mod shortest;
-pub mod stream;
-pub mod templates;
 #[cfg(test)]
 mod tests;
-pub mod transfer;
-pub mod wanted;
-pub mod word_list;
 
-use crate::faults::{ArgumentFault, Stop, tell_stop, wants_memory};
-use crate::program::command;
-use crate::stream::Counted;
+use crate::faults::{Stop, tell_stop};
+pub use crate::program::command;
+use lic_arguments::fault::ArgumentFault;
+pub use lic_engine::check::check;
+pub use lic_engine::engine::{run, run_tokens};
+pub use lic_engine::fault::RunFault;
+use lic_load::fault::wants_memory;
+pub use lic_report::ask::Ask;
+pub use lic_stream::stream::{Counted, Sink, Source};
 use std::env;
 use std::process::ExitCode;
 

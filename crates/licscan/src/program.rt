@@ -1,16 +1,18 @@
 //! The whole program.
 
-use crate::arguments::{CheckArguments, ScanArguments, TokensArguments, ask_of, parse};
-use crate::check::check;
-use crate::engine::RunFault;
-use crate::faults::{ArgumentFault, Stop, tell, tell_stop};
+use crate::faults::{Stop, tell_stop};
 use crate::files::{Search, Work, Written, write_files};
-use crate::stream::{Sink, Source};
-use crate::templates::load_all;
-use crate::transfer::put_all;
-use crate::word_list::load_words;
 use clap::error::ErrorKind;
 use clap::{ArgMatches, Error};
+use lic_arguments::arguments::{CheckArguments, ScanArguments, TokensArguments, ask_of, parse};
+use lic_arguments::fault::ArgumentFault;
+use lic_engine::check::check;
+use lic_engine::fault::RunFault;
+use lic_load::fault::tell;
+use lic_load::templates::load_all;
+use lic_load::word_list::load_words;
+use lic_stream::stream::{Sink, Source};
+use lic_stream::transfer::put_all;
 use std::alloc::Global;
 use std::rt::Files;
 

@@ -1,7 +1,7 @@
 //! Runs of the program over memory.
 
 use crate::program::command;
-use crate::stream::Counted;
+use lic_stream::stream::Counted;
 use std::process::Abort;
 use std::rt::Files;
 use std::{fs, io};

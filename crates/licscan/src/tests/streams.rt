@@ -1,12 +1,14 @@
 //! Readers and writers that fail.
 
-use crate::check::check;
-use crate::engine::{Ask, RunFault, run};
 use crate::program::command;
-use crate::stream::{Counted, Sink, Source};
 use lic_auto::set::Set;
+use lic_engine::check::check;
+use lic_engine::engine::run;
+use lic_engine::fault::RunFault;
 use lic_markup::read_template;
 use lic_norm::words::Words;
+use lic_report::ask::Ask;
+use lic_stream::stream::{Counted, Sink, Source};
 use std::alloc::Global;
 use std::io;
 use std::test::Fail;

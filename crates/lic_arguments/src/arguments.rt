@@ -1,0 +1,330 @@
+//! The command line.
+
+ghost use Rattle.std.specs.Prelude.{◌≡◌, ◌⊎◌, ℕ, IfOk, IfErr, IfSome, IfNone};
+ghost use Rattle.std.specs.Option.{ForSome};
+ghost use Rattle.lic_arguments.specs.Arguments.{IsNamed, IsTripleOf};
+
+use crate::fault::ArgumentFault;
+use clap::{Arg, ArgAction, ArgMatches, Command, Error, value_parser};
+use lic_auto::set::Set;
+use lic_find::triple::Triple;
+use lic_report::ask::Ask;
+use std::alloc::{AllocError, Global};
+
+const ABOUT: &str = "Finds the ranges of texts that licence templates describe";
+
+const SCAN_ABOUT: &str = "Writes a line for each range of a file that a template describes";
+
+const SCAN_DETAILS: &str = "\
+Templates are the files of DIR whose names end in .template.txt; what stands
+before that is the identifier.
+
+Without --all a match is left out where a shorter one of the same template lies
+within it, and of the rest one that lies within a longer one of another
+template. With --all every match is written.
+
+A match is a line of six fields with a tab between two: the file, the
+template's identifier, the numbers of the first and the last token, counted
+from 0, the byte at which the match starts, and the byte behind its end.
+
+Without --all a line for each variable of the template follows: an empty field,
+the variable's name, the byte at which its value starts, the byte behind its
+end, and the value. Where a variable stands for nothing, a - follows its name.
+
+F:L:ID are the numbers of a first and a last token, and an identifier.
+
+Status: 0 if a line was written, 1 if none was, 2 if anything was refused or
+could not be read or written.
+
+Example: licscan scan --templates templates LICENSE README";
+
+const CHECK_ABOUT: &str = "Says of each template whether it describes its own original text";
+
+const CHECK_DETAILS: &str = "\
+Templates are the files of DIR whose names end in .template.txt; what stands
+before that is the identifier.
+
+A template is a line of three fields with a tab between two: the identifier,
+the weight, and yes or no. The original text is the template with each
+variable's original value in its place and with all optional parts.
+
+Status: 1 if a line says no, else 0; 2 if anything was refused or could not be
+read or written.
+
+Example: licscan check --templates templates";
+
+const TOKENS_ABOUT: &str = "Writes a line for each token of a file";
+
+const TOKENS_DETAILS: &str = "\
+A line has four fields with a tab between two: the file, the byte at which the
+token starts, the byte behind its end, and the token's text.
+
+Status: 0 if a line was written, 1 if none was, 2 if anything was refused or
+could not be read or written.
+
+Example: licscan tokens LICENSE";
+
+/// The folder of the templates.
+fn templates_option<'a>(alloc: Global) -> Arg<'a> {
+    Arg::new(alloc, "templates")
+        .long("templates")
+        .value_name("DIR")
+        .help("The folder of the templates")
+        .required(true)
+        .action(ArgAction::Set)
+}
+
+/// The file of the list of equivalent words.
+fn words_option<'a>(alloc: Global) -> Arg<'a> {
+    Arg::new(alloc, "words")
+        .long("words")
+        .value_name("FILE")
+        .help("The list of words that count as the same")
+        .action(ArgAction::Set)
+}
+
+/// The files that are read.
+fn files_argument<'a>(alloc: Global) -> Arg<'a> {
+    Arg::new(alloc, "files")
+        .value_name("FILES")
+        .help("The files to read; none, or -, is standard input")
+        .num_args(0..)
+        .action(ArgAction::Append)
+}
+
+/// The options and files of `scan`.
+fn scan_command<'a>(alloc: Global) -> Result<Command<'a>, AllocError> {
+    let all = Arg::new(alloc, "all")
+        .long("all")
+        .help("Write every match, and no variables")
+        .action(ArgAction::SetTrue);
+    let after = Arg::new(alloc, "after")
+        .long("after")
+        .value_name("F:L:ID")
+        .help("With --all: only what comes after this match")
+        .action(ArgAction::Set);
+    let limit = Arg::new(alloc, "limit")
+        .long("limit")
+        .value_name("N")
+        .help("With --all: at most N lines for each file")
+        .value_parser(value_parser!(u32).range(1..))
+        .action(ArgAction::Set);
+    Command::new(alloc, "scan")
+        .about(SCAN_ABOUT)
+        .after_help(SCAN_DETAILS)
+        .arg(templates_option(alloc))?
+        .arg(words_option(alloc))?
+        .arg(all)?
+        .arg(after)?
+        .arg(limit)?
+        .arg(files_argument(alloc))
+}
+
+/// The options of `check`.
+fn check_command<'a>(alloc: Global) -> Result<Command<'a>, AllocError> {
+    Command::new(alloc, "check")
+        .about(CHECK_ABOUT)
+        .after_help(CHECK_DETAILS)
+        .arg(templates_option(alloc))?
+        .arg(words_option(alloc))
+}
+
+/// The options and files of `tokens`.
+fn tokens_command<'a>(alloc: Global) -> Result<Command<'a>, AllocError> {
+    Command::new(alloc, "tokens")
+        .about(TOKENS_ABOUT)
+        .after_help(TOKENS_DETAILS)
+        .arg(words_option(alloc))?
+        .arg(files_argument(alloc))
+}
+
+/// Reads the words after the program's name.
+pub fn parse<'a>(alloc: Global, words: &'a [&'a str]) -> Result<ArgMatches<'a>, Error> {
+    Command::new(alloc, "licscan")
+        .about(ABOUT)
+        .subcommand_required(true)
+        .subcommand(scan_command(alloc)?)?
+        .subcommand(check_command(alloc)?)?
+        .subcommand(tokens_command(alloc)?)?
+        .try_get_matches_from(words)
+}
+
+/// A triple as it is written in an argument: by its template's identifier.
+#[derive(Clone, Copy, Debug, PartialEq, Eq)]
+pub struct After<'a> {
+    pub first: usize,
+    pub last: usize,
+    pub id: &'a str,
+}
+
+/// A number in decimal digits, and nothing else.
+fn read_number(text: &str) -> Option<usize> {
+    if text.bytes().all(|b| b.is_ascii_digit()) {
+        text.parse::<usize>().ok()
+    } else {
+        None
+    }
+}
+
+/// Reads `F:L:ID`. The identifier may hold colons, and may be empty.
+fn read_after(text: &str) -> Option<After<'_>> {
+    let (first, rest) = text.split_once(':')?;
+    let (last, id) = rest.split_once(':')?;
+    Some(After {
+        first: read_number(first)?,
+        last: read_number(last)?,
+        id,
+    })
+}
+
+/// The files that are given, or standard input alone where none is.
+fn files_given<'a>(alloc: Global, found: &ArgMatches<'a>) -> Result<Vec<&'a str>, ArgumentFault> {
+    let mut files = Vec::new(alloc);
+    if let Some(given) = found.get_strs("files") {
+        files.extend_from_slice(given)?;
+    }
+    if files.is_empty() {
+        files.push("-")?;
+    }
+    Ok(files)
+}
+
+/// The arguments of `tokens`.
+#[derive(Debug, Drop)]
+pub struct TokensArguments<'a> {
+    /// The file of the list of equivalent words.
+    pub words: Option<&'a str>,
+    /// Standard input alone where no file is given.
+    pub files: Vec<&'a str>,
+}
+
+impl<'a> TokensArguments<'a> {
+    /// Reads what the parser found.
+    pub fn read(
+        alloc: Global,
+        found: &ArgMatches<'a>,
+    ) -> Result<TokensArguments<'a>, ArgumentFault> {
+        Ok(TokensArguments {
+            words: found.get_str("words"),
+            files: files_given(alloc, found)?,
+        })
+    }
+}
+
+/// The arguments of `check`.
+#[derive(Clone, Copy, Debug)]
+pub struct CheckArguments<'a> {
+    /// The folder of the templates.
+    pub folder: &'a str,
+    /// The file of the list of equivalent words.
+    pub words: Option<&'a str>,
+}
+
+impl<'a> CheckArguments<'a> {
+    /// Reads what the parser found.
+    pub fn read(found: &ArgMatches<'a>) -> CheckArguments<'a> {
+        CheckArguments {
+            folder: found.get_str("templates").unwrap_or(""),
+            words: found.get_str("words"),
+        }
+    }
+}
+
+/// The arguments of `scan`.
+#[derive(Debug, Drop)]
+pub struct ScanArguments<'a> {
+    /// The folder of the templates.
+    pub folder: &'a str,
+    /// The file of the list of equivalent words.
+    pub words: Option<&'a str>,
+    /// All matches; without it the outer ones.
+    pub all: bool,
+    /// Only what comes after this triple; given with `all` alone.
+    pub after: Option<After<'a>>,
+    /// At most so many lines for each file; given with `all` alone.
+    pub limit: Option<u64>,
+    /// Standard input alone where no file is given.
+    pub files: Vec<&'a str>,
+}
+
+/// The triple that is given, if one is. Of several faults the first is reported: no `--all`, `--limit` without it, several files,
+/// a bad triple.
+fn after_given<'a>(
+    found: &ArgMatches<'a>,
+    files: usize,
+) -> Result<Option<After<'a>>, ArgumentFault> {
+    let given = found.get_str("after");
+    if !found.get_flag("all") {
+        if given.is_some() {
+            return Err(ArgumentFault::AfterNeedsAll);
+        }
+        if found.get_one::<u32>("limit").is_some() {
+            return Err(ArgumentFault::LimitNeedsAll);
+        }
+    }
+    let Some(text) = given else {
+        return Ok(None);
+    };
+    if files > 1 {
+        return Err(ArgumentFault::AfterFiles);
+    }
+    match read_after(text) {
+        Some(after) => Ok(Some(after)),
+        None => Err(ArgumentFault::BadTriple),
+    }
+}
+
+impl<'a> ScanArguments<'a> {
+    /// Reads what the parser found.
+    pub fn read(alloc: Global, found: &ArgMatches<'a>) -> Result<ScanArguments<'a>, ArgumentFault> {
+        let files = files_given(alloc, found)?;
+        let after = after_given(found, files.len())?;
+        Ok(ScanArguments {
+            folder: found.get_str("templates").unwrap_or(""),
+            words: found.get_str("words"),
+            all: found.get_flag("all"),
+            after,
+            limit: found.get_one::<u32>("limit").map(u64::from),
+            files,
+        })
+    }
+}
+
+/// The number of the template with this identifier.
+fn number_of(set: &Set, id: &str) -> Option<usize>
+    ensures some { IfSome result (λ k. IsNamed set.now id.now k) }
+    ensures none { IfNone result ((k : ℕ) → ¬ (IsNamed set.now id.now k)) }
+{
+    for k in 0..set.len() {
+        if set.id(k) == id {
+            return Some(k);
+        }
+    }
+    None
+}
+
+/// What is asked of each file, once the templates are known.
+pub fn ask_of(alloc: Global, arguments: &ScanArguments<'_>, set: &Set) -> Result<Ask, ArgumentFault>
+    ensures all { IfOk result (λ ask. ask.all ≡ arguments.now.all) }
+    ensures limit { IfOk result (λ ask. ask.limit ≡ arguments.now.limit) }
+    ensures after { IfOk result (λ ask. IsTripleOf set.now arguments.now.after ask.after) }
+    ensures fault { IfErr result (λ fault. (fault ≡ ArgumentFault.Memory) ⊎ ForSome arguments.now.after (λ after. (k : ℕ) → ¬ (IsNamed set.now after.id.now k))) }
+{
+    let mut ask = Ask {
+        all: arguments.all,
+        after: None,
+        limit: arguments.limit,
+    };
+    if let Some(after) = arguments.after {
+        let Some(template) = number_of(set, after.id) else {
+            let id = after.id.to_string(alloc)?;
+            return Err(ArgumentFault::NoTemplate { id });
+        };
+        ask.after = Some(Triple {
+            first: after.first,
+            last: after.last,
+            template,
+        });
+    }
+    Ok(ask)
+}

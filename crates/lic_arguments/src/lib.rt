@@ -1,0 +1,5 @@
+//! The command line: what it may hold, and what is asked for by it.
+#![tactic(auto)]
+
+pub mod arguments;
+pub mod fault;

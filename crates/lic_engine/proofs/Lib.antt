@@ -1,0 +1,6 @@
+mod DoneLemmas
+mod ReportLemmas
+mod Refusals
+mod RunLemmas
+mod OuterLemmas
+mod CheckLemmas

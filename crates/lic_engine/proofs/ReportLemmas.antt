@@ -1,0 +1,118 @@
+-- Lemmas on matches that are asked for, and on their lines.
+use Rattle.std.proofs.Common.{◌≡◌, ◌≢◌, ℕ, ◌+◌, ◌-◌, ◌<◌, ◌≤◌, List, [], ◌∷◌, ◌++◌, take, length, Option, None, Some, Bool, true, refl, sym, ◌∙◌, ap, arith, nat_lt, length-append, subst, zero, suc, Result, Ok, Err, IfOk, OnErr}
+use Rattle.std.specs.Prelude.{MatchOption}
+use Rattle.std.proofs.Math.Seq.{take-nil}
+use Rattle.std.proofs.lemmas.Grind.{common_steps}
+use Rattle.std.proofs.lemmas.Bool.Decides.{nat_tests}
+use Rattle.std.proofs.lemmas.List.{take_more, take_all}
+use Rattle.std.specs.List.{flat_map, slice_index_or}
+use Rattle.std.specs.Io.KnownBytes.{Appends}
+use Rattle.lic_norm.specs.Tokens.{TokenValue}
+use Rattle.lic_auto.specs.Sets.{Known}
+use Rattle.lic_find.specs.Matches.{AreMatches}
+use Rattle.lic_find.specs.declared.triple.Triple.{Triple}
+use Rattle.lic_stream.specs.Stream.{BeginsWith}
+use Rattle.lic_report.specs.Fields.{escaped}
+use Rattle.lic_report.specs.Report.{match_line, token_line, token_lines, no_token, first_of, AreAllLines, AreLines}
+use Rattle.lic_stream.proofs.Written.{IsPut, put_line, put_whole}
+use Rattle.lic_norm.specs.declared.token.Span.{Span}
+use Rattle.lic_report.specs.declared.ask.Ask.{Ask}
+
+pub some_more : {X : Type 0} (xs : List X) (x : X) → true ≡ nat_lt 0 (length (xs ++ x ∷ []))
+some_more xs x = let h = length-append xs (x ∷ []) in grind (arith, nat_tests, h)
+
+-- a list of lines is empty only where there is none
+pub some_lines : {X : Type 0} (f : X → List ℕ) (xs : List X) → ((x : X) → 0 < length (f x)) → nat_lt 0 (length xs) ≡ nat_lt 0 (length (flat_map f xs))
+some_lines f [] long = refl
+some_lines f (x ∷ xs) long = let h = long x in let e = length-append (f x) (flat_map f xs) in grind (arith, nat_tests, common_steps)
+
+-- no line is empty
+pub line_long : (name : List ℕ) (set : List Known) (tokens : List TokenValue) (t : Triple) → 0 < length (match_line name set tokens t)
+line_long name set tokens t =
+    let head : List ℕ = escaped name in
+    let e = length-append head (0x09 ∷ []) in
+    let rest : List ℕ = _ in
+    let all : length (match_line name set tokens t) ≡ length (head ++ 0x09 ∷ []) + length rest = length-append (head ++ 0x09 ∷ []) rest in
+    grind (arith, common_steps)
+
+module _ (name : List ℕ) (set : List Known) (ask : Ask) (tokens : List TokenValue) (wanted : List Triple) where
+  -- a beginning of the lines that are wanted is one of each report
+  pub begins_report : {A E : Type 0} (r : Result A E) (a b : Option (List ℕ))
+      → ((others : List Triple) → AreMatches set tokens ask.after others → first_of ask.limit others ≡ wanted)
+      → BeginsWith a b (flat_map (match_line name set tokens) wanted)
+      → OnErr r ((lines : List ℕ) → AreAllLines name set ask tokens lines → BeginsWith a b lines)
+  begins_report (Ok x) a b only p = tt
+  begins_report (Err x) a b only p = λ lines report.
+      subst (λ l. BeginsWith a b l) (sym (report.lines ∙ ap (flat_map (match_line name set tokens)) (only report.found report.matches))) p
+
+  -- the lines that are wanted are a report
+  pub whole_lines : (some : Bool) (a b : Option (List ℕ))
+      → ((found : List Triple) × AreMatches set tokens ask.after found × (wanted ≡ first_of ask.limit found))
+      → Appends a b (flat_map (match_line name set tokens) wanted) → some ≡ nat_lt 0 (length wanted)
+      → (lines : List ℕ) × AreAllLines name set ask tokens lines × Appends a b lines × (some ≡ nat_lt 0 (length lines))
+  whole_lines some a b all p s = (
+    flat_map (match_line name set tokens) wanted,
+    record { found = all.0; matches = all.1; lines = ap (flat_map (match_line name set tokens)) all.2 },
+    p,
+    s ∙ some_lines (match_line name set tokens) wanted (line_long name set tokens),
+  )
+
+-- ---- reports
+
+module _ (name : List ℕ) (set : List Known) (ask : Ask) (source : List ℕ) (tokens : List TokenValue) where
+  -- what is so of the lines of this kind of report is so of the report that is asked for
+  pub report_of_kind : {E : Type 0} (r : Result Bool E) (kind : Bool) (a b : Option (List ℕ)) → ask.all ≡ kind
+      → IfOk r (λ some. (lines : List ℕ) × AreLines kind name set ask source tokens lines × Appends a b lines × (some ≡ nat_lt 0 (length lines)))
+      → IfOk r (λ some. (lines : List ℕ) × AreLines ask.all name set ask source tokens lines × Appends a b lines × (some ≡ nat_lt 0 (length lines)))
+  report_of_kind r kind a b e p =
+      subst (λ k. IfOk r (λ some. (lines : List ℕ) × AreLines k name set ask source tokens lines × Appends a b lines × (some ≡ nat_lt 0 (length lines)))) (sym e) p
+
+  pub part_of_kind : {E : Type 0} (r : Result Bool E) (kind : Bool) (a b : Option (List ℕ)) → ask.all ≡ kind
+      → OnErr r ((lines : List ℕ) → AreLines kind name set ask source tokens lines → BeginsWith a b lines)
+      → OnErr r ((lines : List ℕ) → AreLines ask.all name set ask source tokens lines → BeginsWith a b lines)
+  part_of_kind r kind a b e p =
+      subst (λ k. OnErr r ((lines : List ℕ) → AreLines k name set ask source tokens lines → BeginsWith a b lines)) (sym e) p
+
+-- ---- lines of tokens
+
+token_long : (name : List ℕ) (t : TokenValue) → 0 < length (token_line name t)
+token_long name t =
+    let head : List ℕ = escaped name in
+    let e = length-append head (0x09 ∷ []) in
+    let rest : List ℕ = _ in
+    let all : length (token_line name t) ≡ length (head ++ 0x09 ∷ []) + length rest = length-append (head ++ 0x09 ∷ []) rest in
+    grind (arith, common_steps)
+
+-- there is a line where there is a token
+pub some_tokens : (name : List ℕ) (tokens : List TokenValue) → nat_lt 0 (length tokens) ≡ nat_lt 0 (length (token_lines name tokens))
+some_tokens name tokens = some_lines (token_line name) tokens (token_long name)
+
+same_line : (name text : List ℕ) (span : Span) (t : TokenValue) → text ≡ t.text → span ≡ t.span
+    → token_line name (record { text = text; span = span }) ≡ token_line name t
+same_line name text span t e f =
+    ap (λ x. token_line name (record { text = x; span = span })) e ∙ ap (λ x. token_line name (record { text = t.text; span = x })) f
+
+-- the line of the next token is gathered
+pub put_token : (name : List ℕ) (tokens : List TokenValue) (i : ℕ) (text : List ℕ) (span : Span) (a b : Option (List ℕ)) (gathered more : List ℕ)
+    → IsPut a b gathered (token_lines name (take i tokens)) → i < length tokens
+    → text ≡ (slice_index_or tokens i no_token).text → span ≡ (slice_index_or tokens i no_token).span
+    → more ≡ gathered ++ token_line name (record { text = text; span = span })
+    → IsPut a b more (token_lines name (take (i + 1) tokens))
+put_token name tokens i text span a b gathered more p h e f l =
+    let line : more ≡ gathered ++ token_line name (slice_index_or tokens i no_token) =
+    l ∙ ap (λ x. gathered ++ x) (same_line name text span (slice_index_or tokens i no_token) e f) in
+    let put : IsPut a b more (flat_map (token_line name) (take i tokens ++ slice_index_or tokens i no_token ∷ [])) =
+    put_line (token_line name) (take i tokens) (slice_index_or tokens i no_token) a b gathered more p line in
+    subst (λ ts. IsPut a b more (token_lines name ts)) (sym (take_more tokens i no_token h)) put
+
+-- the lines of all tokens are put
+pub put_tokens : (name : List ℕ) (tokens : List TokenValue) (i : ℕ) (a b c : Option (List ℕ)) (gathered : List ℕ)
+    → IsPut a b gathered (token_lines name (take i tokens)) → Appends b c gathered → length tokens ≤ i
+    → Appends a c (token_lines name tokens)
+put_tokens name tokens i a b c gathered p q h =
+    subst (λ ts. Appends a c (token_lines name ts)) (take_all i tokens h) (put_whole a b c gathered (token_lines name (take i tokens)) p q)
+
+pub begins_tokens : {A E : Type 0} (r : Result A E) (name : List ℕ) (tokens : List TokenValue) (a b : Option (List ℕ))
+    → BeginsWith a b (token_lines name tokens) → OnErr r (BeginsWith a b (token_lines name tokens))
+begins_tokens (Ok x) name tokens a b p = tt
+begins_tokens (Err x) name tokens a b p = p

@@ -1,0 +1,75 @@
+use Rattle.std.proofs.Common.{rules, ◌≡◌, ◌<◌, ◌+◌, [], length, take, drop, refl, sym, subst}
+use Rattle.std.proofs.lemmas.List.{take-append-drop}
+use Rattle.lic_find.specs.declared.triple.Triple.{Triple}
+use Rattle.lic_report.specs.Report.{HasItsValues, Valued, triple_of, valued_lines}
+use Rattle.lic_stream.specs.Stream.{BeginsWith}
+use Rattle.lic_engine.proofs.DoneLemmas.{AreDone, done_nothing, done_put, err_begins, err_begins_within}
+use Rattle.lic_engine.proofs.OuterLemmas.{one_valued, valued_more}
+use Rattle.lic_engine.proofs.outer.put_valued.Goals as goal
+
+abbrev nowhere : Triple
+nowhere = record { first = 0; last = 0; template = 0 }
+
+pub loop-triple-init : goal.loop-triple-init
+loop-triple-init g c =
+    let set = c.args.set.now in
+    let tokens = c.args.text.now.tokens in
+    let lines = valued_lines c.args.name.now set c.args.text.now.source tokens in
+    record {
+      done = subst (λ l. AreDone Triple Valued triple_of (HasItsValues set tokens) lines (g.W.Sink.taken c.args.out.now) (g.W.Sink.taken c.args.out.now) l [])
+          (sym c.new-lines.ensures.items) (done_nothing Triple Valued triple_of (HasItsValues set tokens) lines (g.W.Sink.taken c.args.out.now));
+      sound = refl;
+    }
+
+pub returns-in_err-add_valued-clause-part : goal.returns-in_err-add_valued-clause-part
+returns-in_err-add_valued-clause-part g c =
+    let set = c.args.set.now in
+    let tokens = c.args.text.now.tokens in
+    let lines = valued_lines c.args.name.now set c.args.text.now.source tokens in
+    let i = c.loop-triple.triple-index in
+    err_begins Triple Valued triple_of (HasItsValues set tokens) lines (one_valued set tokens c.values_are_one_list.ensures)
+    c.from_residual.result (g.W.Sink.taken c.args.out.now) (g.W.Sink.taken c.loop-triple.out) c.loop-triple.lines.items
+    (take i c.args.triples.now) (drop i c.args.triples.now) c.args.triples.now c.loop-triple.invariant.done (sym (take-append-drop i c.args.triples.now))
+
+pub returns-in_err-put_gathered-clause-part : goal.returns-in_err-put_gathered-clause-part
+returns-in_err-put_gathered-clause-part g c =
+    let set = c.args.set.now in
+    let source = c.args.text.now.source in
+    let tokens = c.args.text.now.tokens in
+    let lines = valued_lines c.args.name.now set source tokens in
+    let i = c.loop-triple.triple-index in
+    let within : i < length c.args.triples.now = search rules in
+    err_begins_within Triple Valued triple_of (HasItsValues set tokens) lines (one_valued set tokens c.values_are_one_list.ensures)
+    c.from_residual-in_err-put_gathered.result (g.W.Sink.taken c.args.out.now) (g.W.Sink.taken c.loop-triple.out) (g.W.Sink.taken c.put_gathered.new.out) c.add_valued.new.lines.items
+    (take (i + 1) c.args.triples.now) (drop (i + 1) c.args.triples.now) c.args.triples.now
+    (valued_more c.args.name.now set source tokens (g.W.Sink.taken c.args.out.now) (g.W.Sink.taken c.loop-triple.out) c.loop-triple.lines.items c.add_valued.new.lines.items c.args.triples.now i nowhere c.loop-triple.invariant.done within c.in_ok-add_valued.ensures)
+    c.in_err-put_gathered.ensures.part (sym (take-append-drop (i + 1) c.args.triples.now))
+
+pub loop-triple-preserved : goal.loop-triple-preserved
+loop-triple-preserved g c =
+    let set = c.args.set.now in
+    let source = c.args.text.now.source in
+    let tokens = c.args.text.now.tokens in
+    let lines = valued_lines c.args.name.now set source tokens in
+    let i = c.loop-triple.triple-index in
+    let within : i < length c.args.triples.now = search rules in
+    record {
+      done = done_put Triple Valued triple_of (HasItsValues set tokens) lines _ (g.W.Sink.taken c.loop-triple.out) _ _ _ (take (i + 1) c.args.triples.now)
+          (valued_more c.args.name.now set source tokens _ _ _ _ c.args.triples.now i nowhere c.loop-triple.invariant.done within c.in_ok-add_valued.ensures)
+          c.in_ok-put_gathered.ensures.ok;
+      sound = search rules;
+    }
+
+pub returns-in_err-put_all-clause-part : goal.returns-in_err-put_all-clause-part
+returns-in_err-put_all-clause-part g c =
+    let set = c.args.set.now in
+    let tokens = c.args.text.now.tokens in
+    let lines = valued_lines c.args.name.now set c.args.text.now.source tokens in
+    let i = c.loop-triple.triple-index in
+    let here : c.as_slice.result.now ≡ c.loop-triple.lines.items = search rules in
+    let part : BeginsWith (g.W.Sink.taken c.loop-triple.out) (g.W.Sink.taken c.put_all.new.out) c.loop-triple.lines.items =
+    subst (λ l. BeginsWith (g.W.Sink.taken c.loop-triple.out) (g.W.Sink.taken c.put_all.new.out) l) here c.in_err-put_all.ensures.part in
+    err_begins_within Triple Valued triple_of (HasItsValues set tokens) lines (one_valued set tokens c.values_are_one_list.ensures)
+    c.from_residual-in_err-put_all.result (g.W.Sink.taken c.args.out.now) (g.W.Sink.taken c.loop-triple.out) (g.W.Sink.taken c.put_all.new.out) c.loop-triple.lines.items
+    (take i c.args.triples.now) (drop i c.args.triples.now) c.args.triples.now c.loop-triple.invariant.done part
+    (sym (take-append-drop i c.args.triples.now))

@@ -1,0 +1,177 @@
+//! From the bytes of an input to the bytes of its report.
+
+ghost use Rattle.std.specs.Prelude.{◌≡◌, ◌≢◌, ◌⊎◌, ℕ, List, length, IfOk, OnErr, IsErrOf, nat_lt};
+ghost use Rattle.std.specs.Io.KnownBytes.{Appends};
+ghost use Rattle.lic_norm.specs.Tokens.{tokens_of};
+ghost use Rattle.lic_norm.specs.Spans.{AreSpans};
+ghost use Rattle.lic_stream.specs.Stream.{BeginsWith, ReadsUpTo};
+ghost use Rattle.lic_report.specs.Report.{AreAllLines, IsReport, IsReportOf, token_lines};
+ghost use Rattle.lic_engine.specs.Failures.{CountsReads, CountsWrites, IsOfWriting, Keeps};
+ghost use Rattle.lic_engine.specs.Inputs.{IsAccepted, IsRefused};
+
+use crate::fault::RunFault;
+use crate::input::read_text;
+use crate::outer::report_outer;
+use lic_auto::set::Set;
+use lic_norm::fault::TextFault;
+use lic_norm::text::Text;
+use lic_norm::words::Words;
+use lic_report::ask::Ask;
+use lic_report::lines::{add_match, add_token};
+use lic_report::wanted::Wanted;
+use lic_stream::stream::{Sink, Source};
+use lic_stream::transfer::{put_all, put_gathered};
+use std::alloc::Global;
+
+/// Writes the lines of all matches that are asked for, and says whether there was one.
+fn report_all<W: Sink>(
+    alloc: Global,
+    name: &str,
+    text: &Text,
+    out: &mut W,
+    set: &Set,
+    ask: &Ask,
+) -> Result<bool, RunFault>
+    ensures written { IfOk result (λ some. (lines : List ℕ)
+        × AreAllLines name.now set.now ask.now text.now.tokens lines
+        × Appends (W.taken out.old) (W.taken out.new) lines
+        × (some ≡ nat_lt 0 (length lines))) }
+    ensures part { OnErr result ((lines : List ℕ) → AreAllLines name.now set.now ask.now text.now.tokens lines
+        → BeginsWith (W.taken out.old) (W.taken out.new) lines) }
+    ensures writes { CountsWrites result (W.failed out.old) (W.failed out.new) }
+    ensures faults { IsOfWriting result }
+{
+    let wanted = Wanted::new(alloc, set, text, ask)?;
+    let mut lines = Vec::new(alloc);
+    let mut some = false;
+    for triple in wanted {
+        add_match(&mut lines, name, set, text, triple)?;
+        put_gathered(out, &mut lines)?;
+        some = true;
+    }
+    put_all(out, lines.as_slice())?;
+    Ok(some)
+}
+
+/// Writes the report of a text, and says whether there was a match.
+fn report<W: Sink>(
+    alloc: Global,
+    name: &str,
+    text: &Text,
+    out: &mut W,
+    set: &Set,
+    ask: &Ask,
+) -> Result<bool, RunFault>
+    requires { AreSpans text.now.source text.now.tokens }
+    ensures written { IfOk result (λ some. (lines : List ℕ)
+        × IsReportOf name.now set.now ask.now text.now.source text.now.tokens lines
+        × Appends (W.taken out.old) (W.taken out.new) lines
+        × (some ≡ nat_lt 0 (length lines))) }
+    ensures part { OnErr result ((lines : List ℕ) → IsReportOf name.now set.now ask.now text.now.source text.now.tokens lines
+        → BeginsWith (W.taken out.old) (W.taken out.new) lines) }
+    ensures writes { CountsWrites result (W.failed out.old) (W.failed out.new) }
+    ensures faults { IsOfWriting result }
+{
+    if ask.all {
+        report_all(alloc, name, text, out, set, ask)
+    } else {
+        report_outer(alloc, name, text, out, set)
+    }
+}
+
+/// Reads an input to its end, and writes the report of it: a line for each match that is asked for; or, where not all are
+/// asked for, for each outer match and its variables. The answer says whether a match was reported.
+///
+/// At most 67,108,865 bytes are read. `name` stands first in each line. A refused input, and one that cannot
+/// be read, gives no line; after a write that failed, and where memory ran out, what was written is a
+/// beginning of the report. A failed call is not tried again.
+pub fn run<R: Source, W: Sink>(
+    alloc: Global,
+    name: &str,
+    input: &mut R,
+    out: &mut W,
+    set: &Set,
+    words: &Words,
+    ask: &Ask,
+) -> Result<bool, RunFault>
+    // The whole report of what was read to the end.
+    ensures report { IfOk result (λ some. (bytes lines : List ℕ)
+        × IsAccepted (R.left input.old) (R.left input.new) bytes
+        × IsReport name.now set.now words.now ask.now bytes lines
+        × Appends (W.taken out.old) (W.taken out.new) lines
+        × (some ≡ nat_lt 0 (length lines))) }
+    // A beginning of the report of what was read.
+    ensures part { (fault : _) → IsErrOf result fault → ((fault ≡ RunFault.Write) ⊎ (fault ≡ RunFault.Memory)) → (bytes : List ℕ)
+        × IsAccepted (R.left input.old) (R.left input.new) bytes
+        × ((lines : List ℕ) → IsReport name.now set.now words.now ask.now bytes lines → BeginsWith (W.taken out.old) (W.taken out.new) lines) }
+    // A refused text: no continuation fares better.
+    ensures refused { (fault : _) → IsErrOf result (RunFault.Text fault) → fault ≢ TextFault.Memory
+        → IsRefused (R.left input.old) (R.left input.new) fault }
+    // After a refused text and a failed read nothing is written.
+    ensures keeps { Keeps result out.old out.new }
+    // Each failure comes from the one that failed, and no other call failed.
+    ensures reads { CountsReads result (R.failed input.old) (R.failed input.new) }
+    ensures writes { CountsWrites result (W.failed out.old) (W.failed out.new) }
+    ensures most { ReadsUpTo (R.left input.old) (R.left input.new) 67108865 }
+{
+    let text = read_text(alloc, input, words)?;
+    report(alloc, name, &text, out, set, ask)
+}
+
+/// Writes the lines of a text's tokens, and says whether there was one.
+fn report_tokens<W: Sink>(
+    alloc: Global,
+    name: &str,
+    text: &Text,
+    out: &mut W,
+) -> Result<bool, RunFault>
+    ensures written { IfOk result (λ some. Appends (W.taken out.old) (W.taken out.new) (token_lines name.now text.now.tokens)
+        × (some ≡ nat_lt 0 (length (token_lines name.now text.now.tokens)))) }
+    ensures part { OnErr result (BeginsWith (W.taken out.old) (W.taken out.new) (token_lines name.now text.now.tokens)) }
+    ensures writes { CountsWrites result (W.failed out.old) (W.failed out.new) }
+    ensures faults { IsOfWriting result }
+{
+    let mut lines = Vec::new(alloc);
+    for i in 0..text.len() {
+        add_token(&mut lines, name, text.token(i))?;
+        put_gathered(out, &mut lines)?;
+    }
+    put_all(out, lines.as_slice())?;
+    Ok(text.len() > 0)
+}
+
+/// Reads an input to its end, and writes a line for each of its tokens. The answer says whether a line was
+/// written.
+///
+/// At most 67,108,865 bytes are read. `name` stands first in each line. A refused input, and one that cannot
+/// be read, gives no line; after a write that failed, and where memory ran out, what was written is a
+/// beginning of the lines. A failed call is not tried again.
+pub fn run_tokens<R: Source, W: Sink>(
+    alloc: Global,
+    name: &str,
+    input: &mut R,
+    out: &mut W,
+    words: &Words,
+) -> Result<bool, RunFault>
+    // The lines of all tokens of what was read to the end.
+    ensures report { IfOk result (λ some. (bytes : List ℕ)
+        × IsAccepted (R.left input.old) (R.left input.new) bytes
+        × Appends (W.taken out.old) (W.taken out.new) (token_lines name.now (tokens_of words.now bytes))
+        × (some ≡ nat_lt 0 (length (token_lines name.now (tokens_of words.now bytes))))) }
+    // A beginning of the lines of what was read.
+    ensures part { (fault : _) → IsErrOf result fault → ((fault ≡ RunFault.Write) ⊎ (fault ≡ RunFault.Memory)) → (bytes : List ℕ)
+        × IsAccepted (R.left input.old) (R.left input.new) bytes
+        × BeginsWith (W.taken out.old) (W.taken out.new) (token_lines name.now (tokens_of words.now bytes)) }
+    // A refused text: no continuation fares better.
+    ensures refused { (fault : _) → IsErrOf result (RunFault.Text fault) → fault ≢ TextFault.Memory
+        → IsRefused (R.left input.old) (R.left input.new) fault }
+    // After a refused text and a failed read nothing is written.
+    ensures keeps { Keeps result out.old out.new }
+    // Each failure comes from the one that failed, and no other call failed.
+    ensures reads { CountsReads result (R.failed input.old) (R.failed input.new) }
+    ensures writes { CountsWrites result (W.failed out.old) (W.failed out.new) }
+    ensures most { ReadsUpTo (R.left input.old) (R.left input.new) 67108865 }
+{
+    let text = read_text(alloc, input, words)?;
+    report_tokens(alloc, name, &text, out)
+}

@@ -1,0 +1,8 @@
+//! The engine: from a reader to a writer, the report of what was read, the lines of its tokens, and what is said of templates.
+#![tactic(auto)]
+
+pub mod check;
+pub mod engine;
+pub mod fault;
+mod input;
+mod outer;

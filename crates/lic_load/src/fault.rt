@@ -1,0 +1,68 @@
+//! Why the templates or the list of equivalent words cannot be loaded.
+
+ghost use Rattle.std.specs.Prelude.{◌≡◌, ◌↔◌, IsTrue};
+ghost use Rattle.std.specs.IoError.{error_kind};
+ghost use Rattle.lic_load.specs.declared.fault.LoadFault.TheVariants.{Memory};
+
+use lic_auto::set::BuildFault;
+use lic_norm::words::WordsFault;
+use lic_stream::stream::Sink;
+use lic_stream::transfer::put_all;
+use std::alloc::{AllocError, AllocFailed};
+use std::io;
+use std::io::ErrorKind;
+use thiserror::Error;
+
+/// Why a list of equivalent words is refused.
+#[derive(Clone, Copy, Debug, PartialEq, Eq, Error)]
+pub enum ListFault {
+    /// The file cannot be opened or read, or has more than 67,108,864 bytes.
+    #[error("cannot be read")]
+    Unreadable,
+    /// `at` is the length in bytes of the longest front that is UTF-8.
+    #[error("not UTF-8 at byte {at}")]
+    NotUtf8 { at: usize },
+    #[error("{0}")]
+    Refused(WordsFault),
+}
+
+/// Why nothing can be scanned.
+#[derive(Debug, Drop, Error)]
+pub enum LoadFault {
+    #[error("words: {0}")]
+    Words(ListFault),
+    #[error("templates: cannot be listed")]
+    Listing,
+    #[error("templates: {0}")]
+    Set(BuildFault),
+    #[error("out of memory")]
+    Memory,
+}
+
+impl<T: Drop> From<AllocFailed<T>> for LoadFault {
+    ghost from_gives = { λ _ fault. fault ≡ Memory };
+
+    fn from(_error: AllocFailed<T>) -> LoadFault {
+        LoadFault::Memory
+    }
+}
+
+impl From<AllocError> for LoadFault {
+    ghost from_gives = { λ _ fault. fault ≡ Memory };
+
+    fn from(_error: AllocError) -> LoadFault {
+        LoadFault::Memory
+    }
+}
+
+/// Whether a call of the system failed because memory ran out.
+pub fn wants_memory(error: &io::Error) -> bool
+    ensures { IsTrue result ↔ (error_kind error.now ≡ ErrorKind.OutOfMemory) }
+{
+    error.kind() == ErrorKind::OutOfMemory
+}
+
+/// Writes to standard error. A failure there can be reported nowhere.
+pub fn tell<E: Sink>(err: &mut E, text: &str) {
+    let _ = put_all(err, text.as_bytes());
+}

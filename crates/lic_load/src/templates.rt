@@ -1,0 +1,202 @@
+//! The folder of the templates.
+
+ghost use Rattle.std.specs.Prelude.{◌≡◌, ◌≢◌};
+ghost use Rattle.std.specs.IoError.{error_kind};
+ghost use Rattle.std.specs.declared.io.ErrorKind.TheVariants.{OutOfMemory};
+ghost use Rattle.lic_load.specs.declared.templates.TemplateFault.TheVariants.{Unreadable, Memory};
+ghost use Rattle.lic_load.specs.Causes.{fault_of_read};
+
+use crate::fault::{LoadFault, tell, wants_memory};
+use lic_auto::set::Set;
+use lic_markup::{MarkupCause, MarkupFault, Template, read_template};
+use lic_norm::words::Words;
+use lic_report::fields::Escaped;
+use lic_stream::stream::{Counted, Sink};
+use lic_stream::transfer::{ReadFault, read_up_to};
+use std::alloc::{AllocError, AllocFailed, Global};
+use std::fs::File;
+use std::rt::Files;
+use std::{fs, io};
+use thiserror::Error;
+
+/// The most bytes that a template may have.
+const MOST_BYTES: usize = 1_048_576;
+
+/// What stands behind the identifier in the name of a template's file.
+const ENDING: &str = ".template.txt";
+
+/// Why one template is left out.
+#[derive(Debug, Drop, Error)]
+enum TemplateFault {
+    #[error("cannot be read")]
+    Unreadable,
+    #[error("not UTF-8 at byte {at}")]
+    NotUtf8 { at: usize },
+    #[error("{0}")]
+    Markup(MarkupFault),
+    #[error("out of memory")]
+    Memory,
+}
+
+impl From<AllocError> for TemplateFault {
+    ghost from_gives = { λ _ fault. fault ≡ Memory };
+
+    fn from(_error: AllocError) -> TemplateFault {
+        TemplateFault::Memory
+    }
+}
+
+impl From<io::Error> for TemplateFault {
+    ghost from_gives = { λ error fault. (error_kind error ≡ OutOfMemory → fault ≡ Memory)
+        × (error_kind error ≢ OutOfMemory → fault ≡ Unreadable) };
+
+    fn from(error: io::Error) -> TemplateFault {
+        if wants_memory(&error) {
+            TemplateFault::Memory
+        } else {
+            TemplateFault::Unreadable
+        }
+    }
+}
+
+impl From<ReadFault> for TemplateFault {
+    ghost from_gives = { λ read fault. fault ≡ fault_of_read read };
+
+    fn from(fault: ReadFault) -> TemplateFault {
+        match fault {
+            ReadFault::Read => TemplateFault::Unreadable,
+            ReadFault::Memory => TemplateFault::Memory,
+        }
+    }
+}
+
+/// The identifiers in a folder, in the order of their bytes, and how many names are not UTF-8.
+#[derive(Debug, Drop)]
+struct Listing {
+    ids: Vec<String>,
+    unnamed: usize,
+}
+
+/// Lists a folder.
+fn list<Rt: Files + AllocGlobal + Clone + Drop>(
+    rt: &Rt,
+    alloc: Global,
+    folder: &str,
+) -> Result<Listing, LoadFault> {
+    let mut ids = Vec::new(alloc);
+    let mut unnamed = 0usize;
+    for entry in fs::read_dir(rt, folder)? {
+        match entry {
+            Ok(entry) => add_id(alloc, &mut ids, entry.file_name())?,
+            Err(e) if e.kind() == io::ErrorKind::InvalidFilename => {
+                unnamed = unnamed.saturating_add(1);
+            }
+            Err(e) => return Err(LoadFault::from(e)),
+        }
+    }
+    ids.sort()?;
+    Ok(Listing { ids, unnamed })
+}
+
+/// Adds the identifier of a file, if its name is one of a template.
+fn add_id(alloc: Global, ids: &mut Vec<String>, name: &str) -> Result<(), LoadFault> {
+    if let Some(id) = name.strip_suffix(ENDING)
+        && !id.is_empty()
+    {
+        ids.push(id.to_string(alloc)?)?;
+    }
+    Ok(())
+}
+
+impl From<io::Error> for LoadFault {
+    ghost use Rattle.lic_load.specs.declared.fault.LoadFault.TheVariants.{Listing, Memory};
+
+    ghost from_gives = { λ error fault. (error_kind error ≡ OutOfMemory → fault ≡ Memory)
+        × (error_kind error ≢ OutOfMemory → fault ≡ Listing) };
+
+    fn from(error: io::Error) -> LoadFault {
+        if wants_memory(&error) {
+            LoadFault::Memory
+        } else {
+            LoadFault::Listing
+        }
+    }
+}
+
+/// The bytes of a template's file: no more than one more than a template may have.
+///
+/// Only files are opened, since to open a pipe may take for ever.
+fn read_file<Rt: Files + AllocGlobal>(
+    rt: &Rt,
+    alloc: Global,
+    path: &str,
+) -> Result<Vec<u8>, TemplateFault> {
+    if !fs::metadata(rt, path)?.is_file() {
+        return Err(TemplateFault::Unreadable);
+    }
+    let mut source = Counted::new(File::open(rt, path)?);
+    Ok(read_up_to(alloc, &mut source, MOST_BYTES + 1)?)
+}
+
+/// Reads a template.
+fn load<Rt: Files + AllocGlobal>(
+    rt: &Rt,
+    alloc: Global,
+    folder: &str,
+    id: &str,
+    words: &Words,
+) -> Result<Template, TemplateFault> {
+    let path = format!(in alloc; "{folder}/{id}{ENDING}")?;
+    let bytes = read_file(rt, alloc, path.as_str())?;
+    if bytes.len() > MOST_BYTES {
+        return Err(TemplateFault::Markup(MarkupFault {
+            place: 0,
+            cause: MarkupCause::TooLong,
+        }));
+    }
+    match simdutf8::compat::from_utf8(bytes.as_slice()) {
+        Ok(text) => read_template(alloc, text, words).map_err(TemplateFault::Markup),
+        Err(e) => Err(TemplateFault::NotUtf8 {
+            at: e.valid_up_to(),
+        }),
+    }
+}
+
+/// The templates of a folder, and whether one was left out.
+#[derive(Debug, Drop)]
+pub struct Loaded {
+    pub set: Set,
+    pub is_refused: bool,
+}
+
+/// Reads the templates of a folder by identifier. One that is refused or cannot be read is reported and left out.
+pub fn load_all<Rt: Files + AllocGlobal + Clone + Drop, E: Sink>(
+    rt: &Rt,
+    alloc: Global,
+    folder: &str,
+    words: &Words,
+    err: &mut E,
+) -> Result<Loaded, LoadFault> {
+    let listing = list(rt, alloc, folder)?;
+    for _ in 0..listing.unnamed {
+        tell(err, "licscan: templates: a file name is not UTF-8\n");
+    }
+    let mut is_refused = listing.unnamed > 0;
+    let mut templates = Vec::new(alloc);
+    for id in listing.ids {
+        match load(rt, alloc, folder, id.as_str(), words) {
+            Ok(template) => templates.push((id, template))?,
+            Err(TemplateFault::Memory) => return Err(LoadFault::Memory),
+            Err(fault) => {
+                let id = Escaped(id.as_str());
+                let line = format!(in alloc; "licscan: template {id}: {fault}\n")?;
+                tell(err, line.as_str());
+                is_refused = true;
+            }
+        }
+    }
+    match Set::build(alloc, templates) {
+        Ok(set) => Ok(Loaded { set, is_refused }),
+        Err(fault) => Err(LoadFault::Set(fault)),
+    }
+}

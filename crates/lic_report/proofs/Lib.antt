@@ -1,0 +1,3 @@
+mod GatheringLemmas
+mod LimitLemmas
+mod ValueLemmas

@@ -1,0 +1,44 @@
+-- Whether templates describe their original texts.
+use Rattle.std.specs.Prelude.{◌≡◌, ◌↔◌, ℕ, Bool, IsTrue, List, ◌++◌, All, map, decimal, codes, if◌then◌else◌}
+use Rattle.std.specs.List.{flat_map}
+use Rattle.std.specs.Str.{chars}
+use Rattle.lic_words.specs.Describing.{IsDescribed}
+use Rattle.lic_norm.specs.Tokens.{TokenValue, tokens_of}
+use Rattle.lic_phrases.specs.Rewriting.{Phrase}
+use Rattle.lic_auto.specs.Sets.{Known, words_of}
+use Rattle.lic_report.specs.Fields.{escaped, field}
+
+-- the letters of each token
+abbrev pub all_letters : List TokenValue → List (List ℕ)
+all_letters tokens = map (λ t. chars t.text) tokens
+
+-- the template describes all tokens of its original text, and there is one
+abbrev pub DescribesItsOriginal : List Phrase → Known → Type 0
+DescribesItsOriginal words known = IsDescribed (words_of known) (all_letters (tokens_of words known.template.original))
+
+-- a template, and what is said of it
+pub record Checked : Type 0 where
+  pub known : Known
+  pub yes : Bool
+
+abbrev pub known_of : Checked → Known
+known_of c = c.known
+
+abbrev pub says_yes : Checked → Bool
+says_yes c = c.yes
+
+-- yes is said of a template that describes its original text, and of no other
+abbrev pub IsVerdict : List Phrase → Checked → Type 0
+IsVerdict words c = IsTrue c.yes ↔ DescribesItsOriginal words c.known
+
+-- the line of a template: its identifier, its weight, and `yes` or `no`
+abbrev pub check_line : Checked → List ℕ
+check_line c =
+    field (escaped c.known.id) 0x09 ++ (field (decimal c.known.template.weight) 0x09
+    ++ field (if c.yes then codes "yes" else codes "no") 0x0A)
+
+-- What is written is a line for each template of the set, in order, with the verdict on it.
+pub record IsCheckReport (set : List Known) (words : List Phrase) (checked : List Checked) (written : List ℕ) : Type 0 where
+  pub templates : map known_of checked ≡ set
+  pub verdicts : All (IsVerdict words) checked
+  pub lines : written ≡ flat_map check_line checked

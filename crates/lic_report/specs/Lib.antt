@@ -1,0 +1,8 @@
+pub mod Fields
+pub mod Report
+pub mod Gathering
+pub mod Checking
+pub mod Wanted
+pub use Rattle.lic_vars.specs.Values
+pub use Rattle.lic_vars.specs.Views
+pub use Rattle.lic_vars.specs.Filters

@@ -1,0 +1,14 @@
+//! What is asked of a scan.
+
+use lic_find::triple::Triple;
+
+/// What is asked of a scan.
+#[derive(Clone, Copy, Debug, PartialEq, Eq)]
+pub struct Ask {
+    /// All matches; without it the outer ones, each with the values of its variables.
+    pub all: bool,
+    /// Of all matches only those that come after a triple, which need be no match.
+    pub after: Option<Triple>,
+    /// Of all matches only the first so many.
+    pub limit: Option<u64>,
+}

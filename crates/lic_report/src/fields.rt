@@ -1,0 +1,72 @@
+//! Fields of a line.
+
+ghost use Rattle.std.specs.Prelude.{◌≡◌, ◌++◌, [], ◌∷◌, OnOk, MatchOption, decimal};
+ghost use Rattle.lic_report.specs.Fields.{escaped_byte, escaped, field};
+
+use itoa::Buffer;
+use std::alloc::AllocError;
+use std::fmt;
+
+/// What stands for a byte that may not stand in a field: for a backslash, a line feed, a carriage return and
+/// a tab.
+fn escape_of(byte: u8) -> Option<&'static str>
+    ensures { MatchOption result (escaped_byte byte ≡ byte ∷ []) (λ text. escaped_byte byte ≡ text.now) }
+{
+    match byte {
+        b'\\' => Some("\\\\"),
+        b'\n' => Some("\\n"),
+        b'\r' => Some("\\r"),
+        b'\t' => Some("\\t"),
+        _ => None,
+    }
+}
+
+fn add_escaped_byte(line: &mut Vec<u8>, byte: u8) -> Result<(), AllocError>
+    ensures { OnOk result (line.new.items ≡ line.old.items ++ escaped_byte byte) }
+{
+    match escape_of(byte) {
+        Some(text) => line.extend_from_slice(text.as_bytes())?,
+        None => line.push(byte)?,
+    }
+    Ok(())
+}
+
+/// Adds a text as a field, and the tab or the line end behind it.
+///
+/// A backslash is written `\\`, a line feed `\n`, a carriage return `\r` and a tab `\t`; all other bytes
+/// stand as they are.
+pub fn add_text(line: &mut Vec<u8>, bytes: &[u8], mark: u8) -> Result<(), AllocError>
+    ensures { OnOk result (line.new.items ≡ line.old.items ++ field (escaped bytes.now) mark) }
+{
+    for byte in bytes {
+        add_escaped_byte(line, *byte)?;
+    }
+    line.push(mark)?;
+    Ok(())
+}
+
+/// Adds a number as a field in decimal digits, and the tab or the line end behind it.
+pub fn add_number(line: &mut Vec<u8>, n: u64, mark: u8) -> Result<(), AllocError>
+    ensures { OnOk result (line.new.items ≡ line.old.items ++ field (decimal n) mark) }
+{
+    let mut buffer = Buffer::new();
+    line.extend_from_slice(buffer.format(n).as_bytes())?;
+    line.push(mark)?;
+    Ok(())
+}
+
+/// A name as it is shown in messages: written as in a field.
+#[derive(Clone, Copy, Debug)]
+pub struct Escaped<'a>(pub &'a str);
+
+impl fmt::Display for Escaped<'_> {
+    fn fmt<W: fmt::Write>(&self, f: &mut fmt::Formatter<W>) -> fmt::Result {
+        for c in self.0.chars() {
+            match u8::try_from(c).ok().and_then(escape_of) {
+                Some(text) => f.write_str(text)?,
+                None => f.write_char(c)?,
+            }
+        }
+        Ok(())
+    }
+}

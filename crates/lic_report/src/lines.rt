@@ -1,0 +1,105 @@
+//! Lines of a report.
+
+ghost use Rattle.std.specs.Prelude.{◌≡◌, ◌<◌, ◌≤◌, ◌++◌, length, OnOk, Some};
+ghost use Rattle.std.specs.List.{slice_index_or};
+ghost use Rattle.lic_report.specs.Fields.{escaped, field};
+ghost use Rattle.lic_norm.specs.declared.token.Span.{Span};
+ghost use Rattle.lic_vars.specs.Views.{value_of};
+ghost use Rattle.lic_report.specs.Checking.{check_line};
+ghost use Rattle.lic_report.specs.Report.{match_line, token_line, place_fields, value_line, no_known, no_token};
+
+use crate::fields::{add_number, add_text};
+use lic_auto::set::Set;
+use lic_find::triple::Triple;
+use lic_norm::text::Text;
+use lic_norm::token::{Span, Token};
+use lic_vars::values::Value;
+use std::alloc::AllocError;
+
+/// The identifier of a template, or nothing.
+fn id_at(set: &Set, k: usize) -> &str
+    ensures { result.now ≡ (slice_index_or set.now k no_known).id }
+{
+    if k < set.len() { set.id(k) } else { "" }
+}
+
+/// The span of a token, or an empty one.
+fn span_at(text: &Text, i: usize) -> Span
+    ensures { result ≡ (slice_index_or text.now.tokens i no_token).span }
+{
+    if i < text.len() {
+        text.token(i).span
+    } else {
+        Span { start: 0, end: 0 }
+    }
+}
+
+/// Adds the file's name, which stands first in each line.
+fn add_file(lines: &mut Vec<u8>, name: &str) -> Result<(), AllocError>
+    ensures { OnOk result (lines.new.items ≡ lines.old.items ++ field (escaped name.now) 0x09) }
+{
+    add_text(lines, name.as_bytes(), b'\t')
+}
+
+/// Adds the line of a match: the file, the identifier, the numbers of the first and last token, the first
+/// byte of the one and the end of the other.
+pub fn add_match(
+    lines: &mut Vec<u8>,
+    name: &str,
+    set: &Set,
+    text: &Text,
+    triple: Triple,
+) -> Result<(), AllocError>
+    ensures { OnOk result (lines.new.items ≡ lines.old.items ++ match_line name.now set.now text.now.tokens triple) }
+{
+    add_file(lines, name)?;
+    add_text(lines, id_at(set, triple.template).as_bytes(), b'\t')?;
+    add_number(lines, triple.first as u64, b'\t')?;
+    add_number(lines, triple.last as u64, b'\t')?;
+    add_number(lines, span_at(text, triple.first).start as u64, b'\t')?;
+    add_number(lines, span_at(text, triple.last).end as u64, b'\n')
+}
+
+/// Adds the line of a token: the file, the first byte of the token and its end, and its text.
+pub fn add_token(lines: &mut Vec<u8>, name: &str, token: Token<'_>) -> Result<(), AllocError>
+    ensures { OnOk result (lines.new.items ≡ lines.old.items ++ token_line name.now (record { text = token.entry.text.now; span = token.entry.span })) }
+{
+    add_file(lines, name)?;
+    add_number(lines, token.span.start as u64, b'\t')?;
+    add_number(lines, token.span.end as u64, b'\t')?;
+    add_text(lines, token.text.as_bytes(), b'\n')
+}
+
+/// Adds the start, the end and the bytes of a span of the text, or a dash where there is no span.
+fn add_place(lines: &mut Vec<u8>, text: &Text, span: Option<Span>) -> Result<(), AllocError>
+    requires { (s : Span) → span ≡ Some s → (s.start ≤ s.end) × (s.end ≤ length text.now.source) }
+    ensures { OnOk result (lines.new.items ≡ lines.old.items ++ place_fields text.now.source span) }
+{
+    let Some(span) = span else {
+        return add_text(lines, "-".as_bytes(), b'\n');
+    };
+    add_number(lines, span.start as u64, b'\t')?;
+    add_number(lines, span.end as u64, b'\t')?;
+    add_text(lines, text.slice(span), b'\n')
+}
+
+/// Adds the line of a variable: an empty field, its name, and the bytes that it stood for.
+pub fn add_value(lines: &mut Vec<u8>, text: &Text, value: &Value<'_>) -> Result<(), AllocError>
+    requires { (s : Span) → value.now.span ≡ Some s → (s.start ≤ s.end) × (s.end ≤ length text.now.source) }
+    ensures { OnOk result (lines.new.items ≡ lines.old.items ++ value_line text.now.source (value_of value.now)) }
+{
+    add_text(lines, "".as_bytes(), b'\t')?;
+    add_text(lines, value.name.as_bytes(), b'\t')?;
+    add_place(lines, text, value.span)
+}
+
+/// Adds the line of a template: its identifier, its weight, and what is said of it.
+pub fn add_checked(lines: &mut Vec<u8>, set: &Set, k: usize, yes: bool) -> Result<(), AllocError>
+    requires { k < length set.now }
+    ensures { OnOk result (lines.new.items ≡ lines.old.items ++ check_line (record { known = slice_index_or set.now k no_known; yes = yes })) }
+{
+    add_text(lines, set.id(k).as_bytes(), b'\t')?;
+    add_number(lines, set.template(k).weight(), b'\t')?;
+    let verdict = if yes { "yes" } else { "no" };
+    add_text(lines, verdict.as_bytes(), b'\n')
+}

@@ -1,0 +1,66 @@
+//! The outer matches, and the lines of a match with those of its variables.
+
+ghost use Rattle.std.specs.Prelude.{◌≡◌, ◌≤◌, ◌++◌, ℕ, List, All, length, map, IfOk, OnOk, Some, None};
+ghost use Rattle.std.specs.List.{flat_map};
+ghost use Rattle.lic_find.specs.Matches.{AreMatches, IsMatch};
+ghost use Rattle.lic_norm.specs.Spans.{AreSpans};
+ghost use Rattle.lic_norm.specs.declared.token.Span.{Span};
+ghost use Rattle.lic_vars.specs.Filters.{outer_of};
+ghost use Rattle.lic_vars.specs.Values.{Assigned, AreValues};
+ghost use Rattle.lic_vars.specs.Views.{value_of};
+ghost use Rattle.lic_report.specs.Report.{value_line, valued_lines};
+
+use crate::lines::{add_match, add_value};
+use crate::shortest::shortest_matches;
+use lic_auto::set::Set;
+use lic_find::triple::Triple;
+use lic_norm::text::Text;
+use lic_vars::filters::outer;
+use lic_vars::laws::{
+    outer_needs_the_shortest_alone, outer_ones_are_tight, values_run_over_tokens,
+};
+use lic_vars::values::{Value, assign};
+use std::alloc::{AllocError, Global};
+
+/// The outer ones of all matches in a text, in the order of triples.
+pub fn outer_matches(alloc: Global, set: &Set, text: &Text) -> Result<Vec<Triple>, AllocError>
+    ensures all { IfOk result (λ outer. (found : List Triple) × AreMatches set.now text.now.tokens None found × (outer.items ≡ outer_of found)) }
+    ensures only { IfOk result (λ outer. (others : List Triple) → AreMatches set.now text.now.tokens None others → outer.items ≡ outer_of others) }
+    ensures matches { IfOk result (λ outer. All (IsMatch set.now text.now.tokens) outer.items) }
+{
+    let shortest = shortest_matches(alloc, set, text)?;
+    outer_needs_the_shortest_alone();
+    outer_ones_are_tight();
+    outer(alloc, &shortest)
+}
+
+/// Adds the lines of variables.
+fn add_values(lines: &mut Vec<u8>, text: &Text, values: &[Value<'_>]) -> Result<(), AllocError>
+    requires { All (λ value. (s : Span) → value.span ≡ Some s → (s.start ≤ s.end) × (s.end ≤ length text.now.source)) values.now }
+    ensures { OnOk result (lines.new.items ≡ lines.old.items ++ flat_map (value_line text.now.source) (map value_of values.now)) }
+{
+    for value in values {
+        add_value(lines, text, value)?;
+    }
+    Ok(())
+}
+
+/// Adds the line of a match, and those of its variables.
+pub fn add_valued(
+    alloc: Global,
+    lines: &mut Vec<u8>,
+    name: &str,
+    set: &Set,
+    text: &Text,
+    triple: Triple,
+) -> Result<(), AllocError>
+    requires spans { AreSpans text.now.source text.now.tokens }
+    requires found { IsMatch set.now text.now.tokens triple }
+    ensures { OnOk result ((values : List Assigned) × AreValues set.now text.now.tokens triple values
+        × (lines.new.items ≡ lines.old.items ++ valued_lines name.now set.now text.now.source text.now.tokens (record { triple = triple; values = values }))) }
+{
+    add_match(lines, name, set, text, triple)?;
+    let values = assign(alloc, set, text, triple)?;
+    values_run_over_tokens();
+    add_values(lines, text, &values)
+}

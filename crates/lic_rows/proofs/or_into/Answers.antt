@@ -1,0 +1,14 @@
+use Rattle.std.proofs.Common.{◌≡◌, length, ◌≤◌, arith, refl, ◌/◌}
+use Rattle.std.specs.Prelude.{bit_or}
+use Rattle.lic_rows.proofs.Bits.{word_done, has_or}
+use Rattle.lic_rows.proofs.or_into.Goals as goal
+
+pub returns : goal.returns
+returns c =
+    let old = c.args.into.now in
+    let from = c.args.from.now in
+    let new = c.rest.into in
+    let all : length new ≤ c.rest.at = omega (arith, c.rest-test.false) in
+    let same : length old ≡ length new = omega (arith, c.rest.auto.into, c.lanes.auto.into) in
+    let other : length from ≡ length new = omega (arith, c.requires, c.rest.auto.into, c.lanes.auto.into) in
+    λ b. has_or old from new b (word_done bit_or old from new c.rest.at c.rest.invariant all same other refl (b / 64))

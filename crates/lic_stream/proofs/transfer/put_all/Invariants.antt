@@ -1,0 +1,14 @@
+use Rattle.std.proofs.Common.{length, ◌-◌, ◌≡◌, ◌≤◌, take}
+use Rattle.std.specs.Io.KnownBytes.{Appends}
+use Rattle.lic_stream.proofs.transfer.put_all.Given as goal
+
+abbrev pub invariant-loop-at : goal.invariant-loop-at
+invariant-loop-at g l =
+    record {
+      within : l.at ≤ length l.piece;
+      written : Appends (g.W.Sink.taken l.initial.out) (g.W.Sink.taken l.out) (take l.at l.piece);
+      sound : g.W.Sink.failed l.out ≡ g.W.Sink.failed l.initial.out;
+    }
+
+abbrev pub decreases-loop-at : goal.decreases-loop-at
+decreases-loop-at g l = length l.piece - l.at

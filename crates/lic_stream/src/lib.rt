@@ -1,0 +1,5 @@
+//! Readers and writers that tell their bytes and count their failed calls, and whole inputs and outputs over them.
+#![tactic(auto)]
+
+pub mod stream;
+pub mod transfer;

@@ -1,0 +1,164 @@
+//! Matches of templates in texts.
+
+use lic_auto::set::Set;
+use lic_find::finder::Finder;
+use lic_find::matches::is_match;
+use lic_find::triple::Triple;
+use lic_markup::read_template;
+use lic_norm::text::Text;
+use lic_norm::words::Words;
+use std::alloc::Global;
+use std::fmt::Write;
+use std::test::Fail;
+
+const OF: &str =
+    "<<var;name=\"a\";original=\"p\";match=\".+\">> of <<var;name=\"b\";original=\"q\";match=\".+\">>";
+
+/// A set of templates, which are numbered as they stand here.
+fn set_of(alloc: Global, templates: &[&str]) -> Result<Set, Fail> {
+    let words = Words::none(alloc);
+    let mut all = Vec::new(alloc);
+    for (k, template) in templates.iter().enumerate() {
+        let template = read_template(alloc, template, &words)?;
+        all.push((format!(in alloc; "{k}")?, template))?;
+    }
+    Ok(Set::build(alloc, all)?)
+}
+
+fn text_of(alloc: Global, source: &str) -> Result<Text, Fail> {
+    let words = Words::none(alloc);
+    Ok(Text::read(alloc, source.as_bytes().to_vec(alloc)?, &words)?)
+}
+
+/// What a finder gives, each as first token, last token and template.
+fn found(
+    alloc: Global,
+    templates: &[&str],
+    source: &str,
+    after: Option<Triple>,
+) -> Result<String, Fail> {
+    let set = set_of(alloc, templates)?;
+    let text = text_of(alloc, source)?;
+    let mut finder = match after {
+        Some(after) => Finder::resume(alloc, &set, &text, after)?,
+        None => Finder::new(alloc, &set, &text)?,
+    };
+    let mut shown = String::new(alloc);
+    while let Some(triple) = finder.next() {
+        write!(
+            shown,
+            "{}-{}-{} ",
+            triple.first, triple.last, triple.template
+        )?;
+    }
+    if finder.next().is_some() {
+        shown.push_str("and more")?;
+    }
+    Ok(shown)
+}
+
+#[test]
+fn gives_all_matches_in_order(rt: HostRuntime) -> Result<(), Fail> {
+    let table: [(&[&str], &str, &str); 10] = [
+        (&["foo bar"], "Foo   bar foo bar", "0-1-0 2-3-0 "),
+        (
+            &["x y", "x", "x y z", "y"],
+            "X y z x",
+            "0-0-1 0-1-0 0-2-2 1-1-3 3-3-1 ",
+        ),
+        (&["a", "A"], "a A", "0-0-0 0-0-1 1-1-0 1-1-1 "),
+        (&["a a"], "a a a", "0-1-0 1-2-0 "),
+        (&["a b", "ab", "a"], "ab a", "0-0-1 1-1-2 "),
+        (&["foo bar"], "foo", ""),
+        (&["foo"], " \n", ""),
+        (&[], "foo", ""),
+        // Two ways to match the longest range give it once.
+        (&[OF], "x of y of z", "0-2-0 0-3-0 0-4-0 1-4-0 2-4-0 "),
+        (&["y", OF], "x of y", "0-2-1 2-2-0 "),
+    ];
+    for (templates, source, wanted) in table {
+        let shown = found(rt.alloc(), templates, source, None)?;
+        assert_eq!(rt; shown.as_str(), wanted, "in {source}");
+    }
+    Ok(())
+}
+
+#[test]
+fn goes_on_after_any_triple(rt: HostRuntime) -> Result<(), Fail> {
+    let most = usize::MAX;
+    let table = [
+        ((0, 0, 0), "0-0-1 0-1-0 0-2-2 1-1-3 3-3-1 "),
+        ((0, 0, 1), "0-1-0 0-2-2 1-1-3 3-3-1 "),
+        ((0, 1, 0), "0-2-2 1-1-3 3-3-1 "),
+        ((0, 1, most), "0-2-2 1-1-3 3-3-1 "),
+        ((0, most, 0), "1-1-3 3-3-1 "),
+        ((1, 0, 2), "1-1-3 3-3-1 "),
+        ((2, 2, 0), "3-3-1 "),
+        ((3, 3, 1), ""),
+        ((4, 0, 0), ""),
+        ((most, most, most), ""),
+    ];
+    for ((first, last, template), wanted) in table {
+        let after = Triple {
+            first,
+            last,
+            template,
+        };
+        let shown = found(
+            rt.alloc(),
+            &["x y", "x", "x y z", "y"],
+            "X y z x",
+            Some(after),
+        )?;
+        assert_eq!(rt; shown.as_str(), wanted, "after {first}, {last}, {template}");
+    }
+    Ok(())
+}
+
+#[test]
+fn tells_whether_one_triple_is_a_match(rt: HostRuntime) -> Result<(), Fail> {
+    let set = set_of(rt.alloc(), &["foo bar"])?;
+    let text = text_of(rt.alloc(), "Foo   bar foo bar")?;
+    let most = usize::MAX;
+    let table = [
+        ((0, 1, 0), true),
+        ((2, 3, 0), true),
+        ((0, 3, 0), false),
+        ((1, 0, 0), false),
+        ((0, 1, 1), false),
+        ((3, 4, 0), false),
+        ((9, 9, 0), false),
+        ((most, most, most), false),
+    ];
+    for ((first, last, template), wanted) in table {
+        let triple = Triple {
+            first,
+            last,
+            template,
+        };
+        assert_eq!(rt;
+            is_match(rt.alloc(), &set, &text, triple)?,
+            wanted,
+            "{first}, {last}, {template}"
+        );
+    }
+    Ok(())
+}
+
+#[test]
+fn counts_steps_from_where_it_begins(rt: HostRuntime) -> Result<(), Fail> {
+    let set = set_of(rt.alloc(), &["z"])?;
+    let text = text_of(rt.alloc(), "abc abc abc z")?;
+    let mut all = Finder::new(rt.alloc(), &set, &text)?;
+    assert_eq!(rt; all.steps(), 0);
+    assert!(rt; all.next().is_some());
+    let after = Triple {
+        first: 3,
+        last: 2,
+        template: 0,
+    };
+    let mut later = Finder::resume(rt.alloc(), &set, &text, after)?;
+    assert!(rt; later.next().is_some());
+    assert!(rt; later.steps() < all.steps());
+    Ok(())
+}

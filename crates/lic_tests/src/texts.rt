@@ -1,0 +1,187 @@
+//! Tokens of texts, and letters of pieces of templates.
+
+use lic_norm::fault::TextFault;
+use lic_norm::pieces::{Next, piece};
+use lic_norm::refusal::MOST_BYTES;
+use lic_norm::text::Text;
+use lic_norm::words::Words;
+use std::alloc::Global;
+use std::fmt::Write;
+use std::test::Fail;
+
+/// The tokens of a text, each as its text and its span.
+fn show_tokens(alloc: Global, text: &Text) -> Result<String, Fail> {
+    let mut shown = String::new(alloc);
+    for i in 0..text.len() {
+        let token = text.token(i);
+        write!(
+            shown,
+            "{} {}-{}, ",
+            token.text, token.span.start, token.span.end
+        )?;
+    }
+    Ok(shown)
+}
+
+#[test]
+fn tokens_have_letters_and_bytes(rt: HostRuntime) -> Result<(), Fail> {
+    let table = [
+        ("", ""),
+        (" \n\u{3000}", ""),
+        ("/* Foo\n * bar\n */\n", "foo 3-6, bar 10-13, "),
+        (
+            "(c) 2012 X\n(c) the licensee\n",
+            "copyright 0-3, 2012 4-8, x 9-10, the 15-18, licensee 19-27, ",
+        ),
+        ("``AS IS''", "' 0-2, as 2-4, is 5-7, ' 7-9, "),
+        (
+            "\u{FB01}le STRASSE stra\u{DF}e",
+            "file 0-5, strasse 6-13, strasse 14-21, ",
+        ),
+        ("ab==cd", "ab 0-2, = 2-3, = 3-4, cd 4-6, "),
+        ("ab===cd", "ab 0-2, cd 5-7, "),
+        ("ab====cd", "ab 0-2, cd 6-8, "),
+        ("Copyright (C) \u{A9} 2001", "copyright 0-16, 2001 17-21, "),
+        (
+            "HTTPS://x.org",
+            "http 0-5, : 5-6, / 6-7, / 7-8, x 8-9, . 9-10, org 10-13, ",
+        ),
+        ("| foo bar |\n", "foo 2-5, bar 6-9, "),
+        ("| foo bar |\r\n", "foo 2-5, bar 6-9, "),
+        // A dropped character parts nothing, and a token's span goes over it.
+        ("so\u{AD}ft (\u{200B}c)", "soft 0-6, copyright 7-13, "),
+        // Signs are one across a separator and a line end, and a blank parts the signs of one in parentheses.
+        (
+            "x (c) === (c)\n( c)",
+            "x 0-1, copyright 2-13, ( 14-15, c 16-17, ) 17-18, ",
+        ),
+        // Runs come first: a separator of quotes is a blank, and mixed dashes are one.
+        (
+            "a\"\"\"b -\u{2014}- c\"'\"",
+            "a 0-1, b 4-5, - 6-11, c 12-13, ' 13-16, ",
+        ),
+    ];
+    let words = Words::none(rt.alloc());
+    for (source, wanted) in table {
+        let text = Text::read(rt.alloc(), source.as_bytes().to_vec(rt.alloc())?, &words)?;
+        let shown = show_tokens(rt.alloc(), &text)?;
+        assert_eq!(rt; shown.as_str(), wanted);
+        assert_eq!(rt; text.source(), source.as_bytes());
+    }
+    Ok(())
+}
+
+#[test]
+fn equivalent_words_are_one_token(rt: HostRuntime) -> Result<(), Fail> {
+    let words = Words::read(
+        rt.alloc(),
+        "sub-license,sublicense\nsub license,sublicense\n",
+    )?;
+    let source = "sub-license sublicense Sub License";
+    let text = Text::read(rt.alloc(), source.as_bytes().to_vec(rt.alloc())?, &words)?;
+    let shown = show_tokens(rt.alloc(), &text)?;
+    assert_eq!(rt;
+        shown.as_str(),
+        "sub-license 0-11, sub-license 12-22, sub-license 23-34, "
+    );
+    Ok(())
+}
+
+#[test]
+fn pieces_have_letters(rt: HostRuntime) -> Result<(), Fail> {
+    let table = [
+        ("", true, Next::LineEnd, ""),
+        (" \n ", false, Next::Var, " "),
+        ("The Foo, Bar", false, Next::Var, "the foo,bar"),
+        // An item is there before a variable, and not at the line's end.
+        ("1. ", true, Next::Var, " "),
+        ("1. ", true, Next::LineEnd, "1. "),
+        ("1.", true, Next::Var, "1."),
+        ("1. ", false, Next::Var, "1. "),
+        // A tail is taken at the line's end alone.
+        (" */", false, Next::LineEnd, " "),
+        (" */", false, Next::Var, " */"),
+        ("a */\nb */", false, Next::Optional, "a b*/"),
+        // A copyright sign before a year stays, and is an item before other text.
+        ("(c) ", true, Next::Var, "copyright "),
+        ("(c) ", true, Next::Optional, " "),
+        ("(c) ", false, Next::Optional, "copyright "),
+        // A lead is taken at a line's start alone.
+        ("# Foo", true, Next::LineEnd, " foo"),
+        ("# Foo", false, Next::LineEnd, "#foo"),
+        ("Foo\n# Bar", false, Next::LineEnd, "foo bar"),
+        ("Sub-License", false, Next::LineEnd, "sub-license"),
+        ("a Sub License ", false, Next::Var, "a sub-license "),
+    ];
+    let words = Words::read(rt.alloc(), "sub-license,sub license\n")?;
+    for (source, at_line_start, before, wanted) in table {
+        let letters = piece(rt.alloc(), source, at_line_start, before, &words)?;
+        assert_eq!(rt; letters.as_str(), wanted, "in {source:?}");
+    }
+    Ok(())
+}
+
+#[test]
+fn a_span_has_its_bytes(rt: HostRuntime) -> Result<(), Fail> {
+    let words = Words::none(rt.alloc());
+    let text = Text::read(rt.alloc(), "a Bé".as_bytes().to_vec(rt.alloc())?, &words)?;
+    assert_eq!(rt; text.len(), 2);
+    assert_eq!(rt; text.slice(text.token(1).span), "Bé".as_bytes());
+    Ok(())
+}
+
+#[test]
+fn refusals_have_texts(rt: HostRuntime) -> Result<(), Fail> {
+    let table: [(&[u8], &str); 4] = [
+        (&[0xFF], "X1 at 0: not UTF-8"),
+        (
+            &[b'f', b'o', b'o', b' ', b'b', b'a', b'r', b' ', 0xFF],
+            "X1 at 8: not UTF-8",
+        ),
+        (&[b'a', 0xC3], "X1 at 1: not UTF-8"),
+        (&[b'a', 0xE2, 0x82], "X1 at 1: not UTF-8"),
+    ];
+    let words = Words::none(rt.alloc());
+    for (source, wanted) in table {
+        let fault = Text::read(rt.alloc(), source.to_vec(rt.alloc())?, &words)
+            .err()
+            .ok_or("accepted")?;
+        assert_eq!(rt; format!(in rt.alloc(); "{fault}")?.as_str(), wanted);
+    }
+    assert_eq!(rt;
+        format!(in rt.alloc(); "{}", TextFault::TooLong)?.as_str(),
+        "X2: more than 67108864 bytes"
+    );
+    assert_eq!(rt;
+        format!(in rt.alloc(); "{}", TextFault::Memory)?.as_str(),
+        "X3: out of memory"
+    );
+    Ok(())
+}
+
+#[test]
+fn long_inputs_are_refused(rt: HostRuntime) -> Result<(), Fail> {
+    let table = [
+        (MOST_BYTES + 1, 0, b'a', TextFault::TooLong),
+        (MOST_BYTES + 1, MOST_BYTES, 0xFF, TextFault::TooLong),
+        (MOST_BYTES + 1, MOST_BYTES - 1, 0xC3, TextFault::TooLong),
+        (MOST_BYTES + 1, 5, 0xFF, TextFault::NotUtf8 { at: 5 }),
+        (
+            MOST_BYTES,
+            MOST_BYTES - 1,
+            0xC3,
+            TextFault::NotUtf8 { at: MOST_BYTES - 1 },
+        ),
+    ];
+    let words = Words::none(rt.alloc());
+    for (length, place, byte, wanted) in table {
+        let mut source = vec![in rt.alloc(); b'a'; length]?;
+        assert!(rt; place < source.len());
+        source[place] = byte;
+        let fault = Text::read(rt.alloc(), source, &words)
+            .err()
+            .ok_or("accepted")?;
+        assert_eq!(rt; fault, wanted);
+    }
+    Ok(())
+}

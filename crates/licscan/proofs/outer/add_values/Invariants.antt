@@ -1,9 +1,0 @@
-use Rattle.std.proofs.Common.{◌≡◌, ◌++◌, map, take}
-use Rattle.std.specs.List.{flat_map}
-use Rattle.lic_vars.specs.Views.{value_of}
-use Rattle.licscan.specs.Report.{value_line}
-use Rattle.licscan.proofs.outer.add_values.Given as goal
-
-abbrev pub invariant-loop-value : goal.invariant-loop-value
-invariant-loop-value l =
-    l.lines.items ≡ l.fn.lines.items ++ flat_map (value_line l.text.source) (map value_of (take l.value-index l.values))

@@ -1,9 +1,0 @@
-pub mod Arguments
-pub mod Stream
-pub mod Counts
-pub mod Causes
-pub mod Fields
-pub mod Report
-pub mod Gathering
-pub mod Checking
-pub mod Wanted
