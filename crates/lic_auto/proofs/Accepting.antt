@@ -13,7 +13,8 @@ use Rattle.lic_marks.proofs.Deciding.{is_described_sound, is_described_complete}
 use Rattle.lic_marks.specs.Runs.{Stands}
 use Rattle.lic_marks.specs.declared.run.Run as tree
 use Rattle.lic_auto.specs.Sets.{Known, words_of}
-use Rattle.lic_auto.specs.Runs.{StandsFor, set_of, live_of, is_dead}
+use Rattle.lic_auto.specs.Choices.{templates_of}
+use Rattle.lic_auto.specs.Runs.{StandsFor, live_of, is_dead}
 use Rattle.lic_auto.specs.declared.run.Run.{Run}
 use Rattle.lic_auto.proofs.Changing.{slice_get-some}
 
@@ -36,10 +37,10 @@ FailBefore runs live from i = (j : ℕ) → j < i → from ≤ get_or live j 0 �
 
 module _ (run : Run) (ts : List (List ℕ)) (s : StandsFor run ts) where
   -- as many runs as templates
-  same_count : length (set_of run) ≡ length run.runs.items
+  same_count : length (templates_of run.chosen) ≡ length run.runs.items
   same_count = omega (arith, run.count, run.runs.ok)
 
-  module _ (k : ℕ) (known : Known) (is : slice_get (set_of run) k ≡ Some known) where
+  module _ (k : ℕ) (known : Known) (is : slice_get (templates_of run.chosen) k ≡ Some known) where
     -- a template is not described where its run says so, if it is live
     pub none_described : ((j : ℕ) → j < length (live_of run) → get_or (live_of run) j 0 ≡ k → (r : tree.Run) → slice_get run.runs.items k ≡ Some r →
         Stands r (words_of known) ts → ¬ (IsDescribed (words_of known) ts)) → ¬ (IsDescribed (words_of known) ts)
@@ -47,7 +48,7 @@ module _ (run : Run) (ts : List (List ℕ)) (s : StandsFor run ts) where
       where
         not_live : ¬ (Contains (live_of run) k)
         not_live (j, inside, at) =
-            let (r, there) = slice_get-some run.runs.items (set_of run) k known same_count is in
+            let (r, there) = slice_get-some run.runs.items (templates_of run.chosen) k known same_count is in
             ∥∥₁_elim (s.live k known r (j, inside, at) is there) ⊥_prop
             (λ stands. fails j inside (get_or_default (live_of run) j 0 k inside ∙ at) r there stands described)
 
@@ -66,9 +67,9 @@ module _ (run : Run) (ts : List (List ℕ)) (s : StandsFor run ts) where
   -- a template is described where its run says so
   pub some_described : (n : ℕ) (r : tree.Run) (b : Bool) → Contains (live_of run) n → slice_get run.runs.items n ≡ Some r → b ≡ true →
       ((e : Expression) (us : List (List ℕ)) → Stands r e us → (IsTrue b → IsDescribed e us)) →
-      (known : Known) × (slice_get (set_of run) n ≡ Some known) × IsDescribed (words_of known) ts
+      (known : Known) × (slice_get (templates_of run.chosen) n ≡ Some known) × IsDescribed (words_of known) ts
   some_described n r b inside there passed accepts =
-      let (known, is) = slice_get-some (set_of run) run.runs.items n r (sym same_count) there in
+      let (known, is) = slice_get-some (templates_of run.chosen) run.runs.items n r (sym same_count) there in
       let decided : is_described (words_of known) ts ≡ true =
       ∥∥₁_elim (s.live n known r inside is there) (Bool-set _ _) (λ stands. is_described_complete (words_of known) ts (accepts (words_of known) ts stands passed)) in
       (known, is, is_described_sound (words_of known) ts decided)

@@ -17,11 +17,11 @@ use Rattle.lic_marks.specs.declared.node.Node.{Node}
 use Rattle.lic_auto.specs.Beginnings.{Begins}
 use Rattle.lic_auto.specs.Firsts.{IsFirst}
 use Rattle.lic_auto.specs.declared.first.Firsts.{Firsts}
-use Rattle.lic_auto.specs.Rising.{IsRising}
+use Rattle.lic_keys.specs.Rising.{IsRising}
 use Rattle.lic_auto.specs.Listing.{Grows}
 use Rattle.lic_auto.specs.Indexes.{listed, list_at, IsIndexOf, Adds}
 use Rattle.lic_auto.specs.declared.index.Index.{Index}
-use Rattle.lic_auto.proofs.RisingLemmas.{IsRising-more}
+use Rattle.lic_keys.proofs.RisingLemmas.{IsRising-more}
 use Rattle.lic_auto.proofs.Walking.{slice_get-push}
 
 -- no text

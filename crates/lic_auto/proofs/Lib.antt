@@ -1,5 +1,4 @@
 pub mod PlainLengths
-pub mod RisingLemmas
 pub mod Changing
 pub mod Heads
 mod HeadExamples
@@ -19,3 +18,4 @@ pub mod Copies
 pub mod Taken
 pub mod Ordering
 pub mod KnownTrees
+pub mod PickedLemmas

@@ -8,7 +8,7 @@ use Rattle.lic_marks.specs.Cores.{WordsOf}
 use Rattle.lic_marks.specs.Nodes.{core_of}
 use Rattle.lic_marks.specs.declared.node.Node.{Node}
 use Rattle.lic_auto.specs.Beginnings.{Begins}
-use Rattle.lic_auto.specs.Rising.{IsRising}
+use Rattle.lic_keys.specs.Rising.{IsRising}
 use Rattle.lic_auto.specs.declared.index.Index.{Index}
 
 -- the list at a place, or without one the list of all other heads

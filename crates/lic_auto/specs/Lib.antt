@@ -1,11 +1,12 @@
 pub mod Sets
-pub mod Rising
 pub mod Listing
 pub mod Heads
 pub mod Beginnings
 pub mod Firsts
 pub mod Indexes
+pub mod Picked
 pub mod Compiled
 pub mod Compiling
+pub mod Choices
 pub mod Walks
 pub mod Runs

@@ -1,6 +1,6 @@
 -- Lists of numbers that grow.
 use Rattle.std.specs.Prelude.{ℕ, ◌+◌, List, Contains}
-use Rattle.lic_auto.specs.Rising.{IsRising}
+use Rattle.lic_keys.specs.Rising.{IsRising}
 
 -- the number is put into the list, which keeps its numbers and its order
 pub record Grows (number : ℕ) (old new : List ℕ) : Type 0 where

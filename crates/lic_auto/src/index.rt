@@ -26,8 +26,8 @@ impl Index {
     ghost use Rattle.lic_auto.specs.Firsts.{IsFirst};
 
     /// An index of trees, each under its place.
-    pub fn build(alloc: Global, trees: &[Node]) -> Result<Index, AllocError>
-        ensures { IfOk result (λ index. IsIndexOf index trees.now) }
+    pub fn build(alloc: Global, trees: &[&Node]) -> Result<Index, AllocError>
+        ensures { IfOk result (λ index. IsIndexOf index (map (λ tree. tree.now) trees.now)) }
     {
         let mut index = Index {
             places: HashMap::new(alloc),

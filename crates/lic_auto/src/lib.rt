@@ -1,6 +1,7 @@
 //! All templates at once: which of them describe a list of tokens that comes token by token.
 #![tactic(auto)]
 
+mod chosen;
 pub mod compile;
 mod first;
 mod head;

@@ -1,56 +1,74 @@
 //! All templates of a set on their way over a list of tokens.
 
-ghost use Rattle.std.specs.Prelude.{◌≡◌, ◌<◌, ◌≤◌, ◌+◌, ◌*◌, ◌-◌, ◌^◌, ◌∷◌, ◌++◌, [], ℕ, List, false, length, take, vec_len, Some, IfOk, IsTrue};
+ghost use Rattle.std.specs.Prelude.{◌≡◌, ◌<◌, ◌≤◌, ◌+◌, ◌*◌, ◌-◌, ◌^◌, ◌∷◌, ◌++◌, [], ℕ, List, false, length, take, vec_len, Some, IfOk, IfSome, IsTrue, Contains};
 ghost use Rattle.std.specs.List.{slice_get};
 ghost use Rattle.std.specs.Str.{chars};
 ghost use Rattle.lic_words.specs.Describing.{IsDescribed};
 ghost use Rattle.lic_words.specs.Letters.{letters_in};
 ghost use Rattle.lic_phrases.specs.TokenTexts.{IsTokenText};
 ghost use Rattle.lic_auto.specs.Sets.{Known, words_of};
-ghost use Rattle.lic_auto.specs.Rising.{IsRising};
+ghost use Rattle.lic_keys.specs.Rising.{IsRising};
+ghost use Rattle.lic_auto.specs.Choices.{templates_of};
+ghost use Rattle.lic_auto.specs.Picked.{AreAll, IsLeastOf, OthersFail};
 ghost use Rattle.lic_auto.specs.Walks.{HaveTrees};
 
+use crate::chosen::{Chosen, all_numbers};
 use crate::set::Set;
 use crate::walk::{count_steps, enter, take_token};
 use lic_marks::run::Run as TreeRun;
 use std::alloc::{AllocError, Global};
 
-/// All templates of a set on their way over a list of tokens. It keeps no token, and takes memory in `new` alone.
+/// Templates of a set, all or some, on their way over a list of tokens. It keeps no token, and takes memory in
+/// its constructors alone, in proportion to its own templates.
 #[derive(Debug, Drop)]
 pub struct Run<'s> {
-    set: &'s Set,
-    // one for each template
+    chosen: Chosen<'s>,
+    // one for each template that was chosen
     runs: Vec<TreeRun<'s>>,
-    // the numbers of the live templates in rising order, and then anything
+    // the places of the live templates in rising order, and then anything
     live: Vec<usize>,
     live_count: usize,
     is_empty: bool,
     steps: u64,
-    ghost count: { vec_len runs ≡ length set.now },
-    ghost trees: { HaveTrees set.now runs.items },
-    ghost room: { vec_len live ≡ length set.now },
+    ghost count: { vec_len runs ≡ length (templates_of chosen) },
+    ghost trees: { HaveTrees (templates_of chosen) runs.items },
+    ghost room: { vec_len live ≡ length (templates_of chosen) },
     ghost within: { live_count ≤ vec_len live },
-    ghost rising: { IsRising (take live_count live.items) (length set.now) },
+    ghost rising: { IsRising (take live_count live.items) (length (templates_of chosen)) },
 }
 
 impl<'s> Run<'s> {
-    ghost use Rattle.lic_auto.specs.Runs.{StandsFor, set_of, steps_of, is_dead, IsLeastDescribing};
+    ghost use Rattle.lic_auto.specs.Runs.{StandsFor, set_of, numbers_of, steps_of, is_dead, IsLeastDescribing};
 
-    /// A run that stands for the empty list.
+    /// A run over all templates, which stands for the empty list.
     pub fn new(alloc: Global, set: &'s Set) -> Result<Run<'s>, AllocError>
         ensures stands { IfOk result (λ r. StandsFor r []) }
         ensures set { IfOk result (λ r. set_of r ≡ set.now) }
         ensures steps { IfOk result (λ r. steps_of r ≡ 0) }
+        ensures all { IfOk result (λ r. AreAll set.now (numbers_of r)) }
     {
-        let count = set.len();
+        let numbers = all_numbers(alloc, set.len())?;
+        Run::over(alloc, set, numbers)
+    }
+
+    /// A run over the templates of these numbers alone, which stands for the empty list.
+    pub fn over(alloc: Global, set: &'s Set, numbers: Vec<usize>) -> Result<Run<'s>, AllocError>
+        requires { IsRising numbers.items (length set.now) }
+        ensures stands { IfOk result (λ r. StandsFor r []) }
+        ensures set { IfOk result (λ r. set_of r ≡ set.now) }
+        ensures steps { IfOk result (λ r. steps_of r ≡ 0) }
+        ensures numbers { IfOk result (λ r. numbers_of r ≡ numbers.items) }
+    {
+        let chosen = Chosen::new(alloc, set, numbers)?;
+        let count = chosen.len();
         let live = vec![in alloc; 0usize; count]?;
         let mut runs = Vec::with_capacity(alloc, count)?;
         for k in 0..count {
-            let run = TreeRun::new(alloc, set.tree(k))?;
+            let run = TreeRun::new(alloc, chosen.tree(k))?;
             runs.push(run)?;
         }
         Ok(Run {
-            set,
+            chosen,
             runs,
             live,
             live_count: 0,
@@ -63,6 +81,7 @@ impl<'s> Run<'s> {
     pub fn reset(&mut self)
         ensures stands { StandsFor self.new [] }
         ensures set { set_of self.new ≡ set_of self.old }
+        ensures numbers { numbers_of self.new ≡ numbers_of self.old }
         ensures steps { (steps_of self.old ≤ steps_of self.new) × (steps_of self.new ≤ steps_of self.old + 2) }
     {
         self.live_count = 0;
@@ -77,6 +96,7 @@ impl<'s> Run<'s> {
         requires { IsTokenText text.now }
         ensures stands { (ts : List (List ℕ)) → StandsFor self.old ts → StandsFor self.new (ts ++ chars text.now ∷ []) }
         ensures set { set_of self.new ≡ set_of self.old }
+        ensures numbers { numbers_of self.new ≡ numbers_of self.old }
         ensures least { is_dead self.old ≡ false → steps_of self.new < 2 ^ 64 - 1 → steps_of self.old + letters_in (chars text.now) ≤ steps_of self.new }
         ensures most { steps_of self.new ≤ steps_of self.old + 2 * letters_in (chars text.now) }
         ensures never_fall { steps_of self.old ≤ steps_of self.new }
@@ -85,16 +105,29 @@ impl<'s> Run<'s> {
         let live = self.live.as_mut_slice();
         let mut count = self.live_count;
         if self.is_empty {
-            count = enter(self.set, runs, live, text);
+            count = enter(&self.chosen, runs, live, text);
         }
         self.live_count = take_token(runs, live, count, text);
         self.is_empty = false;
         self.steps = count_steps(self.steps, text);
     }
 
-    /// The least number, from this one on, of a template that describes the list of tokens.
+    /// The least number, from this one on, of a template of this run that describes the list of tokens.
     pub fn accepted(&self, from: usize) -> Option<usize>
-        ensures { (ts : List (List ℕ)) → StandsFor self.now ts → IsLeastDescribing (set_of self.now) ts from result }
+        ensures least { (ts : List (List ℕ)) → StandsFor self.now ts → IsLeastOf (set_of self.now) (numbers_of self.now) ts from result }
+
+        // Where no other template describes the list, it is the least of all.
+        ensures all { (ts : List (List ℕ)) → StandsFor self.now ts → OthersFail (set_of self.now) (numbers_of self.now) ts → IsLeastDescribing (set_of self.now) ts from result }
+    {
+        let first = self.chosen.place_from(from)?;
+        let place = self.accepted_place(first)?;
+        Some(self.chosen.number(place))
+    }
+
+    // The least place, from this one on, of a template that describes the list of tokens.
+    fn accepted_place(&self, from: usize) -> Option<usize>
+        ensures least { (ts : List (List ℕ)) → StandsFor self.now ts → IsLeastDescribing (templates_of self.now.chosen) ts from result }
+        ensures within { IfSome result (λ place. place < length (templates_of self.now.chosen)) }
     {
         let live = &self.live[..self.live_count];
         for number in live {
@@ -105,10 +138,10 @@ impl<'s> Run<'s> {
         None
     }
 
-    /// True only if no template describes a list that begins with that list of tokens.
+    /// True only if no template of this run describes a list that begins with that list of tokens.
     pub fn dead(&self) -> bool
         ensures value { result ≡ is_dead self.now }
-        ensures none { IsTrue result → (ts more : List (List ℕ)) (k : ℕ) (known : Known) → StandsFor self.now ts → slice_get (set_of self.now) k ≡ Some known
+        ensures none { IsTrue result → (ts more : List (List ℕ)) (k : ℕ) (known : Known) → StandsFor self.now ts → Contains (numbers_of self.now) k → slice_get (set_of self.now) k ≡ Some known
             → ¬ (IsDescribed (words_of known) (ts ++ more)) }
     {
         !self.is_empty & (self.live_count == 0)

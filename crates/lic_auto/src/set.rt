@@ -1,20 +1,19 @@
 //! Sets of templates.
 
-ghost use Rattle.std.specs.Prelude.{◌≡◌, ◌≢◌, ◌<◌, ◌≤◌, ◌↔◌, ◌∷◌, ℕ, List, map, length, slice_index_or, IfOk, IfSome, IfNone, OnOk, IsErrOf, IsTrue, Some, Contains};
+ghost use Rattle.std.specs.Prelude.{◌≡◌, ◌≢◌, ◌<◌, ◌≤◌, ◌↔◌, [], map, length, slice_index_or, IfOk, IfSome, IfNone, OnOk, IsErrOf, IsTrue, Some};
 ghost use Rattle.std.specs.String.{string_bytes};
 ghost use Rattle.std.specs.List.{slice_get, AllAdjacentBelow};
-ghost use Rattle.std.specs.Str.{chars};
-ghost use Rattle.lic_words.specs.Describing.{IsDescribed};
-ghost use Rattle.lic_phrases.specs.TokenTexts.{IsTokenText};
 ghost use Rattle.lic_marks.specs.Cores.{HasWordsOf};
 ghost use Rattle.lic_marks.specs.Nodes.{core_of, is_measured};
-ghost use Rattle.lic_auto.specs.Rising.{IsRising};
+ghost use Rattle.lic_keys.specs.Keys.{AreKeysOf};
+ghost use Rattle.lic_keys.specs.Looks.{HasTaken, keys_of};
 ghost use Rattle.lic_auto.specs.Sets.{RepeatsAt, all_known, words_of};
+ghost use Rattle.lic_auto.specs.Compiled.{parts_of};
 ghost use Rattle.lic_auto.specs.Compiling.{AllHaveWords};
 
 use crate::compile::compile;
-use crate::head::head_of;
-use crate::index::Index;
+use lic_keys::keys::Keys;
+use lic_keys::look::Look;
 use lic_marks::node::Node;
 use lic_markup::Template;
 use std::alloc::{AllocError, Global};
@@ -60,7 +59,7 @@ pub struct Named {
 pub struct Set {
     named: Vec<Named>,
     trees: Vec<Node>,
-    index: Index,
+    keys: Keys,
 }
 
 impl Model for Set {
@@ -76,7 +75,7 @@ impl Model for Set {
 
     ghost view = { λ a. all_known a.named.items };
 
-    ghost invariant = { λ a. IsCompiled (all_known a.named.items) a.trees.items a.index };
+    ghost invariant = { λ a. IsCompiled (all_known a.named.items) a.trees.items a.keys };
 }
 
 impl Set {
@@ -107,7 +106,7 @@ impl Set {
         Ok(Set::assemble(alloc, templates)?)
     }
 
-    // These templates in this order, with their trees and the index of these.
+    // These templates in this order, with their trees and keys.
     fn assemble(alloc: Global, templates: Vec<(String, Template)>) -> Result<Set, AllocError>
         ensures { IfOk result (λ set. set ≡ pairs_known templates.items) }
     {
@@ -116,12 +115,8 @@ impl Set {
             .map(|(id, template)| Named { id, template })
             .collect(alloc)?;
         let trees = compile_all(alloc, &named)?;
-        let index = Index::build(alloc, &trees)?;
-        Ok(Set {
-            named,
-            trees,
-            index,
-        })
+        let keys = build_keys(alloc, &named)?;
+        Ok(Set { named, trees, keys })
     }
 
     /// How many templates there are.
@@ -156,14 +151,12 @@ impl Set {
         &self.trees[k]
     }
 
-    /// The numbers of the templates that a text can enter whose first token this is, in rising order.
-    pub(crate) fn entered_by(&self, token: &str) -> &[usize]
-        requires { IsTokenText token.now }
-        ensures rising { IsRising result.now (length self.now) }
-        ensures rest { (k : ℕ) (known : Known) → slice_get self.now k ≡ Some known → ¬ (Contains result.now k)
-            → (more : List (List ℕ)) → ¬ (IsDescribed (words_of known) (chars token.now ∷ more)) }
+    /// A look for the templates that can describe a range of a text's tokens.
+    pub fn look(&self, alloc: Global) -> Look<'_>
+        ensures taken { HasTaken result [] }
+        ensures keys { AreKeysOf (parts_of self.now) (keys_of result) }
     {
-        self.index.entered_by(head_of(token))
+        Look::new(alloc, &self.keys)
     }
 }
 
@@ -176,6 +169,17 @@ fn compile_all(alloc: Global, named: &[Named]) -> Result<Vec<Node>, AllocError>
         trees.push(compile(alloc, one.template.parts())?)?;
     }
     Ok(trees)
+}
+
+// The keys of these templates.
+fn build_keys(alloc: Global, named: &[Named]) -> Result<Keys, AllocError>
+    ensures { IfOk result (λ keys. AreKeysOf (parts_of (all_known named.now)) keys) }
+{
+    let mut templates = Vec::with_capacity(alloc, named.len())?;
+    for one in named {
+        templates.push(&one.template)?;
+    }
+    Keys::build(alloc, &templates)
 }
 
 // The first place whose identifier is that of the place before.

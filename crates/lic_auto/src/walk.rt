@@ -7,25 +7,31 @@ ghost use Rattle.lic_words.specs.Describing.{IsDescribed};
 ghost use Rattle.lic_words.specs.Letters.{letters_in};
 ghost use Rattle.lic_phrases.specs.TokenTexts.{IsTokenText};
 ghost use Rattle.lic_auto.specs.Sets.{Known, words_of};
-ghost use Rattle.lic_auto.specs.Rising.{IsRising};
+ghost use Rattle.lic_keys.specs.Rising.{IsRising};
+ghost use Rattle.lic_auto.specs.Choices.{templates_of};
 ghost use Rattle.lic_auto.specs.Walks.{AreChanged, AreKept, Resets, Takes};
 
-use crate::set::Set;
+use crate::chosen::Chosen;
 use lic_marks::run::Run as TreeRun;
 
 /// Begins anew with the templates that a text with this first token can enter, and gives how many they are. Their numbers
 /// stand first in `live`.
-pub fn enter(set: &Set, runs: &mut [TreeRun<'_>], live: &mut [usize], token: &str) -> usize
+pub fn enter(
+    chosen: &Chosen<'_>,
+    runs: &mut [TreeRun<'_>],
+    live: &mut [usize],
+    token: &str,
+) -> usize
     requires token { IsTokenText token.now }
-    requires runs { length runs.old ≡ length set.now }
-    requires room { length live.old ≡ length set.now }
+    requires runs { length runs.old ≡ length (templates_of chosen.now) }
+    requires room { length live.old ≡ length (templates_of chosen.now) }
     ensures count { result ≤ length live.new }
-    ensures rising { IsRising (take result live.new) (length set.now) }
+    ensures rising { IsRising (take result live.new) (length (templates_of chosen.now)) }
     ensures begun { AreChanged Resets (take result live.new) runs.old runs.new }
-    ensures others { (k : ℕ) (known : Known) → ¬ (Contains (take result live.new) k) → slice_get set.now k ≡ Some known
+    ensures others { (k : ℕ) (known : Known) → ¬ (Contains (take result live.new) k) → slice_get (templates_of chosen.now) k ≡ Some known
         → (more : List (List ℕ)) → ¬ (IsDescribed (words_of known) (chars token.now ∷ more)) }
 {
-    let numbers = set.entered_by(token);
+    let numbers = chosen.entered_by(token);
     let count = numbers.len();
     reset_each(runs, numbers);
     live[..count].copy_from_slice(numbers);

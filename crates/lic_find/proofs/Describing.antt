@@ -21,19 +21,3 @@ module _ (set : List Known) (letters : List (List ℕ)) (from : ℕ) where
   pub none_describes : (j : ℕ) (known : Known) → IsLeastDescribing set letters from None → from ≤ j →
       slice_get set j ≡ Some known → IsDescribed (words_of known) letters → ⊥
   none_describes j known none low number described = none (j + 1) j known low (omega arith) number described
-
-  -- the answer is the given number exactly where its template describes the list
-  pub from_described : (r : Option ℕ) → IsLeastDescribing set letters from r → r ≡ Some from →
-      (known : Known) × (slice_get set from ≡ Some known) × IsDescribed (words_of known) letters
-  from_described r least same =
-      let found = least_describes from (subst (λ s. IsLeastDescribing set letters from s) same least) in (found.1, found.2, found.3)
-
-  pub describes_from : (r : Option ℕ) (known : Known) → IsLeastDescribing set letters from r → slice_get set from ≡ Some known →
-      IsDescribed (words_of known) letters → r ≡ Some from
-  describes_from None known none number described = absurd (none_describes from known none (omega arith) number described)
-  describes_from (Some k) known least number described =
-      let found = least_describes k least in
-      let low : from ≤ k = found.0 in
-      ⊎_elim (λ (less : from < k). absurd (least_passes k from known least (omega arith) less number described))
-      (λ (more : k ≤ from). let same : k ≡ from = omega arith in ap Some same)
-      (cases_lt from k)

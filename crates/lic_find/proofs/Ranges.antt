@@ -2,9 +2,10 @@
 use Rattle.std.proofs.Common.{◌≡◌, ℕ, ◌+◌, ◌-◌, ◌<◌, ◌≤◌, List, [], ◌∷◌, ◌++◌, length, get_or, map, take, drop, ap, ◌∙◌, arith, length-drop, get_or-drop}
 use Rattle.std.specs.List.{slice_range}
 use Rattle.std.specs.Str.{chars}
-use Rattle.std.proofs.lemmas.List.{take_more, map-append, drop-drop}
+use Rattle.std.proofs.lemmas.List.{take_all, take_more, map-append, drop-drop}
 use Rattle.std.proofs.Math.Seq.{take-add}
 use Rattle.lic_norm.specs.Tokens.{TokenValue}
+use Rattle.lic_find.specs.Matches.{all_letters}
 use Rattle.lic_find.specs.Walks.{letters_up_to}
 
 module _ {A : Type 0} (xs : List A) where
@@ -26,6 +27,9 @@ module _ {A : Type 0} (xs : List A) where
       ap (λ n. take n (drop a xs)) count ∙ take-add (b - a) (e - b) (drop a xs)
       ∙ ap (λ ys. take (b - a) (drop a xs) ++ take (e - b) ys) (drop-drop (b - a) a xs ∙ ap (λ n. drop n xs) place)
 
+  slice_range-all : slice_range xs 0 (length xs) ≡ xs
+  slice_range-all = let count : length xs - 0 ≡ length xs = omega arith in ap (λ n. take n xs) count ∙ take_all (length xs) xs (omega arith)
+
 module _ (tokens : List TokenValue) where
   pub letters_up_to-none : (first : ℕ) → letters_up_to tokens first first ≡ []
   letters_up_to-none first = ap (λ xs. map (λ t. chars t.text) xs) (slice_range-none tokens first)
@@ -36,6 +40,14 @@ module _ (tokens : List TokenValue) where
   letters_up_to-more first last d order within =
       ap (λ xs. map (λ t. chars t.text) xs) (slice_range-more tokens first last d order within)
       ∙ map-append (λ t. chars t.text) (slice_range tokens first last) (get_or tokens last d ∷ [])
+
+  pub letters_up_to-all : letters_up_to tokens 0 (length tokens) ≡ all_letters tokens
+  letters_up_to-all = ap (λ xs. map (λ t. chars t.text) xs) (slice_range-all tokens)
+
+  -- the letters of the first tokens, and of one more
+  pub all_letters-more : (n : ℕ) (d : TokenValue) → n < length tokens → all_letters (take (n + 1) tokens) ≡ all_letters (take n tokens) ++ chars (get_or tokens n d).text ∷ []
+  all_letters-more n d within =
+      ap (λ xs. map (λ t. chars t.text) xs) (take_more tokens n d within) ∙ map-append (λ t. chars t.text) (take n tokens) (get_or tokens n d ∷ [])
 
   pub letters_up_to-split : (first between end : ℕ) → first ≤ between → between ≤ end →
       letters_up_to tokens first end ≡ letters_up_to tokens first between ++ letters_up_to tokens between end

@@ -7,6 +7,10 @@ use Rattle.lic_words.specs.Describing.{IsDescribed}
 use Rattle.lic_auto.specs.Sets.{Known, words_of}
 use Rattle.lic_find.specs.declared.triple.Triple.{Triple}
 
+-- the letters of each token
+abbrev pub all_letters : List TokenValue → List (List ℕ)
+all_letters tokens = map (λ t. chars t.text) tokens
+
 -- the letters of each token from the first to the last
 abbrev pub letters_between : List TokenValue → ℕ → ℕ → List (List ℕ)
 letters_between tokens first last = map (λ t. chars t.text) (slice_range tokens first (last + 1))

@@ -3,10 +3,12 @@ use Rattle.std.specs.Prelude.{◌≡◌, ℕ, ◌+◌, ◌≤◌, List, length, 
 use Rattle.std.specs.List.{slice_range}
 use Rattle.std.specs.Str.{chars}
 use Rattle.lic_norm.specs.Tokens.{TokenValue}
+use Rattle.lic_keys.specs.Looks.{OthersDescribeNoRange}
+use Rattle.lic_auto.specs.Compiled.{parts_of}
 use Rattle.lic_auto.specs.Sets.{Known}
-use Rattle.lic_auto.specs.Runs.{StandsFor, set_of}
+use Rattle.lic_auto.specs.Runs.{StandsFor, numbers_of, set_of}
 use Rattle.lic_auto.specs.declared.run.Run.{Run}
-use Rattle.lic_find.specs.Matches.{IsMatch, IsAfter, Precedes}
+use Rattle.lic_find.specs.Matches.{IsMatch, IsAfter, Precedes, all_letters}
 use Rattle.lic_find.specs.declared.triple.Triple.{Triple}
 
 -- the letters of each token from the first up to the end, which is left out
@@ -18,12 +20,13 @@ abbrev pub BeginsAt : Option Triple → ℕ → Type 0
 BeginsAt None first = first ≡ 0
 BeginsAt (Some place) first = first ≡ place.first
 
--- The run stands for the tokens from `first` up to `end`. No match behind the place begins before `first`, or there
+-- The run stands for the tokens from `first` up to `end`, and templates that it does not go over describe no range of the text. No match behind the place begins before `first`, or there
 -- and with its last token before the last of these.
 pub record HasCome (set : List Known) (tokens : List TokenValue) (place : Option Triple) (run : Run) (first end : ℕ) : Type 0 where
   pub order : first ≤ end
   pub within : end ≤ length tokens
   pub templates : set_of run ≡ set
+  pub others : OthersDescribeNoRange (parts_of set) (numbers_of run) (all_letters tokens)
   pub stands : StandsFor run (letters_up_to tokens first end)
   pub reached : (t : Triple) → IsMatch set tokens t → IsAfter place t → (first ≤ t.first) × (t.first ≡ first → end ≤ t.last + 1)
 

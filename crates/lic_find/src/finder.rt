@@ -4,6 +4,7 @@ ghost use Rattle.lic_find.specs.Listing.{triple_at};
 ghost use Rattle.lic_find.specs.Matches.{AreMatches, IsAfter};
 ghost use Rattle.lic_find.specs.Walks.{BeginsAt, HasCome, IsNextOfRange, NoneBegins};
 
+use crate::kept::kept_templates;
 use crate::laws::matches_are_listed;
 use crate::triple::Triple;
 use lic_auto::run::Run;
@@ -16,7 +17,7 @@ use std::cmp::Ordering;
 /// in the order of triples.
 ///
 /// It keeps no list: from each first token a run goes over the tokens, until no template can describe a range that
-/// goes on. Giving matches takes no memory.
+/// goes on. The run is over the templates alone whose key stands in the text. Giving matches takes no memory.
 #[derive(Debug, Drop)]
 pub struct Finder<'a> {
     set: &'a Set,
@@ -70,7 +71,8 @@ impl<'a> Finder<'a> {
         ensures steps { IfOk result (λ f. steps_taken f ≡ 0) }
     {
         matches_are_listed();
-        let run = Run::new(alloc, set)?;
+        let kept = kept_templates(alloc, set, text)?;
+        let run = Run::over(alloc, set, kept)?;
         let first = first_token(place).min(text.len());
         Ok(Finder {
             set,

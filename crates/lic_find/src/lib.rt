@@ -2,6 +2,7 @@
 #![tactic(auto)]
 
 pub mod finder;
+mod kept;
 pub mod laws;
 pub mod matches;
 pub mod triple;

@@ -18,10 +18,11 @@ use std::alloc::{AllocError, Global};
 pub fn is_match(alloc: Global, set: &Set, text: &Text, triple: Triple) -> Result<bool, AllocError>
     ensures { IfOk result (λ yes. IsTrue yes ↔ IsMatch set.now text.now.tokens triple) }
 {
-    if triple.first > triple.last || triple.last >= text.len() {
+    if triple.first > triple.last || triple.last >= text.len() || triple.template >= set.len() {
         return Ok(false);
     }
-    let mut run = Run::new(alloc, set)?;
+    let only = Vec::from_slice(alloc, &[triple.template])?;
+    let mut run = Run::over(alloc, set, only)?;
     for number in triple.first..triple.last + 1 {
         run.push(text.token(number).text);
     }

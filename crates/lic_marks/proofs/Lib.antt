@@ -10,6 +10,7 @@ pub mod RowWalks
 pub mod JoinedRows
 pub mod Children
 pub mod Closing
+pub mod StateLemmas
 pub mod TokenRows
 pub mod Built
 pub mod Copied

@@ -5,5 +5,6 @@ pub mod Standing
 pub mod Rows
 pub mod Windows
 pub mod Nodes
+pub mod States
 pub mod Runs
 pub mod Deciding

@@ -4,9 +4,8 @@ use Rattle.lic_words.specs.Words.{blank}
 use Rattle.lic_words.specs.Expressions.{Expression}
 use Rattle.lic_words.specs.Spelling.{gapped, last_of}
 use Rattle.lic_marks.specs.Cores.{HasWordsOf}
-use Rattle.lic_marks.specs.Rows.{marks_of}
 use Rattle.lic_marks.specs.Nodes.{core_of}
-use Rattle.lic_marks.specs.Standing.{StandsFor}
+use Rattle.lic_marks.specs.States.{HasTaken}
 use Rattle.lic_marks.specs.declared.node.Node.{Node}
 use Rattle.lic_marks.specs.declared.run.Run.{Run}
 
@@ -14,10 +13,9 @@ use Rattle.lic_marks.specs.declared.run.Run.{Run}
 abbrev pub tree_of : Run → Node
 tree_of run = run.tree.now
 
--- The run's tree has the words of the expression, and its marks stand for the letters of the tokens.
+-- The run's tree has the words of the expression, and its state has taken the letters of the tokens.
 pub record Stands (run : Run) (e : Expression) (ts : List (List ℕ)) : Type 0 where
   pub words : HasWordsOf (core_of run.tree.now) e
   pub empty : IsTrue run.is_empty ↔ (ts ≡ [])
   pub last : run.last ≡ last_of blank ts
-  pub marks : StandsFor (core_of run.tree.now) run.entry (marks_of (core_of run.tree.now) run.at_once)
-      (marks_of (core_of run.tree.now) run.after_blanks) (gapped ts)
+  pub taken : HasTaken (core_of run.tree.now) run.state (gapped ts)

@@ -1,17 +1,17 @@
-//! Marked expressions: which words may still follow, and a machine that reads a list of tokens with them.
+//! Marked expressions, which are position automata (Glushkov): which words may still follow marked positions, and a
+//! machine that reads a list of tokens with them.
 #![tactic(auto)]
 
 pub mod build;
-pub mod close;
 mod copy;
 pub mod laws;
-pub mod moves;
+mod moves;
 pub mod node;
-pub mod push;
-pub mod row;
-pub mod rows;
+mod row;
+mod rows;
 pub mod run;
-pub mod shift;
+mod shift;
+pub mod state;
 pub mod test;
-pub mod walk;
-pub mod window;
+mod walk;
+mod window;

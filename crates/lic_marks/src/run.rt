@@ -1,33 +1,28 @@
 //! A compiled expression on its way over a list of tokens.
 
-ghost use Rattle.std.specs.Prelude.{◌≡◌, ℕ, ◌≤◌, ◌↔◌, IsTrue, IfOk, List, [], ◌∷◌, ◌++◌, length};
+ghost use Rattle.std.specs.Prelude.{◌≡◌, ℕ, ◌≤◌, ◌↔◌, IsTrue, IfOk, List, [], ◌∷◌, ◌++◌};
 ghost use Rattle.std.specs.Str.{chars};
 ghost use Rattle.lic_words.specs.Expressions.{Expression};
 ghost use Rattle.lic_words.specs.Describing.{IsDescribed};
 ghost use Rattle.lic_marks.specs.Cores.{HasWordsOf};
 ghost use Rattle.lic_marks.specs.Rows.{weight};
 ghost use Rattle.lic_marks.specs.Nodes.{core_of, is_measured};
+ghost use Rattle.lic_marks.specs.States.{has_gap, room_of};
 
-use crate::close::begin;
 use crate::node::Node;
-use crate::push::push_token;
-use crate::row::Row;
+use crate::state::State;
 use std::alloc::{AllocError, Global};
 
 /// A run of a compiled expression over a list of tokens. It keeps no token, and takes memory in `new` alone.
 #[derive(Drop, Debug)]
 pub struct Run<'a> {
     tree: &'a Node,
-    at_once: Row,
-    after_blanks: Row,
-    spare: Row,
-    entry: bool,
+    state: State,
     last: char,
     is_empty: bool,
     ghost measured: { IsTrue (is_measured tree.now) },
-    ghost fits: { weight (core_of tree.now) ≤ length at_once },
-    ghost after_blanks_len: { length after_blanks ≡ length at_once },
-    ghost spare_len: { length spare ≡ length at_once },
+    ghost fits: { weight (core_of tree.now) ≤ room_of state },
+    ghost open: { IsTrue (has_gap state) },
 }
 
 impl<'a> Run<'a> {
@@ -39,17 +34,11 @@ impl<'a> Run<'a> {
         ensures stands { (e : Expression) → HasWordsOf (core_of tree.now) e → IfOk result (λ run. Stands run e []) }
         ensures tree { IfOk result (λ run. tree_of run ≡ tree.now) }
     {
-        let weight = tree.weight();
-        let mut at_once = Row::new(alloc, weight)?;
-        let mut after_blanks = Row::new(alloc, weight)?;
-        let mut spare = Row::new(alloc, weight)?;
-        begin(tree, &mut at_once, &mut after_blanks, &mut spare);
+        let mut state = State::new(alloc, tree)?;
+        state.gap(tree);
         Ok(Run {
             tree,
-            at_once,
-            after_blanks,
-            spare,
-            entry: true,
+            state,
             last: ' ',
             is_empty: true,
         })
@@ -60,13 +49,8 @@ impl<'a> Run<'a> {
         ensures stands { (e : Expression) → HasWordsOf (core_of (tree_of self.old)) e → Stands self.new e [] }
         ensures tree { tree_of self.new ≡ tree_of self.old }
     {
-        begin(
-            self.tree,
-            &mut self.at_once,
-            &mut self.after_blanks,
-            &mut self.spare,
-        );
-        self.entry = true;
+        self.state.begin();
+        self.state.gap(self.tree);
         self.last = ' ';
         self.is_empty = true;
     }
@@ -76,17 +60,7 @@ impl<'a> Run<'a> {
         ensures stands { (e : Expression) (ts : List (List ℕ)) → Stands self.old e ts → Stands self.new e (ts ++ chars token.now ∷ []) }
         ensures tree { tree_of self.new ≡ tree_of self.old }
     {
-        let (entry, last) = push_token(
-            self.tree,
-            token,
-            &mut self.at_once,
-            &mut self.after_blanks,
-            &mut self.spare,
-            self.entry,
-            self.last,
-        );
-        self.entry = entry;
-        self.last = last;
+        self.last = self.state.token(self.tree, token, self.last);
         self.is_empty = false;
     }
 
@@ -94,9 +68,8 @@ impl<'a> Run<'a> {
     pub fn accepts(&self) -> bool
         ensures { (e : Expression) (ts : List (List ℕ)) → Stands self.now e ts → IsTrue result ↔ IsDescribed e ts }
     {
-        let at_once = self.at_once.leaves(self.tree, false, self.entry);
-        let after_blanks = self.after_blanks.leaves(self.tree, true, false);
-        !self.is_empty & (at_once | after_blanks)
+        let is_spelled = self.state.accepts(self.tree);
+        !self.is_empty & is_spelled
     }
 
     /// True only if the expression describes no list that begins with that list of tokens. It is true exactly where a
@@ -105,6 +78,6 @@ impl<'a> Run<'a> {
         ensures { (e : Expression) (ts : List (List ℕ)) → Stands self.now e ts → IsTrue result
             → (more : List (List ℕ)) → ¬ (IsDescribed e (ts ++ more)) }
     {
-        !self.entry & self.at_once.is_clear()
+        self.state.is_clear()
     }
 }

@@ -49,9 +49,15 @@ pub fn shift(
             shift_copies(test, *count, row, at, entry, reading, marked)
         }
         Node::UpTo { test, count } => shift_up_to(test, *count, row, at, entry, reading, marked),
-        Node::Cat { children, .. } => shift_all(children, row, at, entry, reading, marked),
+        Node::Cat { children, .. } => {
+            let (behind_all, _) = shift_row(children, row, at, entry, reading, marked);
+            behind_all
+        }
         Node::Alt { children, .. } => shift_any(children, row, at, entry, reading, marked),
-        Node::Front { children, .. } => shift_front(children, row, at, entry, reading, marked),
+        Node::Front { children, .. } => {
+            let (_, behind_any) = shift_row(children, row, at, entry, reading, marked);
+            behind_any
+        }
         Node::Plus { child, .. } => {
             let again = leaves(child, row, at, reading.live, reading.after, entry);
             shift(child, row, at, entry | again, reading, marked);
@@ -123,31 +129,36 @@ fn shift_up_to(
     out
 }
 
+// Takes the marks of one child after another over the letter. Answers whether one could leave before it behind all
+// children, and whether behind any of them or before the first.
 #[cycle(shift)]
-fn shift_all(
+fn shift_row(
     children: &[Node],
     row: &mut [bool],
     at: usize,
     entry: bool,
     reading: Reading,
     marked: &mut Window,
-) -> bool
+) -> (bool, bool)
     requires measured { IsTrue (list_all is_measured children.now) }
     requires room { at + weight (cat_all (map core_of children.now)) ≤ length row.old }
     requires live { IsClearOutside reading.live row.old at (at + weight (cat_all (map core_of children.now))) }
-    ensures shifts { Shifts (cat_all (map core_of children.now)) reading.after entry reading.letter row.old at row.new result }
+    ensures all { Shifts (cat_all (map core_of children.now)) reading.after entry reading.letter row.old at row.new result.0 }
+    ensures front { Shifts (any_front (map core_of children.now)) reading.after entry reading.letter row.old at row.new result.1 }
     ensures marked { TakesIn marked.old marked.new row.new at (at + weight (cat_all (map core_of children.now))) }
 {
     let mut place = at;
     let mut flag = entry;
+    let mut found = false;
     for child in children {
         if !flag && reading.live.to <= place {
-            return false;
+            return (false, found);
         }
+        found = found | flag;
         flag = shift(child, row, place, flag, reading, marked);
         place += child.weight();
     }
-    flag
+    (flag, found | flag)
 }
 
 #[cycle(shift)]
@@ -176,35 +187,6 @@ fn shift_any(
         place += child.weight();
     }
     found
-}
-
-#[cycle(shift)]
-fn shift_front(
-    children: &[Node],
-    row: &mut [bool],
-    at: usize,
-    entry: bool,
-    reading: Reading,
-    marked: &mut Window,
-) -> bool
-    requires measured { IsTrue (list_all is_measured children.now) }
-    requires room { at + weight (any_front (map core_of children.now)) ≤ length row.old }
-    requires live { IsClearOutside reading.live row.old at (at + weight (any_front (map core_of children.now))) }
-    ensures shifts { Shifts (any_front (map core_of children.now)) reading.after entry reading.letter row.old at row.new result }
-    ensures marked { TakesIn marked.old marked.new row.new at (at + weight (any_front (map core_of children.now))) }
-{
-    let mut place = at;
-    let mut flag = entry;
-    let mut found = false;
-    for child in children {
-        if !flag && reading.live.to <= place {
-            return found;
-        }
-        found = found | flag;
-        flag = shift(child, row, place, flag, reading, marked);
-        place += child.weight();
-    }
-    found | flag
 }
 
 // A tidy word neither begins nor ends with a blank, and has no two together.

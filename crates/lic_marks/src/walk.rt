@@ -31,9 +31,15 @@ pub fn leaves(node: &Node, row: &[bool], at: usize, live: Window, after: bool, e
         Node::One(_) => row[at],
         Node::Copies { count, .. } => leaves_copies(*count, row, at, after, entry),
         Node::UpTo { count, .. } => leaves_up_to(*count, row, at, live, after, entry),
-        Node::Cat { children, .. } => leaves_all(children, row, at, live, after, entry),
+        Node::Cat { children, .. } => {
+            let (behind_all, _) = leaves_row(children, row, at, live, after, entry);
+            behind_all
+        }
         Node::Alt { children, .. } => leaves_any(children, row, at, live, after, entry),
-        Node::Front { children, .. } => leaves_front(children, row, at, live, after, entry),
+        Node::Front { children, .. } => {
+            let (_, behind_any) = leaves_row(children, row, at, live, after, entry);
+            behind_any
+        }
         Node::Plus { child, .. } => leaves(child, row, at, live, after, entry),
         Node::Tidy {
             child,
@@ -113,30 +119,34 @@ pub fn leaves_up_to(
     }
 }
 
+// Whether one may stand behind all children, one after another, and whether behind any of them or before the first.
 #[cycle(leaves)]
-fn leaves_all(
+fn leaves_row(
     children: &[Node],
     row: &[bool],
     at: usize,
     live: Window,
     after: bool,
     entry: bool,
-) -> bool
+) -> (bool, bool)
     requires measured { IsTrue (list_all is_measured children.now) }
     requires room { at + weight (cat_all (map core_of children.now)) ≤ length row.now }
     requires live { IsClearOutside live row.now at (at + weight (cat_all (map core_of children.now))) }
-    ensures { Leaves (cat_all (map core_of children.now)) after entry row.now at result }
+    ensures all { Leaves (cat_all (map core_of children.now)) after entry row.now at result.0 }
+    ensures front { Leaves (any_front (map core_of children.now)) after entry row.now at result.1 }
 {
     let mut place = at;
     let mut flag = entry;
+    let mut found = false;
     for child in children {
         if !flag && live.to <= place {
-            return false;
+            return (false, found);
         }
+        found = found | flag;
         flag = leaves(child, row, place, live, after, flag);
         place += child.weight();
     }
-    flag
+    (flag, found | flag)
 }
 
 #[cycle(leaves)]
@@ -164,32 +174,4 @@ fn leaves_any(
         place += child.weight();
     }
     found
-}
-
-#[cycle(leaves)]
-fn leaves_front(
-    children: &[Node],
-    row: &[bool],
-    at: usize,
-    live: Window,
-    after: bool,
-    entry: bool,
-) -> bool
-    requires measured { IsTrue (list_all is_measured children.now) }
-    requires room { at + weight (any_front (map core_of children.now)) ≤ length row.now }
-    requires live { IsClearOutside live row.now at (at + weight (any_front (map core_of children.now))) }
-    ensures { Leaves (any_front (map core_of children.now)) after entry row.now at result }
-{
-    let mut place = at;
-    let mut flag = entry;
-    let mut found = false;
-    for child in children {
-        if !flag && live.to <= place {
-            return found;
-        }
-        found = found | flag;
-        flag = leaves(child, row, place, live, after, flag);
-        place += child.weight();
-    }
-    found | flag
 }

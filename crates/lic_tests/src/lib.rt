@@ -8,7 +8,11 @@ mod filters;
 #[cfg(test)]
 mod finder;
 #[cfg(test)]
+mod keys;
+#[cfg(test)]
 mod kinds;
+#[cfg(test)]
+mod letters;
 #[cfg(test)]
 mod lines;
 #[cfg(test)]

@@ -5,10 +5,10 @@ ghost use Rattle.lic_words.specs.Words.{blank};
 ghost use Rattle.lic_words.specs.Expressions.{Expression, tidy};
 ghost use Rattle.lic_words.specs.Spelling.{Gap, gap_of};
 ghost use Rattle.lic_marks.specs.Cores.{HasWordsOf, WordsOf};
-ghost use Rattle.lic_marks.specs.Marks.{no_marks};
-ghost use Rattle.lic_marks.specs.Rows.{weight, marks_of};
+ghost use Rattle.lic_marks.specs.Rows.{weight};
 ghost use Rattle.lic_marks.specs.Nodes.{core_of, is_measured};
-ghost use Rattle.lic_marks.specs.Standing.{After, StandsAtOnce};
+ghost use Rattle.lic_marks.specs.Standing.{After};
+ghost use Rattle.lic_marks.specs.States.{HasTaken, room_of};
 ghost use Rattle.lic_vars.specs.Moves.{Move, NoBlanks};
 ghost use Rattle.lic_vars.specs.Cuts.{gapped_of};
 ghost use Rattle.lic_vars.specs.Rows.{HasFlags, IsRow, IsSet, NoneBehind, NoneWithin};
@@ -20,8 +20,7 @@ use crate::letters::{Cut, Letter, may_follow};
 use crate::table::{Row, has};
 use lic_marks::build::is_nullable;
 use lic_marks::node::Node;
-use lic_marks::push::{Step, push_gap, push_letter};
-use lic_marks::row::Row as Marks;
+use lic_marks::state::State;
 use std::alloc::{AllocError, Global};
 
 /// How many letters the shortest word of the variable has from which the rest can finish. Behind the place `last` it cannot,
@@ -55,20 +54,8 @@ pub fn shortest(
     if !may_follow(letters[from.at], from.is_apart) {
         return Ok(None);
     }
-    let weight = tree.weight();
-    let mut at_once = Marks::new(alloc, weight)?;
-    let mut after_blanks = Marks::new(alloc, weight)?;
-    let mut spare = Marks::new(alloc, weight)?;
-    Ok(walk(
-        tree,
-        letters,
-        from.at,
-        rest,
-        last,
-        &mut at_once,
-        &mut after_blanks,
-        &mut spare,
-    ))
+    let mut state = State::new(alloc, tree)?;
+    Ok(walk(tree, letters, from.at, rest, last, &mut state))
 }
 
 // The least number of letters from `start` on, one or more, that are a word of the tree and behind which the rest can finish.
@@ -79,9 +66,7 @@ fn walk(
     start: usize,
     rest: &Row,
     last: usize,
-    at_once: &mut Marks,
-    after_blanks: &mut Marks,
-    spare: &mut Marks,
+    state: &mut State,
 ) -> Option<usize>
     requires measured { IsTrue (is_measured tree.now) }
     requires letters { NoBlanks (gapped_of letters.now) }
@@ -89,23 +74,21 @@ fn walk(
     requires last_within { last ≤ length letters.now }
     requires last { NoneWithin letters.now rest.now.close.items last }
     requires flags { HasFlags letters.now rest.now }
-    requires room { weight (core_of tree.now) ≤ length at_once.old }
-    requires after_blanks_len { length after_blanks.old ≡ length at_once.old }
-    requires spare_len { length spare.old ≡ length at_once.old }
-    requires clear { marks_of (core_of tree.now) at_once.old ≡ no_marks (core_of tree.now) }
+    requires room { weight (core_of tree.now) ≤ room_of state.old }
+    requires begun { HasTaken (core_of tree.now) state.old [] }
     ensures { MatchOption result (NoEndBelow (core_of tree.now) letters.now start rest.now.close.items (length letters.now + 1)) (IsFirstEnd (core_of tree.now) letters.now start rest.now.close.items) }
 {
-    take_letter(tree, letters[start], true, at_once, after_blanks, spare);
+    take_letter(tree, letters[start], true, state);
     for at in start + 1..last {
-        if is_end(tree, letters, at_once, rest, at) {
+        if is_end(tree, letters, state, rest, at) {
             return Some(at - start);
         }
-        if at_once.is_clear() {
+        if state.is_clear() {
             return None;
         }
-        take_letter(tree, letters[at], false, at_once, after_blanks, spare);
+        take_letter(tree, letters[at], false, state);
     }
-    if is_end(tree, letters, at_once, rest, last) {
+    if is_end(tree, letters, state, rest, last) {
         Some(last - start)
     } else {
         None
@@ -113,12 +96,12 @@ fn walk(
 }
 
 // Whether the letters up to `at` are a word, and the rest can finish behind them.
-fn is_end(tree: &Node, letters: &[Letter], at_once: &Marks, rest: &Row, at: usize) -> bool
+fn is_end(tree: &Node, letters: &[Letter], state: &State, rest: &Row, at: usize) -> bool
     requires measured { IsTrue (is_measured tree.now) }
-    requires room { weight (core_of tree.now) ≤ length at_once.now }
+    requires room { weight (core_of tree.now) ≤ room_of state.now }
     requires flags { HasFlags letters.now rest.now }
     requires within { at ≤ length letters.now }
-    ensures { (before : List (Gap × ℕ)) → StandsAtOnce (core_of tree.now) false (marks_of (core_of tree.now) at_once.now) before
+    ensures { (before : List (Gap × ℕ)) → HasTaken (core_of tree.now) state.now before
         → IsTrue result ↔ ((slice_get rest.now.close.items at ≡ Some true) × After (WordsOf (core_of tree.now)) before []) }
 {
     let cut = Cut {
@@ -128,38 +111,22 @@ fn is_end(tree: &Node, letters: &[Letter], at_once: &Marks, rest: &Row, at: usiz
     if !has(rest, letters, cut) {
         return false;
     }
-    at_once.leaves(tree, false, false)
+    state.ends(tree)
 }
 
-// One letter more. The gap before the first one does not count.
-fn take_letter(
-    tree: &Node,
-    letter: Letter,
-    is_first: bool,
-    at_once: &mut Marks,
-    after_blanks: &mut Marks,
-    spare: &mut Marks,
-)
+// Takes one letter more. The gap before the first one does not count.
+fn take_letter(tree: &Node, letter: Letter, is_first: bool, state: &mut State)
     requires measured { IsTrue (is_measured tree.now) }
-    requires room { weight (core_of tree.now) ≤ length at_once.old }
-    requires after_blanks_len { length after_blanks.old ≡ length at_once.old }
-    requires spare_len { length spare.old ≡ length at_once.old }
+    requires room { weight (core_of tree.now) ≤ room_of state.old }
     requires letter { letter.letter ≢ blank }
-    ensures at_once_len { length at_once.new ≡ length at_once.old }
-    ensures after_blanks_len { length after_blanks.new ≡ length after_blanks.old }
-    ensures spare_len { length spare.new ≡ length spare.old }
-    ensures stands { (before : List (Gap × ℕ)) → StandsAtOnce (core_of tree.now) is_first (marks_of (core_of tree.now) at_once.old) before
-        → StandsAtOnce (core_of tree.now) false (marks_of (core_of tree.now) at_once.new) (before ++ (gap_of (letter.is_apart && not is_first) letter.are_words, letter.letter) ∷ []) }
+    ensures room { room_of state.new ≡ room_of state.old }
+    ensures taken { (before : List (Gap × ℕ)) → HasTaken (core_of tree.now) state.old before
+        → HasTaken (core_of tree.now) state.new (before ++ (gap_of (letter.is_apart && not is_first) letter.are_words, letter.letter) ∷ []) }
 {
-    let is_apart = letter.is_apart & !is_first;
-    if is_apart {
-        push_gap(tree, at_once, after_blanks, spare, is_first, false);
-    }
-    let step = Step {
+    let letter = lic_words::letters::Letter {
         letter: letter.letter,
-        entry: is_first,
-        is_apart,
+        is_apart: letter.is_apart & !is_first,
         are_words: letter.are_words,
     };
-    push_letter(tree, at_once, after_blanks, spare, step);
+    state.letter(tree, letter);
 }

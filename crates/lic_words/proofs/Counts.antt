@@ -1,5 +1,5 @@
 -- How many letters are no blanks.
-use Rattle.std.proofs.Common.{◌≡◌, ℕ, suc, ◌+◌, Bool, true, false, not, ◌==◌, ◌∷◌, if◌then◌else◌, cond, count_by, refl, arith}
+use Rattle.std.proofs.Common.{◌≡◌, ℕ, suc, ◌+◌, Bool, true, false, not, ◌==◌, if◌then◌else◌, cond, count_by, refl, arith}
 use Rattle.std.proofs.lemmas.List.Recursion.{is_count_by}
 use Rattle.lic_words.specs.Words.{Word, blank}
 use Rattle.lic_words.specs.Letters.{letters_in}

@@ -3,3 +3,4 @@ pub mod Languages
 pub mod Spellings
 pub mod Tokens
 pub mod Counts
+pub mod ReadLetters

@@ -56,3 +56,8 @@ last_letter last (c ∷ rest) = if c == blank then last_letter last rest else la
 abbrev pub last_of : ℕ → List (List ℕ) → ℕ
 last_of last [] = last
 last_of last (t ∷ ts) = last_of (last_letter last t) ts
+
+-- whether a gap stands behind the last letter of a row: a blank ends it, or it is empty and a gap stands there already
+abbrev pub apart_after : Bool → List ℕ → Bool
+apart_after apart [] = apart
+apart_after apart (c ∷ rest) = apart_after (c == blank) rest

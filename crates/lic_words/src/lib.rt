@@ -1,5 +1,6 @@
 //! Words over letters and blanks, the expressions that stand for sets of them, and the words that
-//! spell a list of tokens: definitions and their laws.
+//! spell a list of tokens: definitions and their laws; and the letters of a token one by one.
 #![tactic(auto)]
 
 pub mod laws;
+pub mod letters;

@@ -4,7 +4,7 @@ use Rattle.std.proofs.Math.ListN.{set}
 use Rattle.std.proofs.lemmas.List.{take_more}
 use Rattle.std.proofs.lemmas.Option.{slice_get-get_or}
 use Rattle.lic_auto.specs.Walks.{AreChanged, Resets}
-use Rattle.lic_auto.proofs.RisingLemmas.{fresh_before}
+use Rattle.lic_keys.proofs.RisingLemmas.{fresh_before}
 use Rattle.lic_auto.proofs.Changing.{AreChanged-more}
 use Rattle.lic_auto.proofs.walk.reset_each.Goals as goal
 

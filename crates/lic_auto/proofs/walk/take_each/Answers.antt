@@ -4,9 +4,9 @@ use Rattle.std.specs.Str.{chars}
 use Rattle.std.proofs.Math.ListN.{set}
 use Rattle.std.proofs.lemmas.List.{take_more, take_more_set, length-set, get_or-set_other}
 use Rattle.std.proofs.lemmas.Option.{slice_get-get_or}
-use Rattle.lic_auto.specs.Rising.{IsRising}
+use Rattle.lic_keys.specs.Rising.{IsRising}
 use Rattle.lic_auto.specs.Walks.{AreChanged, AreKept, Takes, IsForGood}
-use Rattle.lic_auto.proofs.RisingLemmas.{fresh_before, less_before, IsRising-push, IsRising-more}
+use Rattle.lic_keys.proofs.RisingLemmas.{fresh_before, less_before, IsRising-push, IsRising-more}
 use Rattle.lic_auto.proofs.Changing.{AreChanged-more, AreKept-kept, AreKept-dropped}
 use Rattle.lic_auto.proofs.walk.take_each.Goals as goal
 use Rattle.lic_auto.proofs.walk.take_each.Goals.{then-not-is_dead, else-not-is_dead}

@@ -1,6 +1,6 @@
 use Rattle.std.proofs.Common.{◌≡◌, ℕ, ◌≤◌, take, get_or, length}
 use Rattle.std.specs.Str.{chars}
-use Rattle.lic_auto.specs.Rising.{IsRising}
+use Rattle.lic_keys.specs.Rising.{IsRising}
 use Rattle.lic_auto.specs.Walks.{AreChanged, AreKept, Takes}
 use Rattle.lic_auto.proofs.walk.take_each.Given as goal
 

@@ -1,6 +1,6 @@
 use Rattle.std.proofs.Common.{◌≡◌, ◌++◌, length, take, drop, sym, subst, arith}
 use Rattle.std.proofs.lemmas.List.{take-append-le}
-use Rattle.lic_auto.specs.Rising.{IsRising}
+use Rattle.lic_keys.specs.Rising.{IsRising}
 use Rattle.lic_auto.specs.Walks.{AreKept}
 use Rattle.lic_auto.proofs.walk.take_token.Goals as goal
 

@@ -1,12 +1,21 @@
 use Rattle.std.proofs.Common.{◌≡◌, ◌+◌, ◌<◌, ◌≤◌, ◌∷◌, ◌++◌, [], length, sym, ◌∙◌, subst, arith}
 use Rattle.std.specs.Str.{chars}
 use Rattle.lic_norm.specs.Tokens.{TokenValue}
-use Rattle.lic_auto.specs.Runs.{StandsFor, IsLeastDescribing}
+use Rattle.lic_auto.specs.Picked.{IsLeastOf}
+use Rattle.lic_auto.specs.Runs.{StandsFor, set_of}
 use Rattle.lic_find.specs.Matches.{letters_between}
 use Rattle.lic_find.specs.Walks.{letters_up_to}
 use Rattle.lic_find.proofs.Asking.{IsMatch-answer, is_number}
-use Rattle.lic_find.proofs.Ranges.{letters_up_to-more}
+use Rattle.lic_find.proofs.Ranges.{letters_up_to-more, letters_up_to-none}
 use Rattle.lic_find.proofs.matches.is_match.Goals as goal
+
+pub loop-number-init : goal.loop-number-init
+loop-number-init c =
+    record {
+      templates = c.in_ok-run.ensures.set;
+      numbers = c.in_ok-run.ensures.numbers ∙ c.in_ok-only.ensures.items;
+      stands = subst (StandsFor c.in_ok-run.run') (sym (letters_up_to-none c.args.text.now.tokens c.args.triple.first)) c.in_ok-run.ensures.stands;
+    }
 
 pub loop-number-preserved : goal.loop-number-preserved
 loop-number-preserved c =
@@ -17,6 +26,7 @@ loop-number-preserved c =
     let within : number < length tokens = omega arith in
     record {
       templates = c.push.ensures.set ∙ c.loop-number.invariant.templates;
+      numbers = c.push.ensures.numbers ∙ c.loop-number.invariant.numbers;
       stands = subst (StandsFor c.push.new.self) (sym (letters_up_to-more tokens first number token c.loop-number.auto.number within))
           (subst (λ text. StandsFor c.push.new.self (letters_up_to tokens first number ++ chars text ∷ [])) (c.token.ensures.text token)
           (c.push.ensures.stands (letters_up_to tokens first number) c.loop-number.invariant.stands));
@@ -31,7 +41,8 @@ returns c =
     let whole : c.loop-number.number ≡ triple.last + 1 = omega arith in
     let stands : StandsFor c.loop-number.run (letters_between tokens triple.first triple.last) =
     subst (λ n. StandsFor c.loop-number.run (letters_up_to tokens triple.first n)) whole c.loop-number.invariant.stands in
-    let least = c.accepted.ensures (letters_between tokens triple.first triple.last) stands in
+    let least = c.accepted.ensures.least (letters_between tokens triple.first triple.last) stands in
     IsMatch-answer c.args.set.now tokens triple c.accepted.result _ order within
-    (subst (λ s. IsLeastDescribing s (letters_between tokens triple.first triple.last) triple.template c.accepted.result) c.loop-number.invariant.templates least)
+    (subst (λ s. IsLeastOf s (triple.template ∷ []) (letters_between tokens triple.first triple.last) triple.template c.accepted.result) c.loop-number.invariant.templates
+    (subst (λ ns. IsLeastOf (set_of c.loop-number.run) ns (letters_between tokens triple.first triple.last) triple.template c.accepted.result) c.loop-number.invariant.numbers least))
     (is_number c.accepted.result triple.template c.eq.result c.eq.ensures)

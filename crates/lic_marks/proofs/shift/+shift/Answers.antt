@@ -7,6 +7,7 @@ use Rattle.lic_marks.specs.declared.node.Node.{the_lemmas}
 use Rattle.lic_marks.proofs.Nodes.{core_of-One, core_of-Copies, core_of-UpTo, core_of-Cat, core_of-Alt, core_of-Front, core_of-Plus, core_of-Tidy, children-Cat, children-Alt, children-Front, child-Plus, child-Tidy, nullable-Tidy}
 use Rattle.lic_marks.proofs.LetterWalks.{weight-copies, weight-up_to}
 use Rattle.lic_marks.proofs.RowWalks.{Shifts-empty, Shifts-none, Shifts-one, Shifts-cat, Shifts-alt, Shifts-front, Shifts-plus, Shifts-tidy-clear}
+use Rattle.lic_marks.proofs.Built.{weight-any_front}
 use Rattle.lic_marks.proofs.Children.{cores_more, cores_done, measured_at}
 use Rattle.lic_marks.proofs.Answers.{or_none, or_again}
 use Rattle.lic_marks.proofs.Taken.{clear_all, clear_part, TakesIn-clear, TakesIn-more}
@@ -24,8 +25,8 @@ shift-returns-then-not-meets t c =
       marked = TakesIn-clear _ _ _ _ clear;
     }
 
-pub shift-shift_all-requires : goal.shift-shift_all-requires
-shift-shift_all-requires t c = (
+pub shift-shift_row-behind_all-requires : goal.shift-shift_row-behind_all-requires
+shift-shift_row-behind_all-requires t c = (
   search (rules, the_lemmas),
   (
     rw c.deref-in-Cat.ensures.value (children-Cat _ _ (rw c.in-Cat.is at c.requires.measured)),
@@ -48,14 +49,14 @@ shift-shift_any-requires t c = (
   ),
 )
 
-pub shift-shift_front-requires : goal.shift-shift_front-requires
-shift-shift_front-requires t c = (
+pub shift-shift_row-behind_any-requires : goal.shift-shift_row-behind_any-requires
+shift-shift_row-behind_any-requires t c = (
   search (rules, the_lemmas),
   (
     rw c.deref-in-Front.ensures.value (children-Front _ _ (rw c.in-Front.is at c.requires.measured)),
     (
-      rw c.deref-in-Front.ensures.value (rw (c.in-Front.is, core_of-Front) at c.requires.room),
-      rw c.deref-in-Front.ensures.value (rw (c.in-Front.is, core_of-Front) at c.requires.live),
+      rw (c.deref-in-Front.ensures.value, weight-any_front) (rw (c.in-Front.is, core_of-Front) at c.requires.room),
+      rw (c.deref-in-Front.ensures.value, weight-any_front) (rw (c.in-Front.is, core_of-Front) at c.requires.live),
     ),
   ),
 )
@@ -134,6 +135,10 @@ shift-returns-in-Plus t c = record {
   marked = rw (c.in-Plus.is, core_of-Plus) (rw c.deref-in-Plus-2.ensures at c.shift.ensures.marked);
 }
 
+pub shift-returns-in-Front-clause-marked : goal.shift-returns-in-Front-clause-marked
+shift-returns-in-Front-clause-marked t c =
+    rw (c.in-Front.is, core_of-Front) (rw (c.deref-in-Front.ensures.value, weight-any_front) at c.shift_row-behind_any.ensures.marked)
+
 pub shift-returns-in-Tidy : goal.shift-returns-in-Tidy
 shift-returns-in-Tidy t c = record {
   shifts = rw (c.in-Tidy.is, core_of-Tidy) (rw c.deref-in-Tidy.ensures at c.shift_tidy.ensures.shifts);
@@ -150,8 +155,8 @@ shift_tidy-returns-then-reading t c =
           flags_cleared _ _ _ _ (omega arith) (omega (arith, next, c.requires.room)) c.clear.ensures k low (omega (arith, next, high)));
     }
 
-pub shift_all-shift-flag-requires : goal.shift_all-shift-flag-requires
-shift_all-shift-flag-requires t c =
+pub shift_row-shift-flag-requires : goal.shift_row-shift-flag-requires
+shift_row-shift-flag-requires t c =
     let more = ap cat_all (cores_more c.args.children.now c.loop-child.child-index _ c.loop-child-test.true c.child-item.is) in
     let rest = rw more at c.loop-child.invariant.rest in (
       search (rules, the_lemmas),
@@ -164,8 +169,9 @@ shift_all-shift-flag-requires t c =
       ),
     )
 
-pub shift_all-loop-child-preserved : goal.shift_all-loop-child-preserved
-shift_all-loop-child-preserved t c =
+pub shift_row-loop-child-preserved : goal.shift_row-loop-child-preserved
+shift_row-loop-child-preserved t c =
+    let mores = ap any_front (cores_more c.args.children.now c.loop-child.child-index _ c.loop-child-test.true c.child-item.is) in
     let more = ap cat_all (cores_more c.args.children.now c.loop-child.child-index _ c.loop-child-test.true c.child-item.is) in
     let rest = rw more at c.loop-child.invariant.rest in
     rw c.weight-place.ensures record {
@@ -174,25 +180,33 @@ shift_all-loop-child-preserved t c =
       live = clear_behind _ _ _ _ _ _ _ _ (omega (arith, rest)) c.shift-flag.ensures.shifts _ _ c.loop-child.invariant.live (omega (arith, rest));
       taken = TakesIn-walk _ _ _ _ _ _ _ _ (omega (arith, rest)) c.shift-flag.ensures.shifts _ _ _ _ c.loop-child.invariant.taken c.shift-flag.ensures.marked;
       walk = λ new y q. c.loop-child.invariant.walk new y (rw more (Shifts-cat _ _ _ _ _ _ _ _ _ _ _ (omega (arith, rest)) c.shift-flag.ensures.shifts q));
+      front = λ new y q. rw (← or_again c.loop-child.found c.loop-child.flag y)
+          (c.loop-child.invariant.front new (c.loop-child.flag || y)
+          (rw mores (Shifts-front _ _ _ _ _ _ _ _ _ _ _ (omega (arith, rest)) c.shift-flag.ensures.shifts q)));
     }
 
-pub shift_all-returns : goal.shift_all-returns
-shift_all-returns t c =
+pub shift_row-returns : goal.shift_row-returns
+shift_row-returns t c =
     let done = cores_done c.args.children.now c.loop-child.child-index c.loop-child-test.false in
     let rest = rw done at c.loop-child.invariant.rest in
     let end : c.loop-child.place ≡ c.args.at + weight (cat_all (map core_of c.args.children.now)) = omega (arith, rest) in
     record {
-      shifts = c.loop-child.invariant.walk c.loop-child.row c.loop-child.flag (rw done (Shifts-empty _ _ _ _ _));
+      all = c.loop-child.invariant.walk c.loop-child.row c.loop-child.flag (rw done (Shifts-empty _ _ _ _ _));
+      front = c.loop-child.invariant.front c.loop-child.row c.loop-child.flag (rw done (Shifts-empty _ _ _ _ _));
       marked = rw end at c.loop-child.invariant.taken;
     }
 
-pub shift_all-returns-then-reading-place : goal.shift_all-returns-then-reading-place
-shift_all-returns-then-reading-place t c =
+pub shift_row-returns-then-reading-place : goal.shift_row-returns-then-reading-place
+shift_row-returns-then-reading-place t c =
+    let same = weight-any_front (map core_of (drop c.loop-child.child-index c.args.children.now)) in
     let clear = clear_from _ _ _ _ c.loop-child.invariant.live c.if-reading-place.true in
     let untouched = Shifts-untouched (cat_all (map core_of (drop c.loop-child.child-index c.args.children.now))) c.args.reading.after c.loop-child.row c.loop-child.place
     (omega (arith, c.loop-child.invariant.rest)) (λ k low high. clear k low (omega (arith, high, c.loop-child.invariant.rest))) c.args.reading.letter in
+    let fronts = Shifts-untouched (any_front (map core_of (drop c.loop-child.child-index c.args.children.now))) c.args.reading.after c.loop-child.row c.loop-child.place
+    (omega (arith, c.loop-child.invariant.rest, same)) (λ k low high. clear k low (omega (arith, high, c.loop-child.invariant.rest, same))) c.args.reading.letter in
     record {
-      shifts = c.loop-child.invariant.walk c.loop-child.row false (rw c.if-not-flag.true untouched);
+      all = c.loop-child.invariant.walk c.loop-child.row false (rw c.if-not-flag.true untouched);
+      front = rw (← or_none c.loop-child.found) (c.loop-child.invariant.front c.loop-child.row false (rw c.if-not-flag.true fronts));
       marked = TakesIn-more _ _ _ _ _ _ c.loop-child.invariant.taken (omega (arith, c.loop-child.invariant.rest)) clear;
     }
 
@@ -241,53 +255,5 @@ shift_any-returns-then-reading-place t c =
     (omega (arith, c.loop-child.invariant.rest)) (λ k low high. clear k low (omega (arith, high, c.loop-child.invariant.rest))) c.args.reading.letter in
     record {
       shifts = rw (← or_none c.loop-child.found) (c.loop-child.invariant.walk c.loop-child.row false (rw c.if-not-entry.true untouched));
-      marked = TakesIn-more _ _ _ _ _ _ c.loop-child.invariant.taken (omega (arith, c.loop-child.invariant.rest)) clear;
-    }
-
-pub shift_front-shift-flag-requires : goal.shift_front-shift-flag-requires
-shift_front-shift-flag-requires t c =
-    let more = ap any_front (cores_more c.args.children.now c.loop-child.child-index _ c.loop-child-test.true c.child-item.is) in
-    let rest = rw more at c.loop-child.invariant.rest in (
-      search (rules, the_lemmas),
-      (
-        measured_at c.args.children.now c.loop-child.child-index _ c.requires.measured c.loop-child-test.true c.child-item.is,
-        (
-          omega (arith, rest, c.requires.room),
-          clear_part _ _ _ _ _ _ c.loop-child.invariant.live (omega arith) (omega (arith, rest)),
-        ),
-      ),
-    )
-
-pub shift_front-loop-child-preserved : goal.shift_front-loop-child-preserved
-shift_front-loop-child-preserved t c =
-    let more = ap any_front (cores_more c.args.children.now c.loop-child.child-index _ c.loop-child-test.true c.child-item.is) in
-    let rest = rw more at c.loop-child.invariant.rest in
-    rw c.weight-place.ensures record {
-      begun = omega (arith, c.loop-child.invariant.begun);
-      rest = omega (arith, rest);
-      live = clear_behind _ _ _ _ _ _ _ _ (omega (arith, rest)) c.shift-flag.ensures.shifts _ _ c.loop-child.invariant.live (omega (arith, rest));
-      taken = TakesIn-walk _ _ _ _ _ _ _ _ (omega (arith, rest)) c.shift-flag.ensures.shifts _ _ _ _ c.loop-child.invariant.taken c.shift-flag.ensures.marked;
-      walk = λ new y q. rw (← or_again c.loop-child.found c.loop-child.flag y)
-          (c.loop-child.invariant.walk new (c.loop-child.flag || y)
-          (rw more (Shifts-front _ _ _ _ _ _ _ _ _ _ _ (omega (arith, rest)) c.shift-flag.ensures.shifts q)));
-    }
-
-pub shift_front-returns : goal.shift_front-returns
-shift_front-returns t c =
-    let done = cores_done c.args.children.now c.loop-child.child-index c.loop-child-test.false in
-    let rest = rw done at c.loop-child.invariant.rest in
-    let end : c.loop-child.place ≡ c.args.at + weight (any_front (map core_of c.args.children.now)) = omega (arith, rest) in
-    record {
-      shifts = c.loop-child.invariant.walk c.loop-child.row c.loop-child.flag (rw done (Shifts-empty _ _ _ _ _));
-      marked = rw end at c.loop-child.invariant.taken;
-    }
-
-pub shift_front-returns-then-reading-place : goal.shift_front-returns-then-reading-place
-shift_front-returns-then-reading-place t c =
-    let clear = clear_from _ _ _ _ c.loop-child.invariant.live c.if-reading-place.true in
-    let untouched = Shifts-untouched (any_front (map core_of (drop c.loop-child.child-index c.args.children.now))) c.args.reading.after c.loop-child.row c.loop-child.place
-    (omega (arith, c.loop-child.invariant.rest)) (λ k low high. clear k low (omega (arith, high, c.loop-child.invariant.rest))) c.args.reading.letter in
-    record {
-      shifts = rw (← or_none c.loop-child.found) (c.loop-child.invariant.walk c.loop-child.row false (rw c.if-not-flag.true untouched));
       marked = TakesIn-more _ _ _ _ _ _ c.loop-child.invariant.taken (omega (arith, c.loop-child.invariant.rest)) clear;
     }

@@ -6,14 +6,16 @@ use Rattle.lic_marks.specs.Nodes.{core_of}
 use Rattle.lic_marks.proofs.shift.+shift.Given as goal
 
 -- whatever takes the rest over the letter ends the whole walk
-abbrev pub invariant-shift_all-loop-child : goal.invariant-shift_all-loop-child
-invariant-shift_all-loop-child l = record {
+abbrev pub invariant-shift_row-loop-child : goal.invariant-shift_row-loop-child
+invariant-shift_row-loop-child l = record {
   begun : l.at ≤ l.place;
   rest : l.place + weight (cat_all (map core_of (drop l.child-index l.children))) ≡ l.at + weight (cat_all (map core_of l.children));
   live : IsClearOutside l.reading.live l.row l.place (l.at + weight (cat_all (map core_of l.children)));
   taken : TakesIn l.initial.marked l.marked l.row l.at l.place;
   walk : (new : List Bool) (y : Bool) → Shifts (cat_all (map core_of (drop l.child-index l.children))) l.reading.after l.flag l.reading.letter l.row l.place new y →
       Shifts (cat_all (map core_of l.children)) l.reading.after l.entry l.reading.letter l.initial.row l.at new y;
+  front : (new : List Bool) (y : Bool) → Shifts (any_front (map core_of (drop l.child-index l.children))) l.reading.after l.flag l.reading.letter l.row l.place new y →
+      Shifts (any_front (map core_of l.children)) l.reading.after l.entry l.reading.letter l.initial.row l.at new (l.found || y);
 }
 
 abbrev pub invariant-shift_any-loop-child : goal.invariant-shift_any-loop-child
@@ -24,14 +26,4 @@ invariant-shift_any-loop-child l = record {
   taken : TakesIn l.initial.marked l.marked l.row l.at l.place;
   walk : (new : List Bool) (y : Bool) → Shifts (alt_all (map core_of (drop l.child-index l.children))) l.reading.after l.entry l.reading.letter l.row l.place new y →
       Shifts (alt_all (map core_of l.children)) l.reading.after l.entry l.reading.letter l.initial.row l.at new (l.found || y);
-}
-
-abbrev pub invariant-shift_front-loop-child : goal.invariant-shift_front-loop-child
-invariant-shift_front-loop-child l = record {
-  begun : l.at ≤ l.place;
-  rest : l.place + weight (any_front (map core_of (drop l.child-index l.children))) ≡ l.at + weight (any_front (map core_of l.children));
-  live : IsClearOutside l.reading.live l.row l.place (l.at + weight (any_front (map core_of l.children)));
-  taken : TakesIn l.initial.marked l.marked l.row l.at l.place;
-  walk : (new : List Bool) (y : Bool) → Shifts (any_front (map core_of (drop l.child-index l.children))) l.reading.after l.flag l.reading.letter l.row l.place new y →
-      Shifts (any_front (map core_of l.children)) l.reading.after l.entry l.reading.letter l.initial.row l.at new (l.found || y);
 }

@@ -1,4 +1,4 @@
-use Rattle.std.proofs.Common.{◌+◌, ◌<◌, ◌||◌, false, refl, ap, rules, arith}
+use Rattle.std.proofs.Common.{◌+◌, ◌<◌, ◌||◌, false, refl, ap, rules, arith, map, drop}
 use Rattle.lic_marks.specs.Cores.{cat_all, alt_all, any_front}
 use Rattle.lic_marks.specs.Rows.{weight}
 use Rattle.lic_marks.specs.Nodes.{core_of, passes}
@@ -6,6 +6,7 @@ use Rattle.lic_marks.specs.declared.node.Node.{the_lemmas}
 use Rattle.lic_marks.proofs.Nodes.{core_of-One, core_of-Copies, core_of-UpTo, core_of-Cat, core_of-Alt, core_of-Front, core_of-Plus, core_of-Tidy, children-Cat, children-Alt, children-Front, child-Plus, child-Tidy, nullable-Tidy}
 use Rattle.lic_marks.proofs.LetterWalks.{weight-copies, weight-up_to}
 use Rattle.lic_marks.proofs.RowWalks.{Leaves-empty, Leaves-none, Leaves-one, Leaves-cat, Leaves-alt, Leaves-plus, Leaves-tidy, Leaves-tidy-after, Leaves-front}
+use Rattle.lic_marks.proofs.Built.{weight-any_front}
 use Rattle.lic_marks.proofs.Children.{cores_more, cores_done, measured_at}
 use Rattle.lic_marks.proofs.Answers.{or_none, or_again}
 use Rattle.lic_marks.proofs.Taken.{clear_all, clear_part}
@@ -18,8 +19,8 @@ leaves-returns-then-not-meets t c =
     λ p. let meets = c.meets.ensures.1 (omega (arith, p.0, c.weight.ensures), p.1) in cc in
     rw c.if-not-entry.true (Leaves-clear _ c.args.after c.args.row.now c.args.at c.requires.room (clear_all _ _ _ _ c.requires.live apart))
 
-pub leaves-leaves_all-requires : goal.leaves-leaves_all-requires
-leaves-leaves_all-requires t c = (
+pub leaves-leaves_row-behind_all-requires : goal.leaves-leaves_row-behind_all-requires
+leaves-leaves_row-behind_all-requires t c = (
   search (rules, the_lemmas),
   (
     rw c.deref-in-Cat.ensures.value (children-Cat _ _ (rw c.in-Cat.is at c.requires.measured)),
@@ -42,14 +43,14 @@ leaves-leaves_any-requires t c = (
   ),
 )
 
-pub leaves-leaves_front-requires : goal.leaves-leaves_front-requires
-leaves-leaves_front-requires t c = (
+pub leaves-leaves_row-behind_any-requires : goal.leaves-leaves_row-behind_any-requires
+leaves-leaves_row-behind_any-requires t c = (
   search (rules, the_lemmas),
   (
     rw c.deref-in-Front.ensures.value (children-Front _ _ (rw c.in-Front.is at c.requires.measured)),
     (
-      rw c.deref-in-Front.ensures.value (rw (c.in-Front.is, core_of-Front) at c.requires.room),
-      rw c.deref-in-Front.ensures.value (rw (c.in-Front.is, core_of-Front) at c.requires.live),
+      rw (c.deref-in-Front.ensures.value, weight-any_front) (rw (c.in-Front.is, core_of-Front) at c.requires.room),
+      rw (c.deref-in-Front.ensures.value, weight-any_front) (rw (c.in-Front.is, core_of-Front) at c.requires.live),
     ),
   ),
 )
@@ -118,8 +119,8 @@ leaves_tidy-returns-then-after t c = rw c.if-after.true (Leaves-tidy-after _ _ _
 pub leaves_tidy-returns-else-after : goal.leaves_tidy-returns-else-after
 leaves_tidy-returns-else-after t c = rw c.if-after.false (Leaves-tidy _ _ _ _ _ (rw c.if-after.false at c.leaves.ensures))
 
-pub leaves_all-leaves-flag-requires : goal.leaves_all-leaves-flag-requires
-leaves_all-leaves-flag-requires t c =
+pub leaves_row-leaves-flag-requires : goal.leaves_row-leaves-flag-requires
+leaves_row-leaves-flag-requires t c =
     let more = ap cat_all (cores_more c.args.children.now c.loop-child.child-index _ c.loop-child-test.true c.child-item.is) in
     let rest = rw more at c.loop-child.invariant.rest in (
       search (rules, the_lemmas),
@@ -132,20 +133,27 @@ leaves_all-leaves-flag-requires t c =
       ),
     )
 
-pub leaves_all-loop-child-preserved : goal.leaves_all-loop-child-preserved
-leaves_all-loop-child-preserved t c =
+pub leaves_row-loop-child-preserved : goal.leaves_row-loop-child-preserved
+leaves_row-loop-child-preserved t c =
+    let mores = ap any_front (cores_more c.args.children.now c.loop-child.child-index _ c.loop-child-test.true c.child-item.is) in
     let more = ap cat_all (cores_more c.args.children.now c.loop-child.child-index _ c.loop-child-test.true c.child-item.is) in
     let rest = rw more at c.loop-child.invariant.rest in
     rw c.weight-place.ensures record {
       begun = omega (arith, c.loop-child.invariant.begun);
       rest = omega (arith, rest);
       walk = λ y q. c.loop-child.invariant.walk y (rw more (Leaves-cat _ _ _ _ _ _ _ _ c.leaves-flag.ensures q));
+      front = λ y q. rw (← or_again c.loop-child.found c.loop-child.flag y)
+          (c.loop-child.invariant.front (c.loop-child.flag || y)
+          (rw mores (Leaves-front _ _ _ _ _ _ _ _ c.leaves-flag.ensures q)));
     }
 
-pub leaves_all-returns : goal.leaves_all-returns
-leaves_all-returns t c =
-    c.loop-child.invariant.walk c.loop-child.flag
-    (rw (cores_done c.args.children.now c.loop-child.child-index c.loop-child-test.false) (Leaves-empty _ _ _ _))
+pub leaves_row-returns : goal.leaves_row-returns
+leaves_row-returns t c =
+    let done = cores_done c.args.children.now c.loop-child.child-index c.loop-child-test.false in
+    record {
+      all = c.loop-child.invariant.walk c.loop-child.flag (rw done (Leaves-empty _ _ _ _));
+      front = c.loop-child.invariant.front c.loop-child.flag (rw done (Leaves-empty _ _ _ _));
+    }
 
 pub leaves_any-leaves-out-requires : goal.leaves_any-leaves-out-requires
 leaves_any-leaves-out-requires t c =
@@ -177,54 +185,23 @@ leaves_any-returns t c =
     rw (← or_none c.loop-child.found) (c.loop-child.invariant.walk false
     (rw (cores_done c.args.children.now c.loop-child.child-index c.loop-child-test.false) (Leaves-none _ _ _ _)))
 
-pub leaves_front-leaves-flag-requires : goal.leaves_front-leaves-flag-requires
-leaves_front-leaves-flag-requires t c =
-    let more = ap any_front (cores_more c.args.children.now c.loop-child.child-index _ c.loop-child-test.true c.child-item.is) in
-    let rest = rw more at c.loop-child.invariant.rest in (
-      search (rules, the_lemmas),
-      (
-        measured_at c.args.children.now c.loop-child.child-index _ c.requires.measured c.loop-child-test.true c.child-item.is,
-        (
-          omega (arith, rest, c.requires.room),
-          clear_part _ _ _ _ _ _ c.requires.live c.loop-child.invariant.begun (omega (arith, rest)),
-        ),
-      ),
-    )
-
-pub leaves_front-loop-child-preserved : goal.leaves_front-loop-child-preserved
-leaves_front-loop-child-preserved t c =
-    let more = ap any_front (cores_more c.args.children.now c.loop-child.child-index _ c.loop-child-test.true c.child-item.is) in
-    let rest = rw more at c.loop-child.invariant.rest in
-    rw c.weight-place.ensures record {
-      begun = omega (arith, c.loop-child.invariant.begun);
-      rest = omega (arith, rest);
-      walk = λ y q. rw (← or_again c.loop-child.found c.loop-child.flag y)
-          (c.loop-child.invariant.walk (c.loop-child.flag || y)
-          (rw more (Leaves-front _ _ _ _ _ _ _ _ c.leaves-flag.ensures q)));
+pub leaves_row-returns-then-live-place : goal.leaves_row-returns-then-live-place
+leaves_row-returns-then-live-place t c =
+    let same = weight-any_front (map core_of (drop c.loop-child.child-index c.args.children.now)) in
+    record {
+      all = c.loop-child.invariant.walk false
+          (rw c.if-not-flag.true (Leaves-clear _ c.args.after c.args.row.now c.loop-child.place
+          (omega (arith, c.loop-child.invariant.rest, c.requires.room)) (λ k low high.
+          c.requires.live.behind k (omega (arith, c.loop-child.invariant.begun)) (omega (arith, c.loop-child.invariant.rest)) (omega (arith, c.if-live-place.true)))));
+      front = rw (← or_none c.loop-child.found) (c.loop-child.invariant.front false
+          (rw c.if-not-flag.true (Leaves-clear (any_front (map core_of (drop c.loop-child.child-index c.args.children.now))) c.args.after c.args.row.now c.loop-child.place
+          (omega (arith, c.loop-child.invariant.rest, c.requires.room, same)) (λ k low high.
+          c.requires.live.behind k (omega (arith, c.loop-child.invariant.begun)) (omega (arith, c.loop-child.invariant.rest, same, high)) (omega (arith, c.if-live-place.true))))));
     }
-
-pub leaves_front-returns : goal.leaves_front-returns
-leaves_front-returns t c =
-    c.loop-child.invariant.walk c.loop-child.flag
-    (rw (cores_done c.args.children.now c.loop-child.child-index c.loop-child-test.false) (Leaves-empty _ _ _ _))
-
-pub leaves_all-returns-then-live-place : goal.leaves_all-returns-then-live-place
-leaves_all-returns-then-live-place t c =
-    c.loop-child.invariant.walk false
-    (rw c.if-not-flag.true (Leaves-clear _ c.args.after c.args.row.now c.loop-child.place
-    (omega (arith, c.loop-child.invariant.rest, c.requires.room)) (λ k low high.
-    c.requires.live.behind k (omega (arith, c.loop-child.invariant.begun)) (omega (arith, c.loop-child.invariant.rest)) (omega (arith, c.if-live-place.true)))))
 
 pub leaves_any-returns-then-live-place : goal.leaves_any-returns-then-live-place
 leaves_any-returns-then-live-place t c =
     rw (← or_none c.loop-child.found) (c.loop-child.invariant.walk false
     (rw c.if-not-entry.true (Leaves-clear _ c.args.after c.args.row.now c.loop-child.place
-    (omega (arith, c.loop-child.invariant.rest, c.requires.room)) (λ k low high.
-    c.requires.live.behind k (omega (arith, c.loop-child.invariant.begun)) (omega (arith, c.loop-child.invariant.rest)) (omega (arith, c.if-live-place.true))))))
-
-pub leaves_front-returns-then-live-place : goal.leaves_front-returns-then-live-place
-leaves_front-returns-then-live-place t c =
-    rw (← or_none c.loop-child.found) (c.loop-child.invariant.walk false
-    (rw c.if-not-flag.true (Leaves-clear _ c.args.after c.args.row.now c.loop-child.place
     (omega (arith, c.loop-child.invariant.rest, c.requires.room)) (λ k low high.
     c.requires.live.behind k (omega (arith, c.loop-child.invariant.begun)) (omega (arith, c.loop-child.invariant.rest)) (omega (arith, c.if-live-place.true))))))

@@ -5,13 +5,15 @@ use Rattle.lic_marks.specs.Nodes.{core_of}
 use Rattle.lic_marks.proofs.walk.+leaves.Given as goal
 
 -- whatever answers for the rest answers for the whole walk
-abbrev pub invariant-leaves_all-loop-child : goal.invariant-leaves_all-loop-child
-invariant-leaves_all-loop-child l =
+abbrev pub invariant-leaves_row-loop-child : goal.invariant-leaves_row-loop-child
+invariant-leaves_row-loop-child l =
     record {
       begun : l.at ≤ l.place;
       rest : l.place + weight (cat_all (map core_of (drop l.child-index l.children))) ≡ l.at + weight (cat_all (map core_of l.children));
       walk : (y : Bool) → Leaves (cat_all (map core_of (drop l.child-index l.children))) l.after l.flag l.row l.place y →
           Leaves (cat_all (map core_of l.children)) l.after l.entry l.row l.at y;
+      front : (y : Bool) → Leaves (any_front (map core_of (drop l.child-index l.children))) l.after l.flag l.row l.place y →
+          Leaves (any_front (map core_of l.children)) l.after l.entry l.row l.at (l.found || y);
     }
 
 abbrev pub invariant-leaves_any-loop-child : goal.invariant-leaves_any-loop-child
@@ -20,12 +22,4 @@ invariant-leaves_any-loop-child l = record {
   rest : l.place + weight (alt_all (map core_of (drop l.child-index l.children))) ≡ l.at + weight (alt_all (map core_of l.children));
   walk : (y : Bool) → Leaves (alt_all (map core_of (drop l.child-index l.children))) l.after l.entry l.row l.place y →
       Leaves (alt_all (map core_of l.children)) l.after l.entry l.row l.at (l.found || y);
-}
-
-abbrev pub invariant-leaves_front-loop-child : goal.invariant-leaves_front-loop-child
-invariant-leaves_front-loop-child l = record {
-  begun : l.at ≤ l.place;
-  rest : l.place + weight (any_front (map core_of (drop l.child-index l.children))) ≡ l.at + weight (any_front (map core_of l.children));
-  walk : (y : Bool) → Leaves (any_front (map core_of (drop l.child-index l.children))) l.after l.flag l.row l.place y →
-      Leaves (any_front (map core_of l.children)) l.after l.entry l.row l.at (l.found || y);
 }

@@ -1,7 +1,4 @@
-use Rattle.std.proofs.Common.{◌≡◌, true, false, [], sym, ◌∙◌}
-use Rattle.lic_marks.specs.Rows.{marks_of}
-use Rattle.lic_marks.specs.Nodes.{core_of}
-use Rattle.lic_marks.proofs.Shifting.{can_leave_sound, can_leave_complete}
+use Rattle.std.proofs.Common.{◌≡◌, true, false}
 use Rattle.lic_vars.proofs.variable.is_end.Goals as goal
 
 pub returns-then-not-has : goal.returns-then-not-has
@@ -12,8 +9,5 @@ returns-then-not-has c = λ before s. (
 
 pub returns : goal.returns
 returns c = λ before s.
-    let r = core_of c.args.tree.now in
-    let m = marks_of r c.args.at_once.now in (
-      λ t. (c.has.ensures.0 c.if-not-has.false, s.sound [] (can_leave_sound r false false m (sym c.leaves.ensures.answer ∙ t))),
-      λ h. c.leaves.ensures.answer ∙ can_leave_complete r false false m (s.complete [] h.1),
-    )
+    let ends = c.ends.ensures before s in
+    (λ t. (c.has.ensures.0 c.if-not-has.false, ends.0 t), λ h. ends.1 h.1)

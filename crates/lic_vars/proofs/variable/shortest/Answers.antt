@@ -1,7 +1,5 @@
-use Rattle.std.proofs.Common.{sym, ap, ◌∙◌, arith}
-use Rattle.lic_marks.specs.Rows.{marks_of}
+use Rattle.std.proofs.Common.{sym, ◌∙◌, arith}
 use Rattle.lic_marks.specs.Nodes.{core_of}
-use Rattle.lic_marks.proofs.RowWalks.{marks_of-replicate}
 use Rattle.lic_vars.specs.Rows.{IsSet}
 use Rattle.lic_vars.proofs.EndLemmas.{shortest-empty}
 use Rattle.lic_vars.proofs.ShortestWordLemmas.{both, not-empty, stuck-behind, stuck-misfit, shortest-walked}
@@ -24,9 +22,6 @@ returns-then-not-may_follow c = λ re ms wanted words is covers.
     stuck-misfit (core_of c.args.tree.now) re words ms c.args.letters.now c.args.from wanted c.args.rest.now is c.requires.within covers
     (not-empty (core_of c.args.tree.now) c.is_nullable.result c.has.result (IsSet c.args.rest.now c.args.from.at c.args.from.is_apart) c.if-is_empty.false c.is_nullable.ensures c.has.ensures.1)
     _ (omega arith) (sym c.may_follow.ensures ∙ c.if-not-may_follow.true)
-
-pub walk-requires-clause-clear : goal.walk-requires-clause-clear
-walk-requires-clause-clear c = ap (marks_of (core_of c.args.tree.now)) c.in_ok-at_once.ensures ∙ marks_of-replicate (core_of c.args.tree.now) _
 
 pub returns : goal.returns
 returns c = λ re ms wanted words is covers.

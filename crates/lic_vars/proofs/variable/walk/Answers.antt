@@ -1,12 +1,8 @@
-use Rattle.std.proofs.Common.{◌≡◌, ℕ, ◌+◌, ◌-◌, IsTrue, Bool, true, false, List, [], Some, slice_get, take, refl, sym, ap, ◌∙◌, subst, arith}
+use Rattle.std.proofs.Common.{◌≡◌, ℕ, ◌+◌, ◌-◌, IsTrue, Bool, true, false, List, [], Some, slice_get, take, refl, subst, arith}
 use Rattle.lic_words.specs.Spelling.{Gap}
 use Rattle.lic_marks.specs.Cores.{Core}
-use Rattle.lic_marks.specs.Marks.{Marks}
-use Rattle.lic_marks.specs.Rows.{marks_of}
 use Rattle.lic_marks.specs.Nodes.{core_of}
-use Rattle.lic_marks.specs.Standing.{StandsAtOnce}
-use Rattle.lic_marks.proofs.Standing.{StandsAtOnce-begin}
-use Rattle.lic_marks.proofs.RowWalks.{marks_of-replicate}
+use Rattle.lic_marks.specs.States.{HasTaken}
 use Rattle.lic_vars.specs.Cuts.{left_from}
 use Rattle.lic_vars.specs.Ends.{joined, CanEnd, IsEnd}
 use Rattle.lic_vars.specs.declared.letters.Letter.{Letter}
@@ -28,14 +24,11 @@ take_letter-requires-in-loop-at-clause-letter c = letter-at c.args.letters.now c
 pub loop-at-init : goal.loop-at-init
 loop-at-init c =
     let r = core_of c.args.tree.now in
-    let begin : StandsAtOnce r true (marks_of r c.args.at_once.now) [] =
-    subst (λ (m : Marks r). StandsAtOnce r true m []) (sym c.requires.clear) (StandsAtOnce-begin r) in
     record {
-      room = omega (arith, c.requires.room, c.take_letter.ensures.at_once_len);
-      after_blanks_len = c.take_letter.ensures.after_blanks_len ∙ c.requires.after_blanks_len ∙ sym c.take_letter.ensures.at_once_len;
-      spare_len = c.take_letter.ensures.spare_len ∙ c.requires.spare_len ∙ sym c.take_letter.ensures.at_once_len;
-      stands = subst (λ (f : List (Gap × ℕ)). StandsAtOnce r false (marks_of r c.take_letter.new.at_once) f)
-          (joined-first c.args.letters.now c.args.start ((c.args.start + 1) - c.args.start) _ (omega (arith, c.requires.within, c.requires.last_within)) refl) (c.take_letter.ensures.stands [] begin);
+      room = omega (arith, c.requires.room, c.take_letter.ensures.room);
+      taken = subst (λ (f : List (Gap × ℕ)). HasTaken r c.take_letter.new.state f)
+          (joined-first c.args.letters.now c.args.start ((c.args.start + 1) - c.args.start) _ (omega (arith, c.requires.within, c.requires.last_within)) refl)
+          (c.take_letter.ensures.taken [] c.requires.begun);
       none = λ m b end. absurd (let h = end.some in omega arith);
     }
 
@@ -45,16 +38,15 @@ loop-at-preserved c =
     let k : ℕ = c.loop-at.at - c.args.start in
     let low = c.loop-at.auto.at in
     let place : c.args.start + k ≡ c.loop-at.at = omega arith in
+    let before : List (Gap × ℕ) = joined (take k (left_from c.args.letters.now c.args.start)) in
     record {
-      room = omega (arith, c.loop-at.invariant.room, c.take_letter-in-loop-at.ensures.at_once_len);
-      after_blanks_len = c.take_letter-in-loop-at.ensures.after_blanks_len ∙ c.loop-at.invariant.after_blanks_len ∙ sym c.take_letter-in-loop-at.ensures.at_once_len;
-      spare_len = c.take_letter-in-loop-at.ensures.spare_len ∙ c.loop-at.invariant.spare_len ∙ sym c.take_letter-in-loop-at.ensures.at_once_len;
-      stands = subst (λ (f : List (Gap × ℕ)). StandsAtOnce r false (marks_of r c.take_letter-in-loop-at.new.at_once) f)
+      room = omega (arith, c.loop-at.invariant.room, c.take_letter-in-loop-at.ensures.room);
+      taken = subst (λ (f : List (Gap × ℕ)). HasTaken r c.take_letter-in-loop-at.new.state f)
           (joined-next c.args.letters.now c.args.start c.loop-at.at k ((c.loop-at.at + 1) - c.args.start) _ (omega arith) (omega arith) refl refl)
-          (c.take_letter-in-loop-at.ensures.stands (joined (take k (left_from c.args.letters.now c.args.start))) c.loop-at.invariant.stands);
+          (c.take_letter-in-loop-at.ensures.taken before c.loop-at.invariant.taken);
       none = no_end-next r c.args.letters.now c.args.start c.args.rest.now.close.items k _ (omega arith) c.loop-at.invariant.none
           (not_end r c.args.letters.now c.args.start c.args.rest.now.close.items c.loop-at.at k c.is_end.result place c.if-is_end.false
-          (c.is_end.ensures (joined (take k (left_from c.args.letters.now c.args.start))) c.loop-at.invariant.stands).1);
+          (c.is_end.ensures before c.loop-at.invariant.taken).1);
     }
 
 pub returns-then-is_clear : goal.returns-then-is_clear
@@ -62,7 +54,7 @@ returns-then-is_clear c =
     let r = core_of c.args.tree.now in
     let k : ℕ = c.loop-at.at - c.args.start in
     let low = c.loop-at.auto.at in
-    let clear = ap (marks_of r) (c.is_clear.ensures.0 c.if-is_clear.true) ∙ marks_of-replicate r _ in
-    let stands = subst (λ (m : Marks r). StandsAtOnce r false m (joined (take k (left_from c.args.letters.now c.args.start)))) clear c.loop-at.invariant.stands in
+    let before : List (Gap × ℕ) = joined (take k (left_from c.args.letters.now c.args.start)) in
+    let stands = c.is_clear.ensures r before c.loop-at.invariant.taken c.if-is_clear.true in
     no_end-all r c.args.letters.now c.args.start c.args.rest.now.close.items k _ c.loop-at.invariant.none
     (λ m h end. never-later r c.args.letters.now c.args.start k m stands (omega arith) h end.can)

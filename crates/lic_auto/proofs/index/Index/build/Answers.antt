@@ -1,5 +1,6 @@
-use Rattle.std.proofs.Common.{◌≡◌, ◌<◌, ◌∷◌, ◌++◌, [], length, take, sym, ap, ◌∙◌, subst, arith}
-use Rattle.std.proofs.lemmas.List.{take_more, length-take-le, length_push}
+use Rattle.std.proofs.Common.{◌≡◌, ◌<◌, length, map, take, sym, ◌∙◌, subst, arith}
+use Rattle.std.proofs.lemmas.List.{length-map, length-take-le, length_push}
+use Rattle.lic_keys.proofs.ListingLemmas.{map_more}
 use Rattle.lic_auto.specs.Indexes.{IsIndexOf, Adds}
 use Rattle.lic_auto.specs.Firsts.{IsFirst}
 use Rattle.lic_auto.proofs.IndexLemmas.{IsIndexOf-push}
@@ -11,9 +12,10 @@ loop-number-preserved c =
     let trees = c.args.trees.now in
     let tree = c.index-trees-number.result in
     let inside : n < length trees = c.loop-number-test.true in
-    let size : length (take n trees) ≡ n = length-take-le n trees (omega arith) in
-    let adds : Adds (IsFirst c.in_ok-firsts.firsts) (length (take n trees)) c.loop-number.index c.add.new.self =
+    let before = map (λ tree. tree.now) (take n trees) in
+    let size : length before ≡ n = length-map (take n trees) (λ tree. tree.now) ∙ length-take-le n trees (omega arith) in
+    let adds : Adds (IsFirst c.in_ok-firsts.firsts) (length before) c.loop-number.index c.add.new.self =
     subst (λ k. Adds (IsFirst c.in_ok-firsts.firsts) k c.loop-number.index c.add.new.self) (sym size) c.in_ok-add.ensures in
-    subst (IsIndexOf c.add.new.self) (sym (take_more trees n tree inside ∙ ap (λ t. take n trees ++ t ∷ []) (sym c.index-trees-number.is)))
-    (IsIndexOf-push c.loop-number.index c.add.new.self (take n trees) tree c.in_ok-firsts.firsts c.loop-number.invariant adds c.in_ok-firsts.ensures
-    (length_push (take n trees) tree))
+    subst (IsIndexOf c.add.new.self) (sym (map_more trees n tree (λ tree. tree.now) inside c.index-trees-number.is))
+    (IsIndexOf-push c.loop-number.index c.add.new.self before tree.now c.in_ok-firsts.firsts c.loop-number.invariant adds c.in_ok-firsts.ensures
+    (length_push before tree.now))

@@ -1,6 +1,6 @@
-use Rattle.std.proofs.Common.{take}
+use Rattle.std.proofs.Common.{map, take}
 use Rattle.lic_auto.specs.Indexes.{IsIndexOf}
 use Rattle.lic_auto.proofs.index.Index.build.Given as goal
 
 abbrev pub invariant-loop-number : goal.invariant-loop-number
-invariant-loop-number l = IsIndexOf l.index (take l.number l.trees)
+invariant-loop-number l = IsIndexOf l.index (map (λ tree. tree.now) (take l.number l.trees))

@@ -3,8 +3,9 @@ use Rattle.std.specs.Str.{chars}
 use Rattle.std.specs.Vec.{with_items}
 use Rattle.std.proofs.lemmas.Bool.{false≢true}
 use Rattle.std.proofs.lemmas.List.{with_items_is}
-use Rattle.lic_auto.specs.Rising.{IsRising}
+use Rattle.lic_keys.specs.Rising.{IsRising}
 use Rattle.lic_auto.specs.Walks.{HaveTrees, AllStand, OthersDescribeNone, Resets, Takes}
+use Rattle.lic_auto.specs.Choices.{templates_of}
 use Rattle.lic_auto.specs.Runs.{live_of}
 use Rattle.lic_auto.proofs.Walking.{HaveTrees-changed, IsBefore, IsBefore-begun, IsBefore-on, IsAfter-taken, some_token}
 use Rattle.lic_auto.proofs.run.Run.push.Goals as goal
@@ -13,7 +14,7 @@ use Rattle.lic_auto.proofs.run.Run.push.Goals.{then-self, else-self}
 pub invariant_of-self : goal.invariant_of-self
 invariant_of-self c =
     let self = c.args.self.now in
-    let set = self.set.now in
+    let set = templates_of self.chosen in
     let trees : HaveTrees set c.as_mut_slice-runs.result.now = subst (HaveTrees set) (sym c.as_mut_slice-runs.ensures.value) self.trees in
     let before : HaveTrees set c.if-self.runs =
     elim c.if-self.branch [
@@ -41,7 +42,7 @@ invariant_of-self c =
 pub returns-clause-stands : goal.returns-clause-stands
 returns-clause-stands c = λ ts s.
     let self = c.args.self.now in
-    let set = self.set.now in
+    let set = templates_of self.chosen in
     let token = chars c.args.text.now in
     let live = take c.if-self.count c.if-self.live in
     let trees : HaveTrees set c.as_mut_slice-runs.result.now = subst (HaveTrees set) (sym c.as_mut_slice-runs.ensures.value) self.trees in

@@ -1,4 +1,4 @@
-use Rattle.std.proofs.Common.{rules, arith, ◌≡◌, Ok, map, ap, ◌∙◌}
+use Rattle.std.proofs.Common.{rules, arith, ◌≡◌, Ok, map, ap, subst, ◌∙◌}
 use Rattle.std.proofs.lemmas.Iterator.{YieldsList-from_map, items_from_collect}
 use Rattle.std.proofs.lemmas.Iterator.Consumers.{YieldsList-at}
 use Rattle.std.proofs.lemmas.Iterator.Adapters.{YieldsList-from_vec}
@@ -9,13 +9,17 @@ use Rattle.std.specs.declared.alloc.AllocError.{AllocError}
 use Rattle.lic_markup.specs.Parts.{TemplateValue}
 use Rattle.lic_auto.specs.declared.set.Named.{Named}
 use Rattle.lic_auto.specs.Sets.{known_of, all_known}
-use Rattle.lic_auto.proofs.KnownTrees.{IsCompiled-from_trees}
+use Rattle.lic_keys.specs.Keys.{AreKeysOf}
+use Rattle.lic_auto.specs.Compiled.{parts_of}
+use Rattle.lic_auto.proofs.KnownTrees.{HaveTheirTrees-from_trees}
 use Rattle.lic_auto.proofs.set.Set.assemble.Goals as goal
 
 pub invariant_of-result : goal.invariant_of-result
 invariant_of-result c =
-    IsCompiled-from_trees (all_known c.in_ok-named.named.items) c.in_ok-trees.trees.items c.in_ok-index.index
-    (rw c.deref.ensures.value at c.in_ok-trees.ensures) (rw c.deref-2.ensures.value at c.in_ok-index.ensures)
+    record {
+      trees = HaveTheirTrees-from_trees (all_known c.in_ok-named.named.items) c.in_ok-trees.trees.items (rw c.deref.ensures.value at c.in_ok-trees.ensures);
+      keys = subst (λ ns. AreKeysOf (parts_of (all_known ns)) c.in_ok-keys.keys) c.deref-2.ensures.value c.in_ok-keys.ensures;
+    }
 
 pub returns : goal.returns
 returns c =

@@ -1,6 +1,6 @@
 use Rattle.std.proofs.Common.{◌≡◌, ◌+◌, refl, sym, subst, arith}
 use Rattle.lic_find.specs.Walks.{letters_up_to, IsNextOfRange}
-use Rattle.lic_find.proofs.Walking.{NoneHasRange-before, NoneHasRange-least, IsNext-least}
+use Rattle.lic_find.proofs.Walking.{left_out, NoneHasRange-before, NoneHasRange-least, IsNext-least}
 use Rattle.lic_find.proofs.finder.Finder.accepted.Goals as goal
 
 pub returns-in_err-from : goal.returns-in_err-from
@@ -18,7 +18,8 @@ returns-in_err-template c = λ come.
     let ends : c.in_ok-last.last + 1 ≡ f.end = omega (arith, c.in_ok-last.ensures) in
     subst (IsNextOfRange f.set.now tokens f.place f.first f.end) (sym c.from_residual-in_err-template.ensures)
     (NoneHasRange-least f.set.now tokens f.place f.run f.first f.end come c.in_ok-last.last ends c.in_ok-from.from c.in_ok-from.ensures.some
-    (c.in_err-template.ensures (letters_up_to tokens f.first f.end) come.stands))
+    (c.in_err-template.ensures.all (letters_up_to tokens f.first f.end) come.stands
+    (left_out f.set.now tokens f.place f.run f.first f.end come f.first f.end come.order come.within)))
 
 pub returns : goal.returns
 returns c = λ come.
@@ -28,5 +29,6 @@ returns c = λ come.
       refl,
       ends,
       IsNext-least f.set.now tokens f.place f.run f.first f.end come c.in_ok-last.last ends c.in_ok-from.from c.in_ok-from.ensures.some
-          c.in_ok-template.template (c.in_ok-template.ensures (letters_up_to tokens f.first f.end) come.stands),
+          c.in_ok-template.template (c.in_ok-template.ensures.all (letters_up_to tokens f.first f.end) come.stands
+          (left_out f.set.now tokens f.place f.run f.first f.end come f.first f.end come.order come.within)),
     )

@@ -51,7 +51,7 @@ invariant_of-self-in-loop-triple c =
     let room : f.end < length tokens = omega arith in
     record {
       come = ∥∥₁_map f.come (λ come.
-          HasCome-push f.set.now tokens f.place f.run f.first f.end come c.push.new.self token (c.in_default.ensures come) room c.push.ensures.set
+          HasCome-push f.set.now tokens f.place f.run f.first f.end come c.push.new.self token (c.in_default.ensures come) room c.push.ensures.set c.push.ensures.numbers
           (subst (λ text. StandsFor c.push.new.self (letters_up_to tokens f.first f.end ++ chars text ∷ [])) (c.token.ensures.text token)
           (c.push.ensures.stands (letters_up_to tokens f.first f.end) come.stands)));
     }

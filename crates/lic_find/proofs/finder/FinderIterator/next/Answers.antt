@@ -15,7 +15,7 @@ invariant_of-self c =
     let room : f.first < length tokens = omega arith in
     record {
       come = ∥∥₁_map f.come (λ come.
-          HasCome-next_first f.set.now tokens f.place f.run f.first f.end come c.reset.new.self c.in_default.ensures.none room c.reset.ensures.set c.reset.ensures.stands);
+          HasCome-next_first f.set.now tokens f.place f.run f.first f.end come c.reset.new.self c.in_default.ensures.none room c.reset.ensures.set c.reset.ensures.numbers c.reset.ensures.stands);
     }
 
 pub returns-clause-steps : goal.returns-clause-steps

@@ -1,4 +1,5 @@
-use Rattle.std.proofs.Common.{refl}
+use Rattle.std.proofs.Common.{[], refl}
+use Rattle.lic_marks.specs.Nodes.{core_of}
 use Rattle.lic_marks.proofs.run.Run.new.Goals as goal
 
 pub returns-clause-stands : goal.returns-clause-stands
@@ -6,5 +7,5 @@ returns-clause-stands c = λ e words. record {
   words = words;
   empty = (λ _. refl, λ _. refl);
   last = refl;
-  marks = c.begin.ensures.stands;
+  taken = c.gap.ensures.taken [] (c.in_ok-state.ensures.taken (core_of c.args.tree.now));
 }

@@ -15,8 +15,7 @@ returns-clause-stands c = λ e ts s.
     record {
       words = s.words;
       empty = (λ h. cc, λ none. absurd (some_token ts (chars c.args.token.now) none));
-      last = c.push_token-entry.ensures.last ∙ ap (λ l. last_letter l (chars c.args.token.now)) s.last
+      last = c.token-self.ensures.last ∙ ap (λ l. last_letter l (chars c.args.token.now)) s.last
           ∙ sym (last_of-snoc blank ts (chars c.args.token.now));
-      marks = rw (gapped-snoc, ← s.last)
-          (c.push_token-entry.ensures.stands (gapped ts) s.marks);
+      taken = rw (gapped-snoc, ← s.last) (c.token-self.ensures.taken (gapped ts) s.taken);
     }

@@ -1,4 +1,5 @@
-use Rattle.std.proofs.Common.{refl}
+use Rattle.std.proofs.Common.{[], refl}
+use Rattle.lic_marks.specs.Nodes.{core_of}
 use Rattle.lic_marks.proofs.run.Run.reset.Goals as goal
 
 pub returns-clause-stands : goal.returns-clause-stands
@@ -6,5 +7,5 @@ returns-clause-stands c = λ e words. record {
   words = words;
   empty = (λ _. refl, λ _. refl);
   last = refl;
-  marks = c.begin.ensures.stands;
+  taken = c.gap.ensures.taken [] (c.begin.ensures.taken (core_of c.args.self.now.tree.now));
 }

@@ -1,9 +1,0 @@
-use Rattle.std.proofs.Common.{◌≡◌, vec_len}
-use Rattle.lic_auto.specs.Walks.{HaveTrees}
-use Rattle.lic_auto.proofs.run.Run.new.Given as goal
-
-abbrev pub invariant-loop-k : goal.invariant-loop-k
-invariant-loop-k l = record {
-  count : vec_len l.runs ≡ l.k;
-  trees : HaveTrees l.set l.runs.items;
-}

@@ -1,0 +1,122 @@
+//! Templates chosen from a set, with what the search needs to look for all of them at once.
+
+ghost use Rattle.std.specs.Prelude.{◌≡◌, ◌<◌, ◌≤◌, ◌↔◌, ◌∷◌, ℕ, List, map, length, slice_index, IfOk, IfSome, IfNone, IsTrue, Some, Contains};
+ghost use Rattle.std.specs.List.{slice_get};
+ghost use Rattle.std.specs.Str.{chars};
+ghost use Rattle.lic_words.specs.Describing.{IsDescribed};
+ghost use Rattle.lic_phrases.specs.TokenTexts.{IsTokenText};
+ghost use Rattle.lic_keys.specs.Rising.{IsRising};
+ghost use Rattle.lic_marks.specs.Cores.{HasWordsOf};
+ghost use Rattle.lic_marks.specs.Nodes.{core_of, is_measured};
+ghost use Rattle.lic_auto.specs.Picked.{HaveTheirTrees, IsIndexed, picked};
+ghost use Rattle.lic_auto.specs.Sets.{Known, words_of};
+
+use crate::head::head_of;
+use crate::index::Index;
+use crate::set::Set;
+use lic_marks::node::Node;
+use std::alloc::{AllocError, Global};
+
+/// Some templates of a set. What is said of a place is said of the template whose number stands at this place.
+#[derive(Debug, Drop)]
+pub struct Chosen<'s> {
+    set: &'s Set,
+    // the numbers of the templates
+    numbers: Vec<usize>,
+    // the tree of each
+    trees: Vec<&'s Node>,
+    index: Index,
+    ghost rising: { IsRising numbers.items (length set.now) },
+    ghost indexed: { IsIndexed (picked set.now numbers.items) (map (λ tree. tree.now) trees.items) index },
+}
+
+impl<'s> Chosen<'s> {
+    ghost use Rattle.lic_auto.specs.Choices.{templates_of};
+
+    /// The templates of these numbers.
+    pub fn new(alloc: Global, set: &'s Set, numbers: Vec<usize>) -> Result<Chosen<'s>, AllocError>
+        requires { IsRising numbers.items (length set.now) }
+        ensures set { IfOk result (λ chosen. chosen.set.now ≡ set.now) }
+        ensures numbers { IfOk result (λ chosen. chosen.numbers.items ≡ numbers.items) }
+    {
+        let trees = trees_of(alloc, set, &numbers)?;
+        let index = Index::build(alloc, &trees)?;
+        Ok(Chosen {
+            set,
+            numbers,
+            trees,
+            index,
+        })
+    }
+
+    /// How many templates there are.
+    pub fn len(&self) -> usize
+        ensures { result ≡ length (templates_of self.now) }
+    {
+        self.trees.len()
+    }
+
+    /// The number of the template at a place.
+    pub fn number(&self, place: usize) -> usize
+        requires { place < length (templates_of self.now) }
+        ensures { result ≡ slice_index self.now.numbers.items place }
+    {
+        self.numbers[place]
+    }
+
+    /// The first place whose number is not below this one.
+    pub fn place_from(&self, from: usize) -> Option<usize>
+        ensures some { IfSome result (λ place. (i : ℕ) → i < length self.now.numbers.items → place ≤ i ↔ (from ≤ slice_index self.now.numbers.items i)) }
+        ensures none { IfNone result ((i : ℕ) → i < length self.now.numbers.items → slice_index self.now.numbers.items i < from) }
+    {
+        for (place, number) in self.numbers.iter().enumerate() {
+            if *number >= from {
+                return Some(place);
+            }
+        }
+        None
+    }
+
+    /// The tree at a place.
+    pub fn tree(&self, place: usize) -> &'s Node
+        requires { place < length (templates_of self.now) }
+        ensures measured { IsTrue (is_measured result.now) }
+        ensures words { (known : Known) → slice_get (templates_of self.now) place ≡ Some known → ∥ HasWordsOf (core_of result.now) (words_of known) ∥₁ }
+    {
+        self.trees[place]
+    }
+
+    /// The places of the templates that a text can enter whose first token this is, in rising order.
+    pub fn entered_by(&self, token: &str) -> &[usize]
+        requires { IsTokenText token.now }
+        ensures rising { IsRising result.now (length (templates_of self.now)) }
+        ensures rest { (k : ℕ) (known : Known) → slice_get (templates_of self.now) k ≡ Some known → ¬ (Contains result.now k)
+            → (more : List (List ℕ)) → ¬ (IsDescribed (words_of known) (chars token.now ∷ more)) }
+    {
+        self.index.entered_by(head_of(token))
+    }
+}
+
+// The trees of the templates of these numbers.
+fn trees_of<'s>(alloc: Global, set: &'s Set, numbers: &[usize]) -> Result<Vec<&'s Node>, AllocError>
+    requires { IsRising numbers.now (length set.now) }
+    ensures { IfOk result (λ trees. HaveTheirTrees (picked set.now numbers.now) (map (λ tree. tree.now) trees.items)) }
+{
+    let mut trees = Vec::with_capacity(alloc, numbers.len())?;
+    for number in numbers {
+        trees.push(set.tree(*number))?;
+    }
+    Ok(trees)
+}
+
+/// All numbers below a count.
+pub fn all_numbers(alloc: Global, count: usize) -> Result<Vec<usize>, AllocError>
+    ensures rising { IfOk result (λ numbers. IsRising numbers.items count) }
+    ensures all { IfOk result (λ numbers. (k : ℕ) → k < count → Contains numbers.items k) }
+{
+    let mut numbers = Vec::with_capacity(alloc, count)?;
+    for number in 0..count {
+        numbers.push(number)?;
+    }
+    Ok(numbers)
+}

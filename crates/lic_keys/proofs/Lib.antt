@@ -1,0 +1,6 @@
+pub mod KeyLemmas
+pub mod RisingLemmas
+pub mod WindowLemmas
+pub mod TableLemmas
+pub mod FlagLemmas
+pub mod ListingLemmas

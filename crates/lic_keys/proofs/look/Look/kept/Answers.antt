@@ -1,0 +1,45 @@
+use Rattle.std.proofs.Common.{◌≡◌, ◌<◌, ℕ, List, Some, None, length, sym, subst, arith}
+use Rattle.std.specs.List.{slice_get, Contains}
+use Rattle.std.proofs.lemmas.Option.{slice_get_within}
+use Rattle.std.proofs.lemmas.Result.{IfOk-weaker}
+use Rattle.lic_markup.specs.declared.part.Part.{Part}
+use Rattle.lic_keys.specs.Keys.{AreKeysOf, IsKeyOf, IsWindowOf, StandsIn, letters_of}
+use Rattle.lic_keys.specs.Listing.{HaveLengths, IsSet}
+use Rattle.lic_keys.specs.Looks.{HasTaken, OthersDescribeNoRange, keys_of}
+use Rattle.lic_keys.proofs.KeyLemmas.{key_stands}
+use Rattle.lic_keys.proofs.ListingLemmas.{AllZip-at, AllZip-count, key_nowhere}
+use Rattle.lic_keys.proofs.look.Look.kept.Goals as goal
+
+pub returns-clause-keys : goal.returns-clause-keys
+returns-clause-keys c =
+    let look = c.args.self.now in
+    let keys = keys_of look in
+    let letters = look.letters.items in
+    let flags = c.mark_all.new.flags in
+    let lengths : HaveLengths keys = c.without_key.ensures.lengths in
+    let missing : (k : ℕ) → slice_get keys k ≡ Some None → IsSet flags k =
+    λ k h. c.mark_all.ensures.kept k (subst (λ fs. IsSet fs k) (sym c.as_mut_slice-marks.ensures.value) (c.in_ok-flags.ensures.set k h)) in
+    let standing : (k : ℕ) (key : List ℕ) → slice_get keys k ≡ Some (Some key) → IsWindowOf key letters → IsSet flags k =
+    λ k key there window. c.mark_all.ensures.set k key there (subst (IsWindowOf key) (sym c.deref.ensures.value) window) in
+    IfOk-weaker c.numbers_of.result (λ numbers. (k : ℕ) → IsSet flags k → Contains numbers.items k)
+    (λ kept. (ts : List (List ℕ)) (k : ℕ) → HasTaken look ts → k < length keys → ¬ (Contains kept.items k)
+    → (key : List ℕ) × (slice_get keys k ≡ Some (Some key)) × ¬ (StandsIn key (letters_of ts)))
+    (λ kept all ts k taken inside gone.
+    let (key, there, nowhere) = key_nowhere keys flags letters lengths missing standing k inside (λ is. gone (all k is)) in
+    (key, there, λ stands. nowhere (subst (StandsIn key) (sym taken) stands)))
+    c.numbers_of.ensures.all
+
+pub returns-clause-others : goal.returns-clause-others
+returns-clause-others c =
+    let look = c.args.self.now in
+    let keys = keys_of look in
+    IfOk-weaker c.numbers_of.result
+    (λ kept. (ts : List (List ℕ)) (k : ℕ) → HasTaken look ts → k < length keys → ¬ (Contains kept.items k)
+    → (key : List ℕ) × (slice_get keys k ≡ Some (Some key)) × ¬ (StandsIn key (letters_of ts)))
+    (λ kept. (templates : List (List Part)) (ts : List (List ℕ)) → AreKeysOf templates keys → HasTaken look ts → OthersDescribeNoRange templates kept.items ts)
+    (λ kept rest templates ts are taken k parts there gone before range behind is described.
+    let within : k < length templates = slice_get_within templates k parts there in
+    let inside : k < length keys = omega (arith, AllZip-count IsKeyOf templates keys are) in
+    let (key, at, nowhere) = rest ts k taken inside gone in
+    nowhere (subst (λ x. StandsIn key (letters_of x)) (sym is) (key_stands parts key before range behind (AllZip-at IsKeyOf templates keys k parts (Some key) are there at) described)))
+    (returns-clause-keys c)

@@ -1,0 +1,6 @@
+pub mod Hashes
+pub mod Keys
+pub mod Listing
+pub mod Looks
+pub mod Rising
+pub mod Tables

@@ -1,0 +1,39 @@
+-- Keys as they are kept, and the table in which they are looked up.
+use Rattle.std.specs.Prelude.{◌≡◌, ◌⊎◌, [], ℕ, Bool, false, true, List, Option, Some, None, Vec, length, map, Contains, slice_index_or}
+use Rattle.std.specs.Global.{Global}
+use Rattle.std.specs.List.{slice_get}
+use Rattle.std.specs.Option.{option_map}
+use Rattle.lic_markup.specs.declared.part.Part.{Part}
+use Rattle.lic_keys.specs.Keys.{HasLetters, IsWindowOf}
+use Rattle.lic_keys.specs.Tables.{AllBelow, named}
+use Rattle.lic_keys.specs.declared.table.Table.{Table}
+
+-- the letters of a key
+abbrev pub plain_key : Option (Vec ℕ Global) → Option (List ℕ)
+plain_key key = option_map (λ letters. letters.items) key
+
+abbrev pub plain_keys : List (Option (Vec ℕ Global)) → List (Option (List ℕ))
+plain_keys keys = map plain_key keys
+
+-- the letters of a text of the template, or none
+abbrev pub MayHaveLetters : List Part → List ℕ → Type 0
+MayHaveLetters parts letters = (letters ≡ []) ⊎ HasLetters parts letters
+
+-- a window of these letters, or none
+abbrev pub IsPickedOf : List ℕ → Option (List ℕ) → Type 0
+IsPickedOf letters None = Unit {0}
+IsPickedOf letters (Some key) = IsWindowOf key letters
+
+-- each key has the length of a window
+abbrev pub HaveLengths : List (Option (List ℕ)) → Type 0
+HaveLengths keys = (k : ℕ) (key : List ℕ) → slice_get keys k ≡ Some (Some key) → length key ≡ 16
+
+-- the flag is there and set
+abbrev pub IsSet : List Bool → ℕ → Type 0
+IsSet flags k = slice_index_or flags k false ≡ true
+
+-- The table has for each key the number of its template, and numbers of templates alone.
+pub record IsListed (keys : List (Option (List ℕ))) (table : Table) : Type 0 where
+  pub lengths : HaveLengths keys
+  pub listed : (k : ℕ) (key : List ℕ) → slice_get keys k ≡ Some (Some key) → Contains (named table key) k
+  pub below : AllBelow (length keys) table

@@ -1,0 +1,9 @@
+//! Key texts, a literal prefilter: which templates can describe a range of a text's tokens at all.
+#![tactic(auto)]
+
+pub mod keys;
+pub mod laws;
+pub mod look;
+mod table;
+mod texts;
+mod window;

@@ -1,0 +1,75 @@
+//! The templates that have a window as their key: a table of marks in front of lists by hash.
+
+ghost use Rattle.std.specs.Prelude.{◌≡◌, ◌/◌, ◌%◌, ◌^◌, IfOk, OnOk, Some, length, vec_len};
+
+use crate::window::hash;
+use std::alloc::{AllocError, Global};
+
+const MARKS: usize = 65_536;
+
+const LISTS: usize = 4_096;
+
+/// For each window the numbers that were put down for it.
+#[derive(Debug, Drop)]
+pub struct Table {
+    // whether any number was put down for a window with this mark
+    marks: Vec<bool>,
+    // the numbers, by the list of their windows
+    lists: Vec<Vec<usize>>,
+    ghost mark_count: { vec_len marks ≡ 65536 },
+    ghost list_count: { vec_len lists ≡ 4096 },
+}
+
+impl Table {
+    ghost use Rattle.lic_keys.specs.Tables.{HasNone, PutsDown, named};
+
+    /// A table without numbers.
+    pub fn new(alloc: Global) -> Result<Table, AllocError>
+        ensures { IfOk result (λ table. HasNone table) }
+    {
+        let mut lists = Vec::with_capacity(alloc, LISTS)?;
+        for _ in 0..LISTS {
+            lists.push(Vec::new(alloc))?;
+        }
+        Ok(Table {
+            marks: vec![in alloc; false; MARKS]?,
+            lists,
+        })
+    }
+
+    /// Puts a number down for a window.
+    pub fn add(&mut self, window: &[char], number: usize) -> Result<(), AllocError>
+        requires { length window.now ≡ 16 }
+        ensures { OnOk result (PutsDown (Some window.now) number self.old self.new) }
+    {
+        let hash = hash(window);
+        self.lists[list_of(hash)].push(number)?;
+        self.marks[mark_of(hash)] = true;
+        Ok(())
+    }
+
+    /// The numbers that were put down for a window, and perhaps some others.
+    pub fn numbers(&self, window: &[char]) -> &[usize]
+        requires { length window.now ≡ 16 }
+        ensures { result.now ≡ named self.now window.now }
+    {
+        let hash = hash(window);
+        if self.marks[mark_of(hash)] {
+            &self.lists[list_of(hash)]
+        } else {
+            &[]
+        }
+    }
+}
+
+fn mark_of(hash: u64) -> usize
+    ensures { result ≡ hash / 2 ^ 24 % 65536 }
+{
+    (hash >> 24) as usize % MARKS
+}
+
+fn list_of(hash: u64) -> usize
+    ensures { result ≡ hash / 2 ^ 12 % 4096 }
+{
+    (hash >> 12) as usize % LISTS
+}

@@ -1,0 +1,6 @@
+use Rattle.std.specs.Str.{chars}
+use Rattle.lic_words.proofs.Rows.{last_letter-none}
+use Rattle.lic_words.proofs.letters.Letters.last_letter.Goals as goal
+
+pub returns : goal.returns
+returns c = λ none. last_letter-none c.args.self.now.last c.args.self.now.is_apart (chars c.args.self.now.rest.now) none
