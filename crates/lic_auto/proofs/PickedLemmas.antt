@@ -1,5 +1,5 @@
 -- Templates that were picked from a set by their numbers.
-use Rattle.std.proofs.Common.{◌≡◌, ◌⊎◌, inl, inr, ℕ, zero, suc, ◌+◌, ◌<◌, ◌≤◌, List, [], ◌∷◌, ◌++◌, Option, Some, None, length, map, get_or, refl, sym, ap, ◌∙◌, subst, arith, ◌↔◌}
+use Rattle.std.proofs.Common.{◌≡◌, ◌⊎◌, inl, inr, ℕ, zero, suc, ◌<◌, ◌≤◌, List, [], ◌∷◌, Option, Some, None, length, map, get_or, refl, sym, ap, ◌∙◌, arith, ◌↔◌}
 use Rattle.std.specs.List.{slice_get, Contains}
 use Rattle.std.proofs.lemmas.Bool.{cases_eq, cases_lt}
 use Rattle.std.proofs.lemmas.List.{get_or_default}
@@ -12,7 +12,7 @@ use Rattle.lic_words.specs.Describing.{IsDescribed}
 use Rattle.lic_keys.specs.Rising.{IsRising}
 use Rattle.lic_keys.proofs.RisingLemmas.{rises}
 use Rattle.lic_auto.specs.Sets.{Known, words_of}
-use Rattle.lic_auto.specs.Picked.{IsLeastOf, NoneOfDescribes, OthersFail, picked}
+use Rattle.lic_auto.specs.Picked.{IsLeastOf, OthersFail, picked}
 use Rattle.lic_auto.specs.Runs.{IsLeastDescribing}
 
 -- what is computed of an element

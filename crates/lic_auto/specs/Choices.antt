@@ -1,5 +1,5 @@
 -- The templates that a choice has.
-use Rattle.std.specs.Prelude.{ℕ, List}
+use Rattle.std.specs.Prelude.{List}
 use Rattle.lic_auto.specs.Sets.{Known}
 use Rattle.lic_auto.specs.Picked.{picked}
 use Rattle.lic_auto.specs.declared.chosen.Chosen.{Chosen}

@@ -10,6 +10,9 @@ use lic_marks::node::Node;
 use std::alloc::{AllocError, Global};
 use std::collections::HashMap;
 
+// The most heads with a list of their own: each list repeats the numbers that any head can begin.
+const MOST_HEADS: usize = 1_024;
+
 /// For each head the numbers of the trees that have a word which begins with it.
 #[derive(Debug, Drop)]
 pub struct Index {
@@ -51,11 +54,16 @@ impl Index {
         }
     }
 
-    // Adds a number that is greater than all, to the lists of these heads.
+    // Adds a number that is greater than all: to the lists of these heads, or to all lists where any head can begin, or where
+    // there would be too many lists.
     fn add(&mut self, alloc: Global, number: usize, firsts: &Firsts) -> Result<(), AllocError>
         ensures { OnOk result (Adds (IsFirst firsts.now) number self.old self.new) }
     {
         if firsts.any {
+            return self.add_to_all(number);
+        }
+        let room = MOST_HEADS.saturating_sub(self.lists.len());
+        if firsts.heads.len() > room {
             return self.add_to_all(number);
         }
         self.add_to_each(alloc, number, &firsts.heads)

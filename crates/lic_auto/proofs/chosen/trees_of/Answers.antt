@@ -1,4 +1,4 @@
-use Rattle.std.proofs.Common.{◌≡◌, ◌+◌, ◌++◌, ◌∷◌, [], Some, map, length, get_or, sym, ap, ◌∙◌, subst, arith}
+use Rattle.std.proofs.Common.{◌≡◌, ◌++◌, ◌∷◌, [], Some, map, length, get_or, sym, ap, ◌∙◌, subst, arith}
 use Rattle.std.specs.Bool.{IsTrue}
 use Rattle.std.specs.List.{slice_get}
 use Rattle.std.proofs.lemmas.List.{length-map, map-append}
@@ -49,13 +49,13 @@ returns c =
     let trees = c.loop-number.trees in
     record {
       count = omega (
-          arith,
-          length-map trees.items (λ tree. tree.now),
-          trees.ok,
-          c.loop-number.invariant.count,
-          c.loop-number.auto.number-index-end,
-          c.loop-number-test.false,
-          length-picked c.args.set.now c.args.numbers.now c.requires.below,
+        arith,
+        length-map trees.items (λ tree. tree.now),
+        trees.ok,
+        c.loop-number.invariant.count,
+        c.loop-number.auto.number-index-end,
+        c.loop-number-test.false,
+        length-picked c.args.set.now c.args.numbers.now c.requires.below,
       );
       measured = c.loop-number.invariant.measured;
       words = c.loop-number.invariant.words;

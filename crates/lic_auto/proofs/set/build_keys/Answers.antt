@@ -1,4 +1,4 @@
-use Rattle.std.proofs.Common.{◌≡◌, ◌≤◌, map, take, length, sym, ap, ◌∙◌, subst}
+use Rattle.std.proofs.Common.{◌≡◌, map, sym, ap, ◌∙◌, subst}
 use Rattle.std.proofs.lemmas.List.{take_all}
 use Rattle.std.proofs.lemmas.Result.{IfOk-weaker}
 use Rattle.std.proofs.lemmas.Simd.{map-map}
@@ -6,7 +6,7 @@ use Rattle.lic_markup.specs.Parts.{TemplateValue}
 use Rattle.lic_keys.specs.Keys.{AreKeysOf}
 use Rattle.lic_auto.specs.declared.set.Named.{Named}
 use Rattle.lic_auto.specs.Compiled.{parts_of}
-use Rattle.lic_auto.specs.Sets.{Known, all_known, known_of}
+use Rattle.lic_auto.specs.Sets.{all_known, known_of}
 use Rattle.lic_auto.proofs.PickedLemmas.{map_through}
 use Rattle.lic_auto.proofs.set.build_keys.Goals as goal
 

@@ -1,4 +1,4 @@
-use Rattle.std.proofs.Common.{◌≡◌, length, sym, ap, ◌∙◌, arith}
+use Rattle.std.proofs.Common.{sym, ap, ◌∙◌, arith}
 use Rattle.std.specs.Str.{chars}
 use Rattle.lic_words.specs.Letters.{letters_in}
 use Rattle.lic_auto.proofs.PlainLengths.{plain_letters}

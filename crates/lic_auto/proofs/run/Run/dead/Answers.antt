@@ -1,7 +1,6 @@
-use Rattle.std.proofs.Common.{◌≡◌, ◌∙◌, length, get_or, ap, arith}
+use Rattle.std.proofs.Common.{◌≡◌, ◌∙◌, get_or, ap}
 use Rattle.std.specs.List.{slice_get}
 use Rattle.std.proofs.lemmas.List.{get_or_default}
-use Rattle.lic_auto.specs.Choices.{templates_of}
 use Rattle.lic_auto.proofs.Accepting.{dead_described}
 use Rattle.lic_auto.proofs.PickedLemmas.{picked-at}
 use Rattle.lic_auto.proofs.run.Run.dead.Goals as goal
