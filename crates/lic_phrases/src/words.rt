@@ -11,7 +11,6 @@ use crate::reader::Reader;
 use std::alloc::{AllocError, Global};
 use std::marker::Model;
 
-
 /// The phrases of a list of equivalent words, each with the spelling of its class.
 #[derive(Drop)]
 pub struct Words {

@@ -15,5 +15,5 @@ invariant_of-result c =
     let others = subst (λ ns. OthersDescribeNoRange (parts_of set) ns (all_letters tokens)) (sym c.in_ok-run.ensures.numbers) c.in_ok-kept.ensures.others in
     record {
       come = ∣ HasCome-begin set tokens c.args.place c.in_ok-run.run' c.first_token.result first c.first_token.ensures low within c.in_ok-run.ensures.set others
-              c.in_ok-run.ensures.stands ∣₁;
+          c.in_ok-run.ensures.stands ∣₁;
     }
