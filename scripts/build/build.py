@@ -1,11 +1,11 @@
 #!/usr/bin/env python3
 """Proves and builds the program crates/licscan, with each crate that it stands on.
 
-Crates are checked side by side, each once those below it are proved. A line on standard error says when each is proved.
-Work that earlier checks kept is used. Usage: build.py TOP, where TOP is the repository's top."""
+Crates are checked one after another, each on as many cores as rt takes: a check holds the crates below it, so two that share one
+cannot run side by side. A line on standard error says when each is proved. Work that earlier checks kept is used.
+Usage: build.py TOP, where TOP is the repository's top."""
 import fcntl
 import os
-import re
 import shutil
 import subprocess
 import sys
@@ -43,87 +43,21 @@ def needed_by(crates, name):
     return order
 
 
-def lines_of(folder):
-    """How many lines of code and proof a crate has."""
-    count = 0
-    for at, folders, files in os.walk(folder):
-        folders[:] = [it for it in folders if it != "out"]
-        for name in files:
-            if name.endswith((".rt", ".antt")):
-                with open(f"{at}/{name}", encoding="utf-8") as file:
-                    count += sum(1 for _ in file)
-    return count
+def run(folder, log, *words):
+    """Runs rt in a crate's folder, and returns its status. What it says goes to a file in out/."""
+    os.makedirs(f"{folder}/out", exist_ok=True)
+    with open(f"{folder}/out/{log}", "w", encoding="utf-8") as file:
+        return subprocess.run(["rt", *words], cwd=folder, stdin=subprocess.DEVNULL, stdout=file, stderr=file).returncode
 
 
-def processors():
-    return len(os.sched_getaffinity(0))
-
-
-class Build:
-    def __init__(self, top):
-        self.top = top
-        self.crates = read_crates(top)
-        self.left = needed_by(self.crates, PROGRAM)
-        self.count = len(self.left)
-        self.proved = set()
-        self.running = {}
-        weights = {it: lines_of(f"{top}/crates/{it}") for it in self.left}
-        # the lines of the longest chain of crates from this one up to the program
-        self.chain = dict(weights)
-        for it in reversed(self.left):
-            for below in self.crates[it]:
-                self.chain[below] = max(self.chain[below], weights[below] + self.chain[it])
-
-    def ready(self):
-        found = [it for it in self.left if all(below in self.proved for below in self.crates[it])]
-        return sorted(found, key=lambda it: -self.chain[it])
-
-    def start_ready(self):
-        """Starts the checks that can start, the longest chains first, and gives each its share of the processors."""
-        ready = self.ready()
-        while ready and len(self.running) < processors():
-            name = ready[0]
-            free = processors() - sum(jobs for _, jobs, _ in self.running.values())
-            jobs = max(1, min(4, free // len(ready)))
-            folder = f"{self.top}/crates/{name}"
-            os.makedirs(f"{folder}/out", exist_ok=True)
-            with open(f"{folder}/out/check.log", "w", encoding="utf-8") as log:
-                check = subprocess.Popen(["rt", "check", "--jobs", str(jobs)], cwd=folder, stdin=subprocess.DEVNULL, stdout=log, stderr=log)
-            self.running[name] = check, jobs, time.monotonic()
-            self.left.remove(name)
-            ready = self.ready()
-
-    def reap(self):
-        """Takes the checks that have ended, and returns the name of one that failed, if one did."""
-        for name, (check, _, start) in list(self.running.items()):
-            if check.poll() is None:
-                continue
-            del self.running[name]
-            if check.returncode:
-                return name
-            self.proved.add(name)
-            say(f"{len(self.proved)} of {self.count} crates proved ({name}, {time.monotonic() - start:.0f} s)")
-        return None
-
-    def prove(self):
-        """Proves all, and returns the name of a crate that could not be proved, if there is one."""
-        while self.left or self.running:
-            self.start_ready()
-            failed = self.reap()
-            if failed:
-                for check, _, _ in self.running.values():
-                    check.kill()
-                return failed
-            time.sleep(0.2)
-        return None
-
-    def link(self):
-        """Links the program, and says whether it is there."""
-        folder = f"{self.top}/crates/{PROGRAM}"
-        with open(f"{folder}/out/link.log", "w", encoding="utf-8") as log:
-            # its status is the program's own, and says nothing of the build
-            subprocess.run(["rt", "run", "--", "--help"], cwd=folder, stdin=subprocess.DEVNULL, stdout=log, stderr=log)
-        return os.access(f"{folder}/out/{PROGRAM}", os.X_OK)
+def prove(top, crates):
+    """Proves the crates, and returns the name of one that could not be proved, if there is one."""
+    for number, name in enumerate(crates, 1):
+        start = time.monotonic()
+        if run(f"{top}/crates/{name}", "check.log", "check"):
+            return name
+        say(f"{number} of {len(crates)} crates proved ({name}, {time.monotonic() - start:.0f} s)")
+    return None
 
 
 def is_current(top):
@@ -134,9 +68,29 @@ def is_current(top):
     made = os.path.getmtime(program)
     for at, folders, files in os.walk(f"{top}/crates"):
         folders[:] = [it for it in folders if it != "out"]
-        if any(re.search(r"\.(rt|antt)$", it) and os.path.getmtime(f"{at}/{it}") > made for it in files):
+        if any(it.endswith((".rt", ".antt")) and os.path.getmtime(f"{at}/{it}") > made for it in files):
             return False
     return True
+
+
+def build(top):
+    """Proves all, links the program, and returns the exit status."""
+    start = time.monotonic()
+    crates = needed_by(read_crates(top), PROGRAM)
+    say(f"proving {len(crates)} crates, then building the program: once, and some 25 minutes on four idle cores")
+    failed = prove(top, crates)
+    if failed:
+        say(f"{failed} could not be proved (log: crates/{failed}/out/check.log)")
+        return 2
+    # the status of this is that of the program's own --help, and says nothing of the build
+    run(f"{top}/crates/{PROGRAM}", "link.log", "run", "--", "--help")
+    program = f"{top}/crates/{PROGRAM}/out/{PROGRAM}"
+    if not os.access(program, os.X_OK):
+        say(f"the program could not be built (log: crates/{PROGRAM}/out/link.log)")
+        return 2
+    os.utime(program)
+    say(f"proved and built in {(time.monotonic() - start) / 60:.0f} minutes")
+    return 0
 
 
 def main(top):
@@ -147,21 +101,7 @@ def main(top):
     with open(f"{top}/crates/{PROGRAM}/out/build.lock", "w", encoding="utf-8") as lock:
         fcntl.flock(lock, fcntl.LOCK_EX)
         # another build may have ended meanwhile
-        if is_current(top):
-            return 0
-        start = time.monotonic()
-        build = Build(top)
-        say(f"proving {build.count} crates, then building the program; this is done once, and took 20 minutes on four idle cores")
-        failed = build.prove()
-        if failed:
-            say(f"{failed} could not be proved (log: crates/{failed}/out/check.log)")
-            return 2
-        if not build.link():
-            say(f"the program could not be built (log: crates/{PROGRAM}/out/link.log)")
-            return 2
-        os.utime(f"{top}/crates/{PROGRAM}/out/{PROGRAM}")
-        say(f"proved and built in {(time.monotonic() - start) / 60:.0f} minutes")
-    return 0
+        return 0 if is_current(top) else build(top)
 
 
 if __name__ == "__main__":
