@@ -1,12 +1,23 @@
-use Rattle.std.proofs.Common.{rules, ◌≡◌, ◌∙◌, ap, ◌++◌, sym, append_assoc, append-nil, subst, length, nat_lt, ◌∷◌, []}
+use Rattle.std.proofs.Common.{rules, ◌≡◌, ◌∙◌, ap, ◌++◌, sym, append_assoc, append-nil, refl, subst, length, nat_lt, ◌∷◌, []}
 use Rattle.std.specs.List.{flat_map}
 use Rattle.std.specs.Io.KnownBytes.{Appends}
 use Rattle.lic_stream.specs.Stream.{BeginsWith}
 use Rattle.lic_report.specs.Report.{match_line}
 use Rattle.lic_report.specs.Wanted.{wanted_of}
-use Rattle.lic_stream.proofs.Written.{IsPut, put_begins, put_begins_within, put_line, put_more, put_whole}
+use Rattle.lic_stream.proofs.Written.{IsPut, put_begins, put_begins_within, put_line, put_more, put_nothing, put_whole}
 use Rattle.lic_engine.proofs.ReportLemmas.{begins_report, whole_lines, some_more}
 use Rattle.lic_engine.proofs.engine.report_all.Goals as goal
+
+pub loop-triple-init : goal.loop-triple-init
+loop-triple-init g c =
+    record {
+      can = tt;
+      finite = tt;
+      all = refl;
+      put = subst (λ l. IsPut (g.W.Sink.taken c.args.out.now) (g.W.Sink.taken c.args.out.now) l []) (sym c.new-lines.ensures.items) (put_nothing (g.W.Sink.taken c.args.out.now));
+      some = refl;
+      sound = refl;
+    }
 
 pub returns-in_err-add_match-clause-part : goal.returns-in_err-add_match-clause-part
 returns-in_err-add_match-clause-part g c =
