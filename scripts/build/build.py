@@ -77,7 +77,7 @@ def build(top):
     """Proves all, links the program, and returns the exit status."""
     start = time.monotonic()
     crates = needed_by(read_crates(top), PROGRAM)
-    say(f"proving {len(crates)} crates, then building the program: once, and some 25 minutes on four idle cores")
+    say(f"proving {len(crates)} crates, then building the program: once, and up to half an hour on four cores")
     failed = prove(top, crates)
     if failed:
         say(f"{failed} could not be proved (log: crates/{failed}/out/check.log)")
