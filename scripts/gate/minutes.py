@@ -15,11 +15,12 @@ LINES = (
 def main():
     start = time.monotonic()
     reached = {}
-    for line in sys.stdin:
-        sys.stdout.write(line)
-        sys.stdout.flush()
+    # as bytes, so that no line can stop it
+    for line in sys.stdin.buffer:
+        sys.stdout.buffer.write(line)
+        sys.stdout.buffer.flush()
         for column, pattern in LINES:
-            found = pattern.match(line.rstrip("\n"))
+            found = pattern.match(line.decode("utf-8", "replace").rstrip("\n"))
             if found:
                 minutes = f"{(time.monotonic() - start) / 60:.1f}"
                 reached.setdefault(found[1], ["-", "-", "-"])[column] = minutes
