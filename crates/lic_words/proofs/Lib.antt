@@ -4,3 +4,6 @@ pub mod Spellings
 pub mod Tokens
 pub mod Counts
 pub mod ReadLetters
+pub mod Mirrors
+pub mod Turned
+pub mod ReadTurned

@@ -1,10 +1,11 @@
 -- What an iterator over the letters of a token has left to give.
-use Rattle.std.specs.Prelude.{◌≡◌, ℕ, Bool, List, Option}
+use Rattle.std.specs.Prelude.{◌≡◌, ℕ, Bool, List, Option, reverse}
 use Rattle.std.specs.Iterator.{YieldsFirstBy}
 use Rattle.std.specs.Str.{chars}
 use Rattle.lic_words.specs.Spelling.{Gap, gap_of, gapped_from, last_letter, apart_after}
 use Rattle.lic_words.specs.declared.letters.Letter.{Letter}
 use Rattle.lic_words.specs.declared.letters.Letters.{Letters}
+use Rattle.lic_words.specs.declared.turned_letters.TurnedLetters.{TurnedLetters}
 
 -- a letter with the gap before it
 abbrev pub gapped_letter : Letter → Gap × ℕ
@@ -27,3 +28,18 @@ pub record GivesLetter (old : Letters) (item : Option Letter) (new : Letters) : 
   pub first : YieldsFirstBy gapped_letter letters_left old item new
   pub last : last_in new ≡ last_in old
   pub apart : is_apart_in new ≡ is_apart_in old
+
+-- ---- from the last letter to the first
+
+-- the letters that are left, each with the gap before it as it is read
+abbrev pub turned_letters_left : TurnedLetters → List (Gap × ℕ)
+turned_letters_left s = gapped_from s.last s.is_apart (reverse (chars s.rest.now))
+
+-- the letter that will be the last
+abbrev pub turned_last_in : TurnedLetters → ℕ
+turned_last_in s = last_letter s.last (reverse (chars s.rest.now))
+
+-- the first of the letters that are left is given, and what will be last stays
+pub record GivesTurnedLetter (old : TurnedLetters) (item : Option Letter) (new : TurnedLetters) : Type 0 where
+  pub first : YieldsFirstBy gapped_letter turned_letters_left old item new
+  pub last : turned_last_in new ≡ turned_last_in old

@@ -1,10 +1,11 @@
 //! Laws of the definitions, each the contract of a function that does nothing.
 
-ghost use Rattle.std.specs.Prelude.{◌≡◌, ◌≢◌, ◌≤◌, ◌↔◌, ◌++◌, ◌∷◌, [], ◌==◌, ℕ, List, All, IsTrue, map, not};
+ghost use Rattle.std.specs.Prelude.{◌≡◌, ◌≢◌, ◌≤◌, ◌↔◌, ◌++◌, ◌∷◌, [], ◌==◌, ℕ, List, All, IsTrue, map, not, reverse};
 ghost use Rattle.std.specs.List.{concat, filter};
 ghost use Rattle.lic_words.specs.Describing.{IsDescribed};
 ghost use Rattle.lic_words.specs.Expressions.{Expression, Language, alt, cat_all, empty, letters};
 ghost use Rattle.lic_words.specs.Letters.{is_word};
+ghost use Rattle.lic_words.specs.Mirrors.{mirrored, turned};
 ghost use Rattle.lic_words.specs.Spelling.{Spells};
 ghost use Rattle.lic_words.specs.Words.{Cat, blank, blanks};
 
@@ -68,4 +69,19 @@ pub fn words_stand_apart()
 /// A blank within a token is a gap as between two tokens.
 pub fn a_blank_within_a_token_is_a_gap()
     ensures { (t u w : List ℕ) (ts : List (List ℕ)) → Spells w ((t ++ blank ∷ u) ∷ ts) ↔ Spells w (t ∷ u ∷ ts) }
+{}
+
+/// What an expression stands for is, read from the end, what the mirrored expression stands for.
+pub fn words_are_read_from_the_end()
+    ensures { (e : Expression) (w : List ℕ) → Language (mirrored e) (reverse w) ↔ Language e w }
+{}
+
+/// What spells some tokens spells, read from the end, the tokens from the last to the first, each from its end.
+pub fn spellings_are_read_from_the_end()
+    ensures { (w : List ℕ) (ts : List (List ℕ)) → Spells (reverse w) (turned ts) ↔ Spells w ts }
+{}
+
+/// What an expression describes is, read from the end, what the mirrored expression describes.
+pub fn lists_are_read_from_the_end()
+    ensures { (e : Expression) (ts : List (List ℕ)) → IsDescribed (mirrored e) (turned ts) ↔ IsDescribed e ts }
 {}

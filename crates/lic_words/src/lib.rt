@@ -1,6 +1,7 @@
 //! Words over letters and blanks, the expressions that stand for sets of them, and the words that
-//! spell a list of tokens: definitions and their laws; and the letters of a token one by one.
+//! spell a list of tokens: definitions and their laws, read from either end; and the letters of a token one by one.
 #![tactic(auto)]
 
 pub mod laws;
 pub mod letters;
+pub mod turned_letters;
