@@ -1,6 +1,10 @@
 pub mod Blocks
 pub mod Zero
 pub mod Steps
-pub mod Bits
+pub mod WordBits
 pub mod Sets
 pub mod Shifts
+pub mod OneWord
+pub mod Finds
+pub mod Ends
+pub mod Flags

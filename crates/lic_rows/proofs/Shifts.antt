@@ -65,17 +65,23 @@ module _ (old new : List ℕ) (fits : (k : ℕ) → get_or old k 0 < 2 ^ 64)
         ∙ ap (λ n. n == 1) (inside (b / 64) (b % 64) (omega arith) (omega arith))
   ]
 
+-- in one word
+pub up_here : (row : List ℕ) (at b : ℕ) → b / 64 ≡ at → suc b % 64 ≡ suc (b % 64)
+    → (bit_at (get_or row at 0 * 2 ^ 1 % 2 ^ 64) (suc b % 64) == 1) ≡ has row b
+up_here row at b word bit =
+    rw (← word, bit) (ap (λ n. n == 1) (doubled (get_or row (b / 64) 0) (b % 64) (omega (arith, bit))))
+
 -- the bits below a limit
 pub record Cut (old new : List ℕ) (limit : ℕ) : Type 0 where
   pub below : (k : ℕ) → k < limit / 64 → get_or new k 0 ≡ get_or old k 0
   pub here : get_or new (limit / 64) 0 ≡ bit_and (get_or old (limit / 64) 0) (2 ^ (limit % 64) - 1)
   pub above : (k : ℕ) → limit / 64 < k → get_or new k 0 ≡ 0
 
-and-true : (x : Bool) → (x && true) ≡ x
+pub and-true : (x : Bool) → (x && true) ≡ x
 and-true true = refl
 and-true false = refl
 
-and-false : (x : Bool) → (x && false) ≡ false
+pub and-false : (x : Bool) → (x && false) ≡ false
 and-false true = refl
 and-false false = refl
 

@@ -1,6 +1,6 @@
 use Rattle.std.proofs.Common.{◌≡◌, length, ◌≤◌, arith, refl, ◌/◌}
 use Rattle.std.specs.Prelude.{bit_and}
-use Rattle.lic_rows.proofs.Bits.{word_done, has_and}
+use Rattle.lic_rows.proofs.WordBits.{word_done, has_and}
 use Rattle.lic_rows.proofs.and_into.Goals as goal
 
 pub returns : goal.returns

@@ -1,6 +1,6 @@
 use Rattle.std.proofs.Common.{◌≡◌, length, ◌≤◌, arith, refl, ◌/◌}
 use Rattle.std.specs.Prelude.{bit_or}
-use Rattle.lic_rows.proofs.Bits.{word_done, has_or}
+use Rattle.lic_rows.proofs.WordBits.{word_done, has_or}
 use Rattle.lic_rows.proofs.or_into.Goals as goal
 
 pub returns : goal.returns

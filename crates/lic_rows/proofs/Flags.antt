@@ -1,0 +1,111 @@
+-- Words seen as a list of flags.
+use Rattle.std.proofs.Common.{◌≡◌, ◌≢◌, ℕ, ◌+◌, ◌/◌, ◌<◌, ◌≤◌, Bool, true, false, List, get_or, length, replicate, set, map, refl, ap, sym, ◌∙◌, arith, inl, inr}
+use Rattle.std.proofs.lemmas.Bool.{cases_lt, cases_eq}
+use Rattle.std.proofs.lemmas.List.{get_or_past, get_or-replicate, length-replicate, ext_get_or, get_or-set_same, get_or-set_other, length-set}
+use Rattle.std.proofs.lemmas.List.FromFn.{get_or-map-range_with_len, length-map-range_with_len}
+use Rattle.std.specs.Prelude.{Option, Some, None, IfSome, IfNone, is_some, ◌||◌}
+use Rattle.lic_rows.specs.Bits.{has, flags, flag_at, IsKeptOutside}
+use Rattle.lic_rows.proofs.Sets.{unset_in_zero}
+
+pub length-flags : (n : ℕ) (row : List ℕ) → length (flags n row) ≡ n
+length-flags n row = length-map-range_with_len (λ b. has row b) 0 n
+
+pub flag-inside : (n : ℕ) (row : List ℕ) (k : ℕ) → k < n → flag_at (flags n row) k ≡ has row k
+flag-inside n row k inside = get_or-map-range_with_len (λ b. has row b) 0 n k k false inside (omega arith)
+
+-- where no bit is set behind them
+pub flag-is : (n : ℕ) (row : List ℕ) → ((k : ℕ) → n ≤ k → has row k ≡ false) → (k : ℕ) → flag_at (flags n row) k ≡ has row k
+flag-is n row rest k = elim (cases_lt k n) [
+  | inl inside ↦ flag-inside n row k inside
+  | inr past ↦ get_or_past (flags n row) k false (omega (arith, length-flags n row)) ∙ sym (rest k past)
+]
+
+module _ (n : ℕ) (old new : List ℕ) (rest : (k : ℕ) → n ≤ k → has old k ≡ false) (from to : ℕ) (room : to ≤ n)
+    (kept : IsKeptOutside from to (has old) (has new)) where
+  pub rest_kept : (k : ℕ) → n ≤ k → has new k ≡ false
+  rest_kept k past = kept.behind k (omega arith) ∙ rest k past
+
+  pub flags_kept : IsKeptOutside from to (flag_at (flags n old)) (flag_at (flags n new))
+  flags_kept = record {
+    before = λ k low. flag-is n new rest_kept k ∙ kept.before k low ∙ sym (flag-is n old rest k);
+    behind = λ k high. flag-is n new rest_kept k ∙ kept.behind k high ∙ sym (flag-is n old rest k);
+  }
+
+pub clear_unset : (m b : ℕ) → has (replicate m 0) b ≡ false
+clear_unset m b = unset_in_zero (replicate m 0) b (elim (cases_lt (b / 64) m) [
+  | inl inside ↦ get_or-replicate m (b / 64) 0 0 inside
+  | inr past ↦ get_or_past (replicate m 0) (b / 64) 0 (omega (arith, length-replicate {A = ℕ} m 0))
+])
+
+pub flags_clear : (n m : ℕ) → flags n (replicate m 0) ≡ replicate n false
+flags_clear n m = ext_get_or false (flags n (replicate m 0)) (replicate n false) (length-flags n (replicate m 0) ∙ sym (length-replicate n false))
+    (λ k inside.
+    let low : k < n = omega (arith, inside, length-flags n (replicate m 0)) in
+    flag-inside n (replicate m 0) k low ∙ clear_unset m k ∙ sym (get_or-replicate n k false false low))
+
+pub flags_set : (n : ℕ) (old new : List ℕ) (at : ℕ) (flag : Bool) → at < n → has new at ≡ flag → ((b : ℕ) → b ≢ at → has new b ≡ has old b)
+    → flags n new ≡ set (flags n old) at flag
+flags_set n old new at flag inside here other =
+    ext_get_or false (flags n new) (set (flags n old) at flag) (length-flags n new ∙ sym (length-set (flags n old) at flag ∙ length-flags n old))
+    (λ k within.
+    let low : k < n = omega (arith, within, length-flags n new) in
+    flag-inside n new k low ∙ elim (cases_eq k at) [
+      | inl same ↦
+          ap (λ j. has new j) same ∙ here ∙ sym (ap (λ j. get_or (set (flags n old) at flag) j false) same
+          ∙ get_or-set_same (flags n old) at flag false (omega (arith, length-flags n old)))
+      | inr apart ↦ other k apart ∙ sym (get_or-set_other (flags n old) at k flag false apart ∙ flag-inside n old k low)
+    ])
+
+-- ---- what a search answers
+
+module _ (n : ℕ) (row : List ℕ) (from to : ℕ) (room : to ≤ n) where
+  pub found_flag : (found : Option ℕ) → IfSome found (λ at. (from ≤ at) × (at < to) × (has row at ≡ true) × ((b : ℕ) → from ≤ b → b < at → has row b ≡ false))
+      → IfSome found (λ at. (from ≤ at) × (at < to) × (flag_at (flags n row) at ≡ true) × ((k : ℕ) → from ≤ k → k < at → flag_at (flags n row) k ≡ false))
+  found_flag None h = h
+  found_flag (Some at) h = (
+    h.0,
+    h.1,
+    flag-inside n row at (omega (arith, h.1)) ∙ h.2,
+    λ k low high. flag-inside n row k (omega (arith, h.1)) ∙ h.3 k low high,
+  )
+
+  pub last_flag : (found : Option ℕ) → IfSome found (λ at. (from ≤ at) × (at < to) × (has row at ≡ true) × ((b : ℕ) → at < b → b < to → has row b ≡ false))
+      → IfSome found (λ at. (from ≤ at) × (at < to) × (flag_at (flags n row) at ≡ true) × ((k : ℕ) → at < k → k < to → flag_at (flags n row) k ≡ false))
+  last_flag None h = h
+  last_flag (Some at) h = (
+    h.0,
+    h.1,
+    flag-inside n row at (omega (arith, h.1)) ∙ h.2,
+    λ k low high. flag-inside n row k (omega arith) ∙ h.3 k low high,
+  )
+
+  pub none_flag : (found : Option ℕ) → IfNone found ((b : ℕ) → from ≤ b → b < to → has row b ≡ false)
+      → IfNone found ((k : ℕ) → from ≤ k → k < to → flag_at (flags n row) k ≡ false)
+  none_flag None h = λ k low high. flag-inside n row k (omega arith) ∙ h k low high
+  none_flag (Some at) h = h
+
+all_or : (x y : Bool) → (y ≡ true → x ≡ true) → x ≡ (x || y)
+all_or true y h = refl
+all_or false true h = absurd (let e = h refl in cc)
+all_or false false h = refl
+
+module _ (n : ℕ) (row other : List ℕ) (new : List ℕ) (from to : ℕ) (room : to ≤ n) where
+  pub found_fresh : (found : Option ℕ) → IfSome found (λ at. (from ≤ at) × (at < to) × (has row at ≡ false) × (has other at ≡ true))
+      → is_some found ≡ true → ((b : ℕ) → from ≤ b → b < to → has new b ≡ (has row b || has other b))
+      → (k : ℕ) × (flag_at (flags n row) k ≡ false) × (flag_at (flags n new) k ≡ true)
+  found_fresh None h is joined = absurd cc
+  found_fresh (Some at) h is joined = (
+    at,
+    flag-inside n row at (omega (arith, h.1)) ∙ h.2,
+    flag-inside n new at (omega (arith, h.1)) ∙ joined at h.0 h.1 ∙ ap (λ x. x || has other at) h.2 ∙ h.3,
+  )
+
+module _ (n m : ℕ) (row other : List ℕ) (from to : ℕ) (room : to ≤ n) (same : n ≡ m) where
+  pub none_fresh : (found : Option ℕ) → IfNone found ((b : ℕ) → from ≤ b → b < to → has other b ≡ true → has row b ≡ true)
+      → is_some found ≡ false → (k : ℕ) → from ≤ k → k < to → flag_at (flags n row) k ≡ (flag_at (flags n row) k || flag_at (flags m other) k)
+  none_fresh (Some at) h is = absurd cc
+  none_fresh None h is = λ k low high.
+      let inside : k < n = omega arith in
+      let x = flag-inside n row k inside in
+      let y = flag-inside m other k (omega (arith, inside)) in
+      all_or (flag_at (flags n row) k) (flag_at (flags m other) k) (λ set. x ∙ h k low high (sym y ∙ set))

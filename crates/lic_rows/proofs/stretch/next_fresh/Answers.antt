@@ -1,0 +1,23 @@
+use Rattle.std.proofs.Common.{ℕ, Bool, ◌<◌, arith}
+use Rattle.lic_rows.specs.Bits.{has}
+use Rattle.lic_rows.proofs.Finds.{is_fresh, place_after, place_wanted, none_before, none_found, fresh_true, fresh_false}
+use Rattle.lic_rows.proofs.stretch.next_fresh.Goals as goal
+
+pub returns-then-found-to-clause-found : goal.returns-then-found-to-clause-found
+returns-then-found-to-clause-found c =
+    let wanted : ℕ → Bool = is_fresh c.args.row.now c.args.other.now in
+    let some : 0 < c.loop-word.word = omega (arith, c.if-word-eq0.false) in
+    let is = fresh_true _ _ (place_wanted wanted c.args.from c.args.to c.requires.order c.loop-word.at c.loop-word.word c.loop-word.invariant some) in (
+      place_after wanted c.args.from c.args.to c.requires.order c.loop-word.at c.loop-word.word c.loop-word.invariant some,
+      c.if-found-to.true,
+      is.0,
+      is.1,
+    )
+
+pub returns-else-found-to-clause-none : goal.returns-else-found-to-clause-none
+returns-else-found-to-clause-none c =
+    let wanted : ℕ → Bool = is_fresh c.args.row.now c.args.other.now in
+    let some : 0 < c.loop-word.word = omega (arith, c.if-word-eq0.false) in
+    λ b after before. fresh_false _ _
+    (none_before wanted c.args.from c.args.to c.requires.order c.loop-word.at c.loop-word.word c.loop-word.invariant some b after
+    (omega (arith, c.if-found-to.false, before)))
