@@ -9,15 +9,15 @@ use Rattle.lic_words.proofs.Rows.{gapped_from-blank, gapped_from-letter}
 use Rattle.lic_marks.specs.Cores.{Core, empty, one, cat, none, alt, plus, tidy, WordsOf, core}
 use Rattle.lic_marks.specs.Marks.{Marks, no_marks, shift, join}
 use Rattle.lic_marks.specs.Rows.{weight}
-use Rattle.lic_marks.specs.Standing.{StandsAtOnce, StandsFor, Gathers, IsClosed}
+use Rattle.lic_marks.specs.Standing.{After, Leads, LeadsOverBlanks, StandsAtOnce, StandsFor, Gathers, IsClosed}
 use Rattle.lic_marks.specs.Deciding.{has_new, gather, over_blanks, read_letter, can_read, is_described}
 use Rattle.lic_marks.proofs.Cuts.{or_cases}
 use Rattle.lic_marks.proofs.JoinedRows.{kept}
 use Rattle.lic_marks.proofs.Repetitions.{core_sound, core_complete}
-use Rattle.lic_marks.proofs.Standing.{Gathers-first, Gathers-more, IsClosed-same, StandsFor-close, StandsFor-letter, StandsAtOnce-letter, StandsAtOnce-begin, accept_sound, accept_complete}
+use Rattle.lic_marks.proofs.Standing.{Gathers-first, Gathers-more, IsClosed-same, LeadsOverBlanks-close, StandsFor-letter, StandsAtOnce-letter, StandsAtOnce-begin, accept_sound, accept_complete}
 
 -- how many positions are not marked
-abbrev unmarked : (r : Core) → Marks r → ℕ
+abbrev pub unmarked : (r : Core) → Marks r → ℕ
 unmarked empty m = 0
 unmarked (one passes) true = 0
 unmarked (one passes) false = 1
@@ -27,7 +27,7 @@ unmarked (alt a b) m = unmarked a m.0 + unmarked b m.1
 unmarked (plus a) m = unmarked a m
 unmarked (tidy a) m = unmarked a m
 
-unmarked-bound : (r : Core) (m : Marks r) → unmarked r m ≤ weight r
+pub unmarked-bound : (r : Core) (m : Marks r) → unmarked r m ≤ weight r
 unmarked-bound empty m = omega arith
 unmarked-bound (one passes) true = omega arith
 unmarked-bound (one passes) false = omega arith
@@ -58,7 +58,7 @@ or_right_false true b h = cc
 or_right_false false b h = h
 
 -- nothing new changes nothing
-join-same : (r : Core) (m n : Marks r) → has_new r m n ≡ false → join r m n ≡ m
+pub join-same : (r : Core) (m n : Marks r) → has_new r m n ≡ false → join r m n ≡ m
 join-same empty m n h = refl
 join-same (one passes) m n h = kept m n h
 join-same (cat a b) m n h =
@@ -74,7 +74,7 @@ join-same (plus a) m n h = join-same a m n h
 join-same (tidy a) m n h = join-same a m n h
 
 -- something new is one position less that is not marked
-join-grows : (r : Core) (m n : Marks r) → has_new r m n ≡ true → unmarked r (join r m n) < unmarked r m
+pub join-grows : (r : Core) (m n : Marks r) → has_new r m n ≡ true → unmarked r (join r m n) < unmarked r m
 join-grows empty m n h = cc
 join-grows (one passes) true true h = cc
 join-grows (one passes) true false h = cc
@@ -110,7 +110,7 @@ module _ (r : Core) (m : Marks r) where
   IsClosed-full true h k = absurd (omega (arith, join-grows r m (shift r true false m blank) h, k))
   IsClosed-full false h k = IsClosed-done h
 
-stopped : (r : Core) (n : ℕ) (m : Marks r) → gather n false r m ≡ m
+pub stopped : (r : Core) (n : ℕ) (m : Marks r) → gather n false r m ≡ m
 stopped r zero m = refl
 stopped r (suc n) m = refl
 
@@ -123,14 +123,19 @@ IsClosed-gather r (suc n) m true h k =
 IsClosed-gather r (suc n) m false h k =
     rw (h, stopped r n (join r m (shift r true false m blank)), join-same r m (shift r true false m blank) h) (IsClosed-done r m h)
 
+-- the marks for a set, closed over blanks
+pub LeadsOverBlanks-over_blanks : (r : Core) (entry : Bool) (at_once : Marks r) (A : Word → Type 0) →
+    Leads r entry at_once A → LeadsOverBlanks r entry at_once (over_blanks r entry at_once) A
+LeadsOverBlanks-over_blanks r entry at_once A s =
+    let first : Marks r = shift r false entry at_once blank in
+    LeadsOverBlanks-close r entry at_once (over_blanks r entry at_once) A s
+    (Gathers-gather r entry at_once (weight r) true first (Gathers-first r entry at_once))
+    (IsClosed-gather r (weight r) first _ refl (unmarked-bound r first))
+
 -- the marks for some letters, closed over blanks
 StandsFor-over_blanks : (r : Core) (entry : Bool) (at_once : Marks r) (letters : List (Gap × ℕ)) →
     StandsAtOnce r entry at_once letters → StandsFor r entry at_once (over_blanks r entry at_once) letters
-StandsFor-over_blanks r entry at_once letters s =
-    let first : Marks r = shift r false entry at_once blank in
-    StandsFor-close r entry at_once (over_blanks r entry at_once) letters s
-    (Gathers-gather r entry at_once (weight r) true first (Gathers-first r entry at_once))
-    (IsClosed-gather r (weight r) first _ refl (unmarked-bound r first))
+StandsFor-over_blanks r entry at_once letters = LeadsOverBlanks-over_blanks r entry at_once (After (WordsOf r) letters)
 
 -- one letter more
 StandsAtOnce-read_letter : (r : Core) (entry : Bool) (at_once : Marks r) (letters : List (Gap × ℕ)) →

@@ -9,15 +9,20 @@ pub mod LetterWalks
 pub mod RowWalks
 pub mod JoinedRows
 pub mod Children
-pub mod Closing
 pub mod StateLemmas
+pub mod Lists
 pub mod TokenRows
 pub mod Built
 pub mod Copied
 pub mod Patches
 pub mod Taken
 pub mod Moving
+pub mod Stretches
+pub mod LoneMarks
 pub mod Untouched
 pub mod WindowRows
 pub mod Deciding
+pub mod Closing
+pub mod Entering
+pub mod Seeking
 mod DescribedExamples

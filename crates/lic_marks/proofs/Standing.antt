@@ -5,7 +5,7 @@ use Rattle.lic_words.specs.Spelling.{Gap, no_gap, free, needed, gap_of, Allows, 
 use Rattle.lic_marks.specs.Cores.{Core, empty, one, cat, none, alt, plus, tidy, WordsOf}
 use Rattle.lic_marks.specs.Marks.{Marks, no_marks, can_leave, shift, join}
 use Rattle.lic_marks.specs.Rests.{Completes, GoesOn}
-use Rattle.lic_marks.specs.Standing.{After, StandsAtOnce, StandsFor, StandsSoFar, Gathers, IsClosed, shift_over}
+use Rattle.lic_marks.specs.Standing.{After, Then, Leads, LeadsOverBlanks, LeadsSoFar, StandsAtOnce, StandsFor, Gathers, IsClosed, shift_over}
 use Rattle.lic_marks.proofs.Cuts.{or_cases, or_left, or_right}
 use Rattle.lic_marks.proofs.Shifting.{Completes-no_marks, shift_sound, shift_complete, can_leave_sound, can_leave_complete, begin_sound, begin_complete}
 
@@ -104,101 +104,109 @@ Gathers-complete r entry at_once after_blanks g closed n v h = along n v (g.star
     along zero u h = h
     along (suc k) u h = along k u (closed.steps (blanks k ++ u) (shift_complete r true false after_blanks blank (blanks k ++ u) (inl h)))
 
+-- the same set said otherwise
+pub Leads-same : (r : Core) (entry : Bool) (marks : Marks r) (A B : Word → Type 0) → ((v : Word) → A v → B v) → ((v : Word) → B v → A v) →
+    Leads r entry marks A → Leads r entry marks B
+Leads-same r entry marks A B f g s = record { sound = λ v h. f v (s.sound v h); complete = λ v h. s.complete v (g v h) }
+
 -- the pair of marks, from those for what may follow at once and their closure
-pub StandsFor-close : (r : Core) (entry : Bool) (at_once after_blanks : Marks r) (letters : List (Gap × ℕ)) →
-    StandsAtOnce r entry at_once letters → Gathers r entry at_once after_blanks → IsClosed r after_blanks →
-    StandsFor r entry at_once after_blanks letters
-StandsFor-close r entry at_once after_blanks letters now g closed = record {
+pub LeadsOverBlanks-close : (r : Core) (entry : Bool) (at_once after_blanks : Marks r) (A : Word → Type 0) →
+    Leads r entry at_once A → Gathers r entry at_once after_blanks → IsClosed r after_blanks → LeadsOverBlanks r entry at_once after_blanks A
+LeadsOverBlanks-close r entry at_once after_blanks A now g closed = record {
   now = now;
   blanks_sound = λ v h. let t = g.sound v h in (t.0, now.sound (blanks (suc t.0) ++ v) t.1);
   blanks_complete = λ v n h. Gathers-complete r entry at_once after_blanks g closed n v (now.complete (blanks (suc n) ++ v) h);
 }
 
+pub StandsFor-close : (r : Core) (entry : Bool) (at_once after_blanks : Marks r) (letters : List (Gap × ℕ)) →
+    StandsAtOnce r entry at_once letters → Gathers r entry at_once after_blanks → IsClosed r after_blanks →
+    StandsFor r entry at_once after_blanks letters
+StandsFor-close r entry at_once after_blanks letters = LeadsOverBlanks-close r entry at_once after_blanks (After (WordsOf r) letters)
+
 pub StandsAtOnce-begin : (r : Core) → StandsAtOnce r true (no_marks r) []
 StandsAtOnce-begin r = record { sound = λ v h. begin_sound r false v h; complete = λ v h. begin_complete r false v h }
 
 -- one letter more that no gap parts from the one before
-pub StandsAtOnce-letter : (r : Core) (entry : Bool) (at_once : Marks r) (letters : List (Gap × ℕ)) → StandsAtOnce r entry at_once letters →
-    (c : ℕ) → (c ≡ blank → ⊥) → StandsAtOnce r false (shift r false entry at_once c) (letters ++ (no_gap, c) ∷ [])
-StandsAtOnce-letter r entry at_once letters s c letter = record { sound = sound; complete = complete }
+pub Leads-letter : (r : Core) (entry : Bool) (at_once : Marks r) (A : Word → Type 0) → Leads r entry at_once A →
+    (c : ℕ) → (c ≡ blank → ⊥) → Leads r false (shift r false entry at_once c) (Then no_gap c A)
+Leads-letter r entry at_once A s c letter = record { sound = sound; complete = complete }
   where
     other : (c == blank) ≡ false
     other = ne_eqb c blank letter
 
-    sound : (v : Word) → GoesOn r false false (shift r false entry at_once c) v → After (WordsOf r) (letters ++ (no_gap, c) ∷ []) v
-    sound v (inl h) = snoc-After letters (WordsOf r) no_gap c v 0 refl
-        (s.sound (c ∷ v) (shift_sound r false entry at_once c v (subst (λ b. Completes r b (shift r false entry at_once c) v) (sym other) h)))
+    sound : (v : Word) → GoesOn r false false (shift r false entry at_once c) v → Then no_gap c A v
+    sound v (inl h) = (0, refl, s.sound (c ∷ v) (shift_sound r false entry at_once c v (subst (λ b. Completes r b (shift r false entry at_once c) v) (sym other) h)))
     sound v (inr h) = absurd (let e = h.0 in cc)
 
-    complete : (v : Word) → After (WordsOf r) (letters ++ (no_gap, c) ∷ []) v → GoesOn r false false (shift r false entry at_once c) v
-    complete v h = here (After-snoc letters (WordsOf r) no_gap c v h)
-      where
-        here : (n : ℕ) × Allows no_gap n × After (WordsOf r) letters (blanks n ++ c ∷ v) → GoesOn r false false (shift r false entry at_once c) v
-        here (zero, a, h) = inl (subst (λ b. Completes r b (shift r false entry at_once c) v) other (shift_complete r false entry at_once c v (s.complete (c ∷ v) h)))
-        here (suc n, a, h) = absurd (omega (arith, a))
+    complete : (v : Word) → Then no_gap c A v → GoesOn r false false (shift r false entry at_once c) v
+    complete v (zero, a, h) = inl (subst (λ b. Completes r b (shift r false entry at_once c) v) other (shift_complete r false entry at_once c v (s.complete (c ∷ v) h)))
+    complete v (suc n, a, h) = absurd (omega (arith, a))
 
-module _ (r : Core) (entry : Bool) (at_once after_blanks : Marks r) (letters : List (Gap × ℕ)) (s : StandsFor r entry at_once after_blanks letters) (c : ℕ) (letter : (c == blank) ≡ false) where
-  by_at_once : (v : Word) → Completes r false (shift r false entry at_once c) v → After (WordsOf r) letters (c ∷ v)
+module _ (r : Core) (entry : Bool) (at_once after_blanks : Marks r) (A : Word → Type 0) (s : LeadsOverBlanks r entry at_once after_blanks A) (c : ℕ) (letter : (c == blank) ≡ false) where
+  by_at_once : (v : Word) → Completes r false (shift r false entry at_once c) v → A (c ∷ v)
   by_at_once v h = s.now.sound (c ∷ v) (shift_sound r false entry at_once c v (subst (λ b. Completes r b (shift r false entry at_once c) v) (sym letter) h))
 
-  by_after_blanks : (v : Word) → Completes r false (shift r true false after_blanks c) v → (n : ℕ) × After (WordsOf r) letters (blanks (suc n) ++ c ∷ v)
+  pub by_after_blanks : (v : Word) → Completes r false (shift r true false after_blanks c) v → (n : ℕ) × A (blanks (suc n) ++ c ∷ v)
   by_after_blanks v h = elim (shift_sound r true false after_blanks c v (subst (λ b. Completes r b (shift r true false after_blanks c) v) (sym letter) h)) [
     | inl p ↦ s.blanks_sound (c ∷ v) p
     | inr p ↦ absurd (let e = p.0 in cc)
   ]
 
-  to_at_once : (v : Word) → After (WordsOf r) letters (c ∷ v) → Completes r false (shift r false entry at_once c) v
+  to_at_once : (v : Word) → A (c ∷ v) → Completes r false (shift r false entry at_once c) v
   to_at_once v h = subst (λ b. Completes r b (shift r false entry at_once c) v) letter (shift_complete r false entry at_once c v (s.now.complete (c ∷ v) h))
 
-  to_after_blanks : (v : Word) (n : ℕ) → After (WordsOf r) letters (blanks (suc n) ++ c ∷ v) → Completes r false (shift r true false after_blanks c) v
+  pub to_after_blanks : (v : Word) (n : ℕ) → A (blanks (suc n) ++ c ∷ v) → Completes r false (shift r true false after_blanks c) v
   to_after_blanks v n h = subst (λ b. Completes r b (shift r true false after_blanks c) v) letter (shift_complete r true false after_blanks c v (inl (s.blanks_complete (c ∷ v) n h)))
 
-  pub letter_sound : (g : Gap) (v : Word) → GoesOn r false false (shift_over r entry at_once after_blanks g c) v → After (WordsOf r) (letters ++ (g, c) ∷ []) v
-  letter_sound no_gap v (inl h) = snoc-After letters (WordsOf r) no_gap c v 0 refl (by_at_once v h)
-  letter_sound needed v (inl h) = let t = by_after_blanks v h in snoc-After letters (WordsOf r) needed c v (suc t.0) (omega arith) t.1
+  letter_sound : (g : Gap) (v : Word) → GoesOn r false false (shift_over r entry at_once after_blanks g c) v → Then g c A v
+  letter_sound no_gap v (inl h) = (0, refl, by_at_once v h)
+  letter_sound needed v (inl h) = let t = by_after_blanks v h in (suc t.0, omega arith, t.1)
   letter_sound free v (inl h) = elim (Completes-join r false (shift r false entry at_once c) (shift r true false after_blanks c) v h) [
-    | inl p ↦ snoc-After letters (WordsOf r) free c v 0 tt (by_at_once v p)
-    | inr p ↦ let t = by_after_blanks v p in snoc-After letters (WordsOf r) free c v (suc t.0) tt t.1
+    | inl p ↦ (0, tt, by_at_once v p)
+    | inr p ↦ let t = by_after_blanks v p in (suc t.0, tt, t.1)
   ]
   letter_sound g v (inr h) = absurd (let e = h.0 in cc)
 
-  pub letter_complete : (g : Gap) (v : Word) → After (WordsOf r) (letters ++ (g, c) ∷ []) v → GoesOn r false false (shift_over r entry at_once after_blanks g c) v
-  letter_complete g v h = inl (here g (After-snoc letters (WordsOf r) g c v h))
-    where
-      here : (g : Gap) → (n : ℕ) × Allows g n × After (WordsOf r) letters (blanks n ++ c ∷ v) → Completes r false (shift_over r entry at_once after_blanks g c) v
-      here no_gap (zero, a, h) = to_at_once v h
-      here no_gap (suc n, a, h) = absurd (omega (arith, a))
-      here needed (zero, a, h) = absurd (omega (arith, a))
-      here needed (suc n, a, h) = to_after_blanks v n h
-      here free (zero, a, h) = join-left r false (shift r false entry at_once c) (shift r true false after_blanks c) v (to_at_once v h)
-      here free (suc n, a, h) = join-right r false (shift r false entry at_once c) (shift r true false after_blanks c) v (to_after_blanks v n h)
+  completed : (g : Gap) (v : Word) → Then g c A v → Completes r false (shift_over r entry at_once after_blanks g c) v
+  completed no_gap v (zero, a, h) = to_at_once v h
+  completed no_gap v (suc n, a, h) = absurd (omega (arith, a))
+  completed needed v (zero, a, h) = absurd (omega (arith, a))
+  completed needed v (suc n, a, h) = to_after_blanks v n h
+  completed free v (zero, a, h) = join-left r false (shift r false entry at_once c) (shift r true false after_blanks c) v (to_at_once v h)
+  completed free v (suc n, a, h) = join-right r false (shift r false entry at_once c) (shift r true false after_blanks c) v (to_after_blanks v n h)
 
--- the answer, whether a word of the expression spells the letters
-module _ (r : Core) (entry : Bool) (at_once after_blanks : Marks r) (letters : List (Gap × ℕ)) (s : StandsFor r entry at_once after_blanks letters) where
-  pub accept_sound : (can_leave r false entry at_once || can_leave r true false after_blanks) ≡ true → (w : Word) × WordsOf r w × SpellsGapped w letters
-  accept_sound h = elim (or_cases (can_leave r false entry at_once) (can_leave r true false after_blanks) h) [
-    | inl p ↦ spells-After letters (WordsOf r) 0 (s.now.sound [] (can_leave_sound r false entry at_once p))
+  -- one letter more behind any gap
+  pub LeadsOverBlanks-letter : (g : Gap) → Leads r false (shift_over r entry at_once after_blanks g c) (Then g c A)
+  LeadsOverBlanks-letter g = record { sound = letter_sound g; complete = λ v h. inl (completed g v h) }
+
+-- the answer, whether blanks alone may follow
+module _ (r : Core) (entry : Bool) (at_once after_blanks : Marks r) (A : Word → Type 0) (s : LeadsOverBlanks r entry at_once after_blanks A) where
+  no_more : (n : ℕ) → blanks n ++ [] ≡ blanks n
+  no_more zero = refl
+  no_more (suc n) = ap (λ x. blank ∷ x) (no_more n)
+
+  pub leaving_sound : (can_leave r false entry at_once || can_leave r true false after_blanks) ≡ true → (n : ℕ) × A (blanks n)
+  leaving_sound h = elim (or_cases (can_leave r false entry at_once) (can_leave r true false after_blanks) h) [
+    | inl p ↦ (0, s.now.sound [] (can_leave_sound r false entry at_once p))
     | inr p ↦ elim (can_leave_sound r true false after_blanks p) [
-      | inl q ↦ let t = s.blanks_sound [] q in spells-After letters (WordsOf r) (suc t.0) (subst (After (WordsOf r) letters) (no_more (suc t.0)) t.1)
+      | inl q ↦ let t = s.blanks_sound [] q in (suc t.0, subst A (no_more (suc t.0)) t.1)
       | inr q ↦ absurd (let e = q.0 in cc)
     ]
   ]
-    where
-      no_more : (n : ℕ) → blanks n ++ [] ≡ blanks n
-      no_more zero = refl
-      no_more (suc n) = ap (λ x. blank ∷ x) (no_more n)
+
+  pub leaving_complete : (n : ℕ) → A (blanks n) → (can_leave r false entry at_once || can_leave r true false after_blanks) ≡ true
+  leaving_complete zero h = or_left (can_leave r false entry at_once) (can_leave r true false after_blanks) (can_leave_complete r false entry at_once (s.now.complete [] h))
+  leaving_complete (suc n) h = or_right (can_leave r false entry at_once) (can_leave r true false after_blanks)
+      (can_leave_complete r true false after_blanks (inl (s.blanks_complete [] n (subst A (sym (no_more (suc n))) h))))
+
+-- the same for the letters of a list: whether a word of the expression spells them
+module _ (r : Core) (entry : Bool) (at_once after_blanks : Marks r) (letters : List (Gap × ℕ)) (s : StandsFor r entry at_once after_blanks letters) where
+  pub accept_sound : (can_leave r false entry at_once || can_leave r true false after_blanks) ≡ true → (w : Word) × WordsOf r w × SpellsGapped w letters
+  accept_sound h = let t = leaving_sound r entry at_once after_blanks (After (WordsOf r) letters) s h in spells-After letters (WordsOf r) t.0 t.1
 
   pub accept_complete : (w : Word) → WordsOf r w → SpellsGapped w letters → (can_leave r false entry at_once || can_leave r true false after_blanks) ≡ true
-  accept_complete w p q = here (After-spells letters (WordsOf r) w p q)
-    where
-      no_more : (n : ℕ) → blanks n ≡ blanks n ++ []
-      no_more zero = refl
-      no_more (suc n) = ap (λ x. blank ∷ x) (no_more n)
-
-      here : (n : ℕ) × After (WordsOf r) letters (blanks n) → (can_leave r false entry at_once || can_leave r true false after_blanks) ≡ true
-      here (zero, h) = or_left (can_leave r false entry at_once) (can_leave r true false after_blanks) (can_leave_complete r false entry at_once (s.now.complete [] h))
-      here (suc n, h) = or_right (can_leave r false entry at_once) (can_leave r true false after_blanks)
-          (can_leave_complete r true false after_blanks (inl (s.blanks_complete [] n (subst (After (WordsOf r) letters) (no_more (suc n)) h))))
+  accept_complete w p q =
+      let t = After-spells letters (WordsOf r) w p q in leaving_complete r entry at_once after_blanks (After (WordsOf r) letters) s t.0 t.1
 
 -- with no mark left, no word spells any letters that begin with these
 spells-begin : (letters more : List (Gap × ℕ)) (P : Word → Type 0) (w : Word) → P w → SpellsGapped w (letters ++ more) → (v : Word) × After P letters v
@@ -212,22 +220,32 @@ never_spelled r letters more s w p q =
     let t = spells-begin letters more (WordsOf r) w p q in
     elim (s.complete t.0 t.1) [ inl h ↦ Completes-no_marks r false t.0 h | inr h ↦ absurd (let e = h.0 in cc) ]
 
+-- a list with one letter more
+module _ (r : Core) (marks : Marks r) (letters : List (Gap × ℕ)) (g : Gap) (c : ℕ) where
+  pub StandsAtOnce-more : Leads r false marks (Then g c (After (WordsOf r) letters)) → StandsAtOnce r false marks (letters ++ (g, c) ∷ [])
+  StandsAtOnce-more = Leads-same r false marks (Then g c (After (WordsOf r) letters)) (After (WordsOf r) (letters ++ (g, c) ∷ []))
+      (λ v h. snoc-After letters (WordsOf r) g c v h.0 h.1 h.2) (λ v h. After-snoc letters (WordsOf r) g c v h)
+
+pub StandsAtOnce-letter : (r : Core) (entry : Bool) (at_once : Marks r) (letters : List (Gap × ℕ)) → StandsAtOnce r entry at_once letters →
+    (c : ℕ) → (c ≡ blank → ⊥) → StandsAtOnce r false (shift r false entry at_once c) (letters ++ (no_gap, c) ∷ [])
+StandsAtOnce-letter r entry at_once letters s c letter =
+    StandsAtOnce-more r (shift r false entry at_once c) letters no_gap c (Leads-letter r entry at_once (After (WordsOf r) letters) s c letter)
+
 -- one letter more, which is no blank, behind any gap
 pub StandsFor-letter : (r : Core) (entry : Bool) (at_once after_blanks : Marks r) (letters : List (Gap × ℕ)) →
     StandsFor r entry at_once after_blanks letters → (g : Gap) (c : ℕ) → (c ≡ blank → ⊥) →
     StandsAtOnce r false (shift_over r entry at_once after_blanks g c) (letters ++ (g, c) ∷ [])
-StandsFor-letter r entry at_once after_blanks letters s g c letter = record {
-  sound = letter_sound r entry at_once after_blanks letters s c (ne_eqb c blank letter) g;
-  complete = letter_complete r entry at_once after_blanks letters s c (ne_eqb c blank letter) g;
-}
+StandsFor-letter r entry at_once after_blanks letters s g c letter =
+    StandsAtOnce-more r (shift_over r entry at_once after_blanks g c) letters g c
+    (LeadsOverBlanks-letter r entry at_once after_blanks (After (WordsOf r) letters) s c (ne_eqb c blank letter) g)
 
 -- one letter more within a token
-pub StandsSoFar-letter : (r : Core) (entry : Bool) (at_once after_blanks : Marks r) (is_apart : Bool) (letters : List (Gap × ℕ)) →
-    StandsSoFar r entry at_once after_blanks is_apart letters → (are_words : Bool) (c : ℕ) → (c ≡ blank → ⊥) →
-    StandsAtOnce r false (shift_over r entry at_once after_blanks (gap_of is_apart are_words) c) (letters ++ (gap_of is_apart are_words, c) ∷ [])
-StandsSoFar-letter r entry at_once after_blanks false letters s are_words c letter = StandsAtOnce-letter r entry at_once letters s.now c letter
-StandsSoFar-letter r entry at_once after_blanks true letters s are_words c letter =
-    StandsFor-letter r entry at_once after_blanks letters (s.apart refl) (gap_of true are_words) c letter
+pub LeadsSoFar-letter : (r : Core) (entry : Bool) (at_once after_blanks : Marks r) (is_apart : Bool) (A : Word → Type 0) →
+    LeadsSoFar r entry at_once after_blanks is_apart A → (are_words : Bool) (c : ℕ) → (c ≡ blank → ⊥) →
+    Leads r false (shift_over r entry at_once after_blanks (gap_of is_apart are_words) c) (Then (gap_of is_apart are_words) c A)
+LeadsSoFar-letter r entry at_once after_blanks false A s are_words c letter = Leads-letter r entry at_once A s.now c letter
+LeadsSoFar-letter r entry at_once after_blanks true A s are_words c letter =
+    LeadsOverBlanks-letter r entry at_once after_blanks A (s.apart refl) c (ne_eqb c blank letter) (gap_of true are_words)
 
 -- the marks after a letter, by the gap before it
 module _ (r : Core) (entry : Bool) (at_once after_blanks : Marks r) (is_apart are_words : Bool) (c : ℕ) where

@@ -1,5 +1,5 @@
 -- Windows that take flags in.
-use Rattle.std.proofs.Common.{◌≡◌, ℕ, ◌+◌, ◌≤◌, ◌<◌, Bool, true, false, min, max, List, length, set, get_or, refl, ap, ◌∙◌, ⊎_elim, arith}
+use Rattle.std.proofs.Common.{◌≡◌, ℕ, ◌+◌, ◌≤◌, ◌<◌, Bool, true, false, min, max, List, length, set, get_or, refl, ap, ◌∙◌, ⊎_elim, inl, inr, ◌⊎◌, arith}
 use Rattle.std.proofs.lemmas.Bool.{cases_lt}
 use Rattle.std.proofs.lemmas.List.{get_or-set_same, get_or-set_other}
 use Rattle.lic_marks.specs.Windows.{IsClearOutside, TakesIn}
@@ -11,6 +11,13 @@ pub clear_part : (w : Window) (row : List Bool) (at end first last : ℕ) → Is
 clear_part w row at end first last h l r = record {
   before = λ k low high far. h.before k (omega arith) (omega arith) far;
   behind = λ k low high far. h.behind k (omega arith) (omega arith) far;
+}
+
+-- a window that has all of it
+pub clear_wider : (w u : Window) (row : List Bool) (at end : ℕ) → IsClearOutside w row at end → u.from ≤ w.from → w.to ≤ u.to → IsClearOutside u row at end
+clear_wider w u row at end h a b = record {
+  before = λ k low high far. h.before k low high (omega arith);
+  behind = λ k low high far. h.behind k low high (omega arith);
 }
 
 -- a row that has the same flags there
@@ -85,3 +92,37 @@ pub TakesIn-put : (first mid last : Window) (row : List Bool) (at place : ℕ) (
 TakesIn-put first mid last row at place flag p order q =
     TakesIn-join first mid last row (set row place flag) at place (place + 1) p
     (λ k low high. get_or-set_other row place k flag false (omega arith)) (omega arith) q
+
+-- one stretch before another, with clear places between them
+pub TakesIn-down : (first mid last : Window) (old new : List Bool) (low between high end : ℕ) → TakesIn first mid old high end →
+    ((k : ℕ) → high ≤ k → k < end → get_or new k false ≡ get_or old k false) →
+    ((k : ℕ) → between ≤ k → k < high → k < end → get_or new k false ≡ false) → between ≤ end → TakesIn mid last new low between →
+    TakesIn first last new low end
+TakesIn-down first mid last old new low between high end p same none order q = record {
+  from = omega (arith, p.from, q.from);
+  to = omega (arith, p.to, q.to);
+  fits = λ n h l. q.fits n (p.fits n h l) (omega arith);
+  clear = record {
+    before = λ k after before far. ⊎_elim (λ left. q.clear.before k after left far)
+        (λ right. ⊎_elim (λ gap. none k right gap before) (λ high_on. same k high_on before ∙ p.clear.before k high_on before (omega (arith, q.from))) (cases_lt k high))
+        (cases_lt k between);
+    behind = λ k after before far. ⊎_elim (λ left. q.clear.behind k after left far)
+        (λ right. ⊎_elim (λ gap. none k right gap before) (λ high_on. same k high_on before ∙ p.clear.behind k high_on before (omega (arith, q.to))) (cases_lt k high))
+        (cases_lt k between);
+  };
+}
+
+-- a stretch around which flags are clear
+pub TakesIn-around : (old new : Window) (row : List Bool) (at from to end : ℕ) → TakesIn old new row from to →
+    ((k : ℕ) → at ≤ k → k < end → (k < from) ⊎ (to ≤ k) → get_or row k false ≡ false) → to ≤ end → TakesIn old new row at end
+TakesIn-around old new row at from to end p none order = record {
+  from = p.from;
+  to = p.to;
+  fits = λ n h l. p.fits n h (omega arith);
+  clear = record {
+    before = λ k low high far. ⊎_elim (λ near. none k low high (inl near)) (λ from_on. ⊎_elim (λ within. p.clear.before k from_on within far)
+        (λ behind. none k low high (inr behind)) (cases_lt k to)) (cases_lt k from);
+    behind = λ k low high far. ⊎_elim (λ near. none k low high (inl near)) (λ from_on. ⊎_elim (λ within. p.clear.behind k from_on within far)
+        (λ behind. none k low high (inr behind)) (cases_lt k to)) (cases_lt k from);
+  };
+}

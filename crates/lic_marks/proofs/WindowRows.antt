@@ -1,11 +1,11 @@
 -- Rows whose flags are known within a window alone.
-use Rattle.std.proofs.Common.{◌≡◌, ℕ, zero, suc, ◌+◌, ◌-◌, ◌≤◌, ◌<◌, ◌||◌, Bool, true, false, List, [], ◌∷◌, ◌++◌, length, take, drop, get_or, replicate, refl, sym, ap, ◌∙◌, ⊎_elim, arith, append-nil}
+use Rattle.std.proofs.Common.{◌≡◌, ℕ, zero, suc, ◌+◌, ◌-◌, ◌≤◌, ◌<◌, ◌||◌, ◌↔◌, not, Bool, true, false, List, [], ◌∷◌, ◌++◌, length, take, drop, get_or, replicate, refl, sym, ap, ◌∙◌, ⊎_elim, arith, append-nil}
 use Rattle.std.specs.List.{slice_range, list_any}
 use Rattle.std.proofs.lemmas.Bool.{cases_lt}
-use Rattle.std.proofs.lemmas.List.{get_or-replicate, length-replicate, get_or_default, get_or_past, drop_all}
+use Rattle.std.proofs.lemmas.List.{get_or-replicate, length-replicate, get_or_default, get_or_past, drop_all, ext_get_or}
 use Rattle.std.proofs.lemmas.List.Edits.{get_or-between, length-between}
 use Rattle.std.proofs.lemmas.List.Folds.{list_any_at}
-use Rattle.lic_marks.specs.Rows.{either_row}
+use Rattle.lic_marks.specs.Rows.{either_row, unset_count}
 use Rattle.lic_marks.specs.Windows.{IsClearOutside, TakesIn}
 use Rattle.lic_marks.specs.declared.window.Window.{Window}
 use Rattle.lic_marks.proofs.JoinedRows.{all_clear, clear_flag}
@@ -42,31 +42,21 @@ clear_all_flags row n e =
     ap (λ t. replicate (n - 0) false ++ t) (drop_all n row (omega (arith, e))) ∙ append-nil (replicate (n - 0) false)
     ∙ ap (λ m. replicate m false) size
 
--- a row is clear where it is within its window
-pub clear_by_window : (row : List Bool) (w : Window) → IsClearOutside w row 0 (length row) → w.to ≤ length row →
-    slice_range row w.from w.to ≡ replicate (length (slice_range row w.from w.to)) false → row ≡ replicate (length row) false
-clear_by_window row w h fits clear =
-    row_clear row (λ k inside.
-    ⊎_elim (λ low. h.before k (omega arith) inside low)
-    (λ from. ⊎_elim (λ here. within k from here) (λ high. h.behind k (omega arith) inside high) (cases_lt k w.to)) (cases_lt k w.from))
+-- a row is clear where no flag of it is set
+pub clear_if_none : (row : List Bool) (end : ℕ) → end ≡ length row → (b : Bool)
+    → (b ≡ true) ↔ ((k : ℕ) × (0 ≤ k) × (k < end) × (get_or row k false ≡ true)) → (not b ≡ true) ↔ (row ≡ replicate (length row) false)
+clear_if_none row end e true some = (
+  λ h. cc,
+  λ clear. let s = some.0 refl in absurd (let none = clear_flag row clear s.0 false (omega (arith, s.2, e)) in let set = s.3 in cc),
+)
+clear_if_none row end e false some = (
+  λ h. row_clear row (λ k inside. unset (get_or row k false) (λ set. let t = some.1 (k, omega arith, omega (arith, e), set) in cc)),
+  λ clear. refl,
+)
   where
-    within : (k : ℕ) → w.from ≤ k → k < w.to → get_or row k false ≡ false
-    within k from here =
-        let there : w.from + (k - w.from) ≡ k = omega arith in
-        ap (λ i. get_or row i false) (sym there) ∙ sym (get_or-between row w.from w.to (k - w.from) false (omega arith))
-        ∙ clear_flag (slice_range row w.from w.to) clear (k - w.from) false (omega (arith, length-between row w.from w.to fits))
-
-pub slice_of_clear : (row : List Bool) (from to : ℕ) → to ≤ length row → row ≡ replicate (length row) false →
-    slice_range row from to ≡ replicate (length (slice_range row from to)) false
-slice_of_clear row from to fits clear =
-    all_clear (slice_range row from to) (λ k d inside.
-    let near : k < to - from = omega (arith, inside, length-between row from to fits) in
-    get_or-between row from to k d (omega arith) ∙ clear_flag row clear (from + k) d (omega arith))
-
-pub clear_no_window : (row : List Bool) (w : Window) → IsClearOutside w row 0 (length row) → w.to ≤ w.from → row ≡ replicate (length row) false
-clear_no_window row w h none =
-    row_clear row (λ k inside.
-    ⊎_elim (λ low. h.before k (omega arith) inside low) (λ high. h.behind k (omega arith) inside (omega arith)) (cases_lt k w.from))
+    unset : (x : Bool) → (x ≡ true → ⊥) → x ≡ false
+    unset true h = absurd (h refl)
+    unset false h = refl
 
 -- a stretch taken back, by the window's part of it
 pub patched_clear : (old new : List Bool) (at end : ℕ) → at ≤ end → end ≤ length old → length new ≡ length old →
@@ -87,60 +77,31 @@ flags_cleared old new at end order room e k low high =
 
 -- ---- some flag is set
 
-found : (xs : List Bool) → list_any (λ flag. flag) xs ≡ true → (k : ℕ) × (k < length xs) × (get_or xs k false ≡ true)
+pub found : (xs : List Bool) → list_any (λ flag. flag) xs ≡ true → (k : ℕ) × (k < length xs) × (get_or xs k false ≡ true)
 found [] h = cc
 found (true ∷ xs) h = (0, omega arith, refl)
 found (false ∷ xs) h = let f = found xs h in (suc f.0, omega (arith, f.1), f.2)
 
-same_answer : (a b : Bool) → (a ≡ true → b ≡ true) → (b ≡ true → a ≡ true) → a ≡ b
+pub same_answer : (a b : Bool) → (a ≡ true → b ≡ true) → (b ≡ true → a ≡ true) → a ≡ b
 same_answer true b f g = sym (f refl)
 same_answer false true f g = g refl
 same_answer false false f g = refl
 
--- it is in a part outside of which none is
-pub any_within : (row : List Bool) (at end first last : ℕ) → at ≤ first → last ≤ end → end ≤ length row →
-    ((k : ℕ) → at ≤ k → k < end → k < first → get_or row k false ≡ false) → ((k : ℕ) → at ≤ k → k < end → last ≤ k → get_or row k false ≡ false) →
-    list_any (λ flag. flag) (slice_range row first last) ≡ list_any (λ flag. flag) (slice_range row at end)
-any_within row at end first last left right room before behind =
-    same_answer (list_any (λ flag. flag) (slice_range row first last)) (list_any (λ flag. flag) (slice_range row at end)) outwards inwards
-  where
-    outwards : list_any (λ flag. flag) (slice_range row first last) ≡ true → list_any (λ flag. flag) (slice_range row at end) ≡ true
-    outwards h =
-        let f = found (slice_range row first last) h in
-        let near : f.0 < last - first = omega (arith, f.1, length-between row first last (omega arith)) in
-        let same : at + (first + f.0 - at) ≡ first + f.0 = omega arith in
-        list_any_at (λ flag. flag) (slice_range row at end) (first + f.0 - at) false
-        (omega (arith, near, length-between row at end room))
-        (get_or-between row at end (first + f.0 - at) false (omega arith) ∙ ap (λ i. get_or row i false) same
-        ∙ sym (get_or-between row first last f.0 false (omega arith)) ∙ f.2)
-
-    inwards : list_any (λ flag. flag) (slice_range row at end) ≡ true → list_any (λ flag. flag) (slice_range row first last) ≡ true
-    inwards h =
-        let f = found (slice_range row at end) h in
-        let near : f.0 < end - at = omega (arith, f.1, length-between row at end room) in
-        let set : get_or row (at + f.0) false ≡ true = sym (get_or-between row at end f.0 false (omega arith)) ∙ f.2 in
-        ⊎_elim (λ low. absurd (let clear = before (at + f.0) (omega arith) (omega arith) low in cc))
-        (λ from. ⊎_elim (λ here.
-        let same : first + (at + f.0 - first) ≡ at + f.0 = omega arith in
-        list_any_at (λ flag. flag) (slice_range row first last) (at + f.0 - first) false
-        (omega (arith, here, length-between row first last (omega arith)))
-        (get_or-between row first last (at + f.0 - first) false (omega arith) ∙ ap (λ i. get_or row i false) same ∙ set))
-        (λ high. absurd (let clear = behind (at + f.0) (omega arith) (omega arith) high in cc)) (cases_lt (at + f.0) last))
-        (cases_lt (at + f.0) first)
-
-pub none_within : (row : List Bool) (at end : ℕ) → end ≤ length row → ((k : ℕ) → at ≤ k → k < end → get_or row k false ≡ false) →
-    false ≡ list_any (λ flag. flag) (slice_range row at end)
-none_within row at end room clear =
-    same_answer false (list_any (λ flag. flag) (slice_range row at end)) (λ h. cc) (λ h.
-    let f = found (slice_range row at end) h in
+-- some flag of a stretch is set
+pub any_is : (row : List Bool) (at end : ℕ) (b : Bool) → end ≤ length row
+    → (b ≡ true) ↔ ((k : ℕ) × (at ≤ k) × (k < end) × (get_or row k false ≡ true)) → b ≡ list_any (λ flag. flag) (slice_range row at end)
+any_is row at end b room is = same_answer b (list_any (λ flag. flag) (slice_range row at end))
+    (λ h. let e = is.0 h in
+    let same : at + (e.0 - at) ≡ e.0 = omega (arith, e.1) in
+    list_any_at (λ flag. flag) (slice_range row at end) (e.0 - at) false (omega (arith, e.1, e.2, length-between row at end room))
+    (get_or-between row at end (e.0 - at) false (omega (arith, e.1, e.2)) ∙ ap (λ i. get_or row i false) same ∙ e.3))
+    (λ h. let f = found (slice_range row at end) h in
     let near : f.0 < end - at = omega (arith, f.1, length-between row at end room) in
-    let none = clear (at + f.0) (omega arith) (omega arith) in
-    let set : get_or row (at + f.0) false ≡ true = sym (get_or-between row at end f.0 false (omega arith)) ∙ f.2 in
-    cc)
+    is.1 (at + f.0, omega arith, omega (arith, near), sym (get_or-between row at end f.0 false (omega (arith, near))) ∙ f.2))
 
 -- ---- joined rows
 
-or_clear : (b c : Bool) → c ≡ false → (b || c) ≡ b
+pub or_clear : (b c : Bool) → c ≡ false → (b || c) ≡ b
 or_clear true c h = refl
 or_clear false c h = h
 
@@ -175,6 +136,43 @@ pub length-either_row : (xs ys : List Bool) → length (either_row xs ys) ≡ le
 length-either_row [] ys = refl
 length-either_row (x ∷ xs) [] = refl
 length-either_row (x ∷ xs) (y ∷ ys) = omega (arith, length-either_row xs ys)
+
+-- a row with the flags of both
+pub joined_flags : (xs ys new : List Bool) → length xs ≡ length ys → length new ≡ length xs
+    → ((k : ℕ) → get_or new k false ≡ (get_or xs k false || get_or ys k false)) → new ≡ either_row xs ys
+joined_flags xs ys new same long flags =
+    ext_get_or false new (either_row xs ys) (omega (arith, long, length-either_row xs ys)) (λ k inside. flags k ∙ sym (flag-either_row xs ys k same))
+
+-- a row that has all flags of another has no more that are not set, and less where it has one that the other has not
+unset_most : (old new : List Bool) → length new ≡ length old → ((k : ℕ) → get_or old k false ≡ true → get_or new k false ≡ true) → unset_count new ≤ unset_count old
+unset_most [] [] h more = omega arith
+unset_most [] (y ∷ new) h more = absurd (let e : suc (length new) ≡ 0 = h in cc)
+unset_most (x ∷ old) [] h more = absurd (let e : 0 ≡ suc (length old) = h in cc)
+unset_most (x ∷ old) (true ∷ new) h more =
+    let rest = unset_most old new (omega (arith, h)) (λ k. more (suc k)) in by_first x rest
+  where
+    by_first : (x : Bool) → unset_count new ≤ unset_count old → unset_count (true ∷ new) ≤ unset_count (x ∷ old)
+    by_first true rest = rest
+    by_first false rest = omega arith
+unset_most (true ∷ old) (false ∷ new) h more = absurd (let e = more 0 refl in cc)
+unset_most (false ∷ old) (false ∷ new) h more =
+    let rest = unset_most old new (omega (arith, h)) (λ k. more (suc k)) in omega arith
+
+pub unset_less : (old new : List Bool) → length new ≡ length old → ((k : ℕ) → get_or old k false ≡ true → get_or new k false ≡ true)
+    → (k : ℕ) → get_or old k false ≡ false → get_or new k false ≡ true → unset_count new < unset_count old
+unset_less [] [] h more k unset set = absurd cc
+unset_less [] (y ∷ new) h more k unset set = absurd (let e : suc (length new) ≡ 0 = h in cc)
+unset_less (x ∷ old) [] h more k unset set = absurd cc
+unset_less (true ∷ old) (y ∷ new) h more zero unset set = absurd cc
+unset_less (false ∷ old) (true ∷ new) h more zero unset set =
+    let rest = unset_most old new (omega (arith, h)) (λ k. more (suc k)) in omega arith
+unset_less (false ∷ old) (false ∷ new) h more zero unset set = absurd cc
+unset_less (true ∷ old) (true ∷ new) h more (suc k) unset set = unset_less old new (omega (arith, h)) (λ k. more (suc k)) k unset set
+unset_less (true ∷ old) (false ∷ new) h more (suc k) unset set = absurd (let e = more 0 refl in cc)
+unset_less (false ∷ old) (true ∷ new) h more (suc k) unset set =
+    let rest = unset_less old new (omega (arith, h)) (λ k. more (suc k)) k unset set in omega arith
+unset_less (false ∷ old) (false ∷ new) h more (suc k) unset set =
+    let rest = unset_less old new (omega (arith, h)) (λ k. more (suc k)) k unset set in omega arith
 
 -- the window of both rows
 pub clear_either : (v w u : Window) (xs ys : List Bool) → length xs ≡ length ys → u.from ≤ v.from → u.from ≤ w.from → v.to ≤ u.to → w.to ≤ u.to →

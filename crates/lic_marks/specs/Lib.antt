@@ -4,7 +4,9 @@ pub mod Rests
 pub mod Standing
 pub mod Rows
 pub mod Windows
+pub mod Stretches
 pub mod Nodes
 pub mod States
 pub mod Runs
+pub mod Seeks
 pub mod Deciding

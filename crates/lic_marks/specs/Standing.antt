@@ -1,5 +1,5 @@
 -- For which letters with gaps a pair of marks stands.
-use Rattle.std.specs.Prelude.{◌≡◌, ℕ, suc, Bool, true, false, List, [], ◌∷◌, ◌++◌}
+use Rattle.std.specs.Prelude.{◌≡◌, ℕ, suc, Bool, true, false, List, [], ◌∷◌, ◌++◌, ◌⊎◌, map}
 use Rattle.lic_words.specs.Words.{Word, blank, blanks}
 use Rattle.lic_words.specs.Spelling.{Gap, no_gap, free, needed, Allows}
 use Rattle.lic_marks.specs.Cores.{Core, WordsOf}
@@ -11,22 +11,43 @@ abbrev pub After : (Word → Type 0) → List (Gap × ℕ) → Word → Type 0
 After P [] v = P v
 After P (p ∷ rest) v = After (λ u. (n : ℕ) × Allows p.0 n × P (blanks n ++ p.1 ∷ u)) rest v
 
+-- What may follow in a word of the set, once a letter and the gap before it are written.
+abbrev pub Then : Gap → ℕ → (Word → Type 0) → Word → Type 0
+Then gap c A v = (n : ℕ) × Allows gap n × A (blanks n ++ c ∷ v)
+
+-- What may follow in a word of the set, once one of these lists of letters is written.
+abbrev pub AfterAny : (Word → Type 0) → List (List (Gap × ℕ)) → Word → Type 0
+AfterAny P [] v = ⊥
+AfterAny P (letters ∷ lists) v = After P letters v ⊎ AfterAny P lists v
+
+-- each list with these letters at its end
+abbrev pub each_with : List (Gap × ℕ) → List (List (Gap × ℕ)) → List (List (Gap × ℕ))
+each_with more lists = map (λ letters. letters ++ more) lists
+
+-- What may follow the marks at once are the words of the set.
+pub record Leads (r : Core) (entry : Bool) (marks : Marks r) (A : Word → Type 0) : Type 0 where
+  pub sound : (v : Word) → GoesOn r false entry marks v → A v
+  pub complete : (v : Word) → A v → GoesOn r false entry marks v
+
+-- What may follow the first marks at once are the words of the set, and what may follow the second are those after some blanks.
+pub record LeadsOverBlanks (r : Core) (entry : Bool) (at_once after_blanks : Marks r) (A : Word → Type 0) : Type 0 where
+  pub now : Leads r entry at_once A
+  pub blanks_sound : (v : Word) → Completes r true after_blanks v → (n : ℕ) × A (blanks (suc n) ++ v)
+  pub blanks_complete : (v : Word) (n : ℕ) → A (blanks (suc n) ++ v) → Completes r true after_blanks v
+
+-- Within a token: what may follow the first marks at once are the words of the set. Where the next letter stands apart,
+-- what may follow the second are those after some blanks.
+pub record LeadsSoFar (r : Core) (entry : Bool) (at_once after_blanks : Marks r) (is_apart : Bool) (A : Word → Type 0) : Type 0 where
+  pub now : Leads r entry at_once A
+  pub apart : is_apart ≡ true → LeadsOverBlanks r entry at_once after_blanks A
+
 -- The marks stand for what may follow the letters at once.
-pub record StandsAtOnce (r : Core) (entry : Bool) (marks : Marks r) (letters : List (Gap × ℕ)) : Type 0 where
-  pub sound : (v : Word) → GoesOn r false entry marks v → After (WordsOf r) letters v
-  pub complete : (v : Word) → After (WordsOf r) letters v → GoesOn r false entry marks v
+abbrev pub StandsAtOnce : (r : Core) → Bool → Marks r → List (Gap × ℕ) → Type 0
+StandsAtOnce r entry marks letters = Leads r entry marks (After (WordsOf r) letters)
 
 -- The first marks stand for what may follow the letters at once, the second for what may follow after some blanks.
-pub record StandsFor (r : Core) (entry : Bool) (at_once after_blanks : Marks r) (letters : List (Gap × ℕ)) : Type 0 where
-  pub now : StandsAtOnce r entry at_once letters
-  pub blanks_sound : (v : Word) → Completes r true after_blanks v → (n : ℕ) × After (WordsOf r) letters (blanks (suc n) ++ v)
-  pub blanks_complete : (v : Word) (n : ℕ) → After (WordsOf r) letters (blanks (suc n) ++ v) → Completes r true after_blanks v
-
--- Within a token: the first marks stand for what may follow at once. Where the next letter stands apart, the second
--- stand for what may follow after some blanks.
-pub record StandsSoFar (r : Core) (entry : Bool) (at_once after_blanks : Marks r) (is_apart : Bool) (letters : List (Gap × ℕ)) : Type 0 where
-  pub now : StandsAtOnce r entry at_once letters
-  pub apart : is_apart ≡ true → StandsFor r entry at_once after_blanks letters
+abbrev pub StandsFor : (r : Core) → Bool → Marks r → Marks r → List (Gap × ℕ) → Type 0
+StandsFor r entry at_once after_blanks letters = LeadsOverBlanks r entry at_once after_blanks (After (WordsOf r) letters)
 
 -- The second marks have what may follow after one blank, and nothing but what may follow after some blanks.
 pub record Gathers (r : Core) (entry : Bool) (at_once after_blanks : Marks r) : Type 0 where

@@ -1,5 +1,5 @@
 -- Stretches of a row outside of which no flag is set.
-use Rattle.std.specs.Prelude.{◌≡◌, ℕ, zero, suc, ◌+◌, ◌<◌, ◌≤◌, ◌&&◌, Bool, false, List, get_or, drop}
+use Rattle.std.specs.Prelude.{◌≡◌, ◌≢◌, ◌-◌, ℕ, zero, suc, ◌+◌, ◌<◌, ◌≤◌, ◌&&◌, Bool, false, List, get_or, drop}
 use Rattle.lic_marks.specs.declared.window.Window.{Window}
 
 -- of the places from `at` to before `end`, no flag of the row is set that stands outside the window
@@ -24,3 +24,9 @@ pub record Moves (takes : ℕ → Bool) (entry : Bool) (old : List Bool) (at n :
   pub inside : (j : ℕ) → j < n → get_or new (at + j) false ≡ (flag_before (drop at old) entry j && takes j)
   pub before : (k : ℕ) → k < at → get_or new k false ≡ get_or old k false
   pub behind : (k : ℕ) → at + n ≤ k → get_or new k false ≡ get_or old k false
+
+-- of the n places from `at` on, the mark at this one moved to the next, where that takes the letter
+pub record Advances (takes : ℕ → Bool) (old : List Bool) (at n place : ℕ) (new : List Bool) : Type 0 where
+  pub here : get_or new place false ≡ false
+  pub next : place + 1 < at + n → get_or new (place + 1) false ≡ takes (place + 1 - at)
+  pub other : (k : ℕ) → k ≢ place → (k ≡ place + 1 → at + n ≤ k) → get_or new k false ≡ get_or old k false

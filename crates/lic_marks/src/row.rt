@@ -1,22 +1,26 @@
 //! Rows of flags that know where flags are set.
 
-ghost use Rattle.std.specs.Prelude.{◌≡◌, ◌+◌, ◌<◌, ◌≤◌, ◌↔◌, IsTrue, IfOk, false, true, length, replicate};
+ghost use Rattle.std.specs.Prelude.{◌≡◌, ℕ, ◌+◌, ◌<◌, ◌≤◌, ◌==◌, ◌&&◌, ◌↔◌, IsTrue, IfOk, IfSome, false, true, length, get_or, replicate};
 ghost use Rattle.lic_marks.specs.Rows.{weight, either_row, unset_count, Leaves, Shifts};
+ghost use Rattle.lic_marks.specs.Cores.{Core};
 ghost use Rattle.lic_marks.specs.Nodes.{core_of, is_measured};
+ghost use Rattle.lic_marks.specs.Stretches.{IsLone, IsStretchOf, LeadsTo};
 
 use crate::moves::Reading;
 use crate::node::Node;
 use crate::rows;
 use crate::shift::shift;
+use crate::stretch::Stretch;
 use crate::walk::leaves;
 use crate::window::Window;
+use lic_rows::bits::Bits;
 use std::alloc::{AllocError, Global};
 use std::marker::Model;
 
 /// A row of flags. What is done to it costs what stands between the first flag that is set and the last.
 #[derive(Drop, Debug)]
 pub struct Row {
-    flags: Vec<bool>,
+    flags: Bits,
     window: Window,
 }
 
@@ -26,9 +30,9 @@ impl Model for Row {
 
     ghost Value = { List Bool };
 
-    ghost view = { λ r. r.flags.items };
+    ghost view = { λ r. r.flags };
 
-    ghost invariant = { λ r. IsClearOutside r.window r.flags.items 0 (length r.flags.items) × (r.window.to ≤ length r.flags.items) };
+    ghost invariant = { λ r. IsClearOutside r.window r.flags 0 (length r.flags) × (r.window.to ≤ length r.flags) };
 }
 
 impl Row {
@@ -39,7 +43,7 @@ impl Row {
     pub fn new(alloc: Global, len: usize) -> Result<Row, AllocError>
         ensures { IfOk result (λ row. row ≡ replicate len false) }
     {
-        let flags = vec![in alloc; false; len]?;
+        let flags = Bits::new(alloc, len)?;
         let window = Window::empty();
         Ok(Row { flags, window })
     }
@@ -67,8 +71,8 @@ impl Row {
         ensures same { self.new ≡ other.now }
         ensures len { length self.new ≡ length self.old }
     {
-        self.clear();
-        rows::copy(&mut self.flags, &other.flags, other.window);
+        let live = self.window.union(other.window);
+        rows::copy(&mut self.flags, &other.flags, live);
         self.window = other.window;
     }
 
@@ -103,6 +107,84 @@ impl Row {
         let out = shift(tree, &mut self.flags, 0, entry, reading, &mut marked);
         self.window = marked;
         out
+    }
+
+    /// As `shift`. Where one flag alone is set, in the stretch, and none may begin, it moves on by itself.
+    pub fn shift_in(
+        &mut self,
+        tree: &Node,
+        stretch: Stretch<'_>,
+        after: bool,
+        entry: bool,
+        letter: char,
+    ) -> bool
+        requires measured { IsTrue (is_measured tree.now) }
+        requires room { weight (core_of tree.now) ≤ length self.old }
+        requires stretch { IsStretchOf (core_of tree.now) stretch }
+        ensures shifts { Shifts (core_of tree.now) after entry letter self.old 0 self.new result }
+        ensures len { length self.new ≡ length self.old }
+    {
+        if !entry {
+            if let Some((place, next)) = self.lone_in(stretch) {
+                self.move_lone(place, letter == next);
+                return false;
+            }
+        }
+        self.shift(tree, after, entry, letter)
+    }
+
+    /// As `leaves`. Where one flag alone is set, in the stretch, and none may begin, one cannot leave.
+    pub fn leaves_in(&self, tree: &Node, stretch: Stretch<'_>, after: bool, entry: bool) -> bool
+        requires measured { IsTrue (is_measured tree.now) }
+        requires room { weight (core_of tree.now) ≤ length self.now }
+        requires stretch { IsStretchOf (core_of tree.now) stretch }
+        ensures { Leaves (core_of tree.now) after entry self.now 0 result }
+    {
+        if !entry {
+            if let Some((_place, _next)) = self.lone_in(stretch) {
+                return false;
+            }
+        }
+        self.leaves(tree, after, entry)
+    }
+
+    // The place of the one flag that is set and the letter behind it, if it stands in the stretch.
+    fn lone_in(&self, stretch: Stretch<'_>) -> Option<(usize, char)>
+        ensures lone { IfSome result (λ found. IsLone self.now found.0) }
+        ensures goes { IfSome result (λ found. (r : Core) → IsStretchOf r stretch.entry → LeadsTo r found.0 found.1) }
+    {
+        let place = self.lone()?;
+        let next = stretch.letter_behind(place)?;
+        Some((place, next))
+    }
+
+    /// The place of the one flag that is set.
+    pub fn lone(&self) -> Option<usize>
+        ensures { IfSome result (IsLone self.now) }
+    {
+        let place = self.window.to.checked_sub(1)?;
+        if place == self.window.from && self.flags.get(place) {
+            Some(place)
+        } else {
+            None
+        }
+    }
+
+    // Moves the one flag on by one place, or takes it back.
+    fn move_lone(&mut self, place: usize, goes: bool)
+        requires lone { IsLone self.old place }
+        requires room { place + 1 < length self.old }
+        ensures flags { (k : ℕ) → get_or self.new k false ≡ (goes && (k == place + 1)) }
+        ensures len { length self.new ≡ length self.old }
+    {
+        let count = self.flags.len();
+        prove!(place + 1 < count);
+        self.flags.put(place, false);
+        self.flags.put(place + 1, goes);
+        self.window = Window {
+            from: place + 1,
+            to: place + 2,
+        };
     }
 
     /// Whether one may stand behind the expression. `after` says that the last letter was a blank, and `entry` that one

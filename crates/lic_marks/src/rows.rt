@@ -1,66 +1,67 @@
 //! Rows of flags, and stretches of them outside of which no flag is set.
 
-ghost use Rattle.std.specs.Prelude.{◌≡◌, ℕ, ◌<◌, ◌≤◌, ◌-◌, ◌++◌, ◌↔◌, IsTrue, true, false, length, take, drop, replicate};
-ghost use Rattle.std.specs.List.{list_any};
+ghost use Rattle.std.specs.Prelude.{◌≡◌, ℕ, ◌<◌, ◌≤◌, ◌-◌, ◌++◌, ◌↔◌, IsTrue, true, false, length, get_or, take, drop, replicate};
 ghost use Rattle.lic_marks.specs.Rows.{either_row, unset_count};
 ghost use Rattle.lic_marks.specs.Windows.{IsClearOutside};
 
 use crate::window::Window;
-
-/// Whether no flag is set.
-pub fn is_clear(row: &[bool]) -> bool
-    ensures { IsTrue result ↔ (row.now ≡ replicate (length row.now) false) }
-{
-    row.iter().all(|flag| !*flag)
-}
+use lic_rows::bits::Bits;
 
 /// Whether no flag is set, in a row that is clear outside the window.
-pub fn is_clear_within(row: &[bool], live: Window) -> bool
+pub fn is_clear_within(row: &Bits, live: Window) -> bool
     requires live { IsClearOutside live row.now 0 (length row.now) }
     requires fits { live.to ≤ length row.now }
     ensures { IsTrue result ↔ (row.now ≡ replicate (length row.now) false) }
 {
-    if live.from < live.to {
-        is_clear(&row[live.from..live.to])
-    } else {
-        true
-    }
+    let end = row.len();
+    !is_any_set(row, 0, end, live)
 }
 
-/// Whether some flag is set.
-pub fn is_any_set(row: &[bool]) -> bool
-    ensures { result ≡ list_any (λ flag. flag) row.now }
+/// Whether a flag is set from `at` to before `end`, where none is set outside the window.
+pub fn is_any_set(row: &Bits, at: usize, end: usize, live: Window) -> bool
+    requires room { end ≤ length row.now }
+    requires live { IsClearOutside live row.now at end }
+    ensures { IsTrue result ↔ ((k : ℕ) × (at ≤ k) × (k < end) × (get_or row.now k false ≡ true)) }
 {
-    row.iter().any(|flag| *flag)
+    let first = live.from.max(at);
+    let last = live.to.min(end);
+    if first < last {
+        row.is_any_set(first, last)
+    } else {
+        false
+    }
 }
 
 /// Takes back the flags from `at` to before `end`, of which none is set outside the window.
-pub fn clear(row: &mut [bool], at: usize, end: usize, live: Window)
+pub fn clear(row: &mut Bits, at: usize, end: usize, live: Window)
     requires order { at ≤ end }
     requires room { end ≤ length row.old }
     requires live { IsClearOutside live row.old at end }
-    ensures { row.new ≡ take at row.old ++ replicate (end - at) false ++ drop end row.old }
+    ensures row { row.new ≡ take at row.old ++ replicate (end - at) false ++ drop end row.old }
+    ensures len { length row.new ≡ length row.old }
 {
-    for i in live.from.max(at)..live.to.min(end) {
-        row[i] = false;
+    let first = live.from.max(at);
+    let last = live.to.min(end);
+    if first < last {
+        row.clear(first, last);
     }
 }
 
-/// Sets the flags of a clear row as the other row has them, which is clear outside the window.
-pub fn copy(row: &mut [bool], other: &[bool], live: Window)
-    requires clear { row.old ≡ replicate (length row.old) false }
+/// Becomes the other row. Both are clear outside the window.
+pub fn copy(row: &mut Bits, other: &Bits, live: Window)
     requires len { length row.old ≡ length other.now }
+    requires clear { IsClearOutside live row.old 0 (length row.old) }
     requires live { IsClearOutside live other.now 0 (length other.now) }
     requires fits { live.to ≤ length other.now }
     ensures { row.new ≡ other.now }
 {
-    for i in live.from..live.to {
-        row[i] = other[i];
+    if live.from < live.to {
+        row.copy(other, live.from, live.to);
     }
 }
 
 /// Sets the flags that the other row has, which is clear outside the window, and says whether one was new.
-pub fn join(row: &mut [bool], other: &[bool], live: Window) -> bool
+pub fn join(row: &mut Bits, other: &Bits, live: Window) -> bool
     requires len { length row.old ≡ length other.now }
     requires live { IsClearOutside live other.now 0 (length other.now) }
     requires fits { live.to ≤ length other.now }
@@ -68,12 +69,9 @@ pub fn join(row: &mut [bool], other: &[bool], live: Window) -> bool
     ensures same { result ≡ false → row.new ≡ row.old }
     ensures grows { result ≡ true → unset_count row.new < unset_count row.old }
 {
-    let mut grew = false;
-    for i in live.from..live.to {
-        if other[i] & !row[i] {
-            row[i] = true;
-            grew = true;
-        }
+    if live.from < live.to {
+        row.join(other, live.from, live.to)
+    } else {
+        false
     }
-    grew
 }

@@ -8,9 +8,11 @@ ghost use Rattle.lic_marks.specs.Cores.{HasWordsOf};
 ghost use Rattle.lic_marks.specs.Rows.{weight};
 ghost use Rattle.lic_marks.specs.Nodes.{core_of, is_measured};
 ghost use Rattle.lic_marks.specs.States.{has_gap, room_of};
+ghost use Rattle.lic_marks.specs.Stretches.{IsStretchOf};
 
 use crate::node::Node;
 use crate::state::State;
+use crate::stretch::Stretch;
 use std::alloc::{AllocError, Global};
 
 /// A run of a compiled expression over a list of tokens. It keeps no token, and takes memory in `new` alone.
@@ -18,11 +20,14 @@ use std::alloc::{AllocError, Global};
 pub struct Run<'a> {
     tree: &'a Node,
     state: State,
+    /// Where one position alone was marked, the stretch in which it stands.
+    stretch: Stretch<'a>,
     last: char,
     is_empty: bool,
     ghost measured: { IsTrue (is_measured tree.now) },
     ghost fits: { weight (core_of tree.now) ≤ room_of state },
     ghost open: { IsTrue (has_gap state) },
+    ghost stretched: { IsStretchOf (core_of tree.now) stretch },
 }
 
 impl<'a> Run<'a> {
@@ -35,10 +40,12 @@ impl<'a> Run<'a> {
         ensures tree { IfOk result (λ run. tree_of run ≡ tree.now) }
     {
         let mut state = State::new(alloc, tree)?;
-        state.gap(tree);
+        let stretch = Stretch::none();
+        state.gap(tree, stretch);
         Ok(Run {
             tree,
             state,
+            stretch,
             last: ' ',
             is_empty: true,
         })
@@ -50,7 +57,7 @@ impl<'a> Run<'a> {
         ensures tree { tree_of self.new ≡ tree_of self.old }
     {
         self.state.begin();
-        self.state.gap(self.tree);
+        self.state.gap(self.tree, self.stretch);
         self.last = ' ';
         self.is_empty = true;
     }
@@ -60,7 +67,8 @@ impl<'a> Run<'a> {
         ensures stands { (e : Expression) (ts : List (List ℕ)) → Stands self.old e ts → Stands self.new e (ts ++ chars token.now ∷ []) }
         ensures tree { tree_of self.new ≡ tree_of self.old }
     {
-        self.last = self.state.token(self.tree, token, self.last);
+        self.stretch = self.state.stretch_of(self.tree, self.stretch);
+        self.last = self.state.token(self.tree, self.stretch, token, self.last);
         self.is_empty = false;
     }
 
@@ -68,7 +76,7 @@ impl<'a> Run<'a> {
     pub fn accepts(&self) -> bool
         ensures { (e : Expression) (ts : List (List ℕ)) → Stands self.now e ts → IsTrue result ↔ IsDescribed e ts }
     {
-        let is_spelled = self.state.accepts(self.tree);
+        let is_spelled = self.state.accepts(self.tree, self.stretch);
         !self.is_empty & is_spelled
     }
 

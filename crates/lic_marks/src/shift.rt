@@ -14,13 +14,14 @@ use crate::rows::clear;
 use crate::test::Test;
 use crate::walk::{leaves, leaves_copies, leaves_letters, leaves_tidy, leaves_up_to};
 use crate::window::Window;
+use lic_rows::bits::Bits;
 
 /// Takes the marks, which stand in the row from `at` on, over the letter that is read. `entry` says that one may begin
 /// with it. Answers whether one could leave before the letter, and takes in the marks that there are behind it.
 #[cycle(shift)]
 pub fn shift(
     node: &Node,
-    row: &mut [bool],
+    row: &mut Bits,
     at: usize,
     entry: bool,
     reading: Reading,
@@ -31,7 +32,10 @@ pub fn shift(
     requires live { IsClearOutside reading.live row.old at (at + weight (core_of node.now)) }
     ensures shifts { Shifts (core_of node.now) reading.after entry reading.letter row.old at row.new result }
     ensures marked { TakesIn marked.old marked.new row.new at (at + weight (core_of node.now)) }
+    ensures len { length row.new ≡ length row.old }
 {
+    let room = row.len();
+    prove!(at <= room);
     let end = at + node.weight();
     // where nothing is marked and none begins, nothing will be
     if !entry && !reading.live.meets(at, end) {
@@ -40,7 +44,7 @@ pub fn shift(
     match node {
         Node::Letters(text) => shift_letters(text, row, at, entry, reading, marked),
         Node::One(test) => {
-            let out = row[at];
+            let out = row.get(at);
             let is_passed = test.passes(reading.letter);
             put(row, at, entry & is_passed, marked);
             out
@@ -73,7 +77,7 @@ pub fn shift(
 
 fn shift_letters(
     text: &[char],
-    row: &mut [bool],
+    row: &mut Bits,
     at: usize,
     entry: bool,
     reading: Reading,
@@ -83,6 +87,7 @@ fn shift_letters(
     requires live { IsClearOutside reading.live row.old at (at + weight (cat_all (letter_cores text.now))) }
     ensures shifts { Shifts (cat_all (letter_cores text.now)) reading.after entry reading.letter row.old at row.new result }
     ensures marked { TakesIn marked.old marked.new row.new at (at + weight (cat_all (letter_cores text.now))) }
+    ensures len { length row.new ≡ length row.old }
 {
     let out = leaves_letters(text, row, at, reading.after, entry);
     move_letters(text, row, at, entry, reading, marked);
@@ -92,7 +97,7 @@ fn shift_letters(
 fn shift_copies(
     test: &Test,
     count: usize,
-    row: &mut [bool],
+    row: &mut Bits,
     at: usize,
     entry: bool,
     reading: Reading,
@@ -102,6 +107,7 @@ fn shift_copies(
     requires live { IsClearOutside reading.live row.old at (at + count) }
     ensures shifts { Shifts (cat_all (replicate count (one (passes test.now)))) reading.after entry reading.letter row.old at row.new result }
     ensures marked { TakesIn marked.old marked.new row.new at (at + count) }
+    ensures len { length row.new ≡ length row.old }
 {
     let out = leaves_copies(count, row, at, reading.after, entry);
     let is_passed = test.passes(reading.letter);
@@ -112,7 +118,7 @@ fn shift_copies(
 fn shift_up_to(
     test: &Test,
     count: usize,
-    row: &mut [bool],
+    row: &mut Bits,
     at: usize,
     entry: bool,
     reading: Reading,
@@ -122,6 +128,7 @@ fn shift_up_to(
     requires live { IsClearOutside reading.live row.old at (at + count) }
     ensures shifts { Shifts (any_front (replicate count (one (passes test.now)))) reading.after entry reading.letter row.old at row.new result }
     ensures marked { TakesIn marked.old marked.new row.new at (at + count) }
+    ensures len { length row.new ≡ length row.old }
 {
     let out = leaves_up_to(count, row, at, reading.live, reading.after, entry);
     let is_passed = test.passes(reading.letter);
@@ -134,7 +141,7 @@ fn shift_up_to(
 #[cycle(shift)]
 fn shift_row(
     children: &[Node],
-    row: &mut [bool],
+    row: &mut Bits,
     at: usize,
     entry: bool,
     reading: Reading,
@@ -146,7 +153,10 @@ fn shift_row(
     ensures all { Shifts (cat_all (map core_of children.now)) reading.after entry reading.letter row.old at row.new result.0 }
     ensures front { Shifts (any_front (map core_of children.now)) reading.after entry reading.letter row.old at row.new result.1 }
     ensures marked { TakesIn marked.old marked.new row.new at (at + weight (cat_all (map core_of children.now))) }
+    ensures len { length row.new ≡ length row.old }
 {
+    let room = row.len();
+    prove!(at <= room);
     let mut place = at;
     let mut flag = entry;
     let mut found = false;
@@ -164,7 +174,7 @@ fn shift_row(
 #[cycle(shift)]
 fn shift_any(
     children: &[Node],
-    row: &mut [bool],
+    row: &mut Bits,
     at: usize,
     entry: bool,
     reading: Reading,
@@ -175,7 +185,10 @@ fn shift_any(
     requires live { IsClearOutside reading.live row.old at (at + weight (alt_all (map core_of children.now))) }
     ensures shifts { Shifts (alt_all (map core_of children.now)) reading.after entry reading.letter row.old at row.new result }
     ensures marked { TakesIn marked.old marked.new row.new at (at + weight (alt_all (map core_of children.now))) }
+    ensures len { length row.new ≡ length row.old }
 {
+    let room = row.len();
+    prove!(at <= room);
     let mut place = at;
     let mut found = false;
     for child in children {
@@ -194,7 +207,7 @@ fn shift_any(
 fn shift_tidy(
     child: &Node,
     has_empty: bool,
-    row: &mut [bool],
+    row: &mut Bits,
     at: usize,
     entry: bool,
     reading: Reading,
@@ -206,6 +219,7 @@ fn shift_tidy(
     requires live { IsClearOutside reading.live row.old at (at + weight (core_of child.now)) }
     ensures shifts { Shifts (tidy (core_of child.now)) reading.after entry reading.letter row.old at row.new result }
     ensures marked { TakesIn marked.old marked.new row.new at (at + weight (core_of child.now)) }
+    ensures len { length row.new ≡ length row.old }
 {
     let out = leaves_tidy(
         child,
@@ -217,6 +231,8 @@ fn shift_tidy(
         entry,
     );
     if reading.letter == ' ' && reading.after {
+        let room = row.len();
+        prove!(at <= room);
         let end = at + child.weight();
         clear(row, at, end, reading.live);
     } else {

@@ -2,18 +2,22 @@
 
 ghost use Rattle.std.specs.Prelude.{◌≡◌, ℕ, ◌≤◌, ◌↔◌, true, false, IsTrue, IfOk, List, [], ◌∷◌, ◌++◌, length};
 ghost use Rattle.std.specs.Str.{chars};
-ghost use Rattle.lic_words.specs.Words.{Word};
-ghost use Rattle.lic_words.specs.Spelling.{Gap, gapped_from, last_letter, SpellsGapped};
-ghost use Rattle.lic_words.specs.Reading.{gapped_letter};
+ghost use Rattle.lic_words.specs.Words.{Word, blanks};
+ghost use Rattle.lic_words.specs.Spelling.{Gap, free, gapped_from, last_letter, SpellsGapped};
+ghost use Rattle.lic_words.specs.Reading.{gapped_letter, turned_last_in, turned_letters_left};
 ghost use Rattle.lic_marks.specs.Cores.{Core, WordsOf};
 ghost use Rattle.lic_marks.specs.Marks.{no_marks};
 ghost use Rattle.lic_marks.specs.Rows.{weight, marks_of};
 ghost use Rattle.lic_marks.specs.Nodes.{core_of, is_measured};
-ghost use Rattle.lic_marks.specs.Standing.{After, Gathers, IsClosed, StandsAtOnce, shift_over};
+ghost use Rattle.lic_marks.specs.Stretches.{IsStretchOf};
+ghost use Rattle.lic_marks.specs.Standing.{After, AfterAny, StandsAtOnce, each_with, shift_over};
+ghost use Rattle.lic_marks.specs.Deciding.{over_blanks};
 
 use crate::node::Node;
 use crate::row::Row;
+use crate::stretch::Stretch;
 use lic_words::letters::{Letter, Letters};
+use lic_words::turned_letters::TurnedLetters;
 use std::alloc::{AllocError, Global};
 
 /// The marked positions of an expression. They say which words may go on behind the letters and gaps that were taken.
@@ -34,7 +38,7 @@ pub struct State {
 }
 
 impl State {
-    ghost use Rattle.lic_marks.specs.States.{HasTaken, has_gap, room_of};
+    ghost use Rattle.lic_marks.specs.States.{HasFirstBlanks, HasTaken, HasTakenAny, IsFresh, has_gap, room_of};
 
     /// A state that has taken nothing, with room for the positions of this expression.
     ///
@@ -43,6 +47,8 @@ impl State {
     pub fn new(alloc: Global, tree: &Node) -> Result<State, AllocError>
         requires { IsTrue (is_measured tree.now) }
         ensures room { IfOk result (λ state. weight (core_of tree.now) ≤ room_of state) }
+        ensures size { IfOk result (λ state. room_of state ≡ weight (core_of tree.now)) }
+        ensures fresh { IfOk result IsFresh }
         ensures taken { (r : Core) → IfOk result (λ state. HasTaken r state []) }
     {
         let weight = tree.weight();
@@ -69,40 +75,47 @@ impl State {
     }
 
     /// Takes one letter more, behind the gap before it.
-    pub fn letter(&mut self, tree: &Node, letter: Letter)
+    pub fn letter(&mut self, tree: &Node, stretch: Stretch<'_>, letter: Letter)
         requires measured { IsTrue (is_measured tree.now) }
         requires room { weight (core_of tree.now) ≤ room_of self.old }
+        requires stretch { IsStretchOf (core_of tree.now) stretch }
         ensures room { room_of self.new ≡ room_of self.old }
         ensures taken { (letters : List (Gap × ℕ)) → HasTaken (core_of tree.now) self.old letters
             → HasTaken (core_of tree.now) self.new (letters ++ gapped_letter letter ∷ []) }
+        ensures any { (lists : List (List (Gap × ℕ))) → HasTakenAny (core_of tree.now) self.old lists
+            → HasTakenAny (core_of tree.now) self.new (each_with (gapped_letter letter ∷ []) lists) }
     {
         if letter.is_apart {
-            self.gap(tree);
+            self.gap(tree, stretch);
         }
-        self.shift(tree, letter);
+        self.shift(tree, stretch, letter);
         self.entry = false;
         self.is_apart = false;
     }
 
     /// Opens a gap behind the last letter, where none is open.
-    pub fn gap(&mut self, tree: &Node)
+    pub fn gap(&mut self, tree: &Node, stretch: Stretch<'_>)
         requires measured { IsTrue (is_measured tree.now) }
         requires room { weight (core_of tree.now) ≤ room_of self.old }
+        requires stretch { IsStretchOf (core_of tree.now) stretch }
         ensures room { room_of self.new ≡ room_of self.old }
         ensures taken { (letters : List (Gap × ℕ)) → HasTaken (core_of tree.now) self.old letters
             → HasTaken (core_of tree.now) self.new letters }
+        ensures any { (lists : List (List (Gap × ℕ))) → HasTakenAny (core_of tree.now) self.old lists
+            → HasTakenAny (core_of tree.now) self.new lists }
         ensures open { IsTrue (has_gap self.new) }
     {
         if !self.is_apart {
-            self.close(tree);
+            self.close(tree, stretch);
             self.is_apart = true;
         }
     }
 
     /// Takes one token more, between gaps, behind the letter `last`. Answers its last letter, or else the one before.
-    pub fn token(&mut self, tree: &Node, token: &str, last: char) -> char
+    pub fn token(&mut self, tree: &Node, stretch: Stretch<'_>, token: &str, last: char) -> char
         requires measured { IsTrue (is_measured tree.now) }
         requires room { weight (core_of tree.now) ≤ room_of self.old }
+        requires stretch { IsStretchOf (core_of tree.now) stretch }
         ensures room { room_of self.new ≡ room_of self.old }
         ensures taken { (letters : List (Gap × ℕ)) → HasTaken (core_of tree.now) self.old letters
             → HasTaken (core_of tree.now) self.new (letters ++ gapped_from last true (chars token.now)) }
@@ -111,22 +124,25 @@ impl State {
     {
         let mut letters = Letters::new(token, last, true);
         while let Some(letter) = letters.next() {
-            self.letter(tree, letter);
+            self.letter(tree, stretch, letter);
         }
-        self.gap(tree);
+        self.gap(tree, stretch);
         letters.last_letter()
     }
 
     /// Whether some word of the expression spells what was taken. A gap must be open.
-    pub fn accepts(&self, tree: &Node) -> bool
+    pub fn accepts(&self, tree: &Node, stretch: Stretch<'_>) -> bool
         requires measured { IsTrue (is_measured tree.now) }
         requires room { weight (core_of tree.now) ≤ room_of self.now }
+        requires stretch { IsStretchOf (core_of tree.now) stretch }
         requires open { IsTrue (has_gap self.now) }
-        ensures { (letters : List (Gap × ℕ)) → HasTaken (core_of tree.now) self.now letters
+        ensures one { (letters : List (Gap × ℕ)) → HasTaken (core_of tree.now) self.now letters
             → IsTrue result ↔ ((w : Word) × WordsOf (core_of tree.now) w × SpellsGapped w letters) }
+        ensures any { (lists : List (List (Gap × ℕ))) → HasTakenAny (core_of tree.now) self.now lists
+            → IsTrue result ↔ ((n : ℕ) × AfterAny (WordsOf (core_of tree.now)) lists (blanks n)) }
     {
-        let at_once = self.at_once.leaves(tree, false, self.entry);
-        let after_blanks = self.after_blanks.leaves(tree, true, false);
+        let at_once = self.at_once.leaves_in(tree, stretch, false, self.entry);
+        let after_blanks = self.after_blanks.leaves_in(tree, stretch, true, false);
         at_once | after_blanks
     }
 
@@ -145,33 +161,137 @@ impl State {
         ensures { (r : Core) (letters : List (Gap × ℕ)) → HasTaken r self.now letters → IsTrue result
             → StandsAtOnce r false (no_marks r) letters }
     {
+        self.is_dead()
+    }
+
+    /// Whether no position is marked, and no word may begin: then no word goes on.
+    pub fn is_dead(&self) -> bool
+        ensures { (r : Core) (lists : List (List (Gap × ℕ))) → HasTakenAny r self.now lists → IsTrue result
+            → (v : Word) → ¬ (AfterAny (WordsOf r) lists v) }
+    {
         !self.entry & self.at_once.is_clear()
     }
 
-    // Makes the marks after one blank or more from those at once: the closure over blanks.
-    fn close(&mut self, tree: &Node)
+    /// Forgets all that was taken. No word goes on, nor may one begin but where a token enters.
+    pub fn clear(&mut self)
+        ensures room { room_of self.new ≡ room_of self.old }
+        ensures any { (r : Core) → HasTakenAny r self.new [] }
+        ensures open { IsTrue (has_gap self.new) }
+    {
+        self.at_once.clear();
+        self.after_blanks.clear();
+        self.entry = false;
+        self.is_apart = true;
+    }
+
+    /// The marks after blanks at the beginning of a word, made by a state that has taken nothing.
+    ///
+    /// # Errors
+    /// Out of memory.
+    pub fn first_blanks(&mut self, alloc: Global, tree: &Node) -> Result<Row, AllocError>
+        requires measured { IsTrue (is_measured tree.now) }
+        requires size { room_of self.old ≡ weight (core_of tree.now) }
+        requires fresh { IsFresh self.old }
+        ensures room { room_of self.new ≡ room_of self.old }
+        ensures size { IfOk result (λ first. length first ≡ room_of self.old) }
+        ensures first { IfOk result (HasFirstBlanks (core_of tree.now)) }
+    {
+        self.close(tree, Stretch::none());
+        let mut first = Row::new(alloc, tree.weight())?;
+        first.copy_from(&self.after_blanks);
+        Ok(first)
+    }
+
+    /// Takes one letter more behind the gap that is open, and as the first letter of a word. `first` has the marks
+    /// after blanks at the beginning of a word.
+    pub fn enter(&mut self, tree: &Node, stretch: Stretch<'_>, first: &Row, letter: Letter)
         requires measured { IsTrue (is_measured tree.now) }
         requires room { weight (core_of tree.now) ≤ room_of self.old }
-        ensures gathers { Gathers (core_of tree.now) self.old.entry (marks_of (core_of tree.now) self.old.at_once)
-            (marks_of (core_of tree.now) self.new.after_blanks) }
-        ensures closed { IsClosed (core_of tree.now) (marks_of (core_of tree.now) self.new.after_blanks) }
+        requires stretch { IsStretchOf (core_of tree.now) stretch }
+        requires size { length first.now ≡ room_of self.old }
+        requires first { HasFirstBlanks (core_of tree.now) first.now }
+        requires open { IsTrue (has_gap self.old) }
+        requires apart { IsTrue letter.is_apart }
+        ensures room { room_of self.new ≡ room_of self.old }
+        ensures any { (lists : List (List (Gap × ℕ))) → HasTakenAny (core_of tree.now) self.old lists
+            → HasTakenAny (core_of tree.now) self.new (((free, letter.letter) ∷ []) ∷ each_with (gapped_letter letter ∷ []) lists) }
+    {
+        let c = letter.letter;
+        if letter.are_words {
+            self.at_once.clear();
+        }
+        self.at_once.shift_in(tree, stretch, false, true, c);
+        self.after_blanks.join(first);
+        self.after_blanks.shift_in(tree, stretch, true, false, c);
+        self.at_once.join(&self.after_blanks);
+        self.entry = false;
+        self.is_apart = false;
+    }
+
+    /// Takes the letters that are left of a token, which is read from its end, and opens a gap behind them. Answers the
+    /// last of them, or else the letter before.
+    pub fn rest_of_token(
+        &mut self,
+        tree: &Node,
+        stretch: Stretch<'_>,
+        letters: TurnedLetters,
+    ) -> char
+        requires measured { IsTrue (is_measured tree.now) }
+        requires room { weight (core_of tree.now) ≤ room_of self.old }
+        requires stretch { IsStretchOf (core_of tree.now) stretch }
+        ensures room { room_of self.new ≡ room_of self.old }
+        ensures any { (lists : List (List (Gap × ℕ))) → HasTakenAny (core_of tree.now) self.old lists
+            → HasTakenAny (core_of tree.now) self.new (each_with (turned_letters_left letters.entry) lists) }
+        ensures open { IsTrue (has_gap self.new) }
+        ensures last { result ≡ turned_last_in letters.entry }
+    {
+        let mut letters = letters;
+        while let Some(letter) = letters.next() {
+            self.letter(tree, stretch, letter);
+        }
+        self.gap(tree, stretch);
+        letters.last_letter()
+    }
+
+    /// The stretch in which the one mark stands, where one position alone is marked: this one, or another that is looked up.
+    pub fn stretch_of<'t>(&self, tree: &'t Node, stretch: Stretch<'t>) -> Stretch<'t>
+        requires measured { IsTrue (is_measured tree.now) }
+        requires stretch { IsStretchOf (core_of tree.now) stretch }
+        ensures { IsStretchOf (core_of tree.now) result }
+    {
+        match self.at_once.lone() {
+            Some(place) if stretch.letter_behind(place).is_none() => Stretch::at(tree, place),
+            _ => stretch,
+        }
+    }
+
+    // Makes the marks after one blank or more from those at once: the closure over blanks.
+    fn close(&mut self, tree: &Node, stretch: Stretch<'_>)
+        requires measured { IsTrue (is_measured tree.now) }
+        requires room { weight (core_of tree.now) ≤ room_of self.old }
+        requires stretch { IsStretchOf (core_of tree.now) stretch }
+        ensures room { room_of self.new ≡ room_of self.old }
+        ensures after_blanks { marks_of (core_of tree.now) self.new.after_blanks
+            ≡ over_blanks (core_of tree.now) self.old.entry (marks_of (core_of tree.now) self.old.at_once) }
         ensures at_once { self.new.at_once ≡ self.old.at_once }
         ensures entry { self.new.entry ≡ self.old.entry }
     {
         self.after_blanks.copy_from(&self.at_once);
-        self.after_blanks.shift(tree, false, self.entry, ' ');
+        self.after_blanks
+            .shift_in(tree, stretch, false, self.entry, ' ');
         let mut grew = true;
         while grew {
             self.spare.copy_from(&self.after_blanks);
-            self.spare.shift(tree, true, false, ' ');
+            self.spare.shift_in(tree, stretch, true, false, ' ');
             grew = self.after_blanks.join(&self.spare);
         }
     }
 
     // Moves the marks over a letter that stands at once, or behind the gap that is open.
-    fn shift(&mut self, tree: &Node, letter: Letter)
+    fn shift(&mut self, tree: &Node, stretch: Stretch<'_>, letter: Letter)
         requires measured { IsTrue (is_measured tree.now) }
         requires room { weight (core_of tree.now) ≤ room_of self.old }
+        requires stretch { IsStretchOf (core_of tree.now) stretch }
         ensures room { room_of self.new ≡ room_of self.old }
         ensures marks { marks_of (core_of tree.now) self.new.at_once
             ≡ shift_over (core_of tree.now) self.old.entry (marks_of (core_of tree.now) self.old.at_once)
@@ -179,14 +299,14 @@ impl State {
     {
         let c = letter.letter;
         if !letter.is_apart {
-            self.at_once.shift(tree, false, self.entry, c);
+            self.at_once.shift_in(tree, stretch, false, self.entry, c);
         } else if letter.are_words {
             self.at_once.copy_from(&self.after_blanks);
-            self.at_once.shift(tree, true, false, c);
+            self.at_once.shift_in(tree, stretch, true, false, c);
         } else {
             self.spare.copy_from(&self.after_blanks);
-            self.spare.shift(tree, true, false, c);
-            self.at_once.shift(tree, false, self.entry, c);
+            self.spare.shift_in(tree, stretch, true, false, c);
+            self.at_once.shift_in(tree, stretch, false, self.entry, c);
             self.at_once.join(&self.spare);
         }
     }

@@ -11,16 +11,19 @@ ghost use Rattle.lic_marks.specs.Nodes.{core_of, is_measured, letter_cores};
 use crate::node::Node;
 use crate::rows::is_any_set;
 use crate::window::Window;
+use lic_rows::bits::Bits;
 
 /// Whether one may stand behind the expression, whose marks stand in the row from `at` on: some mark is at an end, or
 /// one enters and passes through. `after` says that the last letter was a blank, and `live` has each mark.
 #[cycle(leaves)]
-pub fn leaves(node: &Node, row: &[bool], at: usize, live: Window, after: bool, entry: bool) -> bool
+pub fn leaves(node: &Node, row: &Bits, at: usize, live: Window, after: bool, entry: bool) -> bool
     requires measured { IsTrue (is_measured node.now) }
     requires room { at + weight (core_of node.now) ≤ length row.now }
     requires live { IsClearOutside live row.now at (at + weight (core_of node.now)) }
     ensures { Leaves (core_of node.now) after entry row.now at result }
 {
+    let room = row.len();
+    prove!(at <= room);
     let end = at + node.weight();
     // where nothing is marked and none begins, none can leave
     if !entry && !live.meets(at, end) {
@@ -28,7 +31,7 @@ pub fn leaves(node: &Node, row: &[bool], at: usize, live: Window, after: bool, e
     }
     match node {
         Node::Letters(text) => leaves_letters(text, row, at, after, entry),
-        Node::One(_) => row[at],
+        Node::One(_) => row.get(at),
         Node::Copies { count, .. } => leaves_copies(*count, row, at, after, entry),
         Node::UpTo { count, .. } => leaves_up_to(*count, row, at, live, after, entry),
         Node::Cat { children, .. } => {
@@ -54,7 +57,7 @@ pub fn leaves(node: &Node, row: &[bool], at: usize, live: Window, after: bool, e
 pub fn leaves_tidy(
     child: &Node,
     has_empty: bool,
-    row: &[bool],
+    row: &Bits,
     at: usize,
     live: Window,
     after: bool,
@@ -74,33 +77,37 @@ pub fn leaves_tidy(
 }
 
 /// Whether one may stand behind these letters: the last one is marked, or there is none and one enters.
-pub fn leaves_letters(text: &[char], row: &[bool], at: usize, after: bool, entry: bool) -> bool
+pub fn leaves_letters(text: &[char], row: &Bits, at: usize, after: bool, entry: bool) -> bool
     requires { at + weight (cat_all (letter_cores text.now)) ≤ length row.now }
     ensures { Leaves (cat_all (letter_cores text.now)) after entry row.now at result }
 {
+    let room = row.len();
+    prove!(at <= room);
     if text.is_empty() {
         entry
     } else {
-        row[at + text.len() - 1]
+        row.get(at + text.len() - 1)
     }
 }
 
 /// Whether one may stand behind so many letters: the last one is marked, or there is none and one enters.
-pub fn leaves_copies(count: usize, row: &[bool], at: usize, after: bool, entry: bool) -> bool
+pub fn leaves_copies(count: usize, row: &Bits, at: usize, after: bool, entry: bool) -> bool
     requires { at + count ≤ length row.now }
     ensures { (passes : ℕ → Bool) → Leaves (cat_all (replicate count (one passes))) after entry row.now at result }
 {
+    let room = row.len();
+    prove!(at <= room);
     if count == 0 {
         entry
     } else {
-        row[at + count - 1]
+        row.get(at + count - 1)
     }
 }
 
 /// Whether one may stand behind up to so many letters: one of them is marked, or one enters.
 pub fn leaves_up_to(
     count: usize,
-    row: &[bool],
+    row: &Bits,
     at: usize,
     live: Window,
     after: bool,
@@ -110,20 +117,17 @@ pub fn leaves_up_to(
     requires live { IsClearOutside live row.now at (at + count) }
     ensures { (passes : ℕ → Bool) → Leaves (any_front (replicate count (one passes))) after entry row.now at result }
 {
-    let first = live.from.max(at);
-    let end = live.to.min(at + count);
-    if first < end {
-        entry | is_any_set(&row[first..end])
-    } else {
-        entry
-    }
+    let room = row.len();
+    prove!(at <= room);
+    let is_marked = is_any_set(row, at, at + count, live);
+    entry | is_marked
 }
 
 // Whether one may stand behind all children, one after another, and whether behind any of them or before the first.
 #[cycle(leaves)]
 fn leaves_row(
     children: &[Node],
-    row: &[bool],
+    row: &Bits,
     at: usize,
     live: Window,
     after: bool,
@@ -135,6 +139,8 @@ fn leaves_row(
     ensures all { Leaves (cat_all (map core_of children.now)) after entry row.now at result.0 }
     ensures front { Leaves (any_front (map core_of children.now)) after entry row.now at result.1 }
 {
+    let room = row.len();
+    prove!(at <= room);
     let mut place = at;
     let mut flag = entry;
     let mut found = false;
@@ -152,7 +158,7 @@ fn leaves_row(
 #[cycle(leaves)]
 fn leaves_any(
     children: &[Node],
-    row: &[bool],
+    row: &Bits,
     at: usize,
     live: Window,
     after: bool,
@@ -163,6 +169,8 @@ fn leaves_any(
     requires live { IsClearOutside live row.now at (at + weight (alt_all (map core_of children.now))) }
     ensures { Leaves (alt_all (map core_of children.now)) after entry row.now at result }
 {
+    let room = row.len();
+    prove!(at <= room);
     let mut place = at;
     let mut found = false;
     for child in children {

@@ -1,6 +1,6 @@
 //! Stretches of a row.
 
-ghost use Rattle.std.specs.Prelude.{◌≡◌, ◌↔◌, ℕ, Bool, List, ◌+◌, ◌<◌, ◌≤◌, min, max, IsTrue};
+ghost use Rattle.std.specs.Prelude.{◌≡◌, ◌↔◌, ℕ, Bool, List, ◌+◌, ◌<◌, ◌≤◌, min, max, if◌then◌else◌, IsTrue};
 
 /// The places of a row from the one to before the other. There are none where the second is not above the first.
 #[derive(Clone, Copy, Debug)]
@@ -51,14 +51,17 @@ impl Window {
         }
     }
 
-    /// What it has of the places from `first` to before `end`, widened by one place at its end.
-    pub fn reach(self, first: usize, end: usize) -> Window
-        ensures from { result.from ≡ min (max self.from first) end }
-        ensures to { result.to ≡ min (self.to + 1) end }
+    /// The places from `at` to before `end` that a mark of it moves from or to, where each moves to the next place,
+    /// and where `entry` says that one moves to the first.
+    pub fn reach(self, at: usize, end: usize, entry: bool) -> Window
+        requires { at ≤ end }
+        ensures from { result.from ≡ (if entry then at else max self.from at) }
+        ensures to { result.to ≡ min (max self.to at + 1) end }
     {
+        let last = self.to.max(at);
         Window {
-            from: self.from.max(first).min(end),
-            to: if self.to < end { self.to + 1 } else { end },
+            from: if entry { at } else { self.from.max(at) },
+            to: if last < end { last + 1 } else { end },
         }
     }
 

@@ -21,6 +21,7 @@ use crate::table::{Row, has};
 use lic_marks::build::is_nullable;
 use lic_marks::node::Node;
 use lic_marks::state::State;
+use lic_marks::stretch::Stretch;
 use std::alloc::{AllocError, Global};
 
 /// How many letters the shortest word of the variable has from which the rest can finish. Behind the place `last` it cannot,
@@ -128,5 +129,5 @@ fn take_letter(tree: &Node, letter: Letter, is_first: bool, state: &mut State)
         is_apart: letter.is_apart & !is_first,
         are_words: letter.are_words,
     };
-    state.letter(tree, letter);
+    state.letter(tree, Stretch::none(), letter);
 }

@@ -1,4 +1,5 @@
-use Rattle.std.proofs.Common.{◌≡◌, ◌+◌, ◌<◌, ◌||◌, ◌&&◌, false, map, drop, set, refl, ap, ◌∙◌, rules, arith, eq-eqb}
+use Rattle.std.proofs.Common.{◌≡◌, ◌+◌, ◌<◌, ◌||◌, ◌&&◌, false, map, drop, set, length, refl, ap, ◌∙◌, rules, arith, eq-eqb}
+use Rattle.std.proofs.lemmas.List.{length-set}
 use Rattle.lic_words.specs.Words.{blank}
 use Rattle.lic_marks.specs.Cores.{cat_all, alt_all, any_front}
 use Rattle.lic_marks.specs.Rows.{weight}
@@ -23,6 +24,7 @@ shift-returns-then-not-meets t c =
     record {
       shifts = rw c.if-not-entry.true (Shifts-untouched _ c.args.reading.after c.args.row.now c.args.at c.requires.room clear c.args.reading.letter);
       marked = TakesIn-clear _ _ _ _ clear;
+      len = refl;
     }
 
 pub shift-shift_row-behind_all-requires : goal.shift-shift_row-behind_all-requires
@@ -103,6 +105,7 @@ pub shift-returns-in-Copies : goal.shift-returns-in-Copies
 shift-returns-in-Copies t c = record {
   shifts = rw (c.in-Copies.is, core_of-Copies) c.shift_copies.ensures.shifts;
   marked = rw (c.in-Copies.is, core_of-Copies, weight-copies) c.shift_copies.ensures.marked;
+  len = c.shift_copies.ensures.len;
 }
 
 pub shift-shift_up_to-requires-clause-room : goal.shift-shift_up_to-requires-clause-room
@@ -117,15 +120,17 @@ pub shift-returns-in-UpTo : goal.shift-returns-in-UpTo
 shift-returns-in-UpTo t c = record {
   shifts = rw (c.in-UpTo.is, core_of-UpTo) c.shift_up_to.ensures.shifts;
   marked = rw (c.in-UpTo.is, core_of-UpTo, weight-up_to) c.shift_up_to.ensures.marked;
+  len = c.shift_up_to.ensures.len;
 }
 
 pub shift-returns-in-One : goal.shift-returns-in-One
 shift-returns-in-One t c =
     let room = rw (c.in-One.is, core_of-One) at c.requires.room in
     record {
-      shifts = rw (c.in-One.is, core_of-One) (Shifts-one _ _ _ _ _ _ _ _ false (omega (arith, room)) refl
+      shifts = rw (c.in-One.is, core_of-One) (Shifts-one _ _ _ _ _ _ _ _ false (omega (arith, room)) c.get-out.ensures
           (c.put.ensures.row ∙ ap (λ b. set c.args.row.now c.args.at (c.args.entry && b)) c.passes-is_passed.ensures));
       marked = rw (c.in-One.is, core_of-One) c.put.ensures.marked;
+      len = ap length c.put.ensures.row ∙ length-set c.args.row.now c.args.at _;
     }
 
 pub shift-returns-in-Plus : goal.shift-returns-in-Plus
@@ -133,6 +138,7 @@ shift-returns-in-Plus t c = record {
   shifts = rw (c.in-Plus.is, core_of-Plus) (Shifts-plus _ _ _ _ _ _ _ _ _ (rw c.deref-in-Plus.ensures at c.leaves-again.ensures)
       (rw c.deref-in-Plus-2.ensures at c.shift.ensures.shifts));
   marked = rw (c.in-Plus.is, core_of-Plus) (rw c.deref-in-Plus-2.ensures at c.shift.ensures.marked);
+  len = c.shift.ensures.len;
 }
 
 pub shift-returns-in-Front-clause-marked : goal.shift-returns-in-Front-clause-marked
@@ -143,6 +149,7 @@ pub shift-returns-in-Tidy : goal.shift-returns-in-Tidy
 shift-returns-in-Tidy t c = record {
   shifts = rw (c.in-Tidy.is, core_of-Tidy) (rw c.deref-in-Tidy.ensures at c.shift_tidy.ensures.shifts);
   marked = rw (c.in-Tidy.is, core_of-Tidy) (rw c.deref-in-Tidy.ensures at c.shift_tidy.ensures.marked);
+  len = c.shift_tidy.ensures.len;
 }
 
 pub shift_tidy-returns-then-reading : goal.shift_tidy-returns-then-reading
@@ -150,9 +157,10 @@ shift_tidy-returns-then-reading t c =
     let next = ap (λ n. c.args.at + n) c.weight.ensures in
     record {
       shifts = rw c.if-reading.true (Shifts-tidy-clear _ _ _ _ _ _ _ _ (eq-eqb c.args.reading.letter blank c.if-reading-eq32.true)
-          (rw c.if-reading.true at c.leaves_tidy-out.ensures) next c.clear.ensures);
+          (rw c.if-reading.true at c.leaves_tidy-out.ensures) next c.clear.ensures.row);
       marked = TakesIn-clear _ _ _ _ (λ k low high.
-          flags_cleared _ _ _ _ (omega arith) (omega (arith, next, c.requires.room)) c.clear.ensures k low (omega (arith, next, high)));
+          flags_cleared _ _ _ _ (omega arith) (omega (arith, next, c.requires.room)) c.clear.ensures.row k low (omega (arith, next, high)));
+      len = c.clear.ensures.len;
     }
 
 pub shift_row-shift-flag-requires : goal.shift_row-shift-flag-requires
@@ -179,6 +187,7 @@ shift_row-loop-child-preserved t c =
       rest = omega (arith, rest);
       live = clear_behind _ _ _ _ _ _ _ _ (omega (arith, rest)) c.shift-flag.ensures.shifts _ _ c.loop-child.invariant.live (omega (arith, rest));
       taken = TakesIn-walk _ _ _ _ _ _ _ _ (omega (arith, rest)) c.shift-flag.ensures.shifts _ _ _ _ c.loop-child.invariant.taken c.shift-flag.ensures.marked;
+      long = c.shift-flag.ensures.len ∙ c.loop-child.invariant.long;
       walk = λ new y q. c.loop-child.invariant.walk new y (rw more (Shifts-cat _ _ _ _ _ _ _ _ _ _ _ (omega (arith, rest)) c.shift-flag.ensures.shifts q));
       front = λ new y q. rw (← or_again c.loop-child.found c.loop-child.flag y)
           (c.loop-child.invariant.front new (c.loop-child.flag || y)
@@ -194,6 +203,7 @@ shift_row-returns t c =
       all = c.loop-child.invariant.walk c.loop-child.row c.loop-child.flag (rw done (Shifts-empty _ _ _ _ _));
       front = c.loop-child.invariant.front c.loop-child.row c.loop-child.flag (rw done (Shifts-empty _ _ _ _ _));
       marked = rw end at c.loop-child.invariant.taken;
+      len = c.loop-child.invariant.long;
     }
 
 pub shift_row-returns-then-reading-place : goal.shift_row-returns-then-reading-place
@@ -208,6 +218,7 @@ shift_row-returns-then-reading-place t c =
       all = c.loop-child.invariant.walk c.loop-child.row false (rw c.if-not-flag.true untouched);
       front = rw (← or_none c.loop-child.found) (c.loop-child.invariant.front c.loop-child.row false (rw c.if-not-flag.true fronts));
       marked = TakesIn-more _ _ _ _ _ _ c.loop-child.invariant.taken (omega (arith, c.loop-child.invariant.rest)) clear;
+      len = c.loop-child.invariant.long;
     }
 
 pub shift_any-shift-out-requires : goal.shift_any-shift-out-requires
@@ -233,6 +244,7 @@ shift_any-loop-child-preserved t c =
       rest = omega (arith, rest);
       live = clear_behind _ _ _ _ _ _ _ _ (omega (arith, rest)) c.shift-out.ensures.shifts _ _ c.loop-child.invariant.live (omega (arith, rest));
       taken = TakesIn-walk _ _ _ _ _ _ _ _ (omega (arith, rest)) c.shift-out.ensures.shifts _ _ _ _ c.loop-child.invariant.taken c.shift-out.ensures.marked;
+      long = c.shift-out.ensures.len ∙ c.loop-child.invariant.long;
       walk = λ new y q. rw (← or_again c.loop-child.found c.shift-out.result y)
           (c.loop-child.invariant.walk new (c.shift-out.result || y)
           (rw more (Shifts-alt _ _ _ _ _ _ _ _ _ _ _ (omega (arith, rest)) c.shift-out.ensures.shifts q)));
@@ -246,6 +258,7 @@ shift_any-returns t c =
     record {
       shifts = rw (← or_none c.loop-child.found) (c.loop-child.invariant.walk c.loop-child.row false (rw done (Shifts-none _ _ _ _ _)));
       marked = rw end at c.loop-child.invariant.taken;
+      len = c.loop-child.invariant.long;
     }
 
 pub shift_any-returns-then-reading-place : goal.shift_any-returns-then-reading-place
@@ -256,4 +269,5 @@ shift_any-returns-then-reading-place t c =
     record {
       shifts = rw (← or_none c.loop-child.found) (c.loop-child.invariant.walk c.loop-child.row false (rw c.if-not-entry.true untouched));
       marked = TakesIn-more _ _ _ _ _ _ c.loop-child.invariant.taken (omega (arith, c.loop-child.invariant.rest)) clear;
+      len = c.loop-child.invariant.long;
     }

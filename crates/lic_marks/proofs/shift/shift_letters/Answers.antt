@@ -11,7 +11,7 @@ move_letters-requires-clause-live c = rw weight-letters at c.requires.live
 
 pub returns-clause-shifts : goal.returns-clause-shifts
 returns-clause-shifts c =
-    Shifts-letters c.args.text.now _ _ _ _ _ _ _ (omega (arith, c.requires.room, weight-letters c.args.text.now)) (omega arith)
+    Shifts-letters c.args.text.now _ _ _ _ _ _ _ (omega (arith, c.requires.room, weight-letters c.args.text.now)) c.move_letters.ensures.len
     c.leaves_letters-out.ensures c.move_letters.ensures.moves
 
 pub returns-clause-marked : goal.returns-clause-marked

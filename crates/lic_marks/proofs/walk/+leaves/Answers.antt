@@ -105,7 +105,7 @@ leaves-returns-in-UpTo t c = rw (c.in-UpTo.is, core_of-UpTo) (c.leaves_up_to.ens
 pub leaves-returns-in-One : goal.leaves-returns-in-One
 leaves-returns-in-One t c =
     let room = rw (c.in-One.is, core_of-One) at c.requires.room in
-    rw (c.in-One.is, core_of-One) (Leaves-one _ _ _ _ _ _ false (omega (arith, room)) refl)
+    rw (c.in-One.is, core_of-One) (Leaves-one _ _ _ _ _ _ false (omega (arith, room)) c.get.ensures)
 
 pub leaves-returns-in-Plus : goal.leaves-returns-in-Plus
 leaves-returns-in-Plus t c = rw (c.in-Plus.is, core_of-Plus) (Leaves-plus _ _ _ _ _ _ (rw c.deref-in-Plus.ensures at c.leaves.ensures))

@@ -8,4 +8,5 @@ returns-then-count-eq0 c = λ passes.
     rw c.if-count-eq0.true (Leaves-empty c.args.after c.args.entry c.args.row.now c.args.at)
 
 pub returns-else-count-eq0 : goal.returns-else-count-eq0
-returns-else-count-eq0 c = λ passes. Leaves-copies c.args.count passes c.args.after c.args.entry c.args.row.now c.args.at false c.if-count-eq0.false c.requires
+returns-else-count-eq0 c = λ passes.
+    rw c.get.ensures (Leaves-copies c.args.count passes c.args.after c.args.entry c.args.row.now c.args.at false c.if-count-eq0.false c.requires)

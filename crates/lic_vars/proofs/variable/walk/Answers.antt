@@ -4,7 +4,7 @@ use Rattle.lic_marks.specs.Cores.{Core}
 use Rattle.lic_marks.specs.Nodes.{core_of}
 use Rattle.lic_marks.specs.States.{HasTaken}
 use Rattle.lic_vars.specs.Cuts.{left_from}
-use Rattle.lic_vars.specs.Ends.{joined, CanEnd, IsEnd}
+use Rattle.lic_vars.specs.Ends.{joined, CanEnd, IsEnd, NoEndBelow}
 use Rattle.lic_vars.specs.declared.letters.Letter.{Letter}
 use Rattle.lic_vars.proofs.WalkLemmas.{never-later, joined-first, joined-next, letter-at, no_end-next, no_end-all}
 use Rattle.lic_vars.proofs.variable.walk.Goals as goal
@@ -58,3 +58,24 @@ returns-then-is_clear c =
     let stands = c.is_clear.ensures r before c.loop-at.invariant.taken c.if-is_clear.true in
     no_end-all r c.args.letters.now c.args.start c.args.rest.now.close.items k _ c.loop-at.invariant.none
     (λ m h end. never-later r c.args.letters.now c.args.start k m stands (omega arith) h end.can)
+
+pub returns-then-is_end-2 : goal.returns-then-is_end-2
+returns-then-is_end-2 c =
+    let r = core_of c.args.tree.now in
+    let letters = c.args.letters.now in
+    let start = c.args.start in
+    let ends = c.args.rest.now.close.items in
+    let k : ℕ = c.loop-at.at - start in
+    let before : List (Gap × ℕ) = joined (take k (left_from letters start)) in
+    let last : c.loop-at.at ≡ c.args.last = omega (arith, c.loop-at-test.false, c.requires.within) in
+    let size : k ≡ c.args.last - start = omega (arith, last) in
+    let place : c.args.last ≡ start + (c.args.last - start) = omega (arith, c.requires.within) in
+    let end = (c.is_end-2.ensures before c.loop-at.invariant.taken).0 c.if-is_end-2.true in (
+      record {
+        some = omega (arith, c.requires.within);
+        within = omega (arith, c.requires.within, c.requires.last_within);
+        set = subst (λ (j : ℕ). slice_get ends j ≡ Some true) place end.0;
+        can = subst (λ (n : ℕ). CanEnd r letters start n) size end.1;
+      },
+      subst (λ (n : ℕ). NoEndBelow r letters start ends n) size c.loop-at.invariant.none,
+    )

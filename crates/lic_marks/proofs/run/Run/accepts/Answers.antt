@@ -14,7 +14,7 @@ true_not false h = refl
 pub returns : goal.returns
 returns c = λ e ts s.
     let is_empty = c.args.self.now.is_empty in
-    let spelled = c.accepts-is_spelled.ensures (gapped ts) s.taken in (
+    let spelled = c.accepts-is_spelled.ensures.one (gapped ts) s.taken in (
       λ h.
           let word = spelled.0 (and_right (not is_empty) c.accepts-is_spelled.result h) in (
             λ none. not_true is_empty (and_left (not is_empty) c.accepts-is_spelled.result h) (s.empty.1 none),

@@ -1,10 +1,14 @@
 use Rattle.lic_marks.specs.Nodes.{core_of}
 use Rattle.lic_marks.proofs.StateLemmas.{with_gap}
-use Rattle.lic_marks.proofs.Standing.{StandsFor-close}
+use Rattle.lic_marks.proofs.Deciding.{LeadsOverBlanks-over_blanks}
 use Rattle.lic_marks.proofs.state.State.gap.Goals as goal
 
 pub returns-then-not-self-clause-taken : goal.returns-then-not-self-clause-taken
 returns-then-not-self-clause-taken c = λ letters s.
-    let r = core_of c.args.tree.now in
-    let both = StandsFor-close r c.args.self.now.entry _ _ letters s.now c.close.ensures.gathers c.close.ensures.closed in
-    rw (c.close.ensures.entry, c.close.ensures.at_once) (with_gap r _ _ _ letters both)
+    rw (c.close.ensures.entry, c.close.ensures.at_once, c.close.ensures.after_blanks)
+    (with_gap (core_of c.args.tree.now) _ _ _ _ (LeadsOverBlanks-over_blanks (core_of c.args.tree.now) c.args.self.now.entry _ _ s.now))
+
+pub returns-then-not-self-clause-any : goal.returns-then-not-self-clause-any
+returns-then-not-self-clause-any c = λ lists s.
+    rw (c.close.ensures.entry, c.close.ensures.at_once, c.close.ensures.after_blanks)
+    (with_gap (core_of c.args.tree.now) _ _ _ _ (LeadsOverBlanks-over_blanks (core_of c.args.tree.now) c.args.self.now.entry _ _ s.now))

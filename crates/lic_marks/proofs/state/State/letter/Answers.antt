@@ -1,10 +1,12 @@
 use Rattle.std.proofs.Common.{false, sym, subst}
+use Rattle.lic_marks.specs.Cores.{WordsOf}
 use Rattle.lic_marks.specs.Rows.{marks_of}
 use Rattle.lic_marks.specs.Nodes.{core_of}
-use Rattle.lic_marks.specs.Standing.{StandsSoFar}
+use Rattle.lic_marks.specs.Standing.{After, AfterAny, LeadsSoFar}
 use Rattle.lic_marks.specs.declared.state.State.{State}
+use Rattle.lic_marks.proofs.Lists.{AfterAny-snoc, snoc-AfterAny}
 use Rattle.lic_marks.proofs.StateLemmas.{without_gap, gap_used}
-use Rattle.lic_marks.proofs.Standing.{StandsSoFar-letter}
+use Rattle.lic_marks.proofs.Standing.{Leads-same, StandsAtOnce-more, LeadsSoFar-letter}
 use Rattle.lic_marks.proofs.state.State.letter.Goals as goal
 use Rattle.lic_marks.proofs.state.State.letter.Goals.{then-letter, else-letter}
 
@@ -12,12 +14,27 @@ pub returns-clause-taken : goal.returns-clause-taken
 returns-clause-taken c = λ letters s.
     let r = core_of c.args.tree.now in
     let is_apart = c.args.letter.is_apart in
-    let Behind : State → Type 0 = λ state. StandsSoFar r state.entry (marks_of r state.at_once) (marks_of r state.after_blanks) is_apart letters in
+    let Behind : State → Type 0 = λ state. LeadsSoFar r state.entry (marks_of r state.at_once) (marks_of r state.after_blanks) is_apart (After (WordsOf r) letters) in
     let before : Behind c.if-letter.self = elim c.if-letter.branch [
       | then-letter w ↦ subst Behind (sym w.self-is)
-          (gap_used r _ _ _ letters w.gap.new.self.is_apart is_apart (λ _. w.gap.ensures.open) (w.gap.ensures.taken letters s))
+          (gap_used r _ _ _ _ w.gap.new.self.is_apart is_apart (λ _. w.gap.ensures.open) (w.gap.ensures.taken letters s))
       | else-letter w ↦ subst Behind (sym w.self-is)
-          (gap_used r _ _ _ letters c.args.self.now.is_apart is_apart (λ e. absurd (let f = w.if-letter.false in cc)) s)
+          (gap_used r _ _ _ _ c.args.self.now.is_apart is_apart (λ e. absurd (let f = w.if-letter.false in cc)) s)
     ] in
-    without_gap r false _ _ _ (rw c.shift.ensures.marks
-    (StandsSoFar-letter r c.if-letter.self.entry _ _ is_apart letters before c.args.letter.are_words c.args.letter.letter c.args.letter.is_letter))
+    without_gap r false _ _ _ (StandsAtOnce-more r _ letters _ _ (rw c.shift.ensures.marks
+    (LeadsSoFar-letter r c.if-letter.self.entry _ _ is_apart (After (WordsOf r) letters) before c.args.letter.are_words c.args.letter.letter c.args.letter.is_letter)))
+
+pub returns-clause-any : goal.returns-clause-any
+returns-clause-any c = λ lists s.
+    let r = core_of c.args.tree.now in
+    let is_apart = c.args.letter.is_apart in
+    let Behind : State → Type 0 = λ state. LeadsSoFar r state.entry (marks_of r state.at_once) (marks_of r state.after_blanks) is_apart (AfterAny (WordsOf r) lists) in
+    let before : Behind c.if-letter.self = elim c.if-letter.branch [
+      | then-letter w ↦ subst Behind (sym w.self-is)
+          (gap_used r _ _ _ _ w.gap.new.self.is_apart is_apart (λ _. w.gap.ensures.open) (w.gap.ensures.any lists s))
+      | else-letter w ↦ subst Behind (sym w.self-is)
+          (gap_used r _ _ _ _ c.args.self.now.is_apart is_apart (λ e. absurd (let f = w.if-letter.false in cc)) s)
+    ] in
+    without_gap r false _ _ _ (Leads-same r false _ _ _ (λ v h. snoc-AfterAny (WordsOf r) lists _ _ v h) (λ v h. AfterAny-snoc (WordsOf r) lists _ _ v h)
+    (rw c.shift.ensures.marks
+    (LeadsSoFar-letter r c.if-letter.self.entry _ _ is_apart (AfterAny (WordsOf r) lists) before c.args.letter.are_words c.args.letter.letter c.args.letter.is_letter)))

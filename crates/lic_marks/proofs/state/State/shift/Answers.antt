@@ -17,21 +17,21 @@ so false h = cc
 
 pub returns-then-not-letter-clause-marks : goal.returns-then-not-letter-clause-marks
 returns-then-not-letter-clause-marks c =
-    Shifts-marks_of _ _ _ _ _ _ _ c.shift.ensures.shifts ∙ sym (shift_over-joined (core_of c.args.tree.now) _ _ _ _ _ _ (not_so _ c.if-not-letter.true))
+    Shifts-marks_of _ _ _ _ _ _ _ c.shift_in.ensures.shifts ∙ sym (shift_over-joined (core_of c.args.tree.now) _ _ _ _ _ _ (not_so _ c.if-not-letter.true))
 
 pub returns-then-letter-clause-marks : goal.returns-then-letter-clause-marks
 returns-then-letter-clause-marks c =
-    Shifts-marks_of _ _ _ _ _ _ _ c.shift-then-letter.ensures.shifts
+    Shifts-marks_of _ _ _ _ _ _ _ c.shift_in-then-letter.ensures.shifts
     ∙ ap (λ t. shift (core_of c.args.tree.now) true false (marks_of (core_of c.args.tree.now) t) c.args.letter.letter) c.copy_from.ensures.same
     ∙ sym (shift_over-needed (core_of c.args.tree.now) _ _ _ _ _ _ (so _ c.if-not-letter.false) c.if-letter.true)
 
 pub returns-else-letter-clause-marks : goal.returns-else-letter-clause-marks
 returns-else-letter-clause-marks c =
-    let after_blanks = Shifts-marks_of _ _ _ _ _ _ _ c.shift-else-letter.ensures.shifts
+    let after_blanks = Shifts-marks_of _ _ _ _ _ _ _ c.shift_in-else-letter.ensures.shifts
     ∙ ap (λ t. shift (core_of c.args.tree.now) true false (marks_of (core_of c.args.tree.now) t) c.args.letter.letter) c.copy_from-else-letter.ensures.same in
-    let at_once = Shifts-marks_of _ _ _ _ _ _ _ c.shift-else-letter-2.ensures.shifts in
-    let long : length c.shift-else-letter-2.new.self ≡ length c.shift-else-letter.new.self =
-    omega (arith, c.shift-else-letter-2.ensures.len, c.shift-else-letter.ensures.len, c.copy_from-else-letter.ensures.len) in
+    let at_once = Shifts-marks_of _ _ _ _ _ _ _ c.shift_in-else-letter-2.ensures.shifts in
+    let long : length c.shift_in-else-letter-2.new.self ≡ length c.shift_in-else-letter.new.self =
+    omega (arith, c.shift_in-else-letter-2.ensures.len, c.shift_in-else-letter.ensures.len, c.copy_from-else-letter.ensures.len) in
     ap (marks_of (core_of c.args.tree.now)) c.join.ensures.row
     ∙ marks_of-either_row (core_of c.args.tree.now) _ _ long ∙ rw (at_once, after_blanks) refl
     ∙ sym (shift_over-free (core_of c.args.tree.now) _ _ _ _ _ _ (so _ c.if-not-letter.false) c.if-letter.false)

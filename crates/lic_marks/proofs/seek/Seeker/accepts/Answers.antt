@@ -1,0 +1,9 @@
+use Rattle.lic_marks.proofs.Seeking.{answer_sound, answer_complete}
+use Rattle.lic_marks.proofs.seek.Seeker.accepts.Goals as goal
+
+pub returns : goal.returns
+returns c = λ e ts s.
+    let answer = c.accepts.ensures.any s.lists s.taken in (
+      λ h. answer_sound e _ _ s.lists ts s.ends s.words (answer.0 h),
+      λ h. answer.1 (answer_complete e _ _ s.lists ts s.ends s.words h),
+    )

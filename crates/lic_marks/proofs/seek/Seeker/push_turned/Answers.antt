@@ -1,0 +1,61 @@
+use Rattle.std.proofs.Common.{◌≡◌, ℕ, List, [], ◌∷◌, ◌++◌, true, false, length, reverse, refl, sym, ap, ◌∙◌, subst, arith}
+use Rattle.std.specs.Str.{chars}
+use Rattle.lic_words.specs.Words.{blank}
+use Rattle.lic_words.specs.Letters.{letters_in}
+use Rattle.lic_words.specs.Spelling.{Gap, free, gapped_from, last_letter}
+use Rattle.lic_words.specs.Reading.{gapped_letter, turned_letters_left}
+use Rattle.lic_words.proofs.Counts.{length-gapped_from, letters_in-reverse}
+use Rattle.lic_marks.specs.Nodes.{core_of}
+use Rattle.lic_marks.specs.Standing.{each_with}
+use Rattle.lic_marks.specs.Seeks.{GoOnAsEnds}
+use Rattle.lic_marks.specs.States.{HasTakenAny}
+use Rattle.lic_marks.proofs.Seeking.{first_apart, last_letter-own, with_token, goes_on, enters, passed, entered}
+use Rattle.lic_marks.proofs.seek.Seeker.push_turned.Goals as goal
+use Rattle.lic_marks.proofs.seek.Seeker.push_turned.Goals.{then-may_begin, else-may_begin}
+
+pub returns-then-is_dead-clause-stands : goal.returns-then-is_dead-clause-stands
+returns-then-is_dead-clause-stands c = λ e ts s none.
+    c.is_dead.ensures.skips e ts (reverse (chars c.args.token.now)) s c.if-is_dead.true (none c.if-not-may_begin.true)
+
+-- a token has letters
+pub returns-in_default-clause-stands : goal.returns-in_default-clause-stands
+returns-in_default-clause-stands c =
+    let last = c.args.self.now.last in
+    let cs : List ℕ = chars c.args.token.now in
+    let none : gapped_from last true (reverse cs) ≡ [] = sym c.new-letters.ensures.letters ∙ c.in_default.ensures.steps.first.0 in
+    let count : letters_in cs ≡ 0 = sym (letters_in-reverse cs) ∙ sym (length-gapped_from last true (reverse cs)) ∙ ap length none in
+    absurd (omega (arith, c.requires, count))
+
+pub enter-requires-clause-apart : goal.enter-requires-clause-apart
+enter-requires-clause-apart c =
+    first_apart c.args.self.now.last (reverse (chars c.args.token.now)) (gapped_letter c.in-Some.letter) (turned_letters_left c.next.new.self)
+    (sym c.new-letters.ensures.letters ∙ c.in-Some.ensures.steps.first) c.in-Some.letter.is_apart c.in-Some.letter.are_words refl
+
+pub returns-clause-stands : goal.returns-clause-stands
+returns-clause-stands c = λ e ts s none.
+    let r = core_of c.args.self.now.tree.now in
+    let last = c.args.self.now.last in
+    let t : List ℕ = reverse (chars c.args.token.now) in
+    let p : Gap × ℕ = gapped_letter c.in-Some.letter in
+    let rest : List (Gap × ℕ) = turned_letters_left c.next.new.self in
+    let split : gapped_from last true t ≡ p ∷ rest = sym c.new-letters.ensures.letters ∙ c.in-Some.ensures.steps.first in
+    let new_last : c.rest_of_token-self.result ≡ last_letter last t =
+    c.rest_of_token-self.ensures.last ∙ c.in-Some.ensures.steps.last ∙ c.new-letters.ensures.last in
+    elim c.if-may_begin.branch [
+      | then-may_begin w ↦ record {
+        words = s.words;
+        lists = with_token true last t s.lists;
+        taken = subst (HasTakenAny r c.rest_of_token-self.new.self) (enters last t p rest split s.lists)
+            ((rw w.self-is at c.rest_of_token-self.ensures.any) (((free, p.1) ∷ []) ∷ each_with (p ∷ []) s.lists) (w.enter.ensures.any s.lists s.taken));
+        ends = subst (λ l. GoOnAsEnds e r l (with_token true last t s.lists) (ts ++ t ∷ [])) (sym new_last)
+            (entered e r last s.lists ts s.ends t (last_letter-own last t p rest split));
+      }
+      | else-may_begin w ↦ record {
+        words = s.words;
+        lists = with_token false last t s.lists;
+        taken = subst (HasTakenAny r c.rest_of_token-self.new.self) (goes_on last t p rest split s.lists)
+            ((rw w.self-is at c.rest_of_token-self.ensures.any) (each_with (p ∷ []) s.lists) (w.letter.ensures.any s.lists s.taken));
+        ends = subst (λ l. GoOnAsEnds e r l (with_token false last t s.lists) (ts ++ t ∷ [])) (sym new_last)
+            (passed e r last s.lists ts s.ends t (none w.if-may_begin.false));
+      }
+    ]

@@ -1,0 +1,12 @@
+use Rattle.std.proofs.Common.{[]}
+use Rattle.lic_marks.specs.Nodes.{core_of}
+use Rattle.lic_marks.proofs.Seeking.{no_ends}
+use Rattle.lic_marks.proofs.seek.Seeker.reset.Goals as goal
+
+pub returns-clause-stands : goal.returns-clause-stands
+returns-clause-stands c = λ e words. record {
+  words = words;
+  lists = [];
+  taken = c.clear.ensures.any (core_of c.args.self.now.tree.now);
+  ends = no_ends e _ _;
+}

@@ -1,0 +1,5 @@
+use Rattle.lic_marks.proofs.StateLemmas.{cleared}
+use Rattle.lic_marks.proofs.state.State.clear.Goals as goal
+
+pub returns-clause-any : goal.returns-clause-any
+returns-clause-any c = λ r. cleared r _ _ _ _ c.clear.ensures.clear c.clear-2.ensures.clear

@@ -1,0 +1,42 @@
+-- Stretches of positions that take given letters one by one.
+use Rattle.std.specs.Prelude.{◌≡◌, ℕ, suc, ◌+◌, ◌-◌, ◌<◌, ◌==◌, nat_lt, Bool, true, false, List, [], ◌∷◌, length, get_or, if◌then◌else◌}
+use Rattle.lic_marks.specs.Cores.{Core, empty, one, cat, none, alt, plus, tidy}
+use Rattle.lic_marks.specs.Marks.{Marks, no_marks, can_leave, shift}
+use Rattle.lic_marks.specs.Rows.{weight, flags_of}
+use Rattle.lic_marks.specs.declared.stretch.Stretch.{Stretch}
+
+-- the mark at one position alone
+abbrev pub mark_at : (r : Core) → ℕ → Marks r
+mark_at empty k = tt
+mark_at (one passes) k = k == 0
+mark_at (cat a b) k = if nat_lt k (weight a) then (mark_at a k, no_marks b) else (no_marks a, mark_at b (k - weight a))
+mark_at none k = tt
+mark_at (alt a b) k = if nat_lt k (weight a) then (mark_at a k, no_marks b) else (no_marks a, mark_at b (k - weight a))
+mark_at (plus a) k = mark_at a k
+mark_at (tidy a) k = mark_at a k
+
+-- in the row one flag alone is set, at this place
+pub record IsLone (row : List Bool) (p : ℕ) : Type 0 where
+  pub flag : get_or row p false ≡ true
+  pub others : (k : ℕ) → (k ≡ p → ⊥) → get_or row k false ≡ false
+
+-- from this position alone the letter d leads on, to the next position, and one cannot leave
+pub record GoesTo (r : Core) (k d : ℕ) : Type 0 where
+  pub within : suc k < weight r
+  pub stays : (after : Bool) → can_leave r after false (mark_at r k) ≡ false
+  pub moves : (after : Bool) (c : ℕ) → shift r after false (mark_at r k) c ≡ (if c == d then mark_at r (suc k) else no_marks r)
+
+-- from this position on these letters lead on one by one
+abbrev pub IsStretch : Core → ℕ → List ℕ → Type 0
+IsStretch r k [] = Unit {0}
+IsStretch r k (d ∷ rest) = GoesTo r k d × IsStretch r (suc k) rest
+
+-- the same, said of the flags of the marks
+pub record LeadsTo (r : Core) (k d : ℕ) : Type 0 where
+  pub within : suc k < weight r
+  pub stays : (after : Bool) → can_leave r after false (mark_at r k) ≡ false
+  pub moves : (after : Bool) (c : ℕ) → flags_of r (shift r after false (mark_at r k) c) ≡ flags_of r (if c == d then mark_at r (suc k) else no_marks r)
+
+-- each letter of the stretch is the one to which the place before it leads
+abbrev pub IsStretchOf : Core → Stretch → Type 0
+IsStretchOf r stretch = (i : ℕ) → i < length stretch.letters.now → LeadsTo r (stretch.place + i) (get_or stretch.letters.now i 0)

@@ -1,0 +1,113 @@
+//! A compiled expression on its way over a list of tokens, entered at every token. The tokens are read from their ends.
+
+ghost use Rattle.std.specs.Prelude.{◌≡◌, ℕ, ◌<◌, ◌≤◌, ◌↔◌, IsTrue, IfOk, List, [], ◌∷◌, ◌++◌, false, length, reverse};
+ghost use Rattle.std.specs.Str.{chars};
+ghost use Rattle.lic_words.specs.Letters.{letters_in};
+ghost use Rattle.lic_words.specs.Expressions.{Expression};
+ghost use Rattle.lic_marks.specs.Cores.{HasWordsOf};
+ghost use Rattle.lic_marks.specs.Rows.{weight};
+ghost use Rattle.lic_marks.specs.Nodes.{core_of, is_measured};
+ghost use Rattle.lic_marks.specs.States.{HasFirstBlanks, has_gap, room_of};
+ghost use Rattle.lic_marks.specs.Stretches.{IsStretchOf};
+
+use crate::node::Node;
+use crate::row::Row;
+use crate::state::State;
+use crate::stretch::Stretch;
+use lic_words::turned_letters::TurnedLetters;
+use std::alloc::{AllocError, Global};
+
+/// A run of a compiled expression that is entered at every token: it tells whether the expression describes some end of
+/// the list. It keeps no token, and takes memory in `new` alone. What is not entered, and has nothing marked, costs nothing.
+#[derive(Drop, Debug)]
+pub struct Seeker<'a> {
+    tree: &'a Node,
+    state: State,
+    /// Where one position alone was marked, the stretch in which it stands.
+    stretch: Stretch<'a>,
+    /// The marks after blanks at the beginning of a word.
+    first: Row,
+    /// Where a position is marked, the last letter that was taken.
+    last: char,
+    ghost measured: { IsTrue (is_measured tree.now) },
+    ghost fits: { weight (core_of tree.now) ≤ room_of state },
+    ghost open: { IsTrue (has_gap state) },
+    ghost size: { length first ≡ room_of state },
+    ghost stretched: { IsStretchOf (core_of tree.now) stretch },
+    ghost blanks: { HasFirstBlanks (core_of tree.now) first },
+}
+
+impl<'a> Seeker<'a> {
+    ghost use Rattle.lic_marks.specs.Seeks.{DescribesEnd, NoneBegins, Seeks, tree_of};
+
+    /// A run that stands for the empty list. It is dead.
+    ///
+    /// # Errors
+    /// Out of memory.
+    pub fn new(alloc: Global, tree: &'a Node) -> Result<Seeker<'a>, AllocError>
+        requires { IsTrue (is_measured tree.now) }
+        ensures stands { (e : Expression) → HasWordsOf (core_of tree.now) e → IfOk result (λ s. Seeks s e []) }
+        ensures tree { IfOk result (λ s. tree_of s ≡ tree.now) }
+    {
+        let mut state = State::new(alloc, tree)?;
+        let first = state.first_blanks(alloc, tree)?;
+        state.clear();
+        Ok(Seeker {
+            tree,
+            state,
+            stretch: Stretch::none(),
+            first,
+            last: ' ',
+        })
+    }
+
+    /// Begins anew with the empty list.
+    pub fn reset(&mut self)
+        ensures stands { (e : Expression) → HasWordsOf (core_of (tree_of self.old)) e → Seeks self.new e [] }
+        ensures tree { tree_of self.new ≡ tree_of self.old }
+    {
+        self.state.clear();
+    }
+
+    /// Takes a token from its last letter to its first. `may_begin` is false where no described list begins with it: then
+    /// it is not entered there.
+    pub fn push_turned(&mut self, token: &str, may_begin: bool)
+        requires { 0 < letters_in (chars token.now) }
+        ensures stands { (e : Expression) (ts : List (List ℕ)) → Seeks self.old e ts
+            → (may_begin ≡ false → NoneBegins e (reverse (chars token.now))) → Seeks self.new e (ts ++ reverse (chars token.now) ∷ []) }
+        ensures tree { tree_of self.new ≡ tree_of self.old }
+    {
+        if !may_begin && self.is_dead() {
+            return;
+        }
+        let mut letters = TurnedLetters::new(token, self.last, true);
+        let Some(letter) = letters.next() else {
+            return;
+        };
+        self.stretch = self.state.stretch_of(self.tree, self.stretch);
+        if may_begin {
+            self.state
+                .enter(self.tree, self.stretch, &self.first, letter);
+        } else {
+            self.state.letter(self.tree, self.stretch, letter);
+        }
+        self.last = self.state.rest_of_token(self.tree, self.stretch, letters);
+    }
+
+    /// Whether the expression describes some end of the list of tokens.
+    pub fn accepts(&self) -> bool
+        ensures { (e : Expression) (ts : List (List ℕ)) → Seeks self.now e ts → IsTrue result ↔ DescribesEnd e ts }
+    {
+        self.state.accepts(self.tree, self.stretch)
+    }
+
+    /// True where no position is marked: then it stands as it is for the list with one token more that no described list
+    /// begins with. It looks at one flag.
+    pub fn is_dead(&self) -> bool
+        ensures none { (e : Expression) (ts : List (List ℕ)) → Seeks self.now e ts → IsTrue result → ¬ (DescribesEnd e ts) }
+        ensures skips { (e : Expression) (ts : List (List ℕ)) (token : List ℕ) → Seeks self.now e ts → IsTrue result
+            → NoneBegins e token → Seeks self.now e (ts ++ token ∷ []) }
+    {
+        self.state.is_dead()
+    }
+}
