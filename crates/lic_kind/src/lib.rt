@@ -1,4 +1,4 @@
-//! The kind of a character, and the letters that it stands for (this project's profile).
+//! The kind of a character, and the letters that it stands for; the line rules (this project's profile).
 #![tactic(auto)]
 
 ghost use Rattle.std.specs.Prelude.{◌≡◌};
@@ -7,11 +7,23 @@ ghost use Rattle.lic_kind.specs.Kinds.{kind_of, is_word_kind};
 mod ascii;
 pub mod laws;
 mod letters;
+mod openers;
+mod reader;
+pub mod rule_kind;
+mod rule_line;
+mod rule_text;
+pub mod rules;
+pub mod rules_fault;
 mod tables;
+pub mod texts;
 
 use ascii::ascii_kind;
 pub use letters::spell;
+pub use rule_kind::RuleKind;
+pub use rules::Rules;
+pub use rules_fault::{RulesCause, RulesFault};
 pub use tables::{is_bullet, is_dash, is_dropped, is_quote};
+pub use texts::Texts;
 
 /// What a character is to the scanner.
 #[derive(Clone, Copy, Debug, PartialEq, Eq)]

@@ -5,6 +5,7 @@ use Rattle.std.specs.Char.{is_whitespace}
 use Rattle.lic_lines.specs.Texts.{is_row, ends_in}
 use Rattle.lic_lines.specs.LineRules.{LineRules}
 use Rattle.lic_lines.specs.Lines.{is_lead_piece, is_tail_piece, repeats}
+pub use Rattle.lic_kind.specs.Openers.{opens_in}
 pub use Rattle.lic_lines.specs.declared.walk.Side.{Side}
 pub use Rattle.lic_lines.specs.declared.walk.Side.TheVariants.{Front, End}
 
@@ -32,11 +33,6 @@ side_spaced rules End = rules.tail_space
 abbrev pub side_repeated : LineRules → Side → List (List ℕ)
 side_repeated rules Front = []
 side_repeated rules End = rules.tail_repeat
-
--- whether a text begins in white space or in this character
-abbrev pub opens_in : ℕ → List ℕ → Bool
-opens_in c [] = false
-opens_in c (d ∷ text) = is_whitespace d || (d == c)
 
 -- whether one of the texts of this side does, on the way
 abbrev pub may_open : LineRules → Side → ℕ → Bool

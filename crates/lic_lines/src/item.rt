@@ -9,10 +9,9 @@ ghost use Rattle.lic_lines.specs.Sources.{chars_of};
 ghost use Rattle.lic_lines.specs.LineRules.{rules_of};
 ghost use Rattle.lic_lines.specs.Lines.{is_bullet_sign, is_roman_digit, is_number, is_letter, is_roman, is_bullet_item, is_number_item, is_letter_item, is_item_in_parentheses, is_item_form, is_copyright_sign, item_length};
 
-use crate::rules::Rules;
 use crate::source::SourceChar;
 use crate::walk::is_text;
-use lic_kind::{is_bullet, is_dash};
+use lic_kind::{Rules, is_bullet, is_dash};
 
 fn is_roman_digit(c: char) -> bool
     ensures { result ≡ is_roman_digit c }
@@ -196,7 +195,7 @@ pub fn item_length(rules: &Rules, line: &[SourceChar], behind: Option<char>) -> 
     ensures item { result ≡ item_length (rules_of rules.now) (chars_of line.now ++ option_to_list behind) }
     ensures within { result ≤ length line.now }
 {
-    if !rules.items {
+    if !rules.items() {
         return 0;
     }
     let end = first_space(line);

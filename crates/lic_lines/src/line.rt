@@ -9,13 +9,12 @@ use crate::cell::Cell;
 use crate::cut::cut_line;
 use crate::line_part::LinePart;
 use crate::room::Room;
-use crate::rules::Rules;
 use crate::runs::Runs;
 use crate::signs::join_single_signs;
 use crate::source::SourceChar;
 use crate::text::push_text;
 use crate::tokens::FirstToken;
-use lic_kind::{Kind, kind_of};
+use lic_kind::{Kind, Rules, kind_of};
 use std::alloc::{AllocError, Global};
 
 /// What a character is to the steps after the line rules.

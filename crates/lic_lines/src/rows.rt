@@ -8,10 +8,9 @@ ghost use Rattle.lic_lines.specs.Texts.{is_row, longest_front};
 ghost use Rattle.lic_lines.specs.Lines.{is_space, is_separator};
 ghost use Rattle.lic_lines.specs.Walks.{walked, is_walked_piece, side_texts, side_spaced, side_repeated, ends_piece, IsRunFront, spaced_text_ends, repeat_ends};
 
-use crate::rules::{Rules, Texts};
 use crate::source::SourceChar;
 use crate::walk::{Side, char_at, is_text, part};
-use lic_kind::{Kind, kind_of};
+use lic_kind::{Kind, RuleKind, Rules, Texts, kind_of};
 use std::alloc::{AllocError, Global};
 
 fn is_mark(c: char) -> bool
@@ -40,7 +39,7 @@ fn any_text_ends(texts: &Texts, flags: &[bool], line: &[SourceChar], side: Side,
     ensures { result ≡ list_any (λ t. ends_piece (bytes_eq (walked side t)) flags.now (walked side (chars_of line.now)) end) (texts_of texts.now) }
 {
     for i in 0..texts.len() {
-        if text_ends(texts.get(i), flags, line, side, end) {
+        if text_ends(texts.characters(i), flags, line, side, end) {
             return true;
         }
     }
@@ -88,7 +87,7 @@ fn any_spaced_text_ends(
     ensures { result ≡ list_any (λ t. spaced_text_ends flags.now (walked side (chars_of line.now)) end (walked side t)) (texts_of texts.now) }
 {
     for i in 0..texts.len() {
-        if spaced_text_ends(texts.get(i), flags, line, side, end) {
+        if spaced_text_ends(texts.characters(i), flags, line, side, end) {
             return true;
         }
     }
@@ -138,8 +137,8 @@ pub(crate) fn side_texts(rules: &Rules, side: Side) -> &Texts
     ensures { texts_of result.now ≡ side_texts (rules_of rules.now) side }
 {
     match side {
-        Side::Front => &rules.lead,
-        Side::End => &rules.tail,
+        Side::Front => rules.texts(RuleKind::Lead),
+        Side::End => rules.texts(RuleKind::Tail),
     }
 }
 
@@ -148,8 +147,8 @@ pub(crate) fn side_spaced(rules: &Rules, side: Side) -> &Texts
     ensures { texts_of result.now ≡ side_spaced (rules_of rules.now) side }
 {
     match side {
-        Side::Front => &rules.lead_space,
-        Side::End => &rules.tail_space,
+        Side::Front => rules.texts(RuleKind::LeadSpace),
+        Side::End => rules.texts(RuleKind::TailSpace),
     }
 }
 
@@ -181,7 +180,7 @@ fn step_texts(texts: &Texts, repeating: &mut [bool], flags: &[bool], line: &[Sou
 {
     for i in 0..texts.len() {
         let before = repeating[i];
-        repeating[i] = repeat_ends(texts.get(i), before, flags, line, k);
+        repeating[i] = repeat_ends(texts.characters(i), before, flags, line, k);
     }
 }
 
@@ -201,7 +200,7 @@ fn step_repeats(
 {
     match side {
         Side::Front => {}
-        Side::End => step_texts(&rules.tail_repeat, repeating, flags, line, k),
+        Side::End => step_texts(rules.texts(RuleKind::TailRepeat), repeating, flags, line, k),
     }
 }
 
@@ -217,8 +216,19 @@ fn no_repeats(alloc: Global, rules: &Rules, side: Side) -> Result<Vec<bool>, All
 {
     match side {
         Side::Front => Ok(Vec::new(alloc)),
-        Side::End => vec![in alloc; false; rules.tail_repeat.len()],
+        Side::End => vec![in alloc; false; rules.count(RuleKind::TailRepeat)],
     }
+}
+
+/// How many characters the longest of these texts has.
+fn longest(texts: &Texts) -> usize
+    ensures { All (λ text. length text ≤ result) (texts_of texts.now) }
+{
+    let mut longest = 0;
+    for i in 0..texts.len() {
+        longest = longest.max(texts.characters(i).len());
+    }
+    longest
 }
 
 /// How many characters the longest text of this side has.
@@ -227,12 +237,10 @@ fn reach(rules: &Rules, side: Side) -> usize
     ensures spaced { All (λ t. length t ≤ result) (side_spaced (rules_of rules.now) side) }
     ensures repeated { All (λ t. length t ≤ result) (side_repeated (rules_of rules.now) side) }
 {
-    let reach = side_texts(rules, side)
-        .longest()
-        .max(side_spaced(rules, side).longest());
+    let reach = longest(side_texts(rules, side)).max(longest(side_spaced(rules, side)));
     match side {
         Side::Front => reach,
-        Side::End => reach.max(rules.tail_repeat.longest()),
+        Side::End => reach.max(longest(rules.texts(RuleKind::TailRepeat))),
     }
 }
 
@@ -254,7 +262,7 @@ fn piece_ends(
     ensures { result ≡ ends_piece (is_walked_piece (rules_of rules.now) side) flags.now (walked side (chars_of line.now)) end }
 {
     let space = space_ends(flags, line, side, end);
-    let separator = rules.separators && separator_ends(flags, line, side, end, first);
+    let separator = rules.separators() && separator_ends(flags, line, side, end, first);
     let text = any_text_ends(side_texts(rules, side), flags, line, side, end);
     let spaced = any_spaced_text_ends(side_spaced(rules, side), flags, line, side, end);
     space | separator | text | (spaced | repeated)

@@ -6,9 +6,8 @@ ghost use Rattle.lic_lines.specs.Runs.{same_mark, same_family, without_separator
 ghost use Rattle.lic_lines.specs.Groupings.{together};
 
 use crate::cell::Cell;
-use crate::rules::Rules;
 use crate::source::SourceChar;
-use lic_kind::{is_dash, is_quote};
+use lic_kind::{Rules, is_dash, is_quote};
 use std::alloc::{AllocError, Global};
 
 /// Which neighbours belong to one group.
@@ -158,7 +157,7 @@ impl Runs {
         ensures { IfOk result (λ joined. joined.now ≡ runs_joined (rules_of rules.now) cells.now) }
     {
         self.joined.clear();
-        if rules.separators {
+        if rules.separators() {
             self.parted.clear();
             push_without_separators(&mut self.parted, cells)?;
             push_with_joined(&mut self.joined, &self.parted)?;

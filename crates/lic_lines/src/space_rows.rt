@@ -8,9 +8,9 @@ ghost use Rattle.lic_lines.specs.Texts.{is_row, longest_front};
 ghost use Rattle.lic_lines.specs.Walks.{walked, is_walked_piece, opens_in, may_open};
 
 use crate::rows::{longest_row, side_spaced, side_texts};
-use crate::rules::{Rules, Texts};
 use crate::source::SourceChar;
 use crate::walk::{Side, char_at};
+use lic_kind::{RuleKind, Rules, Texts};
 use std::alloc::{AllocError, Global};
 
 /// Whether a text begins, on the way from this side, in white space or in this character.
@@ -32,22 +32,36 @@ fn any_opens_in(c: char, side: Side, texts: &Texts) -> bool
     ensures { result ≡ list_any (λ t. opens_in c (walked side t)) (texts_of texts.now) }
 {
     for i in 0..texts.len() {
-        if opens_in(c, side, texts.get(i)) {
+        if opens_in(c, side, texts.characters(i)) {
             return true;
         }
     }
     false
 }
 
+/// A quick look: false where no text of a side begins in white space or in this character.
+#[inline(always)]
+fn quick_look(rules: &Rules, side: Side, c: char) -> bool
+    ensures { result ≡ false → may_open (rules_of rules.now) side c ≡ false }
+{
+    match side {
+        Side::Front => rules.may_open_lead(c),
+        Side::End => rules.may_open_tail(c),
+    }
+}
+
 /// Whether one of the texts of a side begins in white space or in this character.
 fn may_open(rules: &Rules, side: Side, c: char) -> bool
     ensures { result ≡ may_open (rules_of rules.now) side c }
 {
+    if !quick_look(rules, side, c) {
+        return false;
+    }
     let texts = any_opens_in(c, side, side_texts(rules, side));
     let spaced = any_opens_in(c, side, side_spaced(rules, side));
     let repeated = match side {
         Side::Front => false,
-        Side::End => any_opens_in(c, side, &rules.tail_repeat),
+        Side::End => any_opens_in(c, side, rules.texts(RuleKind::TailRepeat)),
     };
     texts | (spaced | repeated)
 }

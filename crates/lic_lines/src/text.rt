@@ -10,10 +10,9 @@ ghost use Rattle.lic_lines.specs.Tokens.{both_words, tokens_from, blank_behind, 
 use crate::cell::Cell;
 use crate::line::push_cells;
 use crate::room::Room;
-use crate::rules::Rules;
 use crate::source::SourceChar;
 use crate::tokens::{FirstToken, mark_token, push_first_tokens, spell_word, word_token};
-use lic_kind::{Kind, kind_of};
+use lic_kind::{Kind, Rules, kind_of};
 use std::alloc::{AllocError, Global};
 
 /// A row of characters of one kind that stands in front of a text.

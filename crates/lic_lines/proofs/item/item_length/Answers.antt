@@ -22,7 +22,7 @@ returns-then-lets_item-clause-item c =
     let end = c.first_space-end.result in
     let form = chars_of (take end line) in
     let rest = chars_of (take (length line - (end + 1)) (drop (end + 1) line)) ++ option_to_list c.args.behind in
-    item_on c.args.rules.now.items (is_item_form form) (lets form rest) end c.if-not-rules.false (sym c.is_item_form.ensures ∙ c.if-is_item_form.true) (sym c.lets_item.ensures ∙ c.if-lets_item.true)
+    item_on c.args.rules.now.items (is_item_form form) (lets form rest) end (sym c.items.ensures ∙ c.if-not-items.false) (sym c.is_item_form.ensures ∙ c.if-is_item_form.true) (sym c.lets_item.ensures ∙ c.if-lets_item.true)
     ∙ sym (item_value (rules_of c.args.rules.now) line (option_to_list c.args.behind) end c.first_space-end.ensures.place (omega arith))
 
 pub returns-else-is_item_form-clause-item : goal.returns-else-is_item_form-clause-item

@@ -7,7 +7,7 @@ use Rattle.lic_lines.specs.Lines.{is_separator}
 use Rattle.lic_lines.specs.Walks.{walked, ends_piece, spaced_text_ends}
 use Rattle.lic_lines.proofs.SideEnds.{side_ends}
 use Rattle.lic_lines.proofs.rows.piece_ends.Goals as goal
-use Rattle.lic_lines.proofs.rows.piece_ends.Goals.{then-rules, else-rules}
+use Rattle.lic_lines.proofs.rows.piece_ends.Goals.{then-separators, else-separators}
 
 pub returns : goal.returns
 returns c =
@@ -15,9 +15,9 @@ returns c =
     let flags = c.args.flags.now in
     let line = walked c.args.side (chars_of c.args.line.now) in
     let end = c.args.end in
-    let separator : c.if-rules.separator ≡ (rules.separators && ends_piece is_separator flags line end) = elim c.if-rules.branch [
-      | then-rules w ↦ w.separator-is ∙ w.separator_ends-separator.ensures ∙ ap (λ b. b && ends_piece is_separator flags line end) (sym w.if-rules.true)
-      | else-rules w ↦ w.separator-is ∙ w.if-rules.false ∙ ap (λ b. b && ends_piece is_separator flags line end) (sym w.if-rules.false)
+    let separator : c.if-separators.separator ≡ (rules.separators && ends_piece is_separator flags line end) = elim c.if-separators.branch [
+      | then-separators w ↦ w.separator-is ∙ w.separator_ends-separator.ensures ∙ ap (λ b. b && ends_piece is_separator flags line end) (sym w.if-separators.true ∙ c.separators.ensures)
+      | else-separators w ↦ w.separator-is ∙ w.if-separators.false ∙ ap (λ b. b && ends_piece is_separator flags line end) (sym w.if-separators.false ∙ c.separators.ensures)
     ] in
     let text = c.any_text_ends-text.ensures ∙ ap (list_any (λ (t : List ℕ). ends_piece (bytes_eq (walked c.args.side t)) flags line end)) c.side_texts.ensures in
     let spaced = c.any_spaced_text_ends-spaced.ensures ∙ ap (list_any (λ (t : List ℕ). spaced_text_ends flags line end (walked c.args.side t))) c.side_spaced.ensures in
