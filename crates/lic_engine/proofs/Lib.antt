@@ -1,3 +1,4 @@
+pub mod FedLemmas
 mod DoneLemmas
 mod ReportLemmas
 mod Refusals

@@ -116,3 +116,8 @@ pub begins_tokens : {A E : Type 0} (r : Result A E) (name : List ℕ) (tokens : 
     → BeginsWith a b (token_lines name tokens) → OnErr r (BeginsWith a b (token_lines name tokens))
 begins_tokens (Ok x) name tokens a b p = tt
 begins_tokens (Err x) name tokens a b p = p
+
+-- what holds anyway holds where the answer is an error
+pub on_error : {A E : Type 0} → (P : Type 0) (answer : Result A E) → P → OnErr answer P
+on_error P (Ok a) p = tt
+on_error P (Err e) p = p

@@ -1,5 +1,5 @@
 -- What was read of an input.
-use Rattle.std.specs.Prelude.{◌≡◌, ◌≢◌, ◌⊎◌, ℕ, List, ◌++◌, Option, Some, None, Result, IsErrOf}
+use Rattle.std.specs.Prelude.{◌≡◌, ◌≢◌, ℕ, List, ◌++◌, Option, Some, None, Result, IsErrOf}
 use Rattle.std.specs.Io.KnownBytes.{Consumes, IsAtEnd}
 use Rattle.lic_norm.specs.Refusal.{refusal_of}
 use Rattle.lic_norm.specs.declared.fault.TextFault as fault
@@ -7,13 +7,12 @@ use Rattle.lic_norm.specs.declared.fault.TextFault.{TextFault}
 use Rattle.lic_engine.specs.declared.fault.RunFault.{RunFault}
 use Rattle.lic_engine.specs.declared.fault.RunFault.TheVariants.{Text}
 
--- these bytes were read to the end, and are no refused text
+-- these bytes were read to the end, and are no refused input
 abbrev pub IsAccepted : Option (List ℕ) → Option (List ℕ) → List ℕ → Type 0
 IsAccepted old new bytes = Consumes old new bytes × IsAtEnd new × (refusal_of bytes ≡ None)
 
--- what was read is refused so, and was read to the end, or gets the same refusal however it goes on
+-- what was read is refused so, however it goes on
 abbrev pub IsRefused : Option (List ℕ) → Option (List ℕ) → TextFault → Type 0
 IsRefused old new fault = (bytes : List ℕ)
     × Consumes old new bytes
-    × (refusal_of bytes ≡ Some fault)
-    × (IsAtEnd new ⊎ ((more : List ℕ) → refusal_of (bytes ++ more) ≡ Some fault))
+    × ((more : List ℕ) → refusal_of (bytes ++ more) ≡ Some fault)

@@ -82,8 +82,8 @@ fn report<W: Sink>(
 /// Reads an input to its end, and writes the report of it: a line for each match that is asked for; or, where not all are
 /// asked for, for each outer match and its variables. The answer says whether a match was reported.
 ///
-/// At most 67,108,865 bytes are read. `name` stands first in each line. A refused input, and one that cannot
-/// be read, gives no line; after a write that failed, and where memory ran out, what was written is a
+/// At most 67,108,865 bytes are read, whatever they are. `name` stands first in each line. An input that is too long, and one
+/// that cannot be read, gives no line; after a write that failed, and where memory ran out, what was written is a
 /// beginning of the report. A failed call is not tried again.
 pub fn run<R: Source, W: Sink>(
     alloc: Global,
@@ -104,7 +104,7 @@ pub fn run<R: Source, W: Sink>(
     ensures part { (fault : _) → IsErrOf result fault → ((fault ≡ RunFault.Write) ⊎ (fault ≡ RunFault.Memory)) → (bytes : List ℕ)
         × IsAccepted (R.left input.old) (R.left input.new) bytes
         × ((lines : List ℕ) → IsReport name.now set.now words.now ask.now bytes lines → BeginsWith (W.taken out.old) (W.taken out.new) lines) }
-    // A refused text: no continuation fares better.
+    // An input that is too long: it stays refused however it goes on.
     ensures refused { (fault : _) → IsErrOf result (RunFault.Text fault) → fault ≢ TextFault.Memory
         → IsRefused (R.left input.old) (R.left input.new) fault }
     // After a refused text and a failed read nothing is written.
@@ -143,8 +143,8 @@ fn report_tokens<W: Sink>(
 /// Reads an input to its end, and writes a line for each of its tokens. The answer says whether a line was
 /// written.
 ///
-/// At most 67,108,865 bytes are read. `name` stands first in each line. A refused input, and one that cannot
-/// be read, gives no line; after a write that failed, and where memory ran out, what was written is a
+/// At most 67,108,865 bytes are read, whatever they are. `name` stands first in each line. An input that is too long, and one
+/// that cannot be read, gives no line; after a write that failed, and where memory ran out, what was written is a
 /// beginning of the lines. A failed call is not tried again.
 pub fn run_tokens<R: Source, W: Sink>(
     alloc: Global,
@@ -162,7 +162,7 @@ pub fn run_tokens<R: Source, W: Sink>(
     ensures part { (fault : _) → IsErrOf result fault → ((fault ≡ RunFault.Write) ⊎ (fault ≡ RunFault.Memory)) → (bytes : List ℕ)
         × IsAccepted (R.left input.old) (R.left input.new) bytes
         × BeginsWith (W.taken out.old) (W.taken out.new) (token_lines name.now (tokens_of words.now bytes)) }
-    // A refused text: no continuation fares better.
+    // An input that is too long: it stays refused however it goes on.
     ensures refused { (fault : _) → IsErrOf result (RunFault.Text fault) → fault ≢ TextFault.Memory
         → IsRefused (R.left input.old) (R.left input.new) fault }
     // After a refused text and a failed read nothing is written.

@@ -1,6 +1,7 @@
 //! The text of an input.
 
-ghost use Rattle.std.specs.Prelude.{◌≡◌, ◌≢◌, ℕ, List, IfOk, IsErrOf};
+ghost use Rattle.std.specs.Prelude.{◌≡◌, ◌≢◌, ℕ, [], List, IfOk, OnOk, IsErrOf, None};
+ghost use Rattle.std.specs.Io.KnownBytes.{Consumes, IsAtEnd};
 ghost use Rattle.lic_norm.specs.Spans.{AreSpans};
 ghost use Rattle.lic_norm.specs.Tokens.{tokens_of};
 ghost use Rattle.lic_stream.specs.Stream.{ReadsUpTo};
@@ -9,16 +10,52 @@ ghost use Rattle.lic_engine.specs.Inputs.{IsAccepted, IsRefused};
 
 use crate::fault::RunFault;
 use lic_norm::fault::TextFault;
+use lic_norm::feeder::Feeder;
 use lic_norm::text::Text;
 use lic_norm::words::Words;
 use lic_stream::stream::Source;
-use lic_stream::transfer::{ReadFault, read_up_to};
 use std::alloc::Global;
 
 /// The most bytes that are read of an input: one more than an input may have.
 const MOST_READ: usize = 67_108_865;
 
-/// Reads an input to its end, but no more than one byte more than an input may have, and makes tokens of it.
+/// How many bytes are asked for in one call.
+const CHUNK: usize = 16_384;
+
+/// Feeds an input as it is read, to its end, but no more than one byte more than an input may have. A failed call is not
+/// tried again.
+fn feed_all<R: Source>(input: &mut R, feeder: &mut Feeder<'_>) -> Result<(), RunFault>
+    requires empty { feeder.old.bytes ≡ [] }
+    requires open { feeder.old.refused ≡ None }
+    ensures whole { OnOk result (IsAccepted (R.left input.old) (R.left input.new) feeder.new.bytes) }
+    ensures open { OnOk result (feeder.new.refused ≡ None) }
+    ensures words { feeder.new.words ≡ feeder.old.words }
+    ensures refused { (fault : _) → IsErrOf result (RunFault.Text fault) → fault ≢ TextFault.Memory
+        → IsRefused (R.left input.old) (R.left input.new) fault }
+    ensures reads { CountsReads result (R.failed input.old) (R.failed input.new) }
+    ensures faults { IsOfReading result }
+    ensures most { ReadsUpTo (R.left input.old) (R.left input.new) 67108865 }
+{
+    let mut chunk = [0u8; CHUNK];
+    let mut count = 0;
+    while count < MOST_READ {
+        let room = (MOST_READ - count).min(CHUNK);
+        let n = match input.pull(&mut chunk[..room]) {
+            Err(_) => return Err(RunFault::Read),
+            Ok(n) => n,
+        };
+        if n == 0 {
+            return Ok(());
+        }
+        if let Err(fault) = feeder.feed(&chunk[..n]) {
+            return Err(RunFault::Text(fault));
+        }
+        count += n;
+    }
+    Ok(())
+}
+
+/// Reads an input to its end, but no more than one byte more than an input may have, and makes tokens of it as it comes.
 pub fn read_text<R: Source>(alloc: Global, input: &mut R, words: &Words) -> Result<Text, RunFault>
     ensures whole { IfOk result (λ text. (bytes : List ℕ)
         × IsAccepted (R.left input.old) (R.left input.new) bytes
@@ -31,12 +68,9 @@ pub fn read_text<R: Source>(alloc: Global, input: &mut R, words: &Words) -> Resu
     ensures faults { IsOfReading result }
     ensures most { ReadsUpTo (R.left input.old) (R.left input.new) 67108865 }
 {
-    let bytes = match read_up_to(alloc, input, MOST_READ) {
-        Ok(bytes) => bytes,
-        Err(ReadFault::Read) => return Err(RunFault::Read),
-        Err(ReadFault::Memory) => return Err(RunFault::Text(TextFault::Memory)),
-    };
-    match Text::read(alloc, bytes, words) {
+    let mut feeder = Feeder::new(alloc, words);
+    feed_all(input, &mut feeder)?;
+    match feeder.finish() {
         Ok(text) => Ok(text),
         Err(fault) => Err(RunFault::Text(fault)),
     }

@@ -3,11 +3,11 @@ use Rattle.std.proofs.Common.{◌≡◌, ℕ, zero, suc, ◌+◌, ◌-◌, Bool,
 use Rattle.std.specs.Prelude.{codes, encode_utf8_all, if◌then◌else◌, nat_le}
 use Rattle.std.specs.Char.{len_utf8}
 use Rattle.std.specs.List.{flat_map, onto_first}
-use Rattle.std.specs.Str.{chars}
+use Rattle.std.specs.Str.{chars, IsUtf8}
 use Rattle.std.proofs.lemmas.List.{drop-map, length-map, map-append, take-map}
 use Rattle.lic_kind.specs.Kinds.{is_dropped, is_mark_kind, is_word_kind, kind_of, spell}
 use Rattle.lic_lines.specs.Texts.{groups, join_group}
-use Rattle.lic_lines.specs.Sources.{chars_of, lines_of, placed, source_of, unplaced, without_dropped}
+use Rattle.lic_lines.specs.Sources.{chars_of, lines_of, placed, unplaced, without_dropped}
 use Rattle.lic_lines.specs.declared.source.SourceChar.{SourceChar}
 use Rattle.lic_lines.specs.declared.cell.Cell.{Cell}
 use Rattle.lic_lines.specs.declared.cell.Cell.TheVariants.{Blank, Mark, Word}
@@ -16,8 +16,9 @@ use Rattle.lic_lines.specs.declared.line_part.LinePart.{LinePart}
 use Rattle.lic_lines.specs.LineRules.{LineRules, profile}
 use Rattle.lic_lines.specs.Lines.{whole_line, blank_for, cell_of, cells_of_cut, cut_of, left_of, line_cells, cells_of}
 use Rattle.lic_lines.specs.Runs.{end_after, joined, runs_joined, same_family, same_mark, with_joined, without_separator, without_separators}
-use Rattle.lic_lines.specs.Tokens.{Token, as_sign, both_words, first_tokens, is_sign_in_parentheses, is_text, letters_of, sign_from, single_signs, token_of, tokens_from}
+use Rattle.lic_lines.specs.Tokens.{Token, as_sign, both_words, first_tokens, is_sign_in_parentheses, is_text, letters_of, sign_from, single_signs, text_tokens, token_of, tokens_from}
 use Rattle.lic_phrases.specs.Rewriting.{Phrase, SpannedText, begins_authority, both_signs, count_behind, end_of_last, first_as, https_as_http, longer, longest_phrase, phrases_behind, phrases_joined, rewritten, sign_of_row, sign_rows, spanned, stands, without_secure}
+use Rattle.lic_norm.proofs.AnyBytes.{source_of-utf8}
 use Rattle.lic_norm.specs.Pieces.{cells_of_lines, ends_in_feed, part_of, piece_cells, piece_tokens}
 use Rattle.lic_norm.specs.Tokens.{first_tokens_of, reported, tokens_of}
 use Rattle.lic_norm.specs.declared.pieces.Next.TheVariants.{LineEnd}
@@ -298,10 +299,10 @@ reported-texts : (ts : List SpannedText) → map (λ t. t.text) (map reported ts
 reported-texts [] = refl
 reported-texts (t ∷ ts) = ap (λ l. t.text ∷ l) (reported-texts ts)
 
-piece-whole : (piece : List ℕ) → piece_cells true LineEnd piece ≡ map bare_cell (runs_joined profile (cells_of profile (source_of 0 piece)))
+piece-whole : (piece : List ℕ) → piece_cells true LineEnd piece ≡ map bare_cell (runs_joined profile (cells_of profile (placed 0 (chars piece))))
 unfolding piece_cells
 piece-whole piece =
-    let text = source_of 0 piece in
+    let text = placed 0 (chars piece) in
     let lines = lines_of (without_dropped text) in
     ap (λ t. runs_joined profile (cells_of_lines true LineEnd (lines_of (without_dropped t)))) (sym (bare-placed 0 (chars piece)))
     ∙ ap (λ t. runs_joined profile (cells_of_lines true LineEnd (lines_of t))) (bare-kept text)
@@ -310,12 +311,13 @@ piece-whole piece =
     ∙ bare-runs (cells_of profile text)
 
 -- a piece that is whole lines has the tokens of the text that it is
-pub piece_texts-whole : (words : List Phrase) (piece : List ℕ) → piece_texts words true LineEnd piece ≡ map (λ t. t.text) (tokens_of words piece)
+pub piece_texts-whole : (words : List Phrase) (piece : List ℕ) → IsUtf8 piece → piece_texts words true LineEnd piece ≡ map (λ t. t.text) (tokens_of words piece)
 unfolding piece_tokens first_tokens_of
-piece_texts-whole words piece =
-    let cells = runs_joined profile (cells_of profile (source_of 0 piece)) in
+piece_texts-whole words piece utf8 =
+    let cells = runs_joined profile (cells_of profile (placed 0 (chars piece))) in
     ap (λ cs. texts_after words (single_signs (first_tokens cs))) (piece-whole piece)
     ∙ ap (λ ts. texts_after words (single_signs ts)) (bare-first cells)
     ∙ ap (texts_after words) (bare-signs (first_tokens cells))
     ∙ bare-texts words (single_signs (first_tokens cells))
     ∙ sym (reported-texts (rewritten words (single_signs (first_tokens cells))))
+    ∙ ap (λ text. map (λ t. t.text) (map reported (rewritten words (text_tokens profile text)))) (sym (source_of-utf8 0 piece utf8))

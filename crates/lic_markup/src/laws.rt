@@ -52,10 +52,10 @@ pub fn a_text_describes_the_tokens_of_its_piece()
         → IsDescribed (part_words (Text text)) (map chars (piece_texts words at_line_start before piece)) }
 {}
 
-/// A text with the letters of a source, taken as whole lines, describes the tokens of that source.
+/// A text with the letters of a source in UTF-8, taken as whole lines, describes the tokens of that source.
 pub fn a_text_describes_its_source()
     ensures { (words : List Phrase) (source : List ℕ) (text : String Global)
-        → HaveTokenTexts words → string_bytes text ≡ piece_of words true LineEnd source
+        → HaveTokenTexts words → IsUtf8 source → string_bytes text ≡ piece_of words true LineEnd source
         → ¬ (tokens_of words source ≡ [])
         → All IsUtf8 (map (λ t. t.text) (tokens_of words source))
         → IsDescribed (part_words (Text text)) (map (λ t. chars t.text) (tokens_of words source)) }

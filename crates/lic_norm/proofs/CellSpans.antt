@@ -1,14 +1,14 @@
--- The characters of an input lie in it one behind the other, and so do those of its cells.
-use Rattle.std.proofs.Common.{◌≡◌, ℕ, zero, suc, ◌+◌, ◌-◌, ◌≤◌, Bool, List, [], ◌∷◌, ◌++◌, map, length, take, drop, refl, sym, ap, subst, ◌∙◌, append_assoc, arith, inl, inr, length-append, append-nil}
-use Rattle.std.specs.Prelude.{nat_le, if◌then◌else◌}
+-- The source characters of an input lie in it one behind the other, and so do those of its cells.
+use Rattle.std.proofs.Common.{◌≡◌, ℕ, zero, suc, ◌+◌, ◌-◌, ◌≤◌, Bool, List, [], ◌∷◌, ◌++◌, map, length, take, drop, refl, sym, ap, subst, ◌∙◌, arith, inl, inr, length-append, append-nil}
+use Rattle.std.specs.Prelude.{nat_le, if◌then◌else◌, Contains}
 use Rattle.std.specs.List.{flat_map, onto_first}
 use Rattle.std.specs.Char.{len_utf8, encode_utf8}
-use Rattle.std.specs.Str.{IsCharBoundary, IsUtf8, encode_utf8_all}
 use Rattle.std.proofs.lemmas.Bool.{cases_Bool, cond-true, cond-false}
-use Rattle.std.proofs.lemmas.Str.{IsCharBoundary-at_seam, IsUtf8-past_char, length-encode, len_utf8_bounds}
+use Rattle.std.proofs.lemmas.Str.{length-encode, len_utf8_bounds}
+use Rattle.std.proofs.lemmas.List.Elements.{Contains-append_left, Contains-append_right}
 use Rattle.lic_kind.specs.Kinds.{kind_of, is_word_kind, is_mark_kind}
 use Rattle.lic_lines.specs.Texts.{cut_after, groups, join_group}
-use Rattle.lic_lines.specs.Sources.{chars_of, placed, without_dropped, lines_of}
+use Rattle.lic_lines.specs.Sources.{chars_of, without_dropped, lines_of}
 use Rattle.lic_lines.specs.declared.source.SourceChar.{SourceChar}
 use Rattle.lic_lines.specs.declared.cell.Cell.{Cell}
 use Rattle.lic_lines.specs.declared.cell.Cell.TheVariants.{Blank, Mark, Word}
@@ -16,6 +16,9 @@ use Rattle.lic_lines.specs.declared.line_part.LinePart.{LinePart}
 use Rattle.lic_lines.specs.LineRules.{LineRules}
 use Rattle.lic_lines.specs.Lines.{whole_line, blank_for, cell_of, cut_of, line_cells, cells_of}
 use Rattle.lic_lines.specs.Runs.{same_mark, same_family, end_after, without_separator, without_separators, joined, runs_joined}
+use Rattle.lic_norm.specs.Sources.{source_of}
+use Rattle.lic_norm.specs.Spans.{EndsAt}
+use Rattle.lic_norm.proofs.AnyBytes.{AreRead, source_of-AreRead}
 use Rattle.lic_norm.proofs.Lying.{Lie, Lie-order, Lie-append, Lie-split, Lie-rest, Lie-take, Lie-drop, Lie-filter}
 
 -- source characters lie from one byte up to another
@@ -68,22 +71,33 @@ parts_of_groups {A} together (x ∷ xs) = join (groups together xs) ∙ ap (λ l
 
 -- ---- characters
 
+-- source characters that are read lie in the source, if it has them
+read-Lie : (source : List ℕ) {at : ℕ} {bytes : List ℕ} {cs : List SourceChar} → AreRead at bytes cs → ((s : SourceChar) → Contains cs s → Contains (source_of 0 source) s) → CharsLie source at cs (at + length bytes)
+read-Lie source (AreRead.no_bytes at) has = omega arith
+read-Lie source (AreRead.a_char at bytes c rest cs scalar came read) has =
+    let s : SourceChar = record { char = c; start = at; end = at + len_utf8 c } in
+    let known = has s (Contains-append_left (s ∷ []) cs s (0, omega arith, refl)) in
+    let to : at + len_utf8 c + length rest ≡ at + length bytes = omega (arith, ap length came, length-append (encode_utf8 c) rest, length-encode c) in (
+      omega arith,
+      omega (arith, len_utf8_bounds c),
+      (s, known, refl),
+      (s, known, refl),
+      subst (CharsLie source (at + len_utf8 c) cs) to (read-Lie source read (λ t among. has t (Contains-append_right (s ∷ []) cs t among))),
+    )
+read-Lie source (AreRead.a_byte at b rest cs nothing read) has =
+    let s : SourceChar = record { char = 0xFFFD; start = at; end = at + 1 } in
+    let known = has s (Contains-append_left (s ∷ []) cs s (0, omega arith, refl)) in
+    let to : at + 1 + length rest ≡ at + length (b ∷ rest) = omega arith in (
+      omega arith,
+      omega arith,
+      (s, known, refl),
+      (s, known, refl),
+      subst (CharsLie source (at + 1) cs) to (read-Lie source read (λ t among. has t (Contains-append_right (s ∷ []) cs t among))),
+    )
+
 module _ (source : List ℕ) where
-  pub placed-Lie : (at : ℕ) (front cs : List ℕ) → source ≡ front ++ encode_utf8_all cs → length front ≡ at → IsUtf8 (encode_utf8_all cs) → CharsLie source at (placed at cs) (length source)
-  placed-Lie at front [] parts here text = omega (arith, ap length parts, length-append front [])
-  placed-Lie at front (c ∷ cs) parts here text =
-      let more = front ++ encode_utf8 c in
-      let rest = encode_utf8_all cs in
-      let parts' : source ≡ more ++ rest = parts ∙ sym (append_assoc front (encode_utf8 c) rest) in
-      let here' : length more ≡ at + len_utf8 c = length-append front (encode_utf8 c) ∙ ap (λ n. n + length (encode_utf8 c)) here ∙ ap (λ n. at + n) (length-encode c) in
-      let text' : IsUtf8 rest = IsUtf8-past_char (encode_utf8_all (c ∷ cs)) rest c text refl in
-      let P : ℕ → Type 0 = λ n. IsCharBoundary source n in (
-        omega arith,
-        omega (arith, len_utf8_bounds c),
-        subst P here (IsCharBoundary-at_seam source front (encode_utf8_all (c ∷ cs)) parts text),
-        subst P here' (IsCharBoundary-at_seam source more rest parts' text'),
-        placed-Lie (at + len_utf8 c) more cs parts' here' text',
-      )
+  pub source-Lie : CharsLie source 0 (source_of 0 source) (length source)
+  source-Lie = subst (CharsLie source 0 (source_of 0 source)) (let e : 0 + length source ≡ length source = omega arith in e) (read-Lie source (source_of-AreRead 0 source) (λ s among. among))
 
   -- ---- cells of lines
 
@@ -165,8 +179,8 @@ module _ (source : List ℕ) where
         | inr few ↦ subst P (sym (cond-false (nat_le 2 (length run)) (Blank ∷ []) (Mark s ∷ run) few)) l
       ]
 
-  -- where the last of these ends lies between, and no character is cut there
-  pub end_after-lies : (at : ℕ) (cells : List Cell) (to : ℕ) → IsCharBoundary source at → CellsLie source at cells to → (at ≤ end_after at cells) × (end_after at cells ≤ to) × IsCharBoundary source (end_after at cells)
+  -- where the last of these ends lies between, and a source character ends there
+  pub end_after-lies : (at : ℕ) (cells : List Cell) (to : ℕ) → EndsAt source at → CellsLie source at cells to → (at ≤ end_after at cells) × (end_after at cells ≤ to) × EndsAt source (end_after at cells)
   end_after-lies at [] to here l = (omega arith, l, here)
   end_after-lies at (Blank ∷ cells) to here l = end_after-lies at cells to here l
   end_after-lies at (Mark s ∷ cells) to here l = let rest = end_after-lies s.end cells to l.3 l.4 in (omega (arith, l.0, l.1, rest.0), rest.1, rest.2)

@@ -1,22 +1,22 @@
--- A text's first line and the rest of it, as source characters, lines and tokens.
-use Rattle.std.proofs.Common.{◌≡◌, ◌≢◌, ℕ, ◌+◌, ◌==◌, Bool, true, false, not, List, [], ◌∷◌, ◌++◌, length, get_or, drop, refl, sym, ap, ap₂, subst, ◌∙◌, append_assoc, append-nil, arith, All, inl, inr, length-append, eqb-true, eq-eqb}
+-- The first line of an input and the rest of it, as source characters, lines and tokens.
+use Rattle.std.proofs.Common.{◌≡◌, ◌≢◌, ℕ, ◌+◌, ◌==◌, Bool, true, false, not, List, [], ◌∷◌, ◌++◌, length, get_or, drop, refl, sym, ap, ap₂, subst, ◌∙◌, append_assoc, append-nil, arith, All, inl, inr, length-append, eqb-true, eq-eqb, lit<}
 use Rattle.std.specs.List.{flat_map, onto_first}
-use Rattle.std.specs.Char.{len_utf8, encode_utf8}
-use Rattle.std.specs.Str.{IsUtf8, chars, encode_utf8_all}
 use Rattle.std.proofs.lemmas.Bool.{cond-true, cond-false, false_from_ne_true}
 use Rattle.std.proofs.lemmas.List.Concat.{flat_map-append}
 use Rattle.std.proofs.lemmas.List.Elements.{All-nil, All-cons, All-head, All-tail, All-filter, filter-append}
-use Rattle.std.proofs.lemmas.Str.{chars-nil, encodes-chars, chars-append, length-encode}
+use Rattle.std.proofs.lemmas.List.{map-append}
 use Rattle.lic_kind.specs.Kinds.{is_dropped}
 use Rattle.lic_lines.specs.Texts.{cut_after}
-use Rattle.lic_lines.specs.Sources.{chars_of, placed, source_of, without_dropped, lines_of}
+use Rattle.lic_lines.specs.Sources.{chars_of, without_dropped, lines_of}
 use Rattle.lic_lines.specs.declared.source.SourceChar.{SourceChar}
 use Rattle.lic_lines.specs.LineRules.{profile}
 use Rattle.lic_lines.specs.Lines.{whole_line}
 use Rattle.lic_lines.specs.Tokens.{line_tokens, text_tokens}
 use Rattle.lic_lines.proofs.LineByLine.{text_tokens-lines}
 use Rattle.lic_norm.specs.LineEnds.{IsFirstLine}
+use Rattle.lic_norm.specs.Sources.{source_of}
 use Rattle.lic_norm.specs.Tokens.{first_tokens_of, line_tokens_of}
+use Rattle.lic_norm.proofs.AnyBytes.{source_of-none, source_of-ascii, source_of-before_ascii, source_of-has_none}
 
 abbrev ends : SourceChar → Bool
 ends s = s.char == 0x0A
@@ -113,23 +113,47 @@ lines_of-first line rest letters behind first same none_behind =
           ∙ ap (λ r. as_line (without_dropped line) ++ lines_of (without_dropped r)) (sym rest_none)
     ]
 
--- ---- placed characters
+-- ---- source characters
 
-placed-append : (at : ℕ) (xs ys : List ℕ) → placed at (xs ++ ys) ≡ placed at xs ++ placed (at + length (encode_utf8_all xs)) ys
-placed-append at [] ys = ap (λ n. placed n ys) (let e : at ≡ at + length (encode_utf8_all []) = omega arith in e)
-placed-append at (c ∷ xs) ys =
-    let next : at + len_utf8 c + length (encode_utf8_all xs) ≡ at + length (encode_utf8_all (c ∷ xs)) =
-    omega (arith, length-append (encode_utf8 c) (encode_utf8_all xs), length-encode c) in
-    ap (λ l. (record { char = c; start = at; end = at + len_utf8 c }) ∷ l) (placed-append (at + len_utf8 c) xs ys ∙ ap (λ n. placed (at + len_utf8 c) xs ++ placed n ys) next)
+-- the source characters of an input are those of its first line and those of the rest
+pub source_of-first : (at : ℕ) (line rest : List ℕ) → IsFirstLine line rest → source_of at (line ++ rest) ≡ source_of at line ++ source_of (at + length line) rest
+source_of-first at line rest first =
+    elim first.ends [
+      | inl feed_last ↦
+          let front = first.front in
+          let n = at + length front in
+          let feed : SourceChar = record { char = 0x0A; start = n; end = n + 1 } in
+          let there : n + 1 ≡ at + length line = omega (arith, ap length feed_last, length-append front (0x0A ∷ [])) in
+          let alone : source_of at line ≡ source_of at front ++ feed ∷ [] =
+          ap (source_of at) feed_last ∙ source_of-before_ascii at front 0x0A [] (lit< tt)
+          ∙ ap (λ l. source_of at front ++ l) (source_of-ascii n 0x0A [] (lit< tt) ∙ ap (λ l. feed ∷ l) (source_of-none (n + 1))) in
+          ap (source_of at) (ap (λ l. l ++ rest) feed_last ∙ append_assoc front (0x0A ∷ []) rest)
+          ∙ source_of-before_ascii at front 0x0A rest (lit< tt)
+          ∙ ap (λ l. source_of at front ++ l) (source_of-ascii n 0x0A rest (lit< tt))
+          ∙ sym (append_assoc (source_of at front) (feed ∷ []) (source_of (n + 1) rest))
+          ∙ ap₂ (λ l m. l ++ source_of m rest) (sym alone) there
+      | inr no_feed ↦
+          ap (λ r. source_of at (line ++ r)) no_feed.1 ∙ ap (source_of at) (append-nil line) ∙ sym (append-nil (source_of at line))
+          ∙ ap (λ l. source_of at line ++ l) (sym (ap (source_of (at + length line)) no_feed.1 ∙ source_of-none (at + length line)))
+    ]
 
-chars_of-placed : (at : ℕ) (cs : List ℕ) → chars_of (placed at cs) ≡ cs
-chars_of-placed at [] = refl
-chars_of-placed at (c ∷ cs) = ap (λ l. c ∷ l) (chars_of-placed (at + len_utf8 c) cs)
-
-source_of-parts : (at : ℕ) (line rest : List ℕ) → IsUtf8 line → source_of at (line ++ rest) ≡ source_of at line ++ source_of (at + length line) rest
-source_of-parts at line rest text =
-    ap (placed at) (chars-append line rest text) ∙ placed-append at (chars line) (chars rest)
-    ∙ ap (λ bytes. source_of at line ++ placed (at + length bytes) (chars rest)) (encodes-chars line text)
+-- the characters of a first line have no U+000A but at their end
+pub letters_of-first : (at : ℕ) (line rest : List ℕ) → IsFirstLine line rest → IsFirstLine (chars_of (source_of at line)) rest
+letters_of-first at line rest first =
+    let front = first.front in
+    let n = at + length front in
+    let letters = chars_of (source_of at front) in
+    record {
+      front = letters;
+      no_end = source_of-has_none at 0x0A front (lit< tt) (lit< tt) first.no_end;
+      ends = elim first.ends [
+        | inl feed_last ↦ inl (ap (λ l. chars_of (source_of at l)) feed_last ∙ ap chars_of (source_of-before_ascii at front 0x0A [] (lit< tt))
+            ∙ map-append (λ (s : SourceChar). s.char) (source_of at front) (source_of n (0x0A ∷ []))
+            ∙ ap (λ l. letters ++ chars_of l) (source_of-ascii n 0x0A [] (lit< tt))
+            ∙ ap (λ l. letters ++ 0x0A ∷ chars_of l) (source_of-none (n + 1)))
+        | inr no_feed ↦ inr (ap (λ l. chars_of (source_of at l)) no_feed.0, no_feed.1)
+      ];
+    }
 
 -- ---- tokens
 
@@ -140,22 +164,22 @@ line_or_none : (line : List SourceChar) → flat_map (line_tokens profile whole_
 line_or_none [] = sym no_line
 line_or_none (s ∷ line) = append-nil (line_tokens profile whole_line (s ∷ line))
 
--- The tokens of a text are those of its first line and those of the rest.
-pub first_tokens_of-first : (at : ℕ) (text line rest : List ℕ) → text ≡ line ++ rest → IsUtf8 line → IsFirstLine (chars line) rest → first_tokens_of at text ≡ line_tokens_of at line ++ first_tokens_of (at + length line) rest
+-- The tokens of an input are those of its first line and those of the rest.
+pub first_tokens_of-first : (at : ℕ) (input line rest : List ℕ) → input ≡ line ++ rest → IsFirstLine line rest → first_tokens_of at input ≡ line_tokens_of at line ++ first_tokens_of (at + length line) rest
 unfolding first_tokens_of line_tokens_of
-first_tokens_of-first at text line rest parts utf8 first =
+first_tokens_of-first at input line rest parts first =
     let here = source_of at line in
     let there = source_of (at + length line) rest in
     let f = line_tokens profile whole_line in
-    let none : rest ≡ [] → there ≡ [] = λ e. ap (source_of (at + length line)) e ∙ ap (placed (at + length line)) chars-nil in
+    let none : rest ≡ [] → there ≡ [] = λ e. ap (source_of (at + length line)) e ∙ source_of-none (at + length line) in
     ap (λ t. text_tokens profile (source_of at t)) parts
-    ∙ ap (text_tokens profile) (source_of-parts at line rest utf8)
+    ∙ ap (text_tokens profile) (source_of-first at line rest first)
     ∙ text_tokens-lines profile (here ++ there)
-    ∙ ap (flat_map f) (lines_of-first here there (chars line) rest first (chars_of-placed at (chars line)) none)
+    ∙ ap (flat_map f) (lines_of-first here there (chars_of here) rest (letters_of-first at line rest first) refl none)
     ∙ flat_map-append f (as_line (without_dropped here)) (lines_of (without_dropped there))
     ∙ ap₂ (λ a b. a ++ b) (line_or_none (without_dropped here)) (sym (text_tokens-lines profile there))
 
--- no text has no tokens
+-- no input has no tokens
 pub first_tokens_of-none : (at : ℕ) → first_tokens_of at [] ≡ []
 unfolding first_tokens_of
-first_tokens_of-none at = ap (λ cs. text_tokens profile (placed at cs)) chars-nil
+first_tokens_of-none at = ap (text_tokens profile) (source_of-none at)

@@ -1,3 +1,6 @@
+pub mod AnyBytes
+pub mod ValidFronts
+pub mod FrontChars
 pub mod Refused
 pub mod RowLemmas
 pub mod LineCuts
@@ -7,6 +10,8 @@ pub mod Lying
 pub mod CellSpans
 pub mod TokenSpans
 pub mod TokenTexts
+pub mod WholeLines
+pub mod ReaderLemmas
 pub mod ReadingLemmas
 pub mod TextLemmas
 pub mod PieceLines

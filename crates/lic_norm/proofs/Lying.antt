@@ -1,13 +1,13 @@
 -- Things that lie in a source one behind the other, each from its first byte up to the end of its last.
 use Rattle.std.proofs.Common.{ℕ, zero, suc, ◌<◌, ◌≤◌, Bool, List, [], ◌∷◌, ◌++◌, take, drop, subst, sym, arith, inl, inr}
 use Rattle.std.specs.Prelude.{filter}
-use Rattle.std.specs.Str.{IsCharBoundary}
 use Rattle.std.proofs.lemmas.Bool.{cases_Bool, cond-true, cond-false}
+use Rattle.lic_norm.specs.Spans.{StartsAt, EndsAt}
 
--- from one byte of the source up to another, no thing is empty, none begins before the one before it ends, and each begins and ends where a character does
+-- from one byte of the source up to another, no thing is empty, none begins before the one before it ends, and each starts where a source character does, and ends where one does
 abbrev pub Lie : {A : Type 0} → List ℕ → (A → ℕ) → (A → ℕ) → ℕ → List A → ℕ → Type 0
 Lie source start end from [] to = from ≤ to
-Lie source start end from (x ∷ xs) to = (from ≤ start x) × (start x < end x) × IsCharBoundary source (start x) × IsCharBoundary source (end x) × Lie source start end (end x) xs to
+Lie source start end from (x ∷ xs) to = (from ≤ start x) × (start x < end x) × StartsAt source (start x) × EndsAt source (end x) × Lie source start end (end x) xs to
 
 module _ {A : Type 0} (source : List ℕ) (start end : A → ℕ) where
   pub Lie-order : (from : ℕ) (xs : List A) (to : ℕ) → Lie source start end from xs to → from ≤ to

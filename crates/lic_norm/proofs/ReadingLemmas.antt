@@ -1,18 +1,17 @@
 -- Lines that a reader takes, and their tokens.
 use Rattle.std.proofs.Common.{◌≡◌, ℕ, ◌+◌, ◌-◌, ◌≤◌, List, [], ◌++◌, map, length, take, drop, sym, ap, ap₂, ◌∙◌, arith, append_assoc, append-nil}
 use Rattle.std.specs.List.{slice_range}
-use Rattle.std.specs.Str.{IsCharBoundary, IsUtf8, chars}
 use Rattle.std.proofs.lemmas.List.{map-append, take-append-drop, drop-drop, length-take-le, drop_all}
-use Rattle.std.proofs.lemmas.Str.{IsUtf8-take, IsUtf8-drop}
 use Rattle.lic_lines.specs.LineRules.{LineRules, profile}
 use Rattle.lic_lines.specs.Lines.{whole_line}
-use Rattle.lic_lines.specs.Sources.{source_of, without_dropped}
+use Rattle.lic_lines.specs.Sources.{without_dropped}
 use Rattle.lic_lines.specs.Tokens.{Token, line_tokens}
 use Rattle.lic_lines.specs.declared.source.SourceChar.{SourceChar}
 use Rattle.lic_phrases.specs.Rewriting.{SpannedText}
 use Rattle.lic_phrases.specs.Waiting.{spanned_in}
 use Rattle.lic_phrases.specs.declared.final_token.FinalToken.{FinalToken}
 use Rattle.lic_norm.specs.LineEnds.{IsFirstLine}
+use Rattle.lic_norm.specs.Sources.{source_of}
 use Rattle.lic_norm.specs.Tokens.{TokenValue, reported, first_tokens_of, line_tokens_of}
 use Rattle.lic_norm.proofs.FirstLines.{first_tokens_of-first, first_tokens_of-none}
 
@@ -29,23 +28,21 @@ listed-more before given tokens tokens' listed more = more ∙ ap (λ l. l ++ ma
 pub nothing_waits : (spellings : List (List ℕ)) (settled : List SpannedText) (output : List FinalToken) → output ≡ [] → settled ++ map (spanned_in spellings) output ≡ settled
 nothing_waits spellings settled output none = ap (λ l. settled ++ map (spanned_in spellings) l) none ∙ append-nil settled
 
--- the next line of a text, and the rest
-pub next_line : (text : List ℕ) (at n : ℕ) (taken : List Token) → IsUtf8 text → IsCharBoundary text at → IsCharBoundary (drop at text) n → IsFirstLine (chars (take n (drop at text))) (drop n (drop at text))
-    → taken ++ first_tokens_of at (drop at text) ≡ first_tokens_of 0 text
-    → (taken ++ line_tokens_of at (slice_range text at (at + n))) ++ first_tokens_of (at + n) (drop (at + n) text) ≡ first_tokens_of 0 text
-next_line text at n taken utf8 here there first known =
-    let left = drop at text in
+-- the next line of an input, and the rest
+pub next_line : (input : List ℕ) (at n : ℕ) (taken : List Token) → n ≤ length (drop at input) → IsFirstLine (take n (drop at input)) (drop n (drop at input))
+    → taken ++ first_tokens_of at (drop at input) ≡ first_tokens_of 0 input
+    → (taken ++ line_tokens_of at (slice_range input at (at + n))) ++ first_tokens_of (at + n) (drop (at + n) input) ≡ first_tokens_of 0 input
+next_line input at n taken within first known =
+    let left = drop at input in
     let line = take n left in
-    let left_utf8 : IsUtf8 left = IsUtf8-drop text at utf8 here in
-    let within : n ≤ length left = there.0 in
     let size : at + n - at ≡ n = omega arith in
     let long : length line ≡ n = length-take-le n left within in
-    let rest : drop n left ≡ drop (at + n) text = drop-drop n at text in
-    let step : first_tokens_of at left ≡ line_tokens_of at line ++ first_tokens_of (at + n) (drop (at + n) text) =
-    first_tokens_of-first at left line (drop n left) (sym (take-append-drop n left)) (IsUtf8-take left n left_utf8 there) first
+    let rest : drop n left ≡ drop (at + n) input = drop-drop n at input in
+    let step : first_tokens_of at left ≡ line_tokens_of at line ++ first_tokens_of (at + n) (drop (at + n) input) =
+    first_tokens_of-first at left line (drop n left) (sym (take-append-drop n left)) first
     ∙ ap₂ (λ m r. line_tokens_of at line ++ first_tokens_of (at + m) r) long rest in
-    append_assoc taken (line_tokens_of at (slice_range text at (at + n))) (first_tokens_of (at + n) (drop (at + n) text))
-    ∙ ap (λ m. taken ++ (line_tokens_of at (take m left) ++ first_tokens_of (at + n) (drop (at + n) text))) size
+    append_assoc taken (line_tokens_of at (slice_range input at (at + n))) (first_tokens_of (at + n) (drop (at + n) input))
+    ∙ ap (λ m. taken ++ (line_tokens_of at (take m left) ++ first_tokens_of (at + n) (drop (at + n) input))) size
     ∙ ap (λ l. taken ++ l) (sym step) ∙ known
 
 -- behind the last line nothing is left

@@ -1,13 +1,10 @@
 -- The tokens of an input lie in it one behind the other.
-use Rattle.std.proofs.Common.{ℕ, zero, suc, ◌-◌, ◌<◌, ◌≤◌, Bool, true, false, List, [], ◌∷◌, map, length, take, drop, get_or, ◌&&◌, refl, sym, subst, arith, All, inl, inr}
+use Rattle.std.proofs.Common.{ℕ, zero, suc, ◌-◌, ◌<◌, ◌≤◌, Bool, true, false, List, [], ◌∷◌, map, length, take, drop, get_or, ◌&&◌, sym, subst, arith, All, inl, inr}
 use Rattle.std.specs.Prelude.{Option, Some, None, codes, encode_utf8_all}
 use Rattle.std.specs.List.{flat_map}
-use Rattle.std.specs.Str.{IsCharBoundary, IsUtf8, chars}
 use Rattle.std.proofs.lemmas.Bool.{cases_Bool, cond-true, cond-false}
 use Rattle.std.proofs.lemmas.List.Elements.{All-nil, All-cons}
-use Rattle.std.proofs.lemmas.Str.{encodes-chars}
 use Rattle.lic_lines.specs.Texts.{groups}
-use Rattle.lic_lines.specs.Sources.{source_of}
 use Rattle.lic_lines.specs.LineRules.{LineRules, profile}
 use Rattle.lic_lines.specs.Lines.{cells_of}
 use Rattle.lic_lines.specs.Runs.{runs_joined, end_after}
@@ -17,9 +14,10 @@ use Rattle.lic_lines.specs.declared.cell.Cell.{Cell}
 use Rattle.lic_lines.specs.declared.cell.Cell.TheVariants.{Blank, Mark, Word}
 use Rattle.lic_phrases.specs.Rewriting.{Phrase, end_of_last, both_signs, sign_of_row, sign_rows, begins_authority, https_as_http, longest_phrase, count_behind, first_as, phrases_behind, phrases_joined, spanned}
 use Rattle.lic_norm.specs.Tokens.{TokenValue, reported, first_tokens_of, tokens_of}
-use Rattle.lic_norm.specs.Spans.{AreRising, IsOnBoundaries, AreSpans}
+use Rattle.lic_norm.specs.Sources.{source_of}
+use Rattle.lic_norm.specs.Spans.{AreRising, EndsAt, IsOnBoundaries, AreSpans}
 use Rattle.lic_norm.proofs.Lying.{Lie, Lie-order, Lie-wider, Lie-split, Lie-take}
-use Rattle.lic_norm.proofs.CellSpans.{CharsLie, CellsLie, solid, solid-append, parts_of_groups, placed-Lie, cells_of-Lie, runs_joined-Lie, end_after-lies}
+use Rattle.lic_norm.proofs.CellSpans.{CharsLie, CellsLie, solid, solid-append, parts_of_groups, source-Lie, cells_of-Lie, runs_joined-Lie, end_after-lies}
 
 -- tokens lie from one byte up to another
 abbrev pub TokensLie : List ℕ → ℕ → List Token → ℕ → Type 0
@@ -80,8 +78,8 @@ module _ (source : List ℕ) where
             (as_sign-Lie from a (b ∷ c ∷ ts) to l (single_signs (b ∷ c ∷ ts)) (single_signs-Lie a.end (b ∷ c ∷ ts) to l.4))
       ]
 
-  -- where the last of these ends lies between, and no character is cut there
-  last-lies : (t : Token) (ts : List Token) (to : ℕ) → IsCharBoundary source t.end → TokensLie source t.end ts to → (t.end ≤ end_of_last t ts) × (end_of_last t ts ≤ to) × IsCharBoundary source (end_of_last t ts)
+  -- where the last of these ends lies between, and a source character ends there
+  last-lies : (t : Token) (ts : List Token) (to : ℕ) → EndsAt source t.end → TokensLie source t.end ts to → (t.end ≤ end_of_last t ts) × (end_of_last t ts ≤ to) × EndsAt source (end_of_last t ts)
   last-lies t [] to here l = (omega arith, l, here)
   last-lies t (u ∷ ts) to here l = let rest = last-lies u ts to l.3 l.4 in (omega (arith, l.0, l.1, rest.0), rest.1, rest.2)
 
@@ -143,24 +141,27 @@ module _ (source : List ℕ) where
   reported-boundaries from (t ∷ ts) to l =
       All-cons (IsOnBoundaries source) (reported (spanned t)) (map reported (map spanned ts)) (l.2, l.3) (reported-boundaries t.end ts to l.4)
 
-  text_tokens-Lie : (rules : LineRules) → IsUtf8 source → TokensLie source 0 (text_tokens rules (source_of 0 source)) (length source)
-  text_tokens-Lie rules text =
-      let same = encodes-chars source text in
+  reported-within : (from : ℕ) (ts : List Token) (to : ℕ) → TokensLie source from ts to → All (λ (t : TokenValue). t.span.end ≤ to) (map reported (map spanned ts))
+  reported-within from [] to l = All-nil (λ (t : TokenValue). t.span.end ≤ to)
+  reported-within from (t ∷ ts) to l =
+      All-cons (λ (u : TokenValue). u.span.end ≤ to) (reported (spanned t)) (map reported (map spanned ts)) (order t.end ts to l.4) (reported-within t.end ts to l.4)
+
+  text_tokens-Lie : (rules : LineRules) → TokensLie source 0 (text_tokens rules (source_of 0 source)) (length source)
+  text_tokens-Lie rules =
       let to = length source in
-      let placed : CharsLie source 0 (source_of 0 source) to = placed-Lie source 0 [] (chars source) (sym same) refl (subst IsUtf8 (sym same) text) in
       let cells = runs_joined rules (cells_of rules (source_of 0 source)) in
-      let lies : CellsLie source 0 cells to = runs_joined-Lie source rules 0 (cells_of rules (source_of 0 source)) to (cells_of-Lie source rules 0 (source_of 0 source) to placed) in
+      let lies : CellsLie source 0 cells to = runs_joined-Lie source rules 0 (cells_of rules (source_of 0 source)) to (cells_of-Lie source rules 0 (source_of 0 source) to (source-Lie source)) in
       single_signs-Lie 0 (first_tokens cells) to
       (tokens_from-Lie true 0 (groups both_words cells) to (subst (λ x. CellsLie source 0 x to) (sym (parts_of_groups both_words cells)) lies))
 
 -- the spans of an input's tokens
-pub tokens_of-AreSpans : (words : List Phrase) (input : List ℕ) → IsUtf8 input → AreSpans input (tokens_of words input)
+pub tokens_of-AreSpans : (words : List Phrase) (input : List ℕ) → AreSpans input (tokens_of words input)
 unfolding first_tokens_of
-tokens_of-AreSpans words input text =
+tokens_of-AreSpans words input =
     let to = length input in
-    let lies = rewritten-Lie input words 0 (text_tokens profile (source_of 0 input)) to (text_tokens-Lie input profile text) in
+    let lies = rewritten-Lie input words 0 (text_tokens profile (source_of 0 input)) to (text_tokens-Lie input profile) in
     let joined = phrases_joined words (https_as_http (sign_rows (text_tokens profile (source_of 0 input)))) in
-    record { rising = reported-rising input 0 joined to lies; boundaries = reported-boundaries input 0 joined to lies }
+    record { rising = reported-rising input 0 joined to lies; within = reported-within input 0 joined to lies; boundaries = reported-boundaries input 0 joined to lies }
 
 -- no span is empty
 pub AreRising-at : (from : ℕ) (ts : List TokenValue) (i : ℕ) (d : TokenValue) → AreRising from ts → i < length ts → (get_or ts i d).span.start < (get_or ts i d).span.end

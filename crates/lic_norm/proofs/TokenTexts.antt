@@ -14,7 +14,7 @@ use Rattle.lic_kind.specs.declared.Kind.TheVariants.{Blank as BlankKind, Dropped
 use Rattle.lic_kind.proofs.KindLemmas.{is_word_kind-true, kind_of-white}
 use Rattle.lic_kind.proofs.LetterLemmas.{spell-Mark, mark_letters, word_letters_are_not_white, word_has_letters}
 use Rattle.lic_lines.specs.Texts.{groups}
-use Rattle.lic_lines.specs.Sources.{chars_of, source_of, without_dropped, lines_of}
+use Rattle.lic_lines.specs.Sources.{chars_of, without_dropped, lines_of}
 use Rattle.lic_lines.specs.declared.source.SourceChar.{SourceChar}
 use Rattle.lic_lines.specs.declared.cell.Cell.{Cell}
 use Rattle.lic_lines.specs.declared.cell.Cell.TheVariants.{Blank, Mark, Word}
@@ -25,6 +25,7 @@ use Rattle.lic_lines.specs.Runs.{same_mark, same_family, without_separator, with
 use Rattle.lic_lines.specs.Tokens.{Token, both_words, letters_of, tokens_from, first_tokens, is_text, is_sign_in_parentheses, sign_from, as_sign, single_signs}
 use Rattle.lic_phrases.specs.Rewriting.{Phrase, both_signs, sign_of_row, sign_rows, begins_authority, https_as_http, stands, longer, longest_phrase, count_behind, first_as, phrases_behind, phrases_joined, spanned}
 use Rattle.lic_phrases.specs.TokenTexts.{IsTokenText, HaveTokenTexts}
+use Rattle.lic_norm.specs.Sources.{source_of}
 use Rattle.lic_norm.specs.Tokens.{reported, first_tokens_of, tokens_of}
 use Rattle.lic_norm.specs.Spans.{AreTokenTexts}
 use Rattle.lic_norm.proofs.CellSpans.{parts_of_groups}

@@ -1,7 +1,9 @@
+pub mod Sources
 pub mod Tokens
 pub mod Spans
 pub mod LineEnds
 pub mod Refusal
 pub mod Views
+pub mod Feeding
 pub mod Reading
 pub mod Pieces

@@ -1,13 +1,28 @@
--- How far the rewriting of a text has come.
-use Rattle.std.specs.Prelude.{◌≡◌, List, map}
+-- How far the reading of an input has come.
+use Rattle.std.specs.Prelude.{◌≡◌, ◌≢◌, ◌≤◌, List, length, take, drop, map, All}
+use Rattle.lic_lines.specs.LineRules.{rules_of, profile}
 use Rattle.lic_lines.specs.Tokens.{Token}
 use Rattle.lic_phrases.specs.Rewriting.{SpannedText}
 use Rattle.lic_phrases.specs.Settling.{Settles}
-use Rattle.lic_norm.specs.Tokens.{reported}
+use Rattle.lic_norm.specs.Tokens.{reported, first_tokens_of}
+use Rattle.lic_norm.specs.Feeding.{AreLines}
 use Rattle.lic_norm.specs.declared.rewriting.Rewriting.{Rewriting}
+use Rattle.lic_norm.specs.declared.reader.Reader.{Reader}
 
 -- These tokens have been taken: those that are settled are listed, and the rewriter keeps the others.
 pub record HasTaken (rewriting : Rewriting) (taken : List Token) : Type 0 where
   pub settled : List SpannedText
   pub settles : Settles rewriting.phrases.now.phrases taken settled rewriting.rewriter
   pub listed : rewriting.tokens ≡ map reported settled
+
+-- the lines before the one that has not ended have been taken
+pub record HasRead (reader : Reader) : Type 0 where
+  pub rules : rules_of reader.rules ≡ profile
+  pub within : reader.line_start ≤ length reader.source.items
+  pub lines : AreLines (take reader.line_start reader.source.items)
+  pub taken : HasTaken reader.rewriting (first_tokens_of 0 (take reader.line_start reader.source.items))
+
+-- and that one has no U+000A
+pub record HasReadLines (reader : Reader) : Type 0 where
+  pub read : HasRead reader
+  pub open_line : All (λ b. b ≢ 0x0A) (drop reader.line_start reader.source.items)

@@ -1,7 +1,8 @@
 -- Where tokens lie in their source, and what their texts are.
-use Rattle.std.specs.Prelude.{ℕ, ◌≤◌, ◌<◌, List, [], ◌∷◌, All}
-use Rattle.std.specs.Str.{IsCharBoundary}
+use Rattle.std.specs.Prelude.{◌≡◌, ℕ, ◌≤◌, ◌<◌, List, [], ◌∷◌, length, All, Contains}
+use Rattle.lic_lines.specs.declared.source.SourceChar.{SourceChar}
 pub use Rattle.lic_phrases.specs.TokenTexts.{IsTokenText}
+use Rattle.lic_norm.specs.Sources.{source_of}
 use Rattle.lic_norm.specs.Tokens.{TokenValue}
 
 -- each span is not empty, and begins no earlier than the one before ends
@@ -9,13 +10,22 @@ abbrev pub AreRising : ℕ → List TokenValue → Type 0
 AreRising from [] = Unit {0}
 AreRising from (t ∷ ts) = (from ≤ t.span.start) × (t.span.start < t.span.end) × AreRising t.span.end ts
 
--- a span lies in the source, and no character of the source is cut at its ends
+-- a source character starts at this byte of the source
+abbrev pub StartsAt : List ℕ → ℕ → Type 0
+StartsAt source i = (s : SourceChar) × Contains (source_of 0 source) s × (s.start ≡ i)
+
+-- one ends there
+abbrev pub EndsAt : List ℕ → ℕ → Type 0
+EndsAt source i = (s : SourceChar) × Contains (source_of 0 source) s × (s.end ≡ i)
+
+-- no source character is cut at the ends of a span
 abbrev pub IsOnBoundaries : List ℕ → TokenValue → Type 0
-IsOnBoundaries source t = IsCharBoundary source t.span.start × IsCharBoundary source t.span.end
+IsOnBoundaries source t = StartsAt source t.span.start × EndsAt source t.span.end
 
 -- the spans of tokens in a source
 pub record AreSpans (source : List ℕ) (tokens : List TokenValue) : Type 0 where
   pub rising : AreRising 0 tokens
+  pub within : All (λ t. t.span.end ≤ length source) tokens
   pub boundaries : All (IsOnBoundaries source) tokens
 
 -- the texts of tokens

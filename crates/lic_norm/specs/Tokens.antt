@@ -1,10 +1,11 @@
 -- From an input to its tokens.
 use Rattle.std.specs.Prelude.{ℕ, List, map}
-use Rattle.lic_lines.specs.Sources.{source_of, without_dropped}
+use Rattle.lic_lines.specs.Sources.{without_dropped}
 use Rattle.lic_lines.specs.LineRules.{profile}
 use Rattle.lic_lines.specs.Lines.{whole_line}
 use Rattle.lic_lines.specs.Tokens.{Token, line_tokens, text_tokens}
 use Rattle.lic_phrases.specs.Rewriting.{Phrase, SpannedText, rewritten}
+use Rattle.lic_norm.specs.Sources.{source_of}
 use Rattle.lic_norm.specs.declared.token.Span.{Span}
 
 -- a token: its text in UTF-8, and the bytes of the input that it was made from
@@ -16,9 +17,9 @@ pub record TokenValue : Type 0 where
 abbrev pub reported : SpannedText → TokenValue
 reported t = record { text = t.text; span = record { start = t.start; end = t.end } }
 
--- the tokens of a text that begins at this byte of the input, before the rewriting
+-- the tokens of bytes that begin at this byte of the input, before the rewriting
 unfoldable pub first_tokens_of : ℕ → List ℕ → List Token
-first_tokens_of at text = text_tokens profile (source_of at text)
+first_tokens_of at bytes = text_tokens profile (source_of at bytes)
 
 -- those of one whole line
 unfoldable pub line_tokens_of : ℕ → List ℕ → List Token

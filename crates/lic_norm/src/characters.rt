@@ -1,11 +1,14 @@
-//! Source characters of a text.
-ghost use Rattle.std.specs.Prelude.{◌≡◌, ◌+◌, ◌<◌, ◌^◌, length, not, OnOk};
+//! Source characters of an input of any bytes.
+ghost use Rattle.std.specs.Prelude.{◌≡◌, ◌+◌, ◌++◌, ◌<◌, ◌≤◌, ◌^◌, length, take, drop, not, IfOk, OnOk};
 ghost use Rattle.std.specs.Char.{len_utf8};
+ghost use Rattle.std.specs.Str.{chars, StartsWithNoChar};
 ghost use Rattle.lic_kind.specs.Kinds.{is_dropped};
-ghost use Rattle.lic_lines.specs.Sources.{source_of, without_dropped};
+ghost use Rattle.lic_lines.specs.Sources.{placed, without_dropped};
+ghost use Rattle.lic_norm.specs.Sources.{source_of};
 
 use lic_kind::is_dropped;
 use lic_lines::SourceChar;
+use simdutf8::compat::from_utf8;
 use std::alloc::AllocError;
 
 /// How many bytes a character takes. Most of a text is ASCII.
@@ -31,18 +34,11 @@ fn is_kept(c: char) -> bool
     c.is_ascii() || !is_dropped(c)
 }
 
-/// Puts the characters of a text that begins at this byte of the input, without the dropped ones, in the
-/// place of those that are there.
-pub(crate) fn read_characters(
-    characters: &mut Vec<SourceChar>,
-    at: u32,
-    text: &str,
-) -> Result<(), AllocError>
+/// Adds the characters of a text that begins at this byte of the input, without the dropped ones.
+fn push_text(characters: &mut Vec<SourceChar>, at: u32, text: &str) -> Result<(), AllocError>
     requires { at + length text.now < 2 ^ 32 }
-    ensures { OnOk result (characters.new.items ≡ without_dropped (source_of at text.now)) }
+    ensures { OnOk result (characters.new.items ≡ characters.old.items ++ without_dropped (placed at (chars text.now))) }
 {
-    characters.clear();
-    characters.reserve(text.len())?;
     let mut start = at;
     for char in text.chars() {
         let end = start + width(char);
@@ -52,4 +48,71 @@ pub(crate) fn read_characters(
         start = end;
     }
     Ok(())
+}
+
+/// The longest front of these bytes that is UTF-8.
+fn valid_front(bytes: &[u8]) -> &str
+    ensures within { length result.now ≤ length bytes.now }
+    ensures front { result.now ≡ take (length result.now) bytes.now }
+    ensures longest { StartsWithNoChar (drop (length result.now) bytes.now) }
+{
+    match bytes.utf8_chunks().next() {
+        Some(chunk) => chunk.valid(),
+        None => "",
+    }
+}
+
+/// Adds the source characters at the front of these bytes, which begin at this byte of the input: those of the longest
+/// text, and U+FFFD for the byte behind it. The answer is how many bytes were read.
+fn push_front(characters: &mut Vec<SourceChar>, at: u32, bytes: &[u8]) -> Result<usize, AllocError>
+    requires some { 0 < length bytes.now }
+    requires fits { at + length bytes.now < 2 ^ 32 }
+    ensures some { IfOk result (λ n. 0 < n) }
+    ensures within { IfOk result (λ n. n ≤ length bytes.now) }
+    ensures added { IfOk result (λ n. characters.new.items ++ without_dropped (source_of (at + n) (drop n bytes.now))
+        ≡ characters.old.items ++ without_dropped (source_of at bytes.now)) }
+{
+    let text = valid_front(bytes);
+    push_text(characters, at, text)?;
+    let length = text.len();
+    if length == bytes.len() {
+        return Ok(length);
+    }
+    let start = at + length as u32;
+    characters.push(SourceChar {
+        char: char::REPLACEMENT_CHARACTER,
+        start,
+        end: start + 1,
+    })?;
+    Ok(length + 1)
+}
+
+/// Adds the source characters of bytes that begin at this byte of the input, without the dropped ones.
+fn push_bytes(characters: &mut Vec<SourceChar>, at: u32, bytes: &[u8]) -> Result<(), AllocError>
+    requires { at + length bytes.now < 2 ^ 32 }
+    ensures { OnOk result (characters.new.items ≡ characters.old.items ++ without_dropped (source_of at bytes.now)) }
+{
+    let mut place = 0;
+    while place < bytes.len() {
+        place += push_front(characters, at + place as u32, &bytes[place..])?;
+    }
+    Ok(())
+}
+
+/// Puts the source characters of bytes that begin at this byte of the input, without the dropped ones, in the place of
+/// those that are there.
+pub(crate) fn read_characters(
+    characters: &mut Vec<SourceChar>,
+    at: u32,
+    bytes: &[u8],
+) -> Result<(), AllocError>
+    requires { at + length bytes.now < 2 ^ 32 }
+    ensures { OnOk result (characters.new.items ≡ without_dropped (source_of at bytes.now)) }
+{
+    characters.clear();
+    characters.reserve(bytes.len())?;
+    match from_utf8(bytes) {
+        Ok(text) => push_text(characters, at, text),
+        Err(_) => push_bytes(characters, at, bytes),
+    }
 }

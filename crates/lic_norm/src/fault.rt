@@ -7,9 +7,6 @@ use thiserror::Error;
 /// Why an input is refused.
 #[derive(Clone, Copy, Debug, PartialEq, Eq, Error)]
 pub enum TextFault {
-    /// No UTF-8 text; `at` is the length in bytes of its longest front that is one.
-    #[error("X1 at {at}: not UTF-8")]
-    NotUtf8 { at: usize },
     /// More than 67,108,864 bytes.
     #[error("X2: more than 67108864 bytes")]
     TooLong,

@@ -3,9 +3,10 @@
 
 mod characters;
 pub mod fault;
+pub mod feeder;
 mod lines;
 pub mod pieces;
-mod reading;
+mod reader;
 pub mod refusal;
 mod rewriting;
 mod spelling;

@@ -7,7 +7,7 @@ ghost use Rattle.lic_lines.specs.Runs.{runs_joined};
 ghost use Rattle.lic_lines.specs.Tokens.{line_tokens, tokens_in};
 ghost use Rattle.lic_norm.specs.Pieces.{ends_in_feed, part_of, piece_cells, piece_tokens, is_blank, begins_in_blank, ends_in_blank, with_edges, piece_of};
 
-use crate::lines::line_end;
+use crate::lines::text_line_end;
 use crate::rewriting::Rewriting;
 use crate::spelling::spelled;
 use crate::words::Words;
@@ -98,7 +98,7 @@ fn left_of(alloc: Global, text: &str, at_line_start: bool, before: Next) -> Resu
     let mut has_front = at_line_start;
     let mut at = 0;
     while at < text.len() {
-        let end = at + line_end(&text[at..]);
+        let end = at + text_line_end(&text[at..]);
         let line = unplaced(alloc, &text[at..end])?;
         let part = part_of(has_front, before, &line);
         left.push_line(alloc, &rules, part, &line, &mut room)?;

@@ -24,6 +24,7 @@ impl<'w> Rewriting<'w> {
     /// Nothing is taken yet.
     pub(crate) fn new(alloc: Global, phrases: &'w Phrases) -> Rewriting<'w>
         ensures taken { HasTaken result [] }
+        ensures tokens { result.tokens ≡ [] }
         ensures phrases { result.phrases.now ≡ phrases.now }
     {
         Rewriting {
@@ -46,6 +47,13 @@ impl<'w> Rewriting<'w> {
             self.settled.clear();
         }
         Ok(())
+    }
+
+    /// The tokens that are settled.
+    pub(crate) fn settled(&self) -> &TokenList
+        ensures { result.now ≡ self.now.tokens }
+    {
+        &self.tokens
     }
 
     /// The tokens of the whole text.

@@ -1,13 +1,13 @@
-ghost use Rattle.std.specs.Prelude.{◌≡◌, ◌<◌, ◌≤◌, ◌≢◌, length, slice_range, slice_index_or, IfOk, IfErr, OnOk, Some, None};
+ghost use Rattle.std.specs.Prelude.{◌≡◌, ◌<◌, ◌≤◌, ◌≢◌, ◌^◌, length, slice_range, slice_index_or, IfOk, IfErr, OnOk, Some, None};
 
 use crate::fault::TextFault;
-use crate::reading::tokens_of_text;
-use crate::refusal::accepted_text;
+use crate::reader::Reader;
+use crate::refusal::check_length;
 use crate::token::{Span, Token};
 use crate::token_list::TokenList;
 use crate::words::Words;
 use lic_phrases::laws::spellings_are_token_texts;
-use std::alloc::Global;
+use std::alloc::{AllocError, Global};
 use std::marker::Model;
 
 /// A source and its tokens.
@@ -29,21 +29,21 @@ impl Model for Text {
 }
 
 impl Text {
+    ghost use Rattle.lic_norm.specs.Reading.{HasReadLines};
     ghost use Rattle.lic_norm.specs.Refusal.{refusal_of};
     ghost use Rattle.lic_norm.specs.Tokens.{tokens_of};
     ghost use Rattle.lic_norm.specs.Spans.{AreSpans, AreTokenTexts, IsTokenText};
 
-    /// Reads a source of at most 67,108,864 bytes of UTF-8.
+    /// Reads a source of at most 67,108,864 bytes, whatever they are.
     ///
+    /// A byte that lies in no UTF-8 character begun before it, and at which none begins, is read as U+FFFD.
     /// From each line its lead, list item and tail are taken away; then a token is a longest row of
     /// word characters with their letters, or a mark; and signs of copyright, web addresses and
     /// equivalent words are written as one (this project's profile of SPDX 2.3 Annex B).
     ///
     /// # Errors
     ///
-    /// `NotUtf8` where no UTF-8 text begins with the first 67,108,864 bytes; otherwise `TooLong` where
-    /// there are more bytes; otherwise `NotUtf8` where the source ends inside a character. `Memory`
-    /// where a growth was refused.
+    /// `TooLong` where there are more bytes; `Memory` where a growth was refused.
     pub fn read(alloc: Global, source: Vec<u8>, words: &Words) -> Result<Text, TextFault>
         ensures source { IfOk result (λ t. t.source ≡ source.items) }
         ensures tokens { IfOk result (λ t. t.tokens ≡ tokens_of words.now source.items) }
@@ -52,8 +52,23 @@ impl Text {
         ensures accepted { OnOk result (refusal_of source.items ≡ None) }
         ensures refused { IfErr result (λ fault. fault ≢ TextFault.Memory → refusal_of source.items ≡ Some fault) }
     {
-        let text = accepted_text(source.as_slice())?;
-        let tokens = tokens_of_text(alloc, text, words)?;
+        check_length(source.as_slice())?;
+        let mut reader = Reader::new(alloc, source, words);
+        reader.take_lines(0)?;
+        Ok(Text::of(reader, words)?)
+    }
+
+    /// The text that was read.
+    pub(crate) fn of(reader: Reader<'_>, words: &Words) -> Result<Text, AllocError>
+        requires read { HasReadLines reader }
+        requires fits { length reader.source.items < 2 ^ 32 }
+        requires words { reader.rewriting.phrases.now.phrases ≡ words.now }
+        ensures source { IfOk result (λ t. t.source ≡ reader.entry.source.items) }
+        ensures tokens { IfOk result (λ t. t.tokens ≡ tokens_of words.now reader.entry.source.items) }
+        ensures spans { IfOk result (λ t. AreSpans t.source t.tokens) }
+        ensures words { IfOk result (λ t. AreTokenTexts t.tokens) }
+    {
+        let (source, tokens) = reader.finish()?;
         spellings_are_token_texts(words);
         Ok(Text { source, tokens })
     }

@@ -65,14 +65,14 @@ fn a_folder_may_be_empty_or_missing(rt: HostRuntime) -> Result<(), Fail> {
 }
 
 #[test]
-fn a_refused_file_is_told_and_the_rest_go_on(rt: HostRuntime) -> Result<(), Fail> {
+fn a_file_that_cannot_be_read_is_told_and_the_rest_go_on(rt: HostRuntime) -> Result<(), Fail> {
     let folder = "licscan-test-inputs";
     make_folder(
         &rt,
         folder,
         &[
             ("A.template.txt", b"foo bar"),
-            ("bad.txt", b"foo bar \xFF"),
+            ("bytes.txt", b"foo bar \xFF"),
             ("good.txt", b"foo bar"),
         ],
     )?;
@@ -82,16 +82,16 @@ fn a_refused_file_is_told_and_the_rest_go_on(rt: HostRuntime) -> Result<(), Fail
             "--all",
             "--templates",
             folder,
-            "licscan-test-inputs/bad.txt",
+            "licscan-test-inputs/bytes.txt",
             "licscan-test-inputs/none\t.txt",
             folder,
             "licscan-test-inputs/good.txt",
         ],
         input: "",
         status: 2,
-        out: "licscan-test-inputs/good.txt\tA\t0\t1\t0\t7\n",
-        err: "licscan: licscan-test-inputs/bad.txt: X1 at 8: not UTF-8\n\
-            licscan: licscan-test-inputs/none\\t.txt: cannot be read\n\
+        out: "licscan-test-inputs/bytes.txt\tA\t0\t1\t0\t7\n\
+            licscan-test-inputs/good.txt\tA\t0\t1\t0\t7\n",
+        err: "licscan: licscan-test-inputs/none\\t.txt: cannot be read\n\
             licscan: licscan-test-inputs: cannot be read\n",
     };
     expect(&rt, &[case]);

@@ -67,12 +67,16 @@ fn files_are_read_as_given(rt: HostRuntime) -> Result<(), Fail> {
     make_folder(
         &rt,
         folder,
-        &[("a\tb", b"Foo"), ("bad", b"foo bar \xFF"), ("good", b"bar")],
+        &[
+            ("a\tb", b"Foo"),
+            ("bytes", b"foo \xFF\xE2"),
+            ("good", b"bar"),
+        ],
     )?;
     let args = [
         "tokens",
         "licscan-test-tokens/a\tb",
-        "licscan-test-tokens/bad",
+        "licscan-test-tokens/bytes",
         "licscan-test-tokens/none",
         "-",
         folder,
@@ -82,9 +86,10 @@ fn files_are_read_as_given(rt: HostRuntime) -> Result<(), Fail> {
         args: &args,
         input: "x",
         status: 2,
-        out: "licscan-test-tokens/a\\tb\t0\t3\tfoo\n-\t0\t1\tx\nlicscan-test-tokens/good\t0\t3\tbar\n",
-        err: "licscan: licscan-test-tokens/bad: X1 at 8: not UTF-8\n\
-            licscan: licscan-test-tokens/none: cannot be read\n\
+        out: "licscan-test-tokens/a\\tb\t0\t3\tfoo\n\
+            licscan-test-tokens/bytes\t0\t3\tfoo\nlicscan-test-tokens/bytes\t4\t6\t\u{FFFD}\u{FFFD}\n\
+            -\t0\t1\tx\nlicscan-test-tokens/good\t0\t3\tbar\n",
+        err: "licscan: licscan-test-tokens/none: cannot be read\n\
             licscan: licscan-test-tokens: cannot be read\n",
     };
     expect(&rt, &[case]);

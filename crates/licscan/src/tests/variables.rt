@@ -1,6 +1,8 @@
 //! What is written for outer matches and their variables.
 
+use crate::program::command;
 use crate::tests::cases::{Case, expect, make_folder};
+use lic_stream::stream::Counted;
 use std::fs;
 use std::test::Fail;
 
@@ -68,6 +70,35 @@ fn each_outer_match_is_told_with_its_variables(rt: HostRuntime) -> Result<(), Fa
         };
         expect(&rt, &[case]);
     }
+    fs::remove_dir_all(&rt, folder)?;
+    Ok(())
+}
+
+#[test]
+fn a_value_has_its_bytes_as_they_stand(rt: HostRuntime) -> Result<(), Fail> {
+    let folder = "licscan-test-bytes";
+    make_folder(
+        &rt,
+        folder,
+        &[(
+            "N.template.txt",
+            b"name of <<var;name=\"n\";original=\"x\";match=\".+\">> nor",
+        )],
+    )?;
+    let mut input: &[u8] = b"name of X\xFF nor";
+    let mut out = Vec::new(rt.alloc());
+    let mut err = Vec::new(rt.alloc());
+    command(
+        &rt,
+        rt.alloc(),
+        &["scan", "--templates", folder],
+        &mut Counted::new(&mut input),
+        &mut Counted::new(&mut out),
+        &mut Counted::new(&mut err),
+    );
+    let wanted: &[u8] = b"-\tN\t0\t3\t0\t14\n\tn\t8\t10\tX\xFF\n";
+    assert_eq!(rt; out.as_slice(), wanted);
+    assert!(rt; err.is_empty());
     fs::remove_dir_all(&rt, folder)?;
     Ok(())
 }

@@ -4,8 +4,8 @@ use Rattle.std.specs.Io.KnownBytes.{Appends}
 use Rattle.lic_stream.specs.Stream.{BeginsWith}
 use Rattle.lic_report.specs.Report.{match_line}
 use Rattle.lic_report.specs.Wanted.{wanted_of}
-use Rattle.lic_stream.proofs.Written.{IsPut, put_begins, put_begins_within, put_line, put_more, put_nothing, put_whole}
-use Rattle.lic_engine.proofs.ReportLemmas.{begins_report, whole_lines, some_more}
+use Rattle.lic_stream.proofs.Written.{IsPut, begins_empty, put_begins, put_begins_within, put_line, put_more, put_nothing, put_whole}
+use Rattle.lic_engine.proofs.ReportLemmas.{begins_report, on_error, whole_lines, some_more}
 use Rattle.lic_engine.proofs.engine.report_all.Goals as goal
 
 pub loop-triple-init : goal.loop-triple-init
@@ -72,3 +72,6 @@ returns-clause-written g c =
     (subst (λ l. Appends (g.W.Sink.taken c.args.out.now) (g.W.Sink.taken c.put_all.new.out) (flat_map (match_line c.args.name.now c.args.set.now c.args.text.now.tokens) l)) all
     (put_whole _ (g.W.Sink.taken c.loop-triple.out) _ _ _ c.loop-triple.invariant.put put))
     (c.loop-triple.invariant.some ∙ ap (λ l. nat_lt 0 (length l)) all)
+
+pub returns-in_err-wanted-clause-part : goal.returns-in_err-wanted-clause-part
+returns-in_err-wanted-clause-part g c = on_error _ c.from_residual.result (λ lines are. begins_empty (g.W.Sink.taken c.args.out.now) lines)

@@ -30,9 +30,9 @@ letters [] = refl
 letters (t ∷ tokens) = ap (λ l. chars t.text ∷ l) (letters tokens)
 
 pub returns : goal.returns
-returns c = λ words source text known is some utf8.
+returns c = λ words source text known encoded is some utf8.
     let tokens = tokens_of words source in
-    let same = piece_texts-whole words source in
+    let same = piece_texts-whole words source encoded in
     subst (λ ts. IsDescribed (part_words (Text text)) ts) (ap (map chars) same ∙ letters tokens)
     (piece_described words true LineEnd source text is
     (λ none. some_texts tokens some (sym same ∙ none))

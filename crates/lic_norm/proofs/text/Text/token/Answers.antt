@@ -21,6 +21,6 @@ pub returns-clause-within : goal.returns-clause-within
 returns-clause-within c =
     let lt : c.args.i < length c.self.inside.tokens = omega (arith, c.requires, ap (λ t. length t.tokens) c.self.view_is) in
     let same : length c.self.inside.source.items ≡ length c.args.self.now.source = ap (λ t. length t.source) c.self.view_is in
-    let within : (get_or c.self.inside.tokens c.args.i nothing).span.end ≤ length c.self.inside.source.items = (c.self.invariant.0.boundaries c.args.i nothing lt).1.0 in
+    let within : (get_or c.self.inside.tokens c.args.i nothing).span.end ≤ length c.self.inside.source.items = c.self.invariant.0.within c.args.i nothing lt in
     let is : c.get.result.span.end ≡ (get_or c.self.inside.tokens c.args.i nothing).span.end = ap (λ span. span.end) (c.get.ensures.span nothing) in
     omega arith

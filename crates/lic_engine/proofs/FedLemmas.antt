@@ -1,0 +1,20 @@
+-- What is fed of an input as it is read.
+use Rattle.std.proofs.Common.{◌≡◌, ℕ, ◌<◌, ◌≤◌, List, ◌++◌, length, Option, None, Some, sym, subst, ap, ◌∙◌, arith}
+use Rattle.std.specs.Io.KnownBytes.{Consumes}
+use Rattle.std.proofs.KnownBytes.{Consumes-trans}
+use Rattle.lic_norm.specs.Refusal.{refusal_of}
+use Rattle.lic_norm.specs.declared.fault.TextFault.{TextFault}
+use Rattle.lic_engine.proofs.Refusals.{accepted_short, refused_text}
+
+-- one more piece was read, and fed
+pub piece_read : (a b c : Option (List ℕ)) (fed piece fed' : List ℕ) → Consumes a b fed → Consumes b c piece → fed' ≡ fed ++ piece → Consumes a c fed'
+piece_read a b c fed piece fed' p q e = subst (Consumes a c) (sym e) (Consumes-trans a b c fed piece p q)
+
+-- a piece was refused, and so is what was read, however it goes on
+pub piece_refused : (a b c : Option (List ℕ)) (fed piece : List ℕ) (fault : TextFault) → Consumes a b fed → Consumes b c piece → refusal_of (fed ++ piece) ≡ Some fault
+    → (bytes : List ℕ) × Consumes a c bytes × ((more : List ℕ) → refusal_of (bytes ++ more) ≡ Some fault)
+piece_refused a b c fed piece fault p q r = refused_text (fed ++ piece) fault a c (Consumes-trans a b c fed piece p q) r
+
+-- what is accepted is not as long as that
+pub never_as_long : (bytes : List ℕ) (count : ℕ) → count ≡ length bytes → refusal_of bytes ≡ None → 67108865 ≤ count → ⊥
+never_as_long bytes count e accepted long = let short = accepted_short bytes accepted in omega (arith, short)

@@ -1,0 +1,30 @@
+-- The source characters of an input of any bytes.
+use Rattle.std.specs.Prelude.{ℕ, zero, suc, ◌+◌, ◌-◌, List, [], ◌∷◌, take, Option, find, unwrap_or, slice_index}
+use Rattle.std.specs.Option.{option_map_or}
+use Rattle.std.specs.Str.{is_utf8, chars}
+use Rattle.lic_lines.specs.declared.source.SourceChar.{SourceChar}
+
+-- how many bytes the character takes that begins these bytes, if one does (Unicode, table 3-7)
+abbrev pub width_of_first : List ℕ → Option ℕ
+width_of_first bytes = find (λ n. is_utf8 (take n bytes)) (1 ∷ 2 ∷ 3 ∷ 4 ∷ [])
+
+-- how many bytes the first source character takes: those of the character that begins there, else one
+abbrev pub first_width : List ℕ → ℕ
+first_width bytes = unwrap_or (width_of_first bytes) 1
+
+-- the first source character: the character that begins there, else U+FFFD
+abbrev pub first_char : List ℕ → ℕ
+first_char bytes = option_map_or (λ n. slice_index (chars (take n bytes)) 0) (width_of_first bytes) 0xFFFD
+
+-- the source characters of bytes that begin at this byte of the input, where the first n lie in a character that begins before them
+abbrev pub source_behind : ℕ → ℕ → List ℕ → List SourceChar
+source_behind n at [] = []
+source_behind (suc n) at (byte ∷ bytes) = source_behind n (at + 1) bytes
+source_behind zero at (byte ∷ bytes) =
+    let width = first_width (byte ∷ bytes) in
+    record { char = first_char (byte ∷ bytes); start = at; end = at + width } ∷ source_behind (width - 1) (at + 1) bytes
+
+-- The source characters of bytes that begin at this byte of the input: its characters in UTF-8, and U+FFFD for each byte that lies in no
+-- character begun before it, and at which none begins.
+unfoldable pub source_of : ℕ → List ℕ → List SourceChar
+source_of at bytes = source_behind 0 at bytes

@@ -1,0 +1,130 @@
+ghost use Rattle.std.specs.Prelude.{◌≡◌, ◌≢◌, ◌<◌, ◌≤◌, ◌+◌, ◌++◌, ℕ, [], List, length, slice_index_or, IfOk, IfErr, OnOk, Some, None};
+
+use crate::fault::TextFault;
+use crate::reader::Reader;
+use crate::refusal::MOST_BYTES;
+use crate::text::Text;
+use crate::token::Token;
+use crate::words::Words;
+use std::alloc::Global;
+use std::marker::Model;
+
+/// Reads an input that comes in pieces. Tokens are settled while lines come; a piece may end anywhere, inside a character too.
+#[derive(Drop)]
+pub struct Feeder<'w> {
+    words: &'w Words,
+    reader: Reader<'w>,
+    refused: Option<TextFault>,
+}
+
+impl<'w> Model for Feeder<'w> {
+    ghost use Rattle.std.specs.Prelude.{ℕ, ◌≡◌, ◌≤◌, List, length, None};
+    ghost use Rattle.lic_norm.specs.Feeding.{FeederValue, settled_in};
+    ghost use Rattle.lic_norm.specs.Reading.{HasReadLines};
+    ghost use Rattle.lic_norm.specs.Refusal.{most_bytes};
+
+    ghost Value = { FeederValue };
+
+    ghost view = { λ f. record {
+      bytes = f.reader.source.items;
+      words = f.words.now;
+      tokens = settled_in f.refused f.reader.rewriting.tokens;
+      refused = f.refused;
+    } };
+
+    ghost invariant = { λ f. (f.reader.rewriting.phrases.now.phrases ≡ f.words.now)
+        × (f.refused ≡ None → HasReadLines f.reader × (length f.reader.source.items ≤ most_bytes)) };
+}
+
+impl<'w> Feeder<'w> {
+    ghost use Rattle.lic_norm.specs.Feeding.{AreFirst, lines_read};
+    ghost use Rattle.lic_norm.specs.Refusal.{refusal_of};
+    ghost use Rattle.lic_norm.specs.Spans.{AreSpans, AreTokenTexts};
+    ghost use Rattle.lic_norm.specs.Tokens.{tokens_of};
+
+    /// Nothing is fed yet.
+    pub fn new(alloc: Global, words: &'w Words) -> Feeder<'w>
+        ensures { result ≡ record { bytes = []; words = words.now; tokens = []; refused = None } }
+    {
+        Feeder {
+            words,
+            reader: Reader::new(alloc, Vec::new(alloc), words),
+            refused: None,
+        }
+    }
+
+    /// Takes the next piece of the input.
+    ///
+    /// # Errors
+    ///
+    /// `TooLong` as soon as there are more than 67,108,864 bytes; `Memory` where a growth was refused. From then on each
+    /// call answers that same refusal.
+    pub fn feed(&mut self, bytes: &[u8]) -> Result<(), TextFault>
+        ensures fed { OnOk result (self.new.bytes ≡ self.old.bytes ++ bytes.now) }
+        ensures accepted { OnOk result (refusal_of self.new.bytes ≡ None) }
+        ensures open { OnOk result (self.new.refused ≡ None) }
+        ensures refused { IfErr result (λ fault. self.old.refused ≡ None → fault ≢ TextFault.Memory
+            → refusal_of (self.old.bytes ++ bytes.now) ≡ Some fault) }
+        ensures stays { IfErr result (λ fault. self.new.refused ≡ Some fault) }
+        ensures again { (fault : _) → self.old.refused ≡ Some fault → result ≡ Err fault }
+        ensures words { self.new.words ≡ self.old.words }
+    {
+        if let Some(fault) = self.refused {
+            return Err(fault);
+        }
+        let fed = self.reader.feed(bytes);
+        if let Err(fault) = fed {
+            self.refused = Some(fault);
+        }
+        fed
+    }
+
+    /// How many of the first tokens are settled, whatever comes: all but the last 12 or so of the lines that have ended. 0 after
+    /// a refusal.
+    pub fn ready(&self) -> usize
+        ensures count { result ≡ length self.now.tokens }
+        ensures settled { self.now.refused ≡ None → (more : List ℕ) → AreFirst self.now.tokens (tokens_of self.now.words (self.now.bytes ++ more)) }
+        ensures nearly { self.now.refused ≡ None → length (tokens_of self.now.words (lines_read self.now.bytes)) ≤ result + 12 }
+        ensures refused { (fault : _) → self.now.refused ≡ Some fault → result ≡ 0 }
+    {
+        match self.refused {
+            None => self.reader.settled().len(),
+            Some(_) => 0,
+        }
+    }
+
+    /// The settled token number `i`, from 0: its text, and its bytes of the input.
+    pub fn token(&self, i: usize) -> Token<'_>
+        requires { i < length self.now.tokens }
+        ensures text { (d : _) → result.text.now ≡ (slice_index_or self.now.tokens i d).text }
+        ensures span { (d : _) → result.span ≡ (slice_index_or self.now.tokens i d).span }
+    {
+        self.reader.settled().get(i)
+    }
+
+    /// Ends the input: its text, as `Text::read` gives it of all pieces joined.
+    ///
+    /// # Errors
+    ///
+    /// The refusal, if there was one; `Memory` where a growth was refused.
+    pub fn finish(self) -> Result<Text, TextFault>
+        ensures source { IfOk result (λ t. t.source ≡ self.entry.bytes) }
+        ensures tokens { IfOk result (λ t. t.tokens ≡ tokens_of self.entry.words self.entry.bytes) }
+        ensures spans { IfOk result (λ t. AreSpans t.source t.tokens) }
+        ensures words { IfOk result (λ t. AreTokenTexts t.tokens) }
+        ensures accepted { OnOk result (refusal_of self.entry.bytes ≡ None) }
+        ensures open { OnOk result (self.entry.refused ≡ None) }
+        ensures refused { IfErr result (λ fault. self.entry.refused ≡ None → fault ≡ TextFault.Memory) }
+        ensures again { (fault : _) → self.entry.refused ≡ Some fault → result ≡ Err fault }
+    {
+        let Feeder {
+            words,
+            reader,
+            refused,
+        } = self;
+        match refused {
+            Some(fault) => Err(fault),
+            None => Ok(Text::of(reader, words)?),
+        }
+    }
+}
