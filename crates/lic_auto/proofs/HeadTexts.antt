@@ -1,13 +1,15 @@
 -- The heads of texts, by bytes.
-use Rattle.std.proofs.Common.{◌≡◌, ℕ, ◌+◌, Bool, true, false, not, List, [], ◌∷◌, ◌++◌, length, take, drop, append-nil, refl, sym, ap, ◌∙◌, subst, arith}
-use Rattle.std.specs.Char.{len_utf8}
+use Rattle.std.proofs.Common.{◌≡◌, ℕ, ◌+◌, Bool, true, false, not, List, [], ◌∷◌, ◌++◌, length, take, drop, reverse, append-nil, append_assoc, ne_eqb, refl, sym, ap, ◌∙◌, subst, arith}
+use Rattle.std.specs.Char.{IsScalar, len_utf8}
 use Rattle.std.specs.Str.{chars, IsUtf8, IsCharBoundary, NoCharPasses, NonePass}
 use Rattle.std.proofs.Math.Utf8.{encode, encodes}
-use Rattle.std.proofs.Math.Seq.{take-append_seam}
-use Rattle.std.proofs.lemmas.Str.{encodes-chars, chars_from_encodes, chars_past_char, chars-append, chars-nil, length-encode, IsUtf8-take, IsUtf8-drop, IsCharBoundary-past_char}
-use Rattle.std.proofs.lemmas.List.{take-append-drop}
+use Rattle.std.proofs.Math.Seq.{take-append_seam, drop-append_seam}
+use Rattle.std.proofs.lemmas.Str.{encodes-chars, chars_from_encodes, chars_past_char, chars-append, chars-nil, length-encode, IsUtf8-take, IsUtf8-drop, IsUtf8-encode, IsCharBoundary-past_char, IsCharBoundary-at_seam}
+use Rattle.std.proofs.lemmas.List.{take-append-drop, reverse-append}
 use Rattle.lic_words.specs.Letters.{is_word}
-use Rattle.lic_auto.proofs.Heads.{front_of, front-word, front-up_to}
+use Rattle.lic_words.specs.Words.{blank}
+use Rattle.lic_auto.specs.Heads.{head_of}
+use Rattle.lic_auto.proofs.Heads.{front_of, front-word, front-up_to, head-word}
 
 -- ---- the first character
 
@@ -60,3 +62,53 @@ front-text_until text end j d utf8 cut none other split =
     ap chars (sym (take-append-drop end text)) ∙ chars-append front back front_utf8
     ∙ ap (λ x. chars front ++ x) (chars_past_char back (drop j text) d (IsUtf8-drop text end utf8 cut) split) in
     ap front_of whole ∙ front-up_to (chars front) d (chars (drop j text)) (front-text front front_utf8 none) other
+
+-- ---- letters of words at the end
+
+NonePass-append : (xs ys : List ℕ) → NonePass is_other xs → NonePass is_other ys → NonePass is_other (xs ++ ys)
+NonePass-append [] ys h k = k
+NonePass-append (x ∷ xs) ys (first, h) k = (first, NonePass-append xs ys h k)
+
+NonePass-reverse : (cs : List ℕ) → NonePass is_other cs → NonePass is_other (reverse cs)
+NonePass-reverse [] h = h
+NonePass-reverse (c ∷ cs) (first, h) =
+    subst (NonePass is_other) (sym (reverse-append (c ∷ []) cs)) (NonePass-append (reverse cs) (c ∷ []) (NonePass-reverse cs h) (first, tt))
+
+-- a text of letters of words alone, read from its end
+pub back-text : (text : List ℕ) → IsUtf8 text → NoCharPasses is_other text → front_of (reverse (chars text)) ≡ reverse (chars text)
+back-text text utf8 (cs, spelled, none) =
+    subst (λ ds. front_of (reverse ds) ≡ reverse ds) (chars_from_encodes cs text utf8 spelled) (front-none_pass (reverse cs) (NonePass-reverse cs none))
+
+-- a text that ends in letters of words, up to a letter of none
+pub back-text_until : (text : List ℕ) (i j d : ℕ) → IsUtf8 text → IsCharBoundary text i → IsCharBoundary text j → NoCharPasses is_other (drop j text) → is_word d ≡ false →
+    drop i text ≡ encode d ++ drop j text → front_of (reverse (chars text)) ≡ reverse (chars (drop j text))
+back-text_until text i j d utf8 cut cut_behind none other split =
+    let front = take i text in
+    let back = drop j text in
+    let whole : chars text ≡ chars front ++ d ∷ chars back =
+    ap chars (sym (take-append-drop i text)) ∙ chars-append front (drop i text) (IsUtf8-take text i utf8 cut)
+    ∙ ap (λ x. chars front ++ x) (chars_past_char (drop i text) back d (IsUtf8-drop text i utf8 cut) split) in
+    let turned : reverse (chars text) ≡ reverse (chars back) ++ d ∷ reverse (chars front) =
+    ap reverse whole ∙ reverse-append (chars front) (d ∷ chars back) ∙ ap (λ x. x ++ reverse (chars front)) (reverse-append (d ∷ []) (chars back))
+    ∙ append_assoc (reverse (chars back)) (d ∷ []) (reverse (chars front)) in
+    ap front_of turned ∙ front-up_to (reverse (chars back)) d (reverse (chars front)) (back-text back (IsUtf8-drop text j utf8 cut_behind) none) other
+
+-- the head of letters that begin with a letter of a word
+pub head-begun : (cs : List ℕ) (c : ℕ) (rest : List ℕ) → (c ≡ blank → ⊥) → cs ≡ c ∷ rest → is_word c ≡ true → head_of cs ≡ front_of cs
+head-begun cs c rest letter is word = ap head_of is ∙ head-word c rest (ne_eqb c blank letter) word ∙ ap front_of (sym is)
+
+-- a text that ends in a character
+module _ (text front : List ℕ) (c : ℕ) (scalar : IsScalar c) (utf8 : IsUtf8 front) (came : text ≡ front ++ encode c) where
+  pub IsCharBoundary-last : IsCharBoundary text (length front)
+  IsCharBoundary-last = IsCharBoundary-at_seam text front (encode c) came (IsUtf8-encode c scalar)
+
+  pub chars-last : chars (encode c) ≡ c ∷ []
+  chars-last = chars_past_char (encode c) [] c (IsUtf8-encode c scalar) (sym (append-nil (encode c))) ∙ ap (λ x. c ∷ x) chars-nil
+
+  pub turned-last : reverse (chars text) ≡ c ∷ reverse (chars front)
+  turned-last =
+      ap (λ x. reverse (chars x)) came ∙ ap reverse (chars-append front (encode c) utf8 ∙ ap (λ x. chars front ++ x) chars-last)
+      ∙ reverse-append (chars front) (c ∷ [])
+
+  pub drop-last : drop (length front) text ≡ encode c
+  drop-last = ap (drop (length front)) came ∙ drop-append_seam front (encode c)

@@ -15,6 +15,8 @@ use Rattle.lic_marks.specs.Cores.{WordsOf}
 use Rattle.lic_marks.specs.Nodes.{core_of}
 use Rattle.lic_marks.specs.declared.node.Node.{Node}
 use Rattle.lic_auto.specs.Beginnings.{Begins}
+use Rattle.lic_auto.specs.Directions.{ordered}
+use Rattle.lic_auto.specs.declared.direction.Direction.{Direction}
 use Rattle.lic_auto.specs.Firsts.{IsFirst}
 use Rattle.lic_auto.specs.declared.first.Firsts.{Firsts}
 use Rattle.lic_keys.specs.Rising.{IsRising}
@@ -48,16 +50,17 @@ Adds-from P number a b grows = record {
 }
 
 -- one more tree
-pub IsIndexOf-push : (old new : Index) (trees : List Node) (tree : Node) (firsts : Firsts) → IsIndexOf old trees → Adds (IsFirst firsts) (length trees) old new →
-    ((q : List ℕ) → IsUtf8 q → Begins (WordsOf (core_of tree)) (chars q) → IsFirst firsts q) → length (trees ++ tree ∷ []) ≡ length trees + 1 → IsIndexOf new (trees ++ tree ∷ [])
-IsIndexOf-push old new trees tree firsts is adds covers size = record {
+pub IsIndexOf-push : (d : Direction) (old new : Index) (trees : List Node) (tree : Node) (firsts : Firsts) → IsIndexOf d old trees → Adds (IsFirst firsts) (length trees) old new →
+    ((q : List ℕ) → IsUtf8 q → Begins (WordsOf (core_of tree)) (ordered d (chars q)) → IsFirst firsts q) → length (trees ++ tree ∷ []) ≡ length trees + 1 →
+    IsIndexOf d new (trees ++ tree ∷ [])
+IsIndexOf-push d old new trees tree firsts is adds covers size = record {
   rising = λ q. subst (IsRising (listed new q)) (sym size) (adds.rising q (IsRising-more (listed old q) (length trees) (length trees + 1) (is.rising q) (omega arith)));
   rest = λ q k t utf8 there gone begins.
       ⊎_elim
       (λ (before : slice_get trees k ≡ Some t). is.rest q k t utf8 before (λ h. gone (adds.kept q k h)) begins)
       (λ (last : (k ≡ length trees) × (tree ≡ t)).
       gone (subst (Contains (listed new q)) (sym last.0)
-      (adds.added q (covers q utf8 (subst (λ x. Begins (WordsOf (core_of x)) (chars q)) (sym last.1) begins)))))
+      (adds.added q (covers q utf8 (subst (λ x. Begins (WordsOf (core_of x)) (ordered d (chars q))) (sym last.1) begins)))))
       (slice_get-push trees tree k t there);
 }
 

@@ -9,6 +9,8 @@ use Rattle.lic_marks.specs.Nodes.{is_measured}
 use Rattle.lic_marks.specs.declared.node.Node.{Node}
 use Rattle.lic_auto.specs.Sets.{Known, known_of, all_known, words_of}
 use Rattle.lic_auto.specs.Compiling.{HasWords, AllHaveWords}
+use Rattle.lic_auto.specs.Directions.{read}
+use Rattle.lic_auto.specs.declared.direction.Direction.{Direction}
 use Rattle.lic_auto.specs.Picked.{HaveTheirTrees}
 use Rattle.lic_auto.specs.declared.set.Named.{Named}
 use Rattle.lic_auto.proofs.Trees.{more}
@@ -32,20 +34,20 @@ measured_at (t ∷ trees) (e ∷ es) all zero tree there = subst (λ n. IsTrue (
 measured_at (t ∷ trees) (e ∷ es) all (suc k) tree there = measured_at trees es all.1 k tree there
 
 -- the tree of one template
-tree_at : (set : List Known) (trees : List Node) → AllHaveWords trees (map words_of set) → (k : ℕ) (known : Known) (tree : Node) →
-    slice_get set k ≡ Some known → slice_get trees k ≡ Some tree → HasWords (Language (words_of known)) tree
-tree_at [] trees all k known tree here there = absurd (none-some known here)
-tree_at (s ∷ set) [] all k known tree here there = absurd all
-tree_at (s ∷ set) (t ∷ trees) all zero known tree here there =
-    subst (λ n. HasWords (Language (words_of known)) n) (same_Some t tree there)
-    (subst (λ s. HasWords (Language (words_of s)) t) (same_Some s known here) all.0)
-tree_at (s ∷ set) (t ∷ trees) all (suc k) known tree here there = tree_at set trees all.1 k known tree here there
+tree_at : (d : Direction) (set : List Known) (trees : List Node) → AllHaveWords trees (map (read d) (map words_of set)) → (k : ℕ) (known : Known) (tree : Node) →
+    slice_get set k ≡ Some known → slice_get trees k ≡ Some tree → HasWords (Language (read d (words_of known))) tree
+tree_at d [] trees all k known tree here there = absurd (none-some known here)
+tree_at d (s ∷ set) [] all k known tree here there = absurd all
+tree_at d (s ∷ set) (t ∷ trees) all zero known tree here there =
+    subst (λ n. HasWords (Language (read d (words_of known))) n) (same_Some t tree there)
+    (subst (λ s. HasWords (Language (read d (words_of s))) t) (same_Some s known here) all.0)
+tree_at d (s ∷ set) (t ∷ trees) all (suc k) known tree here there = tree_at d set trees all.1 k known tree here there
 
-pub HaveTheirTrees-from_trees : (set : List Known) (trees : List Node) → AllHaveWords trees (map words_of set) → HaveTheirTrees set trees
-HaveTheirTrees-from_trees set trees all = record {
-  count = AllHaveWords-count trees (map words_of set) all ∙ length-map set words_of;
-  measured = λ k tree there. measured_at trees (map words_of set) all k tree there;
+pub HaveTheirTrees-from_trees : (d : Direction) (set : List Known) (trees : List Node) → AllHaveWords trees (map (read d) (map words_of set)) → HaveTheirTrees d set trees
+HaveTheirTrees-from_trees d set trees all = record {
+  count = AllHaveWords-count trees (map (read d) (map words_of set)) all ∙ length-map (map words_of set) (read d) ∙ length-map set words_of;
+  measured = λ k tree there. measured_at trees (map (read d) (map words_of set)) all k tree there;
   words = λ k known tree here there.
-      let same = (tree_at set trees all k known tree here there).words in
+      let same = (tree_at d set trees all k known tree here there).words in
       ∣ (λ w. (same.to w, same.from w)) ∣₁;
 }

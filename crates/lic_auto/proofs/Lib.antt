@@ -1,4 +1,6 @@
 pub mod PlainLengths
+pub mod Ordered
+pub mod TurnedTexts
 pub mod Changing
 pub mod Heads
 mod HeadExamples
@@ -6,6 +8,7 @@ pub mod HeadTexts
 pub mod Beginning
 pub mod Walking
 pub mod Accepting
+pub mod Ends
 pub mod FirstLemmas
 pub mod Gathering
 pub mod IndexLemmas
@@ -18,4 +21,8 @@ pub mod Copies
 pub mod Taken
 pub mod Ordering
 pub mod KnownTrees
+pub mod Places
 pub mod PickedLemmas
+pub mod TurnedSeekers
+pub mod Living
+pub mod Gathered

@@ -1,19 +1,18 @@
 -- Templates that were picked from a set by their numbers.
-use Rattle.std.proofs.Common.{◌≡◌, ◌⊎◌, inl, inr, ℕ, zero, suc, ◌<◌, ◌≤◌, List, [], ◌∷◌, Option, Some, None, length, map, get_or, refl, sym, ap, ◌∙◌, arith, ◌↔◌}
+use Rattle.std.proofs.Common.{◌≡◌, ◌⊎◌, inl, inr, ℕ, zero, suc, ◌<◌, ◌≤◌, List, [], ◌∷◌, Option, Some, None, length, map, get_or, refl, sym, ap, ◌∙◌, subst, arith, ◌↔◌}
 use Rattle.std.specs.List.{slice_get, Contains}
-use Rattle.std.proofs.lemmas.Bool.{cases_eq, cases_lt}
+use Rattle.std.proofs.lemmas.Bool.{cases_eq}
 use Rattle.std.proofs.lemmas.List.{get_or_default}
-use Rattle.std.proofs.lemmas.List.Elements.{Contains-get_or}
 use Rattle.std.proofs.lemmas.Option.{slice_get_within, slice_get-map, slice_get_read}
 use Rattle.std.proofs.lemmas.Simd.{map-map}
 use Rattle.std.specs.Option.{option_map}
 use Rattle.std.proofs.Math.Logic.{⊎_elim}
 use Rattle.lic_words.specs.Describing.{IsDescribed}
 use Rattle.lic_keys.specs.Rising.{IsRising}
-use Rattle.lic_keys.proofs.RisingLemmas.{rises}
 use Rattle.lic_auto.specs.Sets.{Known, words_of}
 use Rattle.lic_auto.specs.Picked.{IsLeastOf, OthersFail, picked}
-use Rattle.lic_auto.specs.Runs.{IsLeastDescribing}
+use Rattle.lic_auto.specs.Runs.{IsLeastDescribing, IsLeastPlace, NoneAtDescribes}
+use Rattle.lic_auto.proofs.Places.{stands_before}
 
 -- what is computed of an element
 pub map_at : {A B : Type 0} → (xs : List A) (k : ℕ) (x : A) (f : A → B) → k < length xs → x ≡ get_or xs k x → slice_get (map f xs) k ≡ Some (f x)
@@ -22,7 +21,7 @@ map_at xs k x f inside is = slice_get-map f xs k ∙ ap (option_map f) (slice_ge
 pub map_through : {A B C : Type 0} → (xs : List A) (f : A → B) (ys : List B) (g : B → C) → map f xs ≡ ys → map (λ x. g (f x)) xs ≡ map g ys
 map_through xs f ys g e = sym (map-map g f xs) ∙ ap (map g) e
 
-some_at : {X : Type 0} → (xs : List X) (k : ℕ) → k < length xs → (x : X) × (slice_get xs k ≡ Some x)
+pub some_at : {X : Type 0} → (xs : List X) (k : ℕ) → k < length xs → (x : X) × (slice_get xs k ≡ Some x)
 some_at [] k h = absurd (omega arith)
 some_at (x ∷ xs) zero h = (x, refl)
 some_at (x ∷ xs) (suc k) h = some_at xs k (omega arith)
@@ -66,40 +65,41 @@ module _ (set : List Known) where
       let (known, is) = some_at set n (within 0 (omega arith)) in
       ap (λ l. slice_get l (suc k)) (picked-more n ns known is) ∙ picked-at ns (λ i h. within (suc i) (omega arith)) k (omega arith)
 
-module _ (set : List Known) (numbers : List ℕ) (rising : IsRising numbers (length set)) (ts : List (List ℕ)) (from : ℕ) where
+-- some of the numbers of a list that rises, and the templates at places there
+module _ (set : List Known) (all : List ℕ) (rising : IsRising all (length set)) (numbers : List ℕ) (inner : (k : ℕ) → Contains numbers k → Contains all k)
+    (ts : List (List ℕ)) (from : ℕ) where
   -- no template of a number from here on describes the tokens, if none at a place does whose number is so great
-  pub IsLeastOf-none : ((i : ℕ) → i < length numbers → get_or numbers i 0 < from) → IsLeastOf set numbers ts from None
-  IsLeastOf-none below = λ end k known (i, inside, is) least less there.
-      let value : get_or numbers i 0 ≡ k = get_or_default numbers i 0 k inside ∙ is in
+  pub IsLeastOf-none : ((i : ℕ) → i < length all → get_or all i 0 < from) → IsLeastOf set numbers ts from None
+  IsLeastOf-none below = λ end k known h least less there.
+      let (i, inside, is) = inner k h in
+      let value : get_or all i 0 ≡ k = get_or_default all i 0 k inside ∙ is in
       absurd (omega (arith, value, below i inside))
 
-  module _ (first : ℕ) (begins : (i : ℕ) → i < length numbers → first ≤ i ↔ (from ≤ get_or numbers i 0)) where
-    passes : (end : ℕ) → ((k : ℕ) (known : Known) → first ≤ k → k < end → slice_get (picked set numbers) k ≡ Some known → ¬ (IsDescribed (words_of known) ts)) →
-        (k : ℕ) (known : Known) → (i : ℕ) → i < length numbers → get_or numbers i 0 ≡ k → from ≤ k → i < end → slice_get set k ≡ Some known → ¬ (IsDescribed (words_of known) ts)
-    passes end none k known i inside value least less there described =
+  module _ (first : ℕ) (begins : (i : ℕ) → i < length all → first ≤ i ↔ (from ≤ get_or all i 0)) where
+    passes : (end : ℕ) → NoneAtDescribes (picked set all) (λ place. Contains numbers (get_or all place 0)) ts first end →
+        (k : ℕ) (known : Known) → Contains numbers k → (i : ℕ) → i < length all → get_or all i 0 ≡ k → from ≤ k → i < end → slice_get set k ≡ Some known →
+        ¬ (IsDescribed (words_of known) ts)
+    passes end none k known h i inside value least less there described =
         let late : first ≤ i = (begins i inside).1 (omega (arith, value)) in
-        none i known late less (picked-at set numbers rising.below i inside ∙ ap (slice_get set) value ∙ there) described
+        none i known (subst (Contains numbers) (sym value) h) late less (picked-at set all rising.below i inside ∙ ap (slice_get set) value ∙ there) described
 
-    pub IsLeastOf-none_at : IsLeastDescribing (picked set numbers) ts first None → IsLeastOf set numbers ts from None
-    IsLeastOf-none_at none = λ end k known (i, inside, is) least less there.
-        passes (suc i) (none (suc i)) k known i inside (get_or_default numbers i 0 k inside ∙ is) least (omega arith) there
+    pub IsLeastOf-none_at : IsLeastPlace (picked set all) (λ place. Contains numbers (get_or all place 0)) ts first None → IsLeastOf set numbers ts from None
+    IsLeastOf-none_at none = λ end k known h least less there.
+        let (i, inside, is) = inner k h in
+        passes (suc i) (none (suc i)) k known h i inside (get_or_default all i 0 k inside ∙ is) least (omega arith) there
 
-    pub IsLeastOf-at : (place : ℕ) → IsLeastDescribing (picked set numbers) ts first (Some place) → IsLeastOf set numbers ts from (Some (get_or numbers place 0))
-    IsLeastOf-at place (late, (known, there, described), none) =
-        let inside : place < length numbers = omega (arith, slice_get_within (picked set numbers) place known there, length-picked set numbers rising.below) in (
-          Contains-get_or numbers place 0 inside,
+    pub IsLeastOf-at : (place : ℕ) → IsLeastPlace (picked set all) (λ place. Contains numbers (get_or all place 0)) ts first (Some place) →
+        IsLeastOf set numbers ts from (Some (get_or all place 0))
+    IsLeastOf-at place (among, late, (known, there, described), none) =
+        let inside : place < length all = omega (arith, slice_get_within (picked set all) place known there, length-picked set all rising.below) in (
+          among,
           (begins place inside).0 late,
-          (known, sym (picked-at set numbers rising.below place inside) ∙ there, described),
-          λ k one (i, within, is) least less at.
-              let value : get_or numbers i 0 ≡ k = get_or_default numbers i 0 k within ∙ is in
-              let before : i < place =
-              ⊎_elim (λ (h : i < place). h)
-              (λ (h : place ≤ i).
-              absurd (⊎_elim (λ (later : place < i). omega (arith, rises numbers (length set) rising place i later within, value))
-              (λ (here : i ≤ place). let same : i ≡ place = omega arith in let value' = ap (λ x. get_or numbers x 0) same in omega (arith, value, value'))
-              (cases_lt place i)))
-              (cases_lt i place) in
-              passes place none k one i within value least before at,
+          (known, sym (picked-at set all rising.below place inside) ∙ there, described),
+          λ k one h least less at.
+              let (i, within, is) = inner k h in
+              let value : get_or all i 0 ≡ k = get_or_default all i 0 k within ∙ is in
+              let before : i < place = stands_before all (length set) rising i place within (omega (arith, value, less)) in
+              passes place none k one h i within value least before at,
         )
 
 -- where no other template describes the tokens, the least of some is the least of all

@@ -1,5 +1,5 @@
 -- The words of patterns and parts whose trees are compiled.
-use Rattle.std.proofs.Common.{◌≡◌, ℕ, ◌+◌, ◌<◌, true, List, [], ◌∷◌, ◌++◌, map, take, length, get_or, Option, Result, Ok, Err, Vec, Box, Global, refl, sym, ap, ◌∙◌, subst}
+use Rattle.std.proofs.Common.{◌≡◌, ℕ, ◌+◌, ◌<◌, ◌==◌, true, List, [], ◌∷◌, ◌++◌, map, take, length, get_or, reverse, Option, Result, Ok, Err, Vec, Box, Global, refl, sym, ap, ◌∙◌, subst}
 use Rattle.std.specs.List.{list_all}
 use Rattle.std.specs.Result.{IfOk}
 use Rattle.std.proofs.lemmas.List.{take_more, map-append}
@@ -13,12 +13,18 @@ use Rattle.lic_ere.specs.Trees as trees
 use Rattle.lic_markup.specs.declared.part.Part.{Part}
 use Rattle.lic_markup.specs.Parts.{part_of}
 use Rattle.lic_markup.specs.Meaning.{tree_words, row_words, choice_words, part_words, parts_words}
-use Rattle.lic_marks.specs.Cores.{WordsOf, cat_all, alt_all}
+use Rattle.lic_marks.specs.Cores.{WordsOf, one, cat_all, alt_all}
 use Rattle.lic_marks.specs.Nodes.{core_of, is_measured, letter_cores, IsBuilt}
 use Rattle.lic_marks.specs.declared.node.Node.{Node}
 use Rattle.lic_marks.proofs.Cuts.{and_both}
 use Rattle.lic_auto.specs.Compiling.{AreSame, HasWords, AllHaveWords, Repeats, pattern_words}
 use Rattle.lic_auto.proofs.WordSets.{AreSame-refl, AreSame-trans, Cat-same, Either-same}
+use Rattle.lic_auto.specs.declared.direction.Direction.{Direction}
+use Rattle.lic_auto.specs.declared.direction.Direction.TheVariants.{Forward, Backward}
+use Rattle.lic_auto.specs.Directions.{ordered, read}
+use Rattle.lic_words.specs.Mirrors.{mirrored}
+use Rattle.lic_auto.proofs.Ordered.{reverse-cons}
+use Rattle.lic_auto.proofs.Rows.{cat_all-push}
 use Rattle.lic_auto.proofs.Repetitions.{Repeats-same}
 
 pub AllHaveWords-push : (ns : List Node) (es : List Expression) (n : Node) (e : Expression) →
@@ -32,13 +38,6 @@ pub AllHaveWords-measured : (ns : List Node) (es : List Expression) → AllHaveW
 AllHaveWords-measured [] es all = refl
 AllHaveWords-measured (n ∷ ns) [] all = absurd all
 AllHaveWords-measured (n ∷ ns) (e ∷ es) all = and_both (is_measured n) (list_all is_measured ns) all.0.measured (AllHaveWords-measured ns es all.1)
-
-pub AllHaveWords-row : (ns : List Node) (es : List Expression) → AllHaveWords ns es →
-    AreSame (WordsOf (cat_all (map core_of ns))) (Language (words.cat_all es))
-AllHaveWords-row [] [] all = AreSame-refl (Language words.empty)
-AllHaveWords-row [] (e ∷ es) all = absurd all
-AllHaveWords-row (n ∷ ns) [] all = absurd all
-AllHaveWords-row (n ∷ ns) (e ∷ es) all = Cat-same all.0.words (AllHaveWords-row ns es all.1)
 
 pub AllHaveWords-choice : (ns : List Node) (es : List Expression) → AllHaveWords ns es →
     AreSame (WordsOf (alt_all (map core_of ns))) (Language (words.alt_all es))
@@ -74,31 +73,73 @@ pub more : {X Y : Type 0} (f : X → Y) (xs : List X) (i : ℕ) (x : X) → i < 
 more f xs i x inside is =
     ap (map f) (take_more xs i x inside ∙ ap (λ y. take i xs ++ y ∷ []) (sym is)) ∙ map-append f (take i xs) (x ∷ [])
 
+-- one more element, and what is computed of that
+pub more_of : {X Y Z : Type 0} (g : Y → Z) (f : X → Y) (xs : List X) (i : ℕ) (x : X) → i < length xs → x ≡ get_or xs i x →
+    map g (map f (take (i + 1) xs)) ≡ map g (map f (take i xs)) ++ g (f x) ∷ []
+more_of g f xs i x inside is = ap (map g) (more f xs i x inside is) ∙ map-append g (map f (take i xs)) (f x ∷ [])
+
 -- two expressions that are one have the same words
-language_same : {a b : Expression} → a ≡ b → AreSame (Language a) (Language b)
+pub language_same : {a b : Expression} → a ≡ b → AreSame (Language a) (Language b)
 language_same {a = a} e = subst (λ x. AreSame (Language a) (Language x)) e (AreSame-refl (Language a))
 
+pub read-alt_all : (d : Direction) (es : List Expression) → words.alt_all (map (read d) es) ≡ read d (words.alt_all es)
+read-alt_all Forward [] = refl
+read-alt_all Forward (e ∷ es) = ap (words.alt e) (read-alt_all Forward es)
+read-alt_all Backward [] = refl
+read-alt_all Backward (e ∷ es) = ap (words.alt (mirrored e)) (read-alt_all Backward es)
+
+pub read-alt : (d : Direction) (a b : Expression) → words.alt (read d a) (read d b) ≡ read d (words.alt a b)
+read-alt Forward a b = refl
+read-alt Backward a b = refl
+
+pub read-tidy : (d : Direction) (a : Expression) → words.tidy (read d a) ≡ read d (words.tidy a)
+read-tidy Forward a = refl
+read-tidy Backward a = refl
+
+read-repeat : (d : Direction) (min : ℕ) (max : Option ℕ) (a : Expression) → words.repeat min max (read d a) ≡ read d (words.repeat min max a)
+read-repeat Forward min max a = refl
+read-repeat Backward min max a = refl
+
+-- what is its own mirror has the same words in each direction
+pub read-own : (d : Direction) (e : Expression) → mirrored e ≡ e → AreSame (Language e) (Language (read d e))
+read-own Forward e own = AreSame-refl (Language e)
+read-own Backward e own = language_same (sym own)
+
+-- a row of nodes whose words are read in a direction, in the order of that direction
+pub row_read : (d : Direction) (ns : List Node) (es : List Expression) → AllHaveWords ns (map (read d) es) →
+    AreSame (WordsOf (cat_all (ordered d (map core_of ns)))) (Language (read d (words.cat_all es)))
+row_read Forward [] [] all = AreSame-refl (Language words.empty)
+row_read Forward [] (e ∷ es) all = absurd all
+row_read Forward (n ∷ ns) [] all = absurd all
+row_read Forward (n ∷ ns) (e ∷ es) all = Cat-same all.0.words (row_read Forward ns es all.1)
+row_read Backward [] [] all = AreSame-refl (Language words.empty)
+row_read Backward [] (e ∷ es) all = absurd all
+row_read Backward (n ∷ ns) [] all = absurd all
+row_read Backward (n ∷ ns) (e ∷ es) all =
+    subst (λ rs. AreSame (WordsOf (cat_all rs)) (Language (words.cat (mirrored (words.cat_all es)) (mirrored e)))) (sym (reverse-cons (core_of n) (map core_of ns)))
+    (AreSame-trans (cat_all-push (reverse (map core_of ns)) (core_of n)) (Cat-same (row_read Backward ns es all.1) all.0.words))
+
 -- a compiled row, a compiled choice and a compiled repetition of a pattern
-module _ (ere : Ere) (subs : Vec Ere Global) (ns : List Node) (all : AllHaveWords ns (map pattern_words subs.items)) where
-  pub compiled_row : ere ≡ Cat subs → AreSame (WordsOf (cat_all (map core_of ns))) (Language (pattern_words ere))
+module _ (d : Direction) (ere : Ere) (subs : Vec Ere Global) (ns : List Node) (all : AllHaveWords ns (map (read d) (map pattern_words subs.items))) where
+  pub compiled_row : ere ≡ Cat subs → AreSame (WordsOf (cat_all (ordered d (map core_of ns)))) (Language (read d (pattern_words ere)))
   compiled_row e =
-      AreSame-trans (AllHaveWords-row ns (map pattern_words subs.items) all)
-      (language_same (row_words-list subs.items ∙ sym (ap tree_words (ap tree_of e ∙ tree_of-Cat subs))))
+      AreSame-trans (row_read d ns (map pattern_words subs.items) all)
+      (language_same (ap (read d) (row_words-list subs.items ∙ sym (ap tree_words (ap tree_of e ∙ tree_of-Cat subs)))))
 
-  pub compiled_choice : ere ≡ Alt subs → AreSame (WordsOf (alt_all (map core_of ns))) (Language (pattern_words ere))
+  pub compiled_choice : ere ≡ Alt subs → AreSame (WordsOf (alt_all (map core_of ns))) (Language (read d (pattern_words ere)))
   compiled_choice e =
-      AreSame-trans (AllHaveWords-choice ns (map pattern_words subs.items) all)
-      (language_same (choice_words-list subs.items ∙ sym (ap tree_words (ap tree_of e ∙ tree_of-Alt subs))))
+      AreSame-trans (AllHaveWords-choice ns (map (read d) (map pattern_words subs.items)) all)
+      (language_same (read-alt_all d (map pattern_words subs.items) ∙ ap (read d) (choice_words-list subs.items ∙ sym (ap tree_words (ap tree_of e ∙ tree_of-Alt subs)))))
 
-pub compiled_repetition : (ere : Ere) (body : Box Ere Global) (min : ℕ) (max : Option ℕ) (node : Node) → ere ≡ Repeat body min max →
-    HasWords (Language (pattern_words body.value)) node → AreSame (Repeats (WordsOf (core_of node)) min max) (Language (pattern_words ere))
-compiled_repetition ere body min max node e has =
+pub compiled_repetition : (d : Direction) (ere : Ere) (body : Box Ere Global) (min : ℕ) (max : Option ℕ) (node : Node) → ere ≡ Repeat body min max →
+    HasWords (Language (read d (pattern_words body.value))) node → AreSame (Repeats (WordsOf (core_of node)) min max) (Language (read d (pattern_words ere)))
+compiled_repetition d ere body min max node e has =
     AreSame-trans (Repeats-same has.words min max)
-    (language_same (sym (ap tree_words (ap tree_of e ∙ tree_of-Repeat body min max))))
+    (language_same (read-repeat d min max (pattern_words body.value) ∙ ap (read d) (sym (ap tree_words (ap tree_of e ∙ tree_of-Repeat body min max)))))
 
-pub compiled_parts : (all : List Part) (ns : List Node) → AllHaveWords ns (map part_words all) →
-    AreSame (WordsOf (cat_all (map core_of ns))) (Language (parts_words (map part_of all)))
-compiled_parts all ns has = AreSame-trans (AllHaveWords-row ns (map part_words all) has) (language_same (parts_words-list all))
+pub compiled_parts : (d : Direction) (all : List Part) (ns : List Node) → AllHaveWords ns (map (read d) (map part_words all)) →
+    AreSame (WordsOf (cat_all (ordered d (map core_of ns)))) (Language (read d (parts_words (map part_of all))))
+compiled_parts d all ns has = AreSame-trans (row_read d ns (map part_words all) has) (language_same (ap (read d) (parts_words-list all)))
 
 -- compiled nodes with the words of another set that is the same
 pub changed : {E : Type 0} {P Q : Word → Type 0} (r : Result Node E) → AreSame P Q → IfOk r (HasWords P) → IfOk r (HasWords Q)
@@ -106,12 +147,21 @@ changed (Ok node) s h = record { words = AreSame-trans h.words s; measured = h.m
 changed (Err e) s h = tt
 
 -- letters
-pub text_words : (cs : List ℕ) → AreSame (WordsOf (cat_all (letter_cores cs))) (Language (words.letters cs))
+text_words : (cs : List ℕ) → AreSame (WordsOf (cat_all (letter_cores cs))) (Language (words.letters cs))
 text_words [] = AreSame-refl (Language words.empty)
 text_words (c ∷ cs) = Cat-same (AreSame-refl (Language (words.letter c))) (text_words cs)
 
-pub letters_compiled : (cs items : List ℕ) (node : Node) → items ≡ cs → IsBuilt (cat_all (letter_cores items)) node → HasWords (Language (words.letters cs)) node
-letters_compiled cs items node same built = record {
-  words = subst (λ r. AreSame (WordsOf r) (Language (words.letters cs))) (sym (built.stands ∙ ap (λ x. cat_all (letter_cores x)) same)) (text_words cs);
+text_read : (d : Direction) (cs : List ℕ) → AreSame (WordsOf (cat_all (letter_cores (ordered d cs)))) (Language (read d (words.letters cs)))
+text_read Forward cs = text_words cs
+text_read Backward [] = AreSame-refl (Language words.empty)
+text_read Backward (c ∷ cs) =
+    subst (λ rs. AreSame (WordsOf (cat_all rs)) (Language (words.cat (mirrored (words.letters cs)) (words.letter c))))
+    (sym (ap letter_cores (reverse-cons c cs) ∙ map-append (λ d. one (λ c. c == d)) (reverse cs) (c ∷ [])))
+    (AreSame-trans (cat_all-push (letter_cores (reverse cs)) (one (λ d. d == c))) (Cat-same (text_read Backward cs) (AreSame-refl (Language (words.letter c)))))
+
+pub letters_compiled : (d : Direction) (cs items : List ℕ) (node : Node) → items ≡ ordered d cs → IsBuilt (cat_all (letter_cores items)) node →
+    HasWords (Language (read d (words.letters cs))) node
+letters_compiled d cs items node same built = record {
+  words = subst (λ r. AreSame (WordsOf r) (Language (read d (words.letters cs)))) (sym (built.stands ∙ ap (λ x. cat_all (letter_cores x)) same)) (text_read d cs);
   measured = built.measured;
 }

@@ -1,7 +1,7 @@
 -- What runs stand for that began anew, or have taken a token.
 use Rattle.std.proofs.Common.{◌≡◌, ◌⊎◌, inl, inr, ℕ, zero, suc, List, [], ◌∷◌, ◌++◌, length, Some, refl, sym, ap, ◌∙◌, subst, append_assoc}
 use Rattle.std.proofs.lemmas.Option.{none-some, same_Some}
-use Rattle.std.specs.List.{slice_get}
+use Rattle.std.specs.List.{slice_get, Contains}
 use Rattle.std.proofs.Math.Logic.{∥∥₁_map, ∥∥₁_elim, ⊎_elim}
 use mathlib.Core.HLevel.{⊥_prop}
 use Rattle.lic_words.specs.Describing.{IsDescribed}
@@ -39,19 +39,20 @@ module _ (set : List Known) (numbers kept : List ℕ) (runs : List Run) (ts : Li
   AllStand-kept stand = λ k known run h is there. stand k known run (m.within k h) is there
 
   -- those that were dropped describe nothing more
-  pub OthersDescribeNone-kept : length set ≡ length runs → AllStand set runs numbers ts → OthersDescribeNone set numbers ts → OthersDescribeNone set kept ts
-  OthersDescribeNone-kept same stand others = λ k known gone is more described.
-      others k known
+  pub OthersDescribeNone-kept : (such : ℕ → Type 0) → length set ≡ length runs → AllStand set runs numbers ts → OthersDescribeNone set such numbers ts →
+      OthersDescribeNone set such kept ts
+  OthersDescribeNone-kept such same stand others = λ k known among gone is more described.
+      others k known among
       (λ h.
       let (run, there) = slice_get-some runs set k known same is in
       ∥∥₁_elim (stand k known run h is there) ⊥_prop (λ s. m.dropped k run h gone there (words_of known) ts s more described))
       is more described
 
 -- what describes no list that begins with some tokens describes none that goes on with one token more
-pub OthersDescribeNone-more : (set : List Known) (numbers : List ℕ) (ts : List (List ℕ)) (token : List ℕ) → OthersDescribeNone set numbers ts →
-    OthersDescribeNone set numbers (ts ++ token ∷ [])
-OthersDescribeNone-more set numbers ts token others = λ k known h is more described.
-    others k known h is (token ∷ more) (subst (IsDescribed (words_of known)) (append_assoc ts (token ∷ []) more) described)
+pub OthersDescribeNone-more : (set : List Known) (such : ℕ → Type 0) (numbers : List ℕ) (ts : List (List ℕ)) (token : List ℕ) →
+    OthersDescribeNone set such numbers ts → OthersDescribeNone set such numbers (ts ++ token ∷ [])
+OthersDescribeNone-more set such numbers ts token others = λ k known among h is more described.
+    others k known among h is (token ∷ more) (subst (IsDescribed (words_of known)) (append_assoc ts (token ∷ []) more) described)
 
 -- an element of a list with one more at its end
 pub slice_get-push : {X : Type 0} → (xs : List X) (x : X) (k : ℕ) (y : X) → slice_get (xs ++ x ∷ []) k ≡ Some y → (slice_get xs k ≡ Some y) ⊎ ((k ≡ length xs) × (x ≡ y))
@@ -71,33 +72,33 @@ HaveTrees-push set runs run trees new = λ k known r is there.
     (slice_get-push runs run k r there)
 
 -- what is known before a token: the runs of these numbers stand for what has come, and the others can describe nothing with the token
-pub record IsBefore (set : List Known) (runs : List Run) (numbers : List ℕ) (ts : List (List ℕ)) (token : List ℕ) : Type 0 where
+pub record IsBefore (set : List Known) (such : ℕ → Type 0) (runs : List Run) (numbers : List ℕ) (ts : List (List ℕ)) (token : List ℕ) : Type 0 where
   pub stand : AllStand set runs numbers ts
-  pub others : OthersDescribeNone set numbers (ts ++ token ∷ [])
+  pub others : OthersDescribeNone set such numbers (ts ++ token ∷ [])
 
 -- what is known then
-pub record IsAfter (set : List Known) (runs : List Run) (numbers : List ℕ) (ts : List (List ℕ)) : Type 0 where
+pub record IsAfter (set : List Known) (such : ℕ → Type 0) (runs : List Run) (numbers : List ℕ) (ts : List (List ℕ)) : Type 0 where
   pub stand : AllStand set runs numbers ts
-  pub others : OthersDescribeNone set numbers ts
+  pub others : OthersDescribeNone set such numbers ts
 
-module _ (set : List Known) (numbers : List ℕ) (token : List ℕ) where
+module _ (set : List Known) (such : ℕ → Type 0) (numbers : List ℕ) (token : List ℕ) where
   pub IsBefore-begun : (old new : List Run) → AreChanged Resets numbers old new → HaveTrees set old →
-      OthersDescribeNone set numbers (token ∷ []) → IsBefore set new numbers [] token
-  IsBefore-begun old new begun trees others = record { stand = AllStand-reset set numbers old new begun trees; others = others }
+      ((k : ℕ) (known : Known) → ¬ (Contains numbers k) → slice_get set k ≡ Some known → (more : List (List ℕ)) → ¬ (IsDescribed (words_of known) (token ∷ more))) →
+      IsBefore set such new numbers [] token
+  IsBefore-begun old new begun trees others = record {
+    stand = AllStand-reset set numbers old new begun trees;
+    others = λ k known among gone is more. others k known gone is more;
+  }
 
-  pub IsBefore-on : (runs : List Run) (ts : List (List ℕ)) → AllStand set runs numbers ts → OthersDescribeNone set numbers ts → IsBefore set runs numbers ts token
-  IsBefore-on runs ts stand others = record { stand = stand; others = OthersDescribeNone-more set numbers ts token others }
+  pub IsBefore-on : (runs : List Run) (ts : List (List ℕ)) → AllStand set runs numbers ts → OthersDescribeNone set such numbers ts →
+      IsBefore set such runs numbers ts token
+  IsBefore-on runs ts stand others = record { stand = stand; others = OthersDescribeNone-more set such numbers ts token others }
 
-  pub IsAfter-taken : (kept : List ℕ) (old new : List Run) (ts : List (List ℕ)) → IsBefore set old numbers ts token → AreChanged (Takes token) numbers old new →
-      AreKept numbers kept new → length set ≡ length new → IsAfter set new kept (ts ++ token ∷ [])
+  pub IsAfter-taken : (kept : List ℕ) (old new : List Run) (ts : List (List ℕ)) → IsBefore set such old numbers ts token →
+      AreChanged (Takes token) numbers old new → AreKept numbers kept new → length set ≡ length new → IsAfter set such new kept (ts ++ token ∷ [])
   IsAfter-taken kept old new ts before taken keeps same =
       let stand = AllStand-taken set numbers old new token ts taken before.stand in
       record {
         stand = AllStand-kept set numbers kept new (ts ++ token ∷ []) keeps stand;
-        others = OthersDescribeNone-kept set numbers kept new (ts ++ token ∷ []) keeps same stand before.others;
+        others = OthersDescribeNone-kept set numbers kept new (ts ++ token ∷ []) keeps such same stand before.others;
       }
-
--- a list with a token at its end is not empty
-pub some_token : (ts : List (List ℕ)) (t : List ℕ) → ts ++ t ∷ [] ≡ [] → ⊥
-some_token [] t e = cc
-some_token (u ∷ ts) t e = cc

@@ -8,6 +8,8 @@ use Rattle.lic_marks.specs.Cores.{WordsOf}
 use Rattle.lic_marks.specs.Nodes.{core_of}
 use Rattle.lic_marks.specs.declared.node.Node.{Node}
 use Rattle.lic_auto.specs.Beginnings.{Begins}
+use Rattle.lic_auto.specs.Directions.{ordered}
+use Rattle.lic_auto.specs.declared.direction.Direction.{Direction}
 use Rattle.lic_keys.specs.Rising.{IsRising}
 use Rattle.lic_auto.specs.declared.index.Index.{Index}
 
@@ -21,11 +23,11 @@ abbrev pub listed : Index → List ℕ → List ℕ
 listed index text = list_at index.lists.items index.others.items (get_by_text index.places text)
 
 -- The index names the numbers of trees in rising order, and for each head those of all trees that have a word which begins
--- with it.
-pub record IsIndexOf (index : Index) (trees : List Node) : Type 0 where
+-- with it as it is read in this direction.
+pub record IsIndexOf (direction : Direction) (index : Index) (trees : List Node) : Type 0 where
   pub rising : (text : List ℕ) → IsRising (listed index text) (length trees)
   pub rest : (text : List ℕ) (k : ℕ) (tree : Node) → IsUtf8 text → slice_get trees k ≡ Some tree → ¬ (Contains (listed index text) k)
-      → ¬ (Begins (WordsOf (core_of tree)) (chars text))
+      → ¬ (Begins (WordsOf (core_of tree)) (ordered direction (chars text)))
 
 -- the number is named for these texts now, and what was named is
 pub record Adds (texts : List ℕ → Type 0) (number : ℕ) (old new : Index) : Type 0 where

@@ -1,3 +1,4 @@
+pub mod Directions
 pub mod Sets
 pub mod Listing
 pub mod Heads
@@ -9,4 +10,6 @@ pub mod Compiled
 pub mod Compiling
 pub mod Choices
 pub mod Walks
+pub mod Seeking
+pub mod Backs
 pub mod Runs

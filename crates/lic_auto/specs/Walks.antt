@@ -19,9 +19,9 @@ abbrev pub AllStand : List Known → List Run → List ℕ → List (List ℕ) �
 AllStand set runs numbers ts = (k : ℕ) (known : Known) (run : Run) → Contains numbers k → slice_get set k ≡ Some known → slice_get runs k ≡ Some run
     → ∥ Stands run (words_of known) ts ∥₁
 
--- the templates of all other numbers describe no list that begins with the tokens
-abbrev pub OthersDescribeNone : List Known → List ℕ → List (List ℕ) → Type 0
-OthersDescribeNone set numbers ts = (k : ℕ) (known : Known) → ¬ (Contains numbers k) → slice_get set k ≡ Some known
+-- such templates describe no list that begins with the tokens, but for those of these numbers
+abbrev pub OthersDescribeNone : List Known → (ℕ → Type 0) → List ℕ → List (List ℕ) → Type 0
+OthersDescribeNone set such numbers ts = (k : ℕ) (known : Known) → such k → ¬ (Contains numbers k) → slice_get set k ≡ Some known
     → (more : List (List ℕ)) → ¬ (IsDescribed (words_of known) (ts ++ more))
 
 -- the run begins anew

@@ -8,16 +8,19 @@ ghost use Rattle.lic_phrases.specs.TokenTexts.{IsTokenText};
 ghost use Rattle.lic_keys.specs.Rising.{IsRising};
 ghost use Rattle.lic_marks.specs.Cores.{HasWordsOf};
 ghost use Rattle.lic_marks.specs.Nodes.{core_of, is_measured};
+ghost use Rattle.lic_auto.specs.Directions.{ordered, read};
 ghost use Rattle.lic_auto.specs.Picked.{HaveTheirTrees, IsIndexed, picked};
 ghost use Rattle.lic_auto.specs.Sets.{Known, words_of};
 
-use crate::head::head_of;
+use crate::direction::Direction;
+use crate::head::read_head;
 use crate::index::Index;
 use crate::set::Set;
 use lic_marks::node::Node;
 use std::alloc::{AllocError, Global};
 
-/// Some templates of a set. What is said of a place is said of the template whose number stands at this place.
+/// Some templates of a set, whose words are read in one direction. What is said of a place is said of the template whose number
+/// stands at this place.
 #[derive(Debug, Drop)]
 pub struct Chosen<'s> {
     set: &'s Set,
@@ -25,26 +28,34 @@ pub struct Chosen<'s> {
     numbers: Vec<usize>,
     // the tree of each
     trees: Vec<&'s Node>,
+    direction: Direction,
     index: Index,
     ghost rising: { IsRising numbers.items (length set.now) },
-    ghost indexed: { IsIndexed (picked set.now numbers.items) (map (λ tree. tree.now) trees.items) index },
+    ghost indexed: { IsIndexed direction (picked set.now numbers.items) (map (λ tree. tree.now) trees.items) index },
 }
 
 impl<'s> Chosen<'s> {
-    ghost use Rattle.lic_auto.specs.Choices.{templates_of};
+    ghost use Rattle.lic_auto.specs.Choices.{templates_of, ArePlaces};
 
     /// The templates of these numbers.
-    pub fn new(alloc: Global, set: &'s Set, numbers: Vec<usize>) -> Result<Chosen<'s>, AllocError>
+    pub fn new(
+        alloc: Global,
+        set: &'s Set,
+        numbers: Vec<usize>,
+        direction: Direction,
+    ) -> Result<Chosen<'s>, AllocError>
         requires { IsRising numbers.items (length set.now) }
+        ensures direction { IfOk result (λ chosen. chosen.direction ≡ direction) }
         ensures set { IfOk result (λ chosen. chosen.set.now ≡ set.now) }
         ensures numbers { IfOk result (λ chosen. chosen.numbers.items ≡ numbers.items) }
     {
-        let trees = trees_of(alloc, set, &numbers)?;
-        let index = Index::build(alloc, &trees)?;
+        let trees = trees_of(alloc, set, &numbers, direction)?;
+        let index = Index::build(alloc, &trees, direction)?;
         Ok(Chosen {
             set,
             numbers,
             trees,
+            direction,
             index,
         })
     }
@@ -77,34 +88,64 @@ impl<'s> Chosen<'s> {
         None
     }
 
+    /// Writes the places of these numbers, one for each.
+    pub fn find_places(&self, numbers: &[usize], places: &mut [usize])
+        requires within { (k : ℕ) → Contains numbers.now k → Contains self.now.numbers.items k }
+        requires room { length places.old ≡ length numbers.now }
+        ensures room { length places.new ≡ length numbers.now }
+        ensures places { ArePlaces self.now.numbers.items places.new numbers.now }
+    {
+        for i in 0..numbers.len() {
+            let place = self.place_of(numbers[i]);
+            places[i] = place;
+        }
+    }
+
+    fn place_of(&self, number: usize) -> usize
+        requires { Contains self.now.numbers.items number }
+        ensures inside { result < length self.now.numbers.items }
+        ensures there { slice_index self.now.numbers.items result ≡ number }
+    {
+        match self.numbers.binary_search(&number) {
+            Ok(place) => place,
+            Err(_) => unreachable!(),
+        }
+    }
+
     /// The tree at a place.
     pub fn tree(&self, place: usize) -> &'s Node
         requires { place < length (templates_of self.now) }
         ensures measured { IsTrue (is_measured result.now) }
-        ensures words { (known : Known) → slice_get (templates_of self.now) place ≡ Some known → ∥ HasWordsOf (core_of result.now) (words_of known) ∥₁ }
+        ensures words { (known : Known) → slice_get (templates_of self.now) place ≡ Some known
+            → ∥ HasWordsOf (core_of result.now) (read self.now.direction (words_of known)) ∥₁ }
     {
         self.trees[place]
     }
 
-    /// The places of the templates that a text can enter whose first token this is, in rising order.
+    /// The places of the templates that a text can enter whose first token, as it is read, this is, in rising order.
     pub fn entered_by(&self, token: &str) -> &[usize]
         requires { IsTokenText token.now }
         ensures rising { IsRising result.now (length (templates_of self.now)) }
         ensures rest { (k : ℕ) (known : Known) → slice_get (templates_of self.now) k ≡ Some known → ¬ (Contains result.now k)
-            → (more : List (List ℕ)) → ¬ (IsDescribed (words_of known) (chars token.now ∷ more)) }
+            → (more : List (List ℕ)) → ¬ (IsDescribed (read self.now.direction (words_of known)) (ordered self.now.direction (chars token.now) ∷ more)) }
     {
-        self.index.entered_by(head_of(token))
+        self.index.entered_by(read_head(token, self.direction))
     }
 }
 
-// The trees of the templates of these numbers.
-fn trees_of<'s>(alloc: Global, set: &'s Set, numbers: &[usize]) -> Result<Vec<&'s Node>, AllocError>
+// The trees of the templates of these numbers, whose words are read in a direction.
+fn trees_of<'s>(
+    alloc: Global,
+    set: &'s Set,
+    numbers: &[usize],
+    direction: Direction,
+) -> Result<Vec<&'s Node>, AllocError>
     requires { IsRising numbers.now (length set.now) }
-    ensures { IfOk result (λ trees. HaveTheirTrees (picked set.now numbers.now) (map (λ tree. tree.now) trees.items)) }
+    ensures { IfOk result (λ trees. HaveTheirTrees direction (picked set.now numbers.now) (map (λ tree. tree.now) trees.items)) }
 {
     let mut trees = Vec::with_capacity(alloc, numbers.len())?;
     for number in numbers {
-        trees.push(set.tree(*number))?;
+        trees.push(set.tree(*number, direction))?;
     }
     Ok(trees)
 }

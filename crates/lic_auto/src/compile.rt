@@ -9,8 +9,10 @@ ghost use Rattle.lic_marks.specs.Cores.{WordsOf, cat_all, alt_all, alt as either
 ghost use Rattle.lic_marks.specs.Marks.{is_nullable};
 ghost use Rattle.lic_marks.specs.Rows.{weight};
 ghost use Rattle.lic_marks.specs.Nodes.{core_of, is_measured, IsBuilt};
+ghost use Rattle.lic_auto.specs.Directions.{ordered, read};
 ghost use Rattle.lic_auto.specs.Compiling.{HasWords, AllHaveWords, Repeats, pattern_words};
 
+use crate::direction::Direction;
 use lic_ere::Ere;
 use lic_marks::build;
 use lic_marks::node::Node;
@@ -18,74 +20,86 @@ use lic_marks::test::Test;
 use lic_markup::Part;
 use std::alloc::{AllocError, Global};
 
-/// The words of parts in a row, as a compiled tree.
+/// The words of parts in a row as they are read in a direction, as a compiled tree.
 ///
 /// # Errors
 /// Memory is lacking, or the tree weighs more than the greatest `usize`.
 #[cycle(compile)]
-pub(crate) fn compile(alloc: Global, parts: &[Part]) -> Result<Node, AllocError>
-    ensures { IfOk result (HasWords (Language (parts_words (map part_of parts.now)))) }
+pub(crate) fn compile(
+    alloc: Global,
+    parts: &[Part],
+    direction: Direction,
+) -> Result<Node, AllocError>
+    ensures { IfOk result (HasWords (Language (read direction (parts_words (map part_of parts.now))))) }
 {
     let mut children = Vec::new(alloc);
     for part in parts {
-        children.push(compile_part(alloc, part)?)?;
+        children.push(compile_part(alloc, part, direction)?)?;
     }
-    row(alloc, children)
+    ordered_row(alloc, children, direction)
 }
 
 #[cycle(compile)]
-fn compile_part(alloc: Global, part: &Part) -> Result<Node, AllocError>
-    ensures { IfOk result (HasWords (Language (part_words part.now))) }
+fn compile_part(alloc: Global, part: &Part, direction: Direction) -> Result<Node, AllocError>
+    ensures { IfOk result (HasWords (Language (read direction (part_words part.now)))) }
 {
     match part {
-        Part::Text(text) => compile_text(alloc, text),
+        Part::Text(text) => compile_text(alloc, text, direction),
         Part::Var { ere, .. } => {
-            let pattern = Box::new(alloc, compile_pattern(alloc, ere)?)?;
+            let pattern = Box::new(alloc, compile_tree(alloc, ere, direction)?)?;
             Ok(build::tidy(pattern))
         }
-        Part::Optional(parts) => optional(alloc, compile(alloc, parts)?),
+        Part::Optional(parts) => optional(alloc, compile(alloc, parts, direction)?),
     }
 }
 
-fn compile_text(alloc: Global, text: &str) -> Result<Node, AllocError>
-    ensures { IfOk result (HasWords (Language (letters (chars text.now)))) }
+fn compile_text(alloc: Global, text: &str, direction: Direction) -> Result<Node, AllocError>
+    ensures { IfOk result (HasWords (Language (read direction (letters (chars text.now))))) }
 {
-    Ok(build::letters(text.chars().collect(alloc)?))
+    let mut text: Vec<char> = text.chars().collect(alloc)?;
+    direction.order(&mut text);
+    Ok(build::letters(text))
 }
 
 /// The words of a pattern, as a compiled tree.
 ///
 /// # Errors
 /// Memory is lacking, or the tree weighs more than the greatest `usize`.
-#[cycle(compile_pattern)]
 pub fn compile_pattern(alloc: Global, ere: &Ere) -> Result<Node, AllocError>
     ensures { IfOk result (HasWords (Language (pattern_words ere.now))) }
+{
+    compile_tree(alloc, ere, Direction::Forward)
+}
+
+#[cycle(compile_tree)]
+fn compile_tree(alloc: Global, ere: &Ere, direction: Direction) -> Result<Node, AllocError>
+    ensures { IfOk result (HasWords (Language (read direction (pattern_words ere.now)))) }
 {
     match ere {
         Ere::Empty => Ok(empty_word(alloc)),
         Ere::Char(letter) => Ok(build::one(Test::Letter(*letter))),
         Ere::Any => Ok(build::one(Test::Any)),
         Ere::Set(class) => Ok(build::one(Test::Class(class.copy(alloc)?))),
-        Ere::Cat(subs) => row(alloc, compile_patterns(alloc, subs)?),
-        Ere::Alt(subs) => choice(alloc, compile_patterns(alloc, subs)?),
+        Ere::Cat(subs) => ordered_row(alloc, compile_trees(alloc, subs, direction)?, direction),
+        Ere::Alt(subs) => choice(alloc, compile_trees(alloc, subs, direction)?),
         Ere::Repeat { body, min, max } => match *max {
             Some(max) if max < *min => Ok(no_word(alloc)),
             Some(0) => Ok(empty_word(alloc)),
             max => {
-                let body = compile_pattern(alloc, body)?;
+                let body = compile_tree(alloc, body, direction)?;
                 repetition(alloc, body, *min, max)
             }
         },
     }
 }
 
-#[cycle(compile_pattern)]
-fn compile_patterns(alloc: Global, subs: &[Ere]) -> Result<Vec<Node>, AllocError>
-    ensures { IfOk result (λ nodes. AllHaveWords nodes.items (map pattern_words subs.now)) }
+#[cycle(compile_tree)]
+fn compile_trees(alloc: Global, subs: &[Ere], direction: Direction) -> Result<Vec<Node>, AllocError>
+    ensures { IfOk result (λ nodes. AllHaveWords nodes.items (map (read direction) (map pattern_words subs.now))) }
 {
     let mut nodes = Vec::new(alloc);
     for sub in subs {
-        nodes.push(compile_pattern(alloc, sub)?)?;
+        nodes.push(compile_tree(alloc, sub, direction)?)?;
     }
     Ok(nodes)
 }
@@ -111,6 +125,19 @@ fn has_empty_word(node: Node) -> bool
     ensures { result ≡ is_nullable (core_of node) }
 {
     build::is_nullable(&node)
+}
+
+/// One child after another as they are read in a direction.
+fn ordered_row(
+    alloc: Global,
+    mut children: Vec<Node>,
+    direction: Direction,
+) -> Result<Node, AllocError>
+    requires { IsTrue (list_all is_measured children.items) }
+    ensures { IfOk result (HasWords (WordsOf (cat_all (ordered direction (map core_of children.items))))) }
+{
+    direction.order(&mut children);
+    row(alloc, children)
 }
 
 /// One child after another. The children that weigh 0 are left out.

@@ -1,12 +1,14 @@
 //! The heads with which the words of a compiled expression can begin.
 
-ghost use Rattle.std.specs.Prelude.{◌≡◌, ℕ, List, IfOk, OnOk, map, replicate, string_bytes};
+ghost use Rattle.std.specs.Prelude.{◌≡◌, ℕ, List, IfOk, OnOk, map, replicate, reverse, string_bytes};
 ghost use Rattle.std.specs.Str.{chars, IsUtf8, encode_utf8_all};
 ghost use Rattle.lic_auto.specs.Heads.{BeginsWithLetter};
 ghost use Rattle.lic_marks.specs.Cores.{WordsOf, one, cat_all, alt_all, any_front};
 ghost use Rattle.lic_marks.specs.Nodes.{core_of, letter_cores, passes};
 ghost use Rattle.lic_auto.specs.Beginnings.{Begins};
+ghost use Rattle.lic_auto.specs.Directions.{ordered};
 
+use crate::direction::Direction;
 use crate::head::{known_head, letters_from};
 use lic_marks::node::Node;
 use lic_marks::test::Test;
@@ -23,17 +25,43 @@ pub struct Firsts {
 impl Firsts {
     ghost use Rattle.lic_auto.specs.Firsts.{IsFirst};
 
-    /// The heads with which words of the expression can begin, and perhaps some others.
-    pub fn of(alloc: Global, node: &Node) -> Result<Firsts, AllocError>
-        ensures { IfOk result (λ firsts. (text : List ℕ) → IsUtf8 text → Begins (WordsOf (core_of node.now)) (chars text) → IsFirst firsts text) }
+    /// The texts that begin words of the expression once they are read in a direction, and perhaps some others.
+    pub fn of(alloc: Global, node: &Node, direction: Direction) -> Result<Firsts, AllocError>
+        ensures { IfOk result (λ firsts. (text : List ℕ) → IsUtf8 text → Begins (WordsOf (core_of node.now)) (ordered direction (chars text)) → IsFirst firsts text) }
     {
         let mut firsts = Firsts {
             heads: Vec::new(alloc),
             any: false,
         };
         let _ = gather(alloc, node, &mut firsts)?;
-        Ok(firsts)
+        match direction {
+            Direction::Forward => Ok(firsts),
+            Direction::Backward => firsts.turned(alloc),
+        }
     }
+
+    // The same texts from their ends.
+    fn turned(&self, alloc: Global) -> Result<Firsts, AllocError>
+        ensures { IfOk result (λ firsts. (text : List ℕ) → IsUtf8 text → IsFirst self.now (encode_utf8_all (reverse (chars text))) → IsFirst firsts text) }
+    {
+        let mut heads = Vec::with_capacity(alloc, self.heads.len())?;
+        for head in &self.heads {
+            heads.push(turned_text(alloc, head.as_str())?)?;
+        }
+        Ok(Firsts {
+            heads,
+            any: self.any,
+        })
+    }
+}
+
+// The letters of a text from the last to the first.
+fn turned_text(alloc: Global, text: &str) -> Result<String, AllocError>
+    ensures { IfOk result (λ turned. string_bytes turned ≡ encode_utf8_all (reverse (chars text.now))) }
+{
+    let mut letters: Vec<char> = text.chars().collect(alloc)?;
+    Direction::Backward.order(&mut letters);
+    text_of(alloc, &letters)
 }
 
 ghost use Rattle.lic_auto.specs.Firsts.{Gathers, GathersRow, AddsHead};

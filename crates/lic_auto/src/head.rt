@@ -1,15 +1,17 @@
 //! Heads, by which templates are looked up: the letters of words in front, or else the first letter alone.
 
-ghost use Rattle.std.specs.Prelude.{◌≡◌, ◌≢◌, ◌∷◌, ◌++◌, ℕ, List, [], IfSome, IfNone};
+ghost use Rattle.std.specs.Prelude.{◌≡◌, ◌≢◌, ◌∷◌, ◌++◌, ℕ, List, [], IfSome, IfNone, reverse};
 ghost use Rattle.std.specs.Str.{chars};
 ghost use Rattle.lic_words.specs.Words.{blank};
 ghost use Rattle.lic_phrases.specs.TokenTexts.{IsTokenText};
+ghost use Rattle.lic_auto.specs.Directions.{ordered};
 ghost use Rattle.lic_auto.specs.Heads.{head_of, BeginsWithLetter, IsBehindBlanks};
 
+use crate::direction::Direction;
 use lic_kind::is_word;
 
 /// The head of the text of a token.
-pub fn head_of(token: &str) -> &str
+fn head_of(token: &str) -> &str
     requires { IsTokenText token.now }
     ensures { chars result.now ≡ head_of (chars token.now) }
 {
@@ -20,6 +22,45 @@ pub fn head_of(token: &str) -> &str
     match token.find(|c: char| !is_word(c)) {
         Some(end) => &token[..end],
         None => token,
+    }
+}
+
+/// The tail of the text of a token: the letters of words at its end, or else the last letter alone.
+fn tail_of(token: &str) -> &str
+    requires { IsTokenText token.now }
+    ensures { reverse (chars result.now) ≡ head_of (reverse (chars token.now)) }
+{
+    let mut letters = token.chars();
+    let last = letters.next_back().unwrap();
+    let front = letters.as_str();
+    if !is_word(last) {
+        return &token[front.len()..];
+    }
+    match token.rfind(|c: char| !is_word(c)) {
+        Some(other) => behind_first(&token[other..]),
+        None => token,
+    }
+}
+
+// A text without its first letter.
+fn behind_first(text: &str) -> &str
+    ensures { (c : ℕ) (rest : List ℕ) → chars text.now ≡ c ∷ rest → chars result.now ≡ rest }
+{
+    let mut letters = text.chars();
+    match letters.next() {
+        Some(_) => letters.as_str(),
+        None => text,
+    }
+}
+
+/// The head of the text of a token as it is read in a direction: its head, or its tail.
+pub fn read_head(token: &str, direction: Direction) -> &str
+    requires { IsTokenText token.now }
+    ensures { ordered direction (chars result.now) ≡ head_of (ordered direction (chars token.now)) }
+{
+    match direction {
+        Direction::Forward => head_of(token),
+        Direction::Backward => tail_of(token),
     }
 }
 

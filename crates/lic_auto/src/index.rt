@@ -5,6 +5,7 @@ ghost use Rattle.std.specs.HashMap.{get_by_text};
 ghost use Rattle.std.specs.List.{slice_get};
 ghost use Rattle.lic_auto.specs.Listing.{Grows};
 
+use crate::direction::Direction;
 use crate::first::Firsts;
 use lic_marks::node::Node;
 use std::alloc::{AllocError, Global};
@@ -28,9 +29,9 @@ impl Index {
     ghost use Rattle.lic_auto.specs.Indexes.{IsIndexOf, Adds, listed};
     ghost use Rattle.lic_auto.specs.Firsts.{IsFirst};
 
-    /// An index of trees, each under its place.
-    pub fn build(alloc: Global, trees: &[&Node]) -> Result<Index, AllocError>
-        ensures { IfOk result (λ index. IsIndexOf index (map (λ tree. tree.now) trees.now)) }
+    /// An index of trees whose words are read in a direction, each under its place.
+    pub fn build(alloc: Global, trees: &[&Node], direction: Direction) -> Result<Index, AllocError>
+        ensures { IfOk result (λ index. IsIndexOf direction index (map (λ tree. tree.now) trees.now)) }
     {
         let mut index = Index {
             places: HashMap::new(alloc),
@@ -38,7 +39,7 @@ impl Index {
             others: Vec::new(alloc),
         };
         for (number, tree) in trees.iter().enumerate() {
-            let firsts = Firsts::of(alloc, tree)?;
+            let firsts = Firsts::of(alloc, tree, direction)?;
             index.add(alloc, number, &firsts)?;
         }
         Ok(index)

@@ -1,11 +1,15 @@
 //! All templates at once: which of them describe a list of tokens that comes token by token.
 #![tactic(auto)]
 
+pub mod back;
 mod chosen;
 pub mod compile;
+mod direction;
 mod first;
 mod head;
 mod index;
+pub mod laws;
 pub mod run;
+mod seeking;
 pub mod set;
 mod walk;

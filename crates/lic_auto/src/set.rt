@@ -10,8 +10,10 @@ ghost use Rattle.lic_keys.specs.Looks.{HasTaken, keys_of};
 ghost use Rattle.lic_auto.specs.Sets.{RepeatsAt, all_known, words_of};
 ghost use Rattle.lic_auto.specs.Compiled.{parts_of};
 ghost use Rattle.lic_auto.specs.Compiling.{AllHaveWords};
+ghost use Rattle.lic_auto.specs.Directions.{read};
 
 use crate::compile::compile;
+use crate::direction::Direction;
 use lic_keys::keys::Keys;
 use lic_keys::look::Look;
 use lic_marks::node::Node;
@@ -59,6 +61,8 @@ pub struct Named {
 pub struct Set {
     named: Vec<Named>,
     trees: Vec<Node>,
+    // the trees whose words are read from the end
+    mirrored: Vec<Node>,
     keys: Keys,
 }
 
@@ -75,7 +79,7 @@ impl Model for Set {
 
     ghost view = { λ a. all_known a.named.items };
 
-    ghost invariant = { λ a. IsCompiled (all_known a.named.items) a.trees.items a.keys };
+    ghost invariant = { λ a. IsCompiled (all_known a.named.items) a.trees.items a.mirrored.items a.keys };
 }
 
 impl Set {
@@ -114,9 +118,15 @@ impl Set {
             .into_iter()
             .map(|(id, template)| Named { id, template })
             .collect(alloc)?;
-        let trees = compile_all(alloc, &named)?;
+        let trees = compile_all(alloc, &named, Direction::Forward)?;
+        let mirrored = compile_all(alloc, &named, Direction::Backward)?;
         let keys = build_keys(alloc, &named)?;
-        Ok(Set { named, trees, keys })
+        Ok(Set {
+            named,
+            trees,
+            mirrored,
+            keys,
+        })
     }
 
     /// How many templates there are.
@@ -142,13 +152,17 @@ impl Set {
         &self.named[k].template
     }
 
-    /// The tree of the template number `k`.
-    pub(crate) fn tree(&self, k: usize) -> &Node
+    /// The tree of the template number `k`, whose words are read in a direction.
+    pub(crate) fn tree(&self, k: usize, direction: Direction) -> &Node
         requires { k < length self.now }
         ensures measured { IsTrue (is_measured result.now) }
-        ensures words { (known : Known) → slice_get self.now k ≡ Some known → ∥ HasWordsOf (core_of result.now) (words_of known) ∥₁ }
+        ensures words { (known : Known) → slice_get self.now k ≡ Some known
+            → ∥ HasWordsOf (core_of result.now) (read direction (words_of known)) ∥₁ }
     {
-        &self.trees[k]
+        match direction {
+            Direction::Forward => &self.trees[k],
+            Direction::Backward => &self.mirrored[k],
+        }
     }
 
     /// A look for the templates that can describe a range of a text's tokens.
@@ -160,13 +174,17 @@ impl Set {
     }
 }
 
-// The words of each template as a compiled tree.
-fn compile_all(alloc: Global, named: &[Named]) -> Result<Vec<Node>, AllocError>
-    ensures { IfOk result (λ trees. AllHaveWords trees.items (map words_of (all_known named.now))) }
+// The words of each template as they are read in a direction, as a compiled tree.
+fn compile_all(
+    alloc: Global,
+    named: &[Named],
+    direction: Direction,
+) -> Result<Vec<Node>, AllocError>
+    ensures { IfOk result (λ trees. AllHaveWords trees.items (map (read direction) (map words_of (all_known named.now)))) }
 {
     let mut trees = Vec::new(alloc);
     for one in named {
-        trees.push(compile(alloc, one.template.parts())?)?;
+        trees.push(compile(alloc, one.template.parts(), direction)?)?;
     }
     Ok(trees)
 }

@@ -8,7 +8,8 @@ ghost use Rattle.lic_words.specs.Letters.{letters_in};
 ghost use Rattle.lic_phrases.specs.TokenTexts.{IsTokenText};
 ghost use Rattle.lic_auto.specs.Sets.{Known, words_of};
 ghost use Rattle.lic_keys.specs.Rising.{IsRising};
-ghost use Rattle.lic_auto.specs.Choices.{templates_of};
+ghost use Rattle.lic_auto.specs.Choices.{templates_of, ArePlaces};
+ghost use Rattle.lic_auto.specs.declared.direction.Direction.TheVariants.{Forward};
 ghost use Rattle.lic_auto.specs.Walks.{AreChanged, AreKept, Resets, Takes};
 
 use crate::chosen::Chosen;
@@ -23,6 +24,7 @@ pub fn enter(
     token: &str,
 ) -> usize
     requires token { IsTokenText token.now }
+    requires forward { chosen.now.direction ≡ Forward }
     requires runs { length runs.old ≡ length (templates_of chosen.now) }
     requires room { length live.old ≡ length (templates_of chosen.now) }
     ensures count { result ≤ length live.new }
@@ -35,6 +37,29 @@ pub fn enter(
     let count = numbers.len();
     reset_each(runs, numbers);
     live[..count].copy_from_slice(numbers);
+    count
+}
+
+/// Begins anew with the templates of these numbers, and gives how many they are. Their places stand first in `live`.
+pub fn enter_these(
+    chosen: &Chosen<'_>,
+    runs: &mut [TreeRun<'_>],
+    live: &mut [usize],
+    numbers: &[usize],
+) -> usize
+    requires rising { (n : ℕ) × IsRising numbers.now n }
+    requires within { (k : ℕ) → Contains numbers.now k → Contains chosen.now.numbers.items k }
+    requires runs { length runs.old ≡ length (templates_of chosen.now) }
+    requires room { length live.old ≡ length (templates_of chosen.now) }
+    ensures count { result ≡ length numbers.now }
+    ensures room { result ≤ length live.new }
+    ensures rising { IsRising (take result live.new) (length (templates_of chosen.now)) }
+    ensures begun { AreChanged Resets (take result live.new) runs.old runs.new }
+    ensures places { ArePlaces chosen.now.numbers.items (take result live.new) numbers.now }
+{
+    let count = numbers.len();
+    chosen.find_places(numbers, &mut live[..count]);
+    reset_each(runs, &live[..count]);
     count
 }
 

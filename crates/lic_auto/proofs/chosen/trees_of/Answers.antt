@@ -5,6 +5,7 @@ use Rattle.std.proofs.lemmas.List.{length-map, map-append}
 use Rattle.std.proofs.Math.Logic.{⊎_elim}
 use Rattle.lic_marks.specs.Cores.{HasWordsOf}
 use Rattle.lic_marks.specs.Nodes.{core_of, is_measured}
+use Rattle.lic_auto.specs.Directions.{read}
 use Rattle.lic_auto.specs.Picked.{picked}
 use Rattle.lic_auto.specs.Sets.{words_of}
 use Rattle.lic_auto.proofs.PickedLemmas.{length-picked, picked-at}
@@ -39,7 +40,7 @@ loop-number-preserved c =
           (λ (earlier : slice_get items k ≡ Some one). before.words k known one is earlier)
           (λ (last : (k ≡ length items) × (tree.now ≡ one)).
           let place : k ≡ i = last.0 ∙ size in
-          subst (λ t. ∥ HasWordsOf (core_of t) (words_of known) ∥₁) last.1
+          subst (λ t. ∥ HasWordsOf (core_of t) (read c.args.direction (words_of known)) ∥₁) last.1
           (c.tree.ensures.words known (sym here ∙ ap (slice_get (picked set numbers)) (sym place) ∙ is)))
           (slice_get-push items tree.now k one (ap (λ xs. slice_get xs k) (sym now) ∙ there));
     }

@@ -1,4 +1,4 @@
-use Rattle.std.proofs.Common.{◌≡◌, ℕ, ◌-◌, true, false, not, List, ◌∷◌, take, ne_eqb, rules, sym, ap, ◌∙◌, subst, arith}
+use Rattle.std.proofs.Common.{◌≡◌, ℕ, ◌-◌, true, false, not, List, take, ne_eqb, rules, sym, ap, ◌∙◌, subst, arith}
 use Rattle.std.specs.Char.{len_utf8}
 use Rattle.std.specs.List.{slice_range}
 use Rattle.std.specs.Str.{chars, IsCharBoundary}
@@ -6,13 +6,9 @@ use Rattle.std.proofs.lemmas.List.Sorted.{answers_always}
 use Rattle.lic_words.specs.Words.{blank}
 use Rattle.lic_words.specs.Letters.{is_word}
 use Rattle.lic_auto.specs.Heads.{head_of}
-use Rattle.lic_auto.proofs.Heads.{front_of, head-word, head-other}
-use Rattle.lic_auto.proofs.HeadTexts.{IsCharBoundary-first, chars-first, front-text, front-text_until, other_from_not}
+use Rattle.lic_auto.proofs.Heads.{head-other}
+use Rattle.lic_auto.proofs.HeadTexts.{IsCharBoundary-first, chars-first, head-begun, front-text, front-text_until, other_from_not}
 use Rattle.lic_auto.proofs.head.head_of.Goals as goal
-
--- the head of letters that begin with a letter of a word
-head-begun : (cs : List ℕ) (c : ℕ) (rest : List ℕ) → (c ≡ blank → ⊥) → cs ≡ c ∷ rest → is_word c ≡ true → head_of cs ≡ front_of cs
-head-begun cs c rest letter is word = ap head_of is ∙ head-word c rest (ne_eqb c blank letter) word ∙ ap front_of (sym is)
 
 -- a part of a text from its front
 part : (text : List ℕ) (n : ℕ) → slice_range text 0 n ≡ take n text

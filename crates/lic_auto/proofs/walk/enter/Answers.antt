@@ -1,4 +1,8 @@
-use Rattle.std.proofs.Common.{◌≡◌, ◌≤◌, ◌++◌, length, take, drop, sym, ap, ◌∙◌, subst, arith}
+use Rattle.std.proofs.Common.{◌≡◌, ◌≤◌, ◌∷◌, ◌++◌, length, take, drop, sym, ap, ◌∙◌, subst, arith}
+use Rattle.std.specs.Str.{chars}
+use Rattle.lic_words.specs.Describing.{IsDescribed}
+use Rattle.lic_auto.specs.Directions.{read, ordered}
+use Rattle.lic_auto.specs.Sets.{words_of}
 use Rattle.std.specs.List.{Contains}
 use Rattle.std.proofs.lemmas.List.{length-take-le}
 use Rattle.std.proofs.Math.Seq.{take-append_seam}
@@ -27,4 +31,5 @@ returns-clause-others c = λ k known gone is more described.
     let rest = drop (length numbers) c.args.live.now in
     let front : take (length numbers) (c.copy_from_slice.new.self ++ rest) ≡ numbers =
     ap (λ xs. take (length numbers) (xs ++ rest)) c.copy_from_slice.ensures.after ∙ take-append_seam numbers rest in
-    c.entered_by-numbers.ensures.rest k known is (λ h. gone (subst (λ xs. Contains xs k) (sym front) h)) more described
+    c.entered_by-numbers.ensures.rest k known is (λ h. gone (subst (λ xs. Contains xs k) (sym front) h)) more
+    (subst (λ d. IsDescribed (read d (words_of known)) (ordered d (chars c.args.token.now) ∷ more)) (sym c.requires.forward) described)

@@ -3,4 +3,4 @@ use Rattle.lic_auto.specs.Indexes.{IsIndexOf}
 use Rattle.lic_auto.proofs.index.Index.build.Given as goal
 
 abbrev pub invariant-loop-number : goal.invariant-loop-number
-invariant-loop-number l = IsIndexOf l.index (map (λ tree. tree.now) (take l.number l.trees))
+invariant-loop-number l = IsIndexOf l.direction l.index (map (λ tree. tree.now) (take l.number l.trees))

@@ -14,7 +14,7 @@ use Rattle.lic_auto.proofs.run.Run.accepted_place.Goals as goal
 use Rattle.lic_auto.proofs.run.Run.accepted_place.Goals.{else-number-from-via-then-number-from+else-accepts, else-number-from-via-else-number-from}
 
 pub returns-then-accepts-clause-least : goal.returns-then-accepts-clause-least
-returns-then-accepts-clause-least c = λ ts s.
+returns-then-accepts-clause-least c = λ numbers ts s.
     let self = c.args.self.now in
     let i = c.loop-number.number-index in
     let same : take self.live_count c.deref.result.now ≡ live_of self = ap (take self.live_count) c.deref.ensures.value in
@@ -26,10 +26,11 @@ returns-then-accepts-clause-least c = λ ts s.
     let there : slice_get self.runs.items n ≡ Some c.index.result.now = slice_get_read self.runs.items _ n _ refl within c.index.ensures in
     let live : Contains (live_of self) n = subst (Contains (live_of self)) (sym n_is) (Contains-get_or (live_of self) i 0 inside) in
     let before : FailBefore self.runs.items (live_of self) c.args.from i = subst (λ xs. FailBefore self.runs.items xs c.args.from i) same c.loop-number.invariant in (
+      s.within n live,
       c.if-number-from.true,
-      some_described self ts s n c.index.result.now c.accepts.result live there c.if-accepts.true (λ e us stands. (c.accepts.ensures e us stands).0),
-      λ k known from less is.
-          none_described self ts s k known is
+      some_described self numbers ts s n c.index.result.now c.accepts.result live there c.if-accepts.true (λ e us stands. (c.accepts.ensures e us stands).0),
+      λ k known among from less is.
+          none_described self numbers ts s k known among is
           (λ j known_in at r here stands.
           let first : j < i =
           ⊎_elim (λ (less : j < i). less)
@@ -61,13 +62,13 @@ loop-number-preserved c =
     ])
 
 pub returns-clause-least : goal.returns-clause-least
-returns-clause-least c = λ ts s end k known from less is.
+returns-clause-least c = λ numbers ts s end k known among from less is.
     let self = c.args.self.now in
     let i = c.loop-number.number-index in
     let same : take self.live_count c.deref.result.now ≡ live_of self = ap (take self.live_count) c.deref.ensures.value in
     let before : FailBefore self.runs.items (live_of self) c.args.from i = subst (λ xs. FailBefore self.runs.items xs c.args.from i) same c.loop-number.invariant in
     let size = ap length same in
-    none_described self ts s k known is
+    none_described self numbers ts s k known among is
     (λ j inside at r here stands.
     before j (omega (arith, size, inside, c.loop-number-test.false)) (omega (arith, at, from)) r (ap (slice_get self.runs.items) at ∙ here) (words_of known) ts stands)
 

@@ -3,6 +3,7 @@ use Rattle.std.specs.List.{slice_get}
 use Rattle.lic_marks.specs.Cores.{HasWordsOf}
 use Rattle.lic_marks.specs.Nodes.{core_of}
 use Rattle.lic_auto.specs.Sets.{words_of}
+use Rattle.lic_auto.specs.Directions.{read}
 use Rattle.lic_auto.specs.Choices.{templates_of}
 use Rattle.lic_auto.specs.Walks.{HaveTrees}
 use Rattle.lic_auto.proofs.Walking.{HaveTrees-push}
@@ -18,5 +19,6 @@ loop-k-preserved c =
       trees = subst (HaveTrees set) (sym c.in_ok-push.ensures.items)
           (HaveTrees-push set runs c.in_ok-run.run' c.loop-k.invariant.trees
           (λ known is. subst (λ t. ∥ HasWordsOf (core_of t) (words_of known) ∥₁) (sym c.in_ok-run.ensures.tree)
-          (c.tree.ensures.words known (ap (slice_get set) place ∙ is))));
+          (subst (λ d. ∥ HasWordsOf (core_of c.tree.result.now) (read d (words_of known)) ∥₁) c.in_ok-chosen.ensures.direction
+          (c.tree.ensures.words known (ap (slice_get set) place ∙ is)))));
     }

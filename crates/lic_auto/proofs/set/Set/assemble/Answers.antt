@@ -8,6 +8,7 @@ use Rattle.std.specs.Prelude.{String}
 use Rattle.std.specs.declared.alloc.AllocError.{AllocError}
 use Rattle.lic_markup.specs.Parts.{TemplateValue}
 use Rattle.lic_auto.specs.declared.set.Named.{Named}
+use Rattle.lic_auto.specs.declared.direction.Direction.TheVariants.{Forward, Backward}
 use Rattle.lic_auto.specs.Sets.{known_of, all_known}
 use Rattle.lic_keys.specs.Keys.{AreKeysOf}
 use Rattle.lic_auto.specs.Compiled.{parts_of}
@@ -17,8 +18,9 @@ use Rattle.lic_auto.proofs.set.Set.assemble.Goals as goal
 pub invariant_of-result : goal.invariant_of-result
 invariant_of-result c =
     record {
-      trees = HaveTheirTrees-from_trees (all_known c.in_ok-named.named.items) c.in_ok-trees.trees.items (rw c.deref.ensures.value at c.in_ok-trees.ensures);
-      keys = subst (λ ns. AreKeysOf (parts_of (all_known ns)) c.in_ok-keys.keys) c.deref-2.ensures.value c.in_ok-keys.ensures;
+      trees = HaveTheirTrees-from_trees Forward (all_known c.in_ok-named.named.items) c.in_ok-trees.trees.items (rw c.deref.ensures.value at c.in_ok-trees.ensures);
+      mirrored = HaveTheirTrees-from_trees Backward (all_known c.in_ok-named.named.items) c.in_ok-mirrored.mirrored.items (rw c.deref-2.ensures.value at c.in_ok-mirrored.ensures);
+      keys = subst (λ ns. AreKeysOf (parts_of (all_known ns)) c.in_ok-keys.keys) c.deref-3.ensures.value c.in_ok-keys.ensures;
     }
 
 pub returns : goal.returns

@@ -1,0 +1,10 @@
+use Rattle.std.proofs.Common.{◌≡◌, ◌≤◌, length, take}
+use Rattle.lic_auto.proofs.Gathered.{AreGathered}
+use Rattle.lic_auto.proofs.seeking.gather_live.Given as goal
+
+abbrev pub invariant-loop-place : goal.invariant-loop-place
+invariant-loop-place l = record {
+  few : l.count ≤ l.place;
+  room : length l.live ≡ length l.initial.live;
+  gathered : AreGathered l.chosen.set.now l.chosen.numbers.items l.seekers (take l.count l.live) l.place;
+}

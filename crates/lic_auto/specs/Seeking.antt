@@ -1,0 +1,43 @@
+-- Seekers, one for each template, over a list of tokens that is read from its end.
+use Rattle.std.specs.Prelude.{◌≡◌, ℕ, ◌<◌, ◌≤◌, List, [], ◌∷◌, ◌++◌, length, reverse, slice_index, Some, Contains}
+use Rattle.std.specs.List.{slice_get}
+use Rattle.lic_words.specs.Expressions.{Expression}
+use Rattle.lic_words.specs.Mirrors.{mirrored}
+use Rattle.lic_marks.specs.Cores.{HasWordsOf}
+use Rattle.lic_marks.specs.Nodes.{core_of}
+use Rattle.lic_marks.specs.Seeks.{DescribesEnd, NoneBegins, Seeks, tree_of}
+use Rattle.lic_marks.specs.declared.seek.Seeker.{Seeker}
+use Rattle.lic_auto.specs.Sets.{Known, words_of}
+use Rattle.lic_auto.specs.Choices.{templates_of}
+use Rattle.lic_auto.specs.declared.chosen.Chosen.{Chosen}
+
+-- each seeker's tree has the words of its template, read from their ends
+abbrev pub HaveMirrors : List Known → List Seeker → Type 0
+HaveMirrors set seekers = (k : ℕ) (known : Known) (s : Seeker) → slice_get set k ≡ Some known → slice_get seekers k ≡ Some s
+    → ∥ HasWordsOf (core_of (tree_of s)) (mirrored (words_of known)) ∥₁
+
+-- each seeker stands for the tokens
+abbrev pub AllSeek : List Known → List Seeker → List (List ℕ) → Type 0
+AllSeek set seekers ts = (k : ℕ) (known : Known) (s : Seeker) → slice_get set k ≡ Some known → slice_get seekers k ≡ Some s
+    → ∥ Seeks s (mirrored (words_of known)) ts ∥₁
+
+-- the seekers before a place have changed so, each over its tree, and the others are as they were
+pub record AreChangedBefore (changes : ℕ → Seeker → Seeker → Type 0) (end : ℕ) (old new : List Seeker) : Type 0 where
+  pub count : length new ≡ length old
+  pub trees : (k : ℕ) (a b : Seeker) → slice_get old k ≡ Some a → slice_get new k ≡ Some b → tree_of b ≡ tree_of a
+  pub before : (k : ℕ) (a b : Seeker) → k < end → slice_get old k ≡ Some a → slice_get new k ≡ Some b → changes k a b
+  pub others : (k : ℕ) → end ≤ k → slice_get new k ≡ slice_get old k
+
+-- the seeker begins anew
+abbrev pub BeginsAnew : ℕ → Seeker → Seeker → Type 0
+BeginsAnew k old new = (e : Expression) → HasWordsOf (core_of (tree_of old)) e → Seeks new e []
+
+-- the seeker takes the token, from its end; those that have no number of the list need not be entered there
+abbrev pub TakesTurned : List ℕ → List ℕ → ℕ → Seeker → Seeker → Type 0
+TakesTurned entered token k old new = (e : Expression) (ts : List (List ℕ)) → Seeks old e ts
+    → ((Contains entered k → ⊥) → NoneBegins e (reverse token)) → Seeks new e (ts ++ reverse token ∷ [])
+
+-- the template of this number, at a place before `end`, describes some end of the tokens
+abbrev pub IsFoundBefore : Chosen → ℕ → List (List ℕ) → ℕ → Type 0
+IsFoundBefore chosen end ts n = (place : ℕ) × (place < end) × (slice_index chosen.numbers.items place ≡ n)
+    × ((known : Known) × (slice_get (templates_of chosen) place ≡ Some known) × DescribesEnd (mirrored (words_of known)) ts)

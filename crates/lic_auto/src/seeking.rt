@@ -1,0 +1,84 @@
+//! Seekers, one for each template, over a list of tokens that is read from its end.
+
+ghost use Rattle.std.specs.Prelude.{◌≡◌, ℕ, ◌<◌, ◌≤◌, ◌↔◌, List, [], IfOk, false, length, take, vec_len, Contains};
+ghost use Rattle.std.specs.Str.{chars};
+ghost use Rattle.lic_words.specs.Letters.{letters_in};
+ghost use Rattle.lic_keys.specs.Rising.{IsRising};
+ghost use Rattle.lic_auto.specs.Choices.{templates_of};
+ghost use Rattle.lic_auto.specs.Seeking.{AllSeek, AreChangedBefore, BeginsAnew, HaveMirrors, IsFoundBefore, TakesTurned};
+ghost use Rattle.lic_auto.specs.declared.direction.Direction.TheVariants.{Backward};
+
+use crate::chosen::Chosen;
+use lic_marks::seek::Seeker;
+use std::alloc::{AllocError, Global};
+
+/// A seeker for each template of a choice that is read backward.
+pub fn seekers_of<'s>(alloc: Global, chosen: &Chosen<'s>) -> Result<Vec<Seeker<'s>>, AllocError>
+    requires { chosen.now.direction ≡ Backward }
+    ensures count { IfOk result (λ seekers. vec_len seekers ≡ length (templates_of chosen.now)) }
+    ensures trees { IfOk result (λ seekers. HaveMirrors (templates_of chosen.now) seekers.items) }
+    ensures stand { IfOk result (λ seekers. AllSeek (templates_of chosen.now) seekers.items []) }
+{
+    let count = chosen.len();
+    let mut seekers = Vec::with_capacity(alloc, count)?;
+    for place in 0..count {
+        let seeker = Seeker::new(alloc, chosen.tree(place))?;
+        seekers.push(seeker)?;
+    }
+    Ok(seekers)
+}
+
+/// All begin anew.
+pub fn begin_anew(seekers: &mut [Seeker<'_>])
+    ensures { AreChangedBefore BeginsAnew (length seekers.old) seekers.old seekers.new }
+{
+    for place in 0..seekers.len() {
+        let seeker = &mut seekers[place];
+        seeker.reset();
+    }
+}
+
+/// All take a token from its end. Those are entered there that stand at these places.
+pub fn take_turned(seekers: &mut [Seeker<'_>], entered: &[usize], token: &str)
+    requires rising { IsRising entered.now (length seekers.old) }
+    requires letters { 0 < letters_in (chars token.now) }
+    ensures { AreChangedBefore (TakesTurned entered.now (chars token.now)) (length seekers.old) seekers.old seekers.new }
+{
+    for place in 0..seekers.len() {
+        let may_begin = has(entered, place);
+        let seeker = &mut seekers[place];
+        seeker.push_turned(token, may_begin);
+    }
+}
+
+// Whether a list of rising numbers may have this one.
+fn has(numbers: &[usize], number: usize) -> bool
+    requires { (bound : ℕ) × IsRising numbers.now bound }
+    ensures { result ≡ false → (Contains numbers.now number → ⊥) }
+{
+    match numbers.binary_search(&number) {
+        Ok(_) => true,
+        Err(_) => false,
+    }
+}
+
+/// Puts the numbers of the templates that describe some end of the tokens to the front, in rising order, and gives how many
+/// they are.
+pub fn gather_live(chosen: &Chosen<'_>, seekers: &[Seeker<'_>], live: &mut [usize]) -> usize
+    requires count { length seekers.now ≡ length (templates_of chosen.now) }
+    requires room { length live.old ≡ length (templates_of chosen.now) }
+    ensures room { length live.new ≡ length live.old }
+    ensures count { result ≤ length live.new }
+    ensures rising { IsRising (take result live.new) (length chosen.now.set.now) }
+    ensures exactly { (ts : List (List ℕ)) → AllSeek (templates_of chosen.now) seekers.now ts
+        → (n : ℕ) → Contains (take result live.new) n ↔ IsFoundBefore chosen.now (length seekers.now) ts n }
+{
+    let mut count = 0;
+    for place in 0..seekers.len() {
+        if seekers[place].accepts() {
+            live[count] = chosen.number(place);
+            count += 1;
+        }
+    }
+    count
+}
