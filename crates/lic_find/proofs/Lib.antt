@@ -3,6 +3,12 @@ pub mod Collecting
 pub mod Listed
 pub mod Matching
 pub mod Ranges
-pub mod Describing
+pub mod LetterLemmas
+pub mod StartLemmas
+pub mod FirstLemmas
+pub mod CountLemmas
+pub mod StepLemmas
 pub mod Asking
 pub mod Walking
+pub mod BeginningLemmas
+pub mod GivingLemmas

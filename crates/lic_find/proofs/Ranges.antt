@@ -9,10 +9,10 @@ use Rattle.lic_find.specs.Matches.{all_letters}
 use Rattle.lic_find.specs.Walks.{letters_up_to}
 
 module _ {A : Type 0} (xs : List A) where
-  slice_range-none : (a : ℕ) → slice_range xs a a ≡ []
+  pub slice_range-none : (a : ℕ) → slice_range xs a a ≡ []
   slice_range-none a = let e : a - a ≡ 0 = omega arith in ap (λ n. take n (drop a xs)) e
 
-  slice_range-more : (a b : ℕ) (d : A) → a ≤ b → b < length xs → slice_range xs a (b + 1) ≡ slice_range xs a b ++ get_or xs b d ∷ []
+  pub slice_range-more : (a b : ℕ) (d : A) → a ≤ b → b < length xs → slice_range xs a (b + 1) ≡ slice_range xs a b ++ get_or xs b d ∷ []
   slice_range-more a b d order within =
       let count : (b + 1) - a ≡ (b - a) + 1 = omega arith in
       let short : b - a < length (drop a xs) = omega (arith, length-drop a xs) in
@@ -20,14 +20,14 @@ module _ {A : Type 0} (xs : List A) where
       ap (λ n. take n (drop a xs)) count ∙ take_more (drop a xs) (b - a) d short
       ∙ ap (λ x. take (b - a) (drop a xs) ++ x ∷ []) (get_or-drop a xs (b - a) d ∙ ap (λ n. get_or xs n d) place)
 
-  slice_range-split : (a b e : ℕ) → a ≤ b → b ≤ e → slice_range xs a e ≡ slice_range xs a b ++ slice_range xs b e
+  pub slice_range-split : (a b e : ℕ) → a ≤ b → b ≤ e → slice_range xs a e ≡ slice_range xs a b ++ slice_range xs b e
   slice_range-split a b e first last =
       let count : e - a ≡ (b - a) + (e - b) = omega arith in
       let place : a + (b - a) ≡ b = omega arith in
       ap (λ n. take n (drop a xs)) count ∙ take-add (b - a) (e - b) (drop a xs)
       ∙ ap (λ ys. take (b - a) (drop a xs) ++ take (e - b) ys) (drop-drop (b - a) a xs ∙ ap (λ n. drop n xs) place)
 
-  slice_range-all : slice_range xs 0 (length xs) ≡ xs
+  pub slice_range-all : slice_range xs 0 (length xs) ≡ xs
   slice_range-all = let count : length xs - 0 ≡ length xs = omega arith in ap (λ n. take n xs) count ∙ take_all (length xs) xs (omega arith)
 
 module _ (tokens : List TokenValue) where

@@ -1,130 +1,189 @@
 -- How a walk goes on.
-use Rattle.std.proofs.Common.{◌≡◌, ℕ, ◌+◌, ◌<◌, ◌≤◌, ◌↔◌, List, [], ◌∷◌, ◌++◌, length, get_or, Option, Some, None, refl, sym, ap, ◌∙◌, subst, ⊎_elim, arith}
+use Rattle.std.proofs.Common.{◌≡◌, ℕ, ◌+◌, ◌<◌, ◌≤◌, ◌↔◌, List, [], ◌∷◌, ◌++◌, length, get_or, Option, Some, None, refl, sym, ap, ◌∙◌, subst, inl, ⊎_elim, arith}
 use Rattle.std.specs.List.{slice_get, Contains}
-use Rattle.std.specs.Option.{option_map}
 use Rattle.std.specs.Str.{chars}
 use Rattle.std.proofs.lemmas.Bool.{cases_lt}
-use Rattle.std.proofs.lemmas.Option.{slice_get_within, slice_get-map}
+use Rattle.std.proofs.lemmas.Grind.{not_there}
+use Rattle.std.proofs.lemmas.Option.{slice_get_within}
 use Rattle.lic_norm.specs.Tokens.{TokenValue}
 use Rattle.lic_words.specs.Describing.{IsDescribed}
-use Rattle.lic_auto.specs.Sets.{Known, words_of}
-use Rattle.lic_keys.specs.Looks.{OthersDescribeNoRange}
-use Rattle.lic_auto.specs.Compiled.{parts_of}
-use Rattle.lic_auto.specs.Picked.{OthersFail}
-use Rattle.lic_auto.specs.Runs.{StandsFor, numbers_of, set_of, IsLeastDescribing}
 use Rattle.lic_auto.proofs.PickedLemmas.{contains_or_not}
+use Rattle.lic_auto.specs.Sets.{Known, words_of}
+use Rattle.lic_auto.specs.Picked.{IsLeastOf}
+use Rattle.lic_auto.specs.Runs.{StandsAmong, numbers_of, set_of}
 use Rattle.lic_auto.specs.declared.run.Run.{Run}
+use Rattle.lic_find.specs.Firsts.{NotedFirst, AreFirstsFrom, NoneBeginFrom, noted_with}
 use Rattle.lic_find.specs.Listing.{triple_at}
-use Rattle.lic_find.specs.Matches.{IsMatch, IsAfter, all_letters, letters_between}
-use Rattle.lic_find.specs.Walks.{letters_up_to, HasCome, IsNext, NoneBegins, NoneHasRange, BeginsAt}
+use Rattle.lic_find.specs.Matches.{IsMatch, IsAfter, letters_between}
+use Rattle.lic_find.specs.Walks.{letters_up_to, AllEndBy, HasCome, IsNext, NoneBegins, NoneHasRange, BeginsAt}
 use Rattle.lic_find.specs.declared.triple.Triple.{Triple}
 use Rattle.lic_find.proofs.Triples.{same_parts}
-use Rattle.lic_find.proofs.Ranges.{letters_up_to-all, letters_up_to-none, letters_up_to-more, letters_up_to-split}
-use Rattle.lic_find.proofs.Describing.{least_describes, least_passes, none_describes}
+use Rattle.lic_find.proofs.Ranges.{letters_up_to-none, letters_up_to-more, letters_up_to-split}
 
 -- what comes behind a place begins with its first token or later
 after_begins : (place : Option Triple) (begin : ℕ) (t : Triple) → BeginsAt place begin → IsAfter place t → begin ≤ t.first
 after_begins None begin t begins after = omega (arith, begins)
 after_begins (Some place) begin t begins after = omega (arith, begins, after)
 
-module _ (set : List Known) (tokens : List TokenValue) where
-  pub HasCome-begin : (place : Option Triple) (run : Run) (begin first : ℕ) → BeginsAt place begin → first ≤ begin → first ≤ length tokens → set_of run ≡ set →
-      OthersDescribeNoRange (parts_of set) (numbers_of run) (all_letters tokens) → StandsFor run [] → HasCome set tokens place run first first
-  HasCome-begin place run begin first begins low within templates others stands = record {
-    order = omega arith;
-    within = within;
-    templates = templates;
-    others = others;
-    stands = subst (StandsFor run) (sym (letters_up_to-none tokens first)) stands;
-    reached = λ t m after.
-        let from : begin ≤ t.first = after_begins place begin t begins after in
-        let order : t.first ≤ t.last = m.order in
-        (omega arith, λ same. omega arith);
-  }
+-- what begins later comes behind it
+begins_after : (place : Option Triple) (begin : ℕ) (t : Triple) → BeginsAt place begin → begin < t.first → IsAfter place t
+begins_after None begin t begins later = tt
+begins_after (Some place) begin t begins later = inl (omega (arith, begins))
 
-  module _ (place : Option Triple) (run : Run) (first end : ℕ) (come : HasCome set tokens place run first end) where
+-- a list of numbers has a number, or not
+pub there : (xs : List ℕ) (k : ℕ) → ∥ Contains xs k ∥₁ → Contains xs k
+there xs k h = ⊎_elim (λ (found : Contains xs k). found) (λ (gone : ¬ (Contains xs k)). absurd (not_there h gone)) (contains_or_not xs k)
+
+module _ (set : List Known) (tokens : List TokenValue) where
+  -- a match lies within the tokens
+  pub first_within : (t : Triple) → IsMatch set tokens t → t.first < length tokens
+  first_within t m =
+      let order : t.first ≤ t.last = m.order in
+      let within : t.last < length tokens = m.within in
+      omega arith
+
+  -- at the first of the noted first tokens
+  module _ (place : Option Triple) (begin from : ℕ) (begins : BeginsAt place begin) (low : from ≤ begin) (high : from < length tokens → begin ≤ from) (run : Run) (templates : set_of run ≡ set) where
+    pub HasCome-begin : (noted : NotedFirst) (more : List NotedFirst) → AreFirstsFrom set tokens (numbers_of run) from (noted ∷ more) →
+        StandsAmong run (noted_with (numbers_of run) noted.numbers) [] → HasCome set tokens place run more noted.first noted.first
+    HasCome-begin noted more (is, behind) stands =
+        let (last, template, m) = is.begins in
+        let within : noted.first < length tokens = first_within (triple_at noted.first last template) m in
+        let from_on : from ≤ noted.first = is.low in
+        let at : begin ≤ noted.first = omega (arith, high) in
+        record {
+          order = omega arith;
+          within = omega arith;
+          templates = templates;
+          numbers = noted_with (numbers_of run) noted.numbers;
+          stands = subst (StandsAmong run (noted_with (numbers_of run) noted.numbers)) (sym (letters_up_to-none tokens noted.first)) stands;
+          all = is.all;
+          reached = λ t n after.
+              let late : begin ≤ t.first = after_begins place begin t begins after in
+              let order : t.first ≤ t.last = n.order in
+              (is.passed t n (omega arith), λ same. omega arith);
+          ahead = λ t n later. begins_after place begin t begins (omega arith);
+          firsts = behind;
+        }
+
+    -- where no match begins
+    pub HasCome-none : AreFirstsFrom set tokens (numbers_of run) from [] → StandsAmong run (numbers_of run) [] →
+        HasCome set tokens place run [] (length tokens) (length tokens)
+    HasCome-none none stands = record {
+      order = omega arith;
+      within = omega arith;
+      templates = templates;
+      numbers = numbers_of run;
+      stands = subst (StandsAmong run (numbers_of run)) (sym (letters_up_to-none tokens (length tokens))) stands;
+      all = λ t m here. let within : t.first < length tokens = first_within t m in absurd (omega arith);
+      reached = λ t m after.
+          let late : begin ≤ t.first = after_begins place begin t begins after in
+          absurd (none t m (omega arith));
+      ahead = λ t m later. let within : t.first < length tokens = first_within t m in absurd (omega arith);
+      firsts = λ t m later. let within : t.first < length tokens = first_within t m in omega arith;
+    }
+
+  module _ (place : Option Triple) (run : Run) (noted : List NotedFirst) (first end : ℕ) (come : HasCome set tokens place run noted first end) where
     -- one more token
     pub HasCome-push : (new : Run) (d : TokenValue) → NoneHasRange set tokens place first end → end < length tokens → set_of new ≡ set_of run → numbers_of new ≡ numbers_of run →
-        StandsFor new (letters_up_to tokens first end ++ chars (get_or tokens end d).text ∷ []) → HasCome set tokens place new first (end + 1)
+        StandsAmong new come.numbers (letters_up_to tokens first end ++ chars (get_or tokens end d).text ∷ []) → HasCome set tokens place new noted first (end + 1)
     HasCome-push new d none room same alike stands =
         let order : first ≤ end = come.order in
         record {
           order = omega arith;
           within = omega arith;
           templates = same ∙ come.templates;
-          others = subst (λ ns. OthersDescribeNoRange (parts_of set) ns (all_letters tokens)) (sym alike) come.others;
-          stands = subst (StandsFor new) (sym (letters_up_to-more tokens first end d order room)) stands;
+          numbers = come.numbers;
+          stands = subst (StandsAmong new come.numbers) (sym (letters_up_to-more tokens first end d order room)) stands;
+          all = come.all;
           reached = λ t m after.
               let (low, long) = come.reached t m after in
               (low, λ here. let enough : end ≤ t.last + 1 = long here in let other : t.last + 1 ≡ end → ⊥ = none t m after here in omega arith);
+          ahead = come.ahead;
+          firsts = subst (λ ns. AreFirstsFrom set tokens ns (first + 1) noted) (sym alike) come.firsts;
         }
 
-    -- the next first token
-    pub HasCome-next_first : (new : Run) → NoneBegins set tokens place first → first < length tokens → set_of new ≡ set_of run → numbers_of new ≡ numbers_of run → StandsFor new [] →
-        HasCome set tokens place new (first + 1) (first + 1)
-    HasCome-next_first new none room same alike stands = record {
-      order = omega arith;
-      within = omega arith;
-      templates = same ∙ come.templates;
-      others = subst (λ ns. OthersDescribeNoRange (parts_of set) ns (all_letters tokens)) (sym alike) come.others;
-      stands = subst (StandsFor new) (sym (letters_up_to-none tokens (first + 1))) stands;
-      reached = λ t m after.
-          let (low, long) = come.reached t m after in
-          let other : t.first ≡ first → ⊥ = none t m after in
-          let order : t.first ≤ t.last = m.order in
-          (omega arith, λ here. omega arith);
-    }
-
     -- behind the match that was found
-    pub HasCome-found : (t : Triple) → t.first ≡ first → t.last + 1 ≡ end → HasCome set tokens (Some t) run first end
+    pub HasCome-found : (t : Triple) → t.first ≡ first → t.last + 1 ≡ end → HasCome set tokens (Some t) run noted first end
     HasCome-found t begin last = record {
       order = come.order;
       within = come.within;
       templates = come.templates;
-      others = come.others;
+      numbers = come.numbers;
       stands = come.stands;
+      all = come.all;
       reached = λ s m after. (omega (arith, after), λ here. omega (arith, after));
+      ahead = λ s m later. inl (omega arith);
+      firsts = come.firsts;
     }
 
-    -- templates that the run does not go over describe no range
-    pub left_out : (a b : ℕ) → a ≤ b → b ≤ length tokens → OthersFail (set_of run) (numbers_of run) (letters_up_to tokens a b)
-    left_out a b order within = λ k known gone there.
-        let is : slice_get set k ≡ Some known = ap (λ s. slice_get s k) (sym come.templates) ∙ there in
-        come.others k known.template.parts (slice_get-map (λ known. known.template.parts) set k ∙ ap (option_map (λ known. known.template.parts)) is) gone
-        (letters_up_to tokens 0 a) (letters_up_to tokens a b) (letters_up_to tokens b (length tokens))
-        (sym (letters_up_to-all tokens) ∙ letters_up_to-split tokens 0 b (length tokens) (omega arith) within
-        ∙ ap (λ x. x ++ letters_up_to tokens b (length tokens)) (letters_up_to-split tokens 0 a b (omega arith) order))
+    -- every match that begins here has ended where the text ends
+    pub AllEndBy-at_end : length tokens ≤ end → AllEndBy set tokens first end
+    AllEndBy-at_end all t m here = let within : t.last < length tokens = m.within in omega arith
 
-    -- no range that goes on from here is a match
-    pub NoneBegins-at_end : NoneHasRange set tokens place first end → length tokens ≤ end → NoneBegins set tokens place first
-    NoneBegins-at_end none all t m after here =
-        let within : t.last < length tokens = m.within in
+    -- or where no template can describe a range that goes on
+    pub AllEndBy-dead : ((numbers : List ℕ) (ts more : List (List ℕ)) (k : ℕ) (known : Known) → StandsAmong run numbers ts → Contains numbers k →
+        slice_get (set_of run) k ≡ Some known → IsDescribed (words_of known) (ts ++ more) → ⊥) → AllEndBy set tokens first end
+    AllEndBy-dead dead t m here =
+        ⊎_elim (λ (short : t.last < end). omega arith)
+        (λ (long : end ≤ t.last).
+        let letters : letters_between tokens t.first t.last ≡ letters_up_to tokens first end ++ letters_up_to tokens end (t.last + 1) =
+        ap (λ n. letters_up_to tokens n (t.last + 1)) here ∙ letters_up_to-split tokens first end (t.last + 1) come.order (omega arith) in
+        let there : slice_get (set_of run) t.template ≡ Some m.known = ap (λ s. slice_get s t.template) come.templates ∙ m.number in
+        absurd (dead come.numbers (letters_up_to tokens first end) (letters_up_to tokens end (t.last + 1)) t.template m.known come.stands (come.all t m here) there
+        (subst (IsDescribed (words_of m.known)) letters m.described)))
+        (cases_lt t.last end)
+
+    -- then none is left that begins here
+    pub NoneBegins-ended : NoneHasRange set tokens place first end → AllEndBy set tokens first end → NoneBegins set tokens place first
+    NoneBegins-ended none ended t m after here =
         let enough : end ≤ t.last + 1 = (come.reached t m after).1 here in
+        let short : t.last + 1 ≤ end = ended t m here in
         none t m after here (omega arith)
 
-    pub NoneBegins-dead : ((ts more : List (List ℕ)) (k : ℕ) (known : Known) → StandsFor run ts → Contains (numbers_of run) k →
-        slice_get (set_of run) k ≡ Some known → IsDescribed (words_of known) (ts ++ more) → ⊥) → NoneBegins set tokens place first
-    NoneBegins-dead dead t m after here =
-        let enough : end ≤ t.last + 1 = (come.reached t m after).1 here in
-        let last : t.last < length tokens = m.within in
-        let order : t.first ≤ t.last = m.order in
-        let letters : letters_between tokens t.first t.last ≡ letters_up_to tokens first end ++ letters_up_to tokens end (t.last + 1) =
-        ap (λ n. letters_up_to tokens n (t.last + 1)) here ∙ letters_up_to-split tokens first end (t.last + 1) come.order enough in
-        let there : slice_get (set_of run) t.template ≡ Some m.known = ap (λ s. slice_get s t.template) come.templates ∙ m.number in
-        ⊎_elim
-        (λ (inside : Contains (numbers_of run) t.template).
-        dead (letters_up_to tokens first end) (letters_up_to tokens end (t.last + 1)) t.template m.known come.stands inside there
-        (subst (IsDescribed (words_of m.known)) letters m.described))
-        (λ (gone : ¬ (Contains (numbers_of run) t.template)). left_out t.first (t.last + 1) (omega arith) (omega arith) t.template m.known gone there m.described)
-        (contains_or_not (numbers_of run) t.template)
-
-    -- behind the last token nothing is left
-    pub none_behind : length tokens ≤ first → (t : Triple) → IsMatch set tokens t → IsAfter place t → ⊥
-    none_behind all t m after =
+    -- where no first token is left, no match is
+    pub none_behind : NoneBegins set tokens place first → noted ≡ [] → (t : Triple) → IsMatch set tokens t → IsAfter place t → ⊥
+    none_behind none empty t m after =
         let low : first ≤ t.first = (come.reached t m after).0 in
-        let order : t.first ≤ t.last = m.order in
-        let within : t.last < length tokens = m.within in
-        omega arith
+        let other : t.first ≡ first → ⊥ = none t m after in
+        let behind : NoneBeginFrom set tokens (first + 1) = subst (AreFirstsFrom set tokens (numbers_of run) (first + 1)) empty come.firsts in
+        behind t m (omega arith)
+
+    module _ (next : NotedFirst) (more : List NotedFirst) (is : noted ≡ next ∷ more) where
+      pub next_first : AreFirstsFrom set tokens (numbers_of run) (first + 1) (next ∷ more)
+      next_first = subst (AreFirstsFrom set tokens (numbers_of run) (first + 1)) is come.firsts
+
+      -- the next first token
+      pub HasCome-next_first : (new : Run) → NoneBegins set tokens place first → set_of new ≡ set_of run → numbers_of new ≡ numbers_of run →
+          StandsAmong new (noted_with (numbers_of run) next.numbers) [] → HasCome set tokens place new more next.first next.first
+      HasCome-next_first new none same alike stands =
+          let (one, behind) = next_first in
+          let (last, template, m) = one.begins in
+          let within : next.first < length tokens = first_within (triple_at next.first last template) m in
+          let later : first + 1 ≤ next.first = one.low in
+          record {
+            order = omega arith;
+            within = omega arith;
+            templates = same ∙ come.templates;
+            numbers = noted_with (numbers_of run) next.numbers;
+            stands = subst (StandsAmong new (noted_with (numbers_of run) next.numbers)) (sym (letters_up_to-none tokens next.first)) stands;
+            all = one.all;
+            reached = λ t n after.
+                let low : first ≤ t.first = (come.reached t n after).0 in
+                let other : t.first ≡ first → ⊥ = none t n after in
+                let order : t.first ≤ t.last = n.order in
+                (one.passed t n (omega arith), λ here. omega arith);
+            ahead = λ t n beyond. come.ahead t n (omega arith);
+            firsts = subst (λ ns. AreFirstsFrom set tokens ns (next.first + 1) more) (sym alike) behind;
+          }
+
+      -- some match behind the place begins with it
+      pub some_begins : NoneBegins set tokens place next.first → ⊥
+      some_begins none =
+          let one = next_first.0 in
+          let (last, template, m) = one.begins in
+          let later : first + 1 ≤ next.first = one.low in
+          none (triple_at next.first last template) m (come.ahead (triple_at next.first last template) m (omega arith)) refl
 
     pub NoneHasRange-empty : end ≡ 0 → NoneHasRange set tokens place first end
     NoneHasRange-empty empty t m after here last = omega arith
@@ -153,10 +212,9 @@ module _ (set : List Known) (tokens : List TokenValue) where
         described_of : (t : Triple) (m : IsMatch set tokens t) → t.first ≡ first → t.last + 1 ≡ end → IsDescribed (words_of m.known) (letters_up_to tokens first end)
         described_of t m here there = subst (IsDescribed (words_of m.known)) (same_letters t here there) m.described
 
-        pub NoneHasRange-least : IsLeastDescribing (set_of run) (letters_up_to tokens first end) from None → NoneHasRange set tokens place first end
+        pub NoneHasRange-least : IsLeastOf (set_of run) come.numbers (letters_up_to tokens first end) from None → NoneHasRange set tokens place first end
         NoneHasRange-least none t m after here there =
-            none_describes (set_of run) (letters_up_to tokens first end) from t.template m.known none (from_below t after here there)
-            (number_of t m) (described_of t m here there)
+            none (t.template + 1) t.template m.known (come.all t m here) (from_below t after here there) (omega arith) (number_of t m) (described_of t m here there)
 
         -- nothing describes no tokens
         begun : (known : Known) → IsDescribed (words_of known) (letters_up_to tokens first end) → first < end
@@ -168,9 +226,8 @@ module _ (set : List Known) (tokens : List TokenValue) where
             absurd (described.0 (ap (λ n. letters_up_to tokens first n) same ∙ letters_up_to-none tokens first)))
             (cases_lt first end)
 
-        pub IsNext-least : (k : ℕ) → IsLeastDescribing (set_of run) (letters_up_to tokens first end) from (Some k) → IsNext set tokens place (triple_at first last k)
-        IsNext-least k least =
-            let (low, known, number, described) = least_describes (set_of run) (letters_up_to tokens first end) from k least in
+        pub IsNext-least : (k : ℕ) → IsLeastOf (set_of run) come.numbers (letters_up_to tokens first end) from (Some k) → IsNext set tokens place (triple_at first last k)
+        IsNext-least k (inside, low, (known, number, described), fewer) =
             let some : first < end = begun known described in
             let within : end ≤ length tokens = come.within in
             record {
@@ -190,8 +247,7 @@ module _ (set : List Known) (tokens : List TokenValue) where
                   ⊎_elim (λ (short : s.last < last). omega arith)
                   (λ (there, less).
                   let there' : s.last + 1 ≡ end = omega arith in
-                  least_passes (set_of run) (letters_up_to tokens first end) from k s.template m.known least (from_below s after here there') less
-                  (number_of s m) (described_of s m here there'))
+                  fewer s.template m.known (come.all s m here) (from_below s after here there') less (number_of s m) (described_of s m here there'))
                   inner)
                   before;
             }

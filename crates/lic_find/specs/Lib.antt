@@ -1,7 +1,12 @@
 pub mod Matches
 pub mod Listing
+pub mod Bounds
+pub mod Firsts
+pub mod Starts
 pub mod Walks
+pub mod Counts
 pub mod Rest
+pub mod Giving
 pub use Rattle.lic_auto.specs.Sets
 pub use Rattle.lic_norm.specs.Tokens
 pub use Rattle.lic_words.specs.Describing

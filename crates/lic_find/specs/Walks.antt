@@ -1,14 +1,13 @@
 -- How far a walk over a text has come.
-use Rattle.std.specs.Prelude.{◌≡◌, ℕ, ◌+◌, ◌≤◌, List, length, map, Option, Some, None}
+use Rattle.std.specs.Prelude.{◌≡◌, ℕ, ◌+◌, ◌<◌, ◌≤◌, List, length, map, Option, Some, None, Contains}
 use Rattle.std.specs.List.{slice_range}
 use Rattle.std.specs.Str.{chars}
 use Rattle.lic_norm.specs.Tokens.{TokenValue}
-use Rattle.lic_keys.specs.Looks.{OthersDescribeNoRange}
-use Rattle.lic_auto.specs.Compiled.{parts_of}
 use Rattle.lic_auto.specs.Sets.{Known}
-use Rattle.lic_auto.specs.Runs.{StandsFor, numbers_of, set_of}
+use Rattle.lic_auto.specs.Runs.{StandsAmong, numbers_of, set_of}
 use Rattle.lic_auto.specs.declared.run.Run.{Run}
-use Rattle.lic_find.specs.Matches.{IsMatch, IsAfter, Precedes, all_letters}
+use Rattle.lic_find.specs.Firsts.{NotedFirst, AreFirstsFrom}
+use Rattle.lic_find.specs.Matches.{IsMatch, IsAfter, Precedes}
 use Rattle.lic_find.specs.declared.triple.Triple.{Triple}
 
 -- the letters of each token from the first up to the end, which is left out
@@ -20,21 +19,30 @@ abbrev pub BeginsAt : Option Triple → ℕ → Type 0
 BeginsAt None first = first ≡ 0
 BeginsAt (Some place) first = first ≡ place.first
 
--- The run stands for the tokens from `first` up to `end`, and templates that it does not go over describe no range of the text. No match behind the place begins before `first`, or there
--- and with its last token before the last of these.
-pub record HasCome (set : List Known) (tokens : List TokenValue) (place : Option Triple) (run : Run) (first end : ℕ) : Type 0 where
+-- The run stands for the tokens from `first` up to `end`, among all templates of matches that begin with `first`. No match behind the
+-- place begins before `first`, or there and with its last token before the last of these. Every match that begins later is behind the
+-- place, and the tokens with which such matches begin are noted.
+pub record HasCome (set : List Known) (tokens : List TokenValue) (place : Option Triple) (run : Run) (noted : List NotedFirst)
+    (first end : ℕ) : Type 0 where
   pub order : first ≤ end
   pub within : end ≤ length tokens
   pub templates : set_of run ≡ set
-  pub others : OthersDescribeNoRange (parts_of set) (numbers_of run) (all_letters tokens)
-  pub stands : StandsFor run (letters_up_to tokens first end)
+  pub numbers : List ℕ
+  pub stands : StandsAmong run numbers (letters_up_to tokens first end)
+  pub all : (t : Triple) → IsMatch set tokens t → t.first ≡ first → Contains numbers t.template
   pub reached : (t : Triple) → IsMatch set tokens t → IsAfter place t → (first ≤ t.first) × (t.first ≡ first → end ≤ t.last + 1)
+  pub ahead : (t : Triple) → IsMatch set tokens t → first < t.first → IsAfter place t
+  pub firsts : AreFirstsFrom set tokens (numbers_of run) (first + 1) noted
 
 -- the first of the matches behind a place
 pub record IsNext (set : List Known) (tokens : List TokenValue) (place : Option Triple) (t : Triple) : Type 0 where
   pub matches : IsMatch set tokens t
   pub after : IsAfter place t
   pub least : (s : Triple) → IsMatch set tokens s → IsAfter place s → ¬ (Precedes s t)
+
+-- every match that begins with this token ends here or before
+abbrev pub AllEndBy : List Known → List TokenValue → ℕ → ℕ → Type 0
+AllEndBy set tokens first end = (t : Triple) → IsMatch set tokens t → t.first ≡ first → t.last + 1 ≤ end
 
 -- no match behind a place begins with this token
 abbrev pub NoneBegins : List Known → List TokenValue → Option Triple → ℕ → Type 0

@@ -1,11 +1,20 @@
-ghost use Rattle.std.specs.Prelude.{◌≡◌, ℕ, ◌<◌, ◌≤◌, ◌↔◌, ◌∷◌, List, IfOk, IfSome, IfNone, Some, None, length};
-ghost use Rattle.std.specs.Iterator.{YieldsFirst, item_count};
+ghost use Rattle.std.specs.Prelude.{◌≡◌, ℕ, ◌+◌, ◌-◌, ◌*◌, ◌^◌, ◌<◌, ◌≤◌, ◌↔◌, ◌∷◌, [], List, IfOk, IfSome, IfNone, Some, None, Contains, length, drop};
+ghost use Rattle.std.specs.Iterator.{item_count};
+ghost use Rattle.std.specs.Option.{option_or};
+ghost use Rattle.lic_keys.specs.Rising.{IsRising};
+ghost use Rattle.lic_auto.specs.Runs.{StandsAmong, set_of, numbers_of, steps_of};
+ghost use Rattle.lic_find.specs.Bounds.{letters_of, walk_over, firsts_of};
+ghost use Rattle.lic_find.specs.Counts.{AreCounted};
+ghost use Rattle.lic_find.specs.Firsts.{NotedFirst, noted_with};
 ghost use Rattle.lic_find.specs.Listing.{triple_at};
 ghost use Rattle.lic_find.specs.Matches.{AreMatches, IsAfter};
-ghost use Rattle.lic_find.specs.Walks.{BeginsAt, HasCome, IsNextOfRange, NoneBegins};
+ghost use Rattle.lic_find.specs.Starts.{starts_in};
+ghost use Rattle.lic_find.specs.Walks.{AllEndBy, BeginsAt, HasCome, IsNextOfRange, NoneBegins};
 
 use crate::kept::kept_templates;
 use crate::laws::matches_are_listed;
+use crate::noting::first_tokens;
+use crate::starts::Starts;
 use crate::triple::Triple;
 use lic_auto::run::Run;
 use lic_auto::set::Set;
@@ -16,30 +25,41 @@ use std::cmp::Ordering;
 /// Gives the matches of a set's templates in a text: each range of tokens that a template describes, once,
 /// in the order of triples.
 ///
-/// It keeps no list: from each first token a run goes over the tokens, until no template can describe a range that
-/// goes on. The run is over the templates alone whose key stands in the text. Giving matches takes no memory.
+/// It keeps no list of them. A walk from the end of the text, over the templates alone whose key stands in it, notes the tokens with
+/// which matches begin. Then a run goes on from each of these tokens, until no template can describe a range that goes on. Giving
+/// matches takes no memory.
 #[derive(Debug, Drop)]
 pub struct Finder<'a> {
     set: &'a Set,
     text: &'a Text,
     run: Run<'a>,
-    /// The triple that it began behind, or the last one that it gave.
-    place: Option<Triple>,
+    /// The noted first tokens that it has not come to.
+    starts: Starts,
+    /// The steps of the walk that noted them.
+    noting: u64,
+    /// Where it began: behind a triple, or with the first match.
+    began: Option<Triple>,
+    /// The last triple that it gave.
+    given: Option<Triple>,
     /// The first token of the range that it has come to.
     first: usize,
     /// The end of this range: the run stands for the tokens from the first one up to here.
     end: usize,
-    ghost come: { ∥ HasCome set.now text.now.tokens place run first end ∥₁ },
+    ghost come: { ∥ HasCome set.now text.now.tokens (option_or given began) run (starts_in starts) first end ∥₁ },
+    ghost order: { first ≤ end },
+    ghost counted: { AreCounted set.now text.now.tokens began noting (steps_of run) first end },
 }
 
 impl<'a> Finder<'a> {
-    ghost use Rattle.lic_find.specs.Rest.{rest_of, steps_taken};
+    ghost use Rattle.lic_find.specs.Rest.{IsBegun, IsOnSameWalk, place_of, rest_of, set_in, steps_taken, tokens_in};
 
     /// All matches. Fails where a growth is refused.
     pub fn new(alloc: Global, set: &'a Set, text: &'a Text) -> Result<Finder<'a>, AllocError>
         ensures all { IfOk result (λ f. AreMatches set.now text.now.tokens None (rest_of f)) }
         ensures only { IfOk result (λ f. (others : List Triple) → AreMatches set.now text.now.tokens None others → others ≡ rest_of f) }
-        ensures steps { IfOk result (λ f. steps_taken f ≡ 0) }
+        ensures begun { IfOk result (λ f. IsBegun f set.now text.now.tokens None) }
+        ensures most { IfOk result (λ f. steps_taken f ≤ 2 * (letters_of text.now.tokens + 1)) }
+        ensures least { IfOk result (λ f. steps_taken f < 2 ^ 64 - 1 → letters_of text.now.tokens ≤ steps_taken f) }
     {
         Finder::behind(alloc, set, text, None)
     }
@@ -55,7 +75,8 @@ impl<'a> Finder<'a> {
     ) -> Result<Finder<'a>, AllocError>
         ensures later { IfOk result (λ f. AreMatches set.now text.now.tokens (Some after) (rest_of f)) }
         ensures only { IfOk result (λ f. (others : List Triple) → AreMatches set.now text.now.tokens (Some after) others → others ≡ rest_of f) }
-        ensures steps { IfOk result (λ f. steps_taken f ≡ 0) }
+        ensures begun { IfOk result (λ f. IsBegun f set.now text.now.tokens (Some after)) }
+        ensures most { IfOk result (λ f. steps_taken f ≤ 2 * (letters_of text.now.tokens + 1)) }
     {
         Finder::behind(alloc, set, text, Some(after))
     }
@@ -68,17 +89,25 @@ impl<'a> Finder<'a> {
         place: Option<Triple>,
     ) -> Result<Finder<'a>, AllocError>
         ensures matches { IfOk result (λ f. AreMatches set.now text.now.tokens place (rest_of f)) }
-        ensures steps { IfOk result (λ f. steps_taken f ≡ 0) }
+        ensures begun { IfOk result (λ f. IsBegun f set.now text.now.tokens place) }
+        ensures most { IfOk result (λ f. steps_taken f ≤ 2 * (letters_of text.now.tokens + 1)) }
+        ensures least { IfOk result (λ f. place ≡ None → steps_taken f < 2 ^ 64 - 1 → letters_of text.now.tokens ≤ steps_taken f) }
     {
         matches_are_listed();
         let kept = kept_templates(alloc, set, text)?;
-        let run = Run::over(alloc, set, kept)?;
-        let first = first_token(place).min(text.len());
+        let behind = Vec::from_slice(alloc, &kept)?;
+        let from = first_token(place).min(text.len());
+        let (mut starts, noting) = first_tokens(alloc, set, text, behind, from)?;
+        let mut run = Run::over(alloc, set, kept)?;
+        let first = begin_next(&mut run, &mut starts).unwrap_or(text.len());
         Ok(Finder {
             set,
             text,
             run,
-            place,
+            starts,
+            noting,
+            began: place,
+            given: None,
             first,
             end: first,
         })
@@ -86,17 +115,21 @@ impl<'a> Finder<'a> {
 
     /// The steps that the matching has taken so far. The count stays at the greatest `u64`.
     pub fn steps(&self) -> u64
-        ensures { result ≡ steps_taken self.now }
+        ensures value { result ≡ steps_taken self.now }
+        ensures most { result
+            ≤ 2 * (letters_of (tokens_in self.now) + 1) * (1 + length (firsts_of (set_in self.now) (tokens_in self.now))) }
     {
-        self.run.steps()
+        self.noting.saturating_add(self.run.steps())
     }
 
     // The least number with which the range up to this last token comes behind the place.
     fn least_number(&self, last: usize) -> Option<usize>
-        ensures some { IfSome result (λ from. (k : ℕ) → IsAfter self.now.place (triple_at self.now.first last k) ↔ (from ≤ k)) }
-        ensures none { IfNone result ((k : ℕ) → k < length self.now.set.now → ¬ (IsAfter self.now.place (triple_at self.now.first last k))) }
+        ensures some { IfSome result (λ from. (k : ℕ)
+            → IsAfter (place_of self.now) (triple_at self.now.first last k) ↔ (from ≤ k)) }
+        ensures none { IfNone result ((k : ℕ) → k < length self.now.set.now
+            → ¬ (IsAfter (place_of self.now) (triple_at self.now.first last k))) }
     {
-        let Some(place) = self.place else {
+        let Some(place) = self.given.or(self.began) else {
             return Some(0);
         };
         match (self.first, last).cmp(&(place.first, place.last)) {
@@ -108,8 +141,8 @@ impl<'a> Finder<'a> {
 
     // The first match behind the place, if it has the range that the run has come to.
     fn accepted(&self) -> Option<Triple>
-        ensures { HasCome self.now.set.now self.now.text.now.tokens self.now.place self.now.run self.now.first self.now.end
-            → IsNextOfRange self.now.set.now self.now.text.now.tokens self.now.place self.now.first self.now.end result }
+        ensures { HasCome self.now.set.now self.now.text.now.tokens (place_of self.now) self.now.run (starts_in self.now.starts)
+            self.now.first self.now.end → IsNextOfRange self.now.set.now self.now.text.now.tokens (place_of self.now) self.now.first self.now.end result }
     {
         let last = self.end.checked_sub(1)?;
         let from = self.least_number(last)?;
@@ -124,15 +157,18 @@ impl<'a> Finder<'a> {
     // The next match, if it begins with the current first token.
     fn next_of_first(&mut self) -> Option<Triple>
         ensures some { IfSome result (λ triple. rest_of self.old ≡ triple ∷ rest_of self.new) }
-        ensures none { IfNone result (NoneBegins self.new.set.now self.new.text.now.tokens self.new.place self.new.first) }
+        ensures none { IfNone result (NoneBegins self.new.set.now self.new.text.now.tokens (place_of self.new) self.new.first) }
+        ensures ended { IfNone result (AllEndBy self.new.set.now self.new.text.now.tokens self.new.first self.new.end) }
         ensures rest { IfNone result (rest_of self.new ≡ rest_of self.old) }
-        ensures text { self.new.text ≡ self.old.text }
-        ensures first { self.new.first ≡ self.old.first }
+        ensures given { self.new.given ≡ option_or result self.old.given }
+        ensures same { IsOnSameWalk self.old self.new }
+        ensures never_fall { steps_of self.old.run ≤ steps_of self.new.run }
+        ensures most { steps_of self.new.run ≤ steps_of self.old.run + 2 * letters_of self.old.text.now.tokens }
     {
         loop {
             if let Some(triple) = self.accepted() {
                 matches_are_listed();
-                self.place = Some(triple);
+                self.given = Some(triple);
                 return Some(triple);
             }
             if self.end >= self.text.len() || self.run.dead() {
@@ -151,25 +187,48 @@ fn first_token(place: Option<Triple>) -> usize
     place.map_or(0, |triple| triple.first)
 }
 
+// Takes the least noted first token that is left, and begins a run with it over the templates that it stands for.
+fn begin_next(run: &mut Run<'_>, starts: &mut Starts) -> Option<usize>
+    requires rising { (noted : NotedFirst) (more : List NotedFirst) → starts_in starts.old ≡ noted ∷ more
+        → IsRising noted.numbers (length (set_of run.old)) }
+    requires within { (noted : NotedFirst) (more : List NotedFirst) → starts_in starts.old ≡ noted ∷ more
+        → (k : ℕ) → Contains noted.numbers k → Contains (numbers_of run.old) k }
+    ensures some { IfSome result (λ first. (noted : NotedFirst) × (starts_in starts.old ≡ noted ∷ starts_in starts.new) × (noted.first ≡ first)
+        × StandsAmong run.new (noted_with (numbers_of run.old) noted.numbers) []) }
+    ensures none { IfNone result ((starts_in starts.old ≡ []) × (starts.new ≡ starts.old) × (run.new ≡ run.old)) }
+    ensures set { set_of run.new ≡ set_of run.old }
+    ensures numbers { numbers_of run.new ≡ numbers_of run.old }
+    ensures steps { (steps_of run.old ≤ steps_of run.new) × (steps_of run.new ≤ steps_of run.old + 2) }
+{
+    let noted = starts.least()?;
+    let first = noted.first;
+    match noted.numbers {
+        [] => run.reset(),
+        numbers => run.begin(numbers),
+    }
+    starts.remove_least();
+    Some(first)
+}
+
 impl Iterator for Finder<'_> {
     type Item = Triple;
 
+    ghost use Rattle.lic_find.specs.Giving.{GivesMatch};
     ghost use Rattle.lic_find.specs.Rest.{rest_of};
 
-    ghost next_gives = { YieldsFirst rest_of };
+    ghost next_gives = { GivesMatch };
 
     ghost remaining = { item_count rest_of };
 
     fn next(&mut self) -> Option<Triple> {
-        while self.first < self.text.len() {
-            if let Some(triple) = self.next_of_first() {
-                return Some(triple);
-            }
-            self.run.reset();
-            self.first += 1;
-            self.end = self.first;
+        if let Some(triple) = self.next_of_first() {
+            return Some(triple);
         }
         matches_are_listed();
-        None
+        let first = begin_next(&mut self.run, &mut self.starts)?;
+        self.first = first;
+        self.end = first;
+        // Some match begins with it.
+        self.next_of_first()
     }
 }

@@ -7,7 +7,7 @@ ghost use Rattle.lic_find.specs.Listing.{matches_behind};
 ghost use Rattle.lic_find.specs.Matches.{AreMatches};
 ghost use Rattle.lic_find.specs.declared.triple.Triple.{Triple};
 
-use lic_marks::laws::whether_an_expression_describes_is_decided;
+use lic_auto::laws::whether_an_expression_describes_is_decided;
 
 /// There is one list of the matches: which they are and in which order leaves no choice.
 pub fn matches_are_one_list()

@@ -2,7 +2,9 @@
 #![tactic(auto)]
 
 pub mod finder;
-mod kept;
+pub mod kept;
 pub mod laws;
 pub mod matches;
+mod noting;
+mod starts;
 pub mod triple;
