@@ -1,3 +1,2 @@
-mod GatheringLemmas
 mod LimitLemmas
 mod ValueLemmas

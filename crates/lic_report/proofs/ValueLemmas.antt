@@ -50,7 +50,7 @@ span_fits source tokens t s spans within runs =
     let lt : runs.last < length tokens = omega arith in
     let between : (get_or tokens runs.first no_token).span.start ≤ (get_or tokens runs.last no_token).span.end =
     rising_between 0 tokens runs.first runs.last spans.rising low lt in
-    let inside : (get_or tokens runs.last no_token).span.end ≤ length source = (spans.boundaries runs.last no_token lt).1.0 in
+    let inside : (get_or tokens runs.last no_token).span.end ≤ length source = spans.within runs.last no_token lt in
     let start : s.start ≡ (get_or tokens runs.first no_token).span.start = runs.start no_token in
     let end : s.end ≡ (get_or tokens runs.last no_token).span.end = runs.end no_token in
     (omega arith, omega arith)

@@ -1,6 +1,5 @@
 pub mod Fields
 pub mod Report
-pub mod Gathering
 pub mod Checking
 pub mod Wanted
 pub use Rattle.lic_vars.specs.Values

@@ -5,5 +5,4 @@ pub mod ask;
 pub mod fields;
 pub mod lines;
 pub mod outer;
-pub mod shortest;
 pub mod wanted;

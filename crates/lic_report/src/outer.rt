@@ -11,27 +11,27 @@ ghost use Rattle.lic_vars.specs.Views.{value_of};
 ghost use Rattle.lic_report.specs.Report.{value_line, valued_lines};
 
 use crate::lines::{add_match, add_value};
-use crate::shortest::shortest_matches;
 use lic_auto::set::Set;
+use lic_find::laws::matches_exist;
 use lic_find::triple::Triple;
 use lic_norm::text::Text;
+use lic_tight::matches::tight_matches;
 use lic_vars::filters::outer;
-use lic_vars::laws::{
-    outer_needs_the_shortest_alone, outer_ones_are_tight, values_run_over_tokens,
-};
+use lic_vars::laws::{outer_ones_are_tight, tight_ones_are_tight, values_run_over_tokens};
 use lic_vars::values::{Value, assign};
 use std::alloc::{AllocError, Global};
 
-/// The outer ones of all matches in a text, in the order of triples.
+/// The outer ones of all matches in a text, in the order of triples: those of its tight matches, which are found without a list of all.
 pub fn outer_matches(alloc: Global, set: &Set, text: &Text) -> Result<Vec<Triple>, AllocError>
     ensures all { IfOk result (λ outer. (found : List Triple) × AreMatches set.now text.now.tokens None found × (outer.items ≡ outer_of found)) }
     ensures only { IfOk result (λ outer. (others : List Triple) → AreMatches set.now text.now.tokens None others → outer.items ≡ outer_of others) }
     ensures matches { IfOk result (λ outer. All (IsMatch set.now text.now.tokens) outer.items) }
 {
-    let shortest = shortest_matches(alloc, set, text)?;
-    outer_needs_the_shortest_alone();
+    let tight = tight_matches(alloc, set, text)?;
+    matches_exist();
+    tight_ones_are_tight();
     outer_ones_are_tight();
-    outer(alloc, &shortest)
+    outer(alloc, &tight.matches)
 }
 
 /// Adds the lines of variables.

@@ -1,0 +1,44 @@
+-- The templates that can occur in a text.
+use Rattle.std.proofs.Common.{◌≡◌, ℕ, ◌+◌, ◌<◌, ◌≤◌, ◌⊎◌, List, [], ◌∷◌, ◌++◌, length, get_or, zero, suc, Some, sym, ap, ◌∙◌, ⊎_elim, arith}
+use Rattle.std.specs.List.{Contains, slice_get}
+use Rattle.std.specs.Option.{option_map}
+use Rattle.std.proofs.lemmas.Option.{slice_get_within, slice_get-map}
+use Rattle.lic_norm.specs.Tokens.{TokenValue}
+use Rattle.lic_keys.specs.Looks.{OthersDescribeNoRange}
+use Rattle.lic_keys.specs.Rising.{IsRising}
+use Rattle.lic_auto.specs.Compiled.{parts_of}
+use Rattle.lic_auto.specs.Sets.{Known}
+use Rattle.lic_auto.proofs.PickedLemmas.{contains_or_not}
+use Rattle.lic_find.specs.Matches.{IsMatch, all_letters}
+use Rattle.lic_find.specs.Walks.{letters_up_to}
+use Rattle.lic_find.specs.declared.triple.Triple.{Triple}
+use Rattle.lic_find.proofs.Ranges.{letters_up_to-all, letters_up_to-split}
+use Rattle.lic_tight.specs.Searches.{IsLatestFirst}
+
+module _ (set : List Known) (tokens : List TokenValue) where
+  -- every match is one of theirs
+  pub match_kept : (kept : List ℕ) → OthersDescribeNoRange (parts_of set) kept (all_letters tokens) → (t : Triple) → IsMatch set tokens t → Contains kept t.template
+  match_kept kept others t m =
+      let order : t.first ≤ t.last = m.order in
+      let within : t.last < length tokens = m.within in
+      ⊎_elim (λ inside. inside)
+      (λ gone.
+      absurd
+      (others t.template m.known.template.parts (slice_get-map (λ known. known.template.parts) set t.template ∙ ap (option_map (λ known. known.template.parts)) m.number) gone
+      (letters_up_to tokens 0 t.first) (letters_up_to tokens t.first (t.last + 1)) (letters_up_to tokens (t.last + 1) (length tokens))
+      (sym (letters_up_to-all tokens) ∙ letters_up_to-split tokens 0 (t.last + 1) (length tokens) (omega arith) (omega arith)
+      ∙ ap (λ x. x ++ letters_up_to tokens (t.last + 1) (length tokens)) (letters_up_to-split tokens 0 t.first (t.last + 1) (omega arith) (omega arith)))
+      m.described))
+      (contains_or_not kept t.template)
+
+  -- a template that has a match is one of the set
+  pub template_within : (k end first : ℕ) → IsLatestFirst set tokens k end (Some first) → k < length set
+  template_within k end first latest = let (last, low, m) = latest.1 in slice_get_within set k m.known m.number
+
+-- the list of one number
+pub rising_one : (k n : ℕ) → k < n → IsRising (k ∷ []) n
+rising_one k n low = record { order = λ i h. absurd (omega arith); below = one_below }
+  where
+    one_below : (i : ℕ) → i < length (k ∷ []) → get_or (k ∷ []) i 0 < n
+    one_below zero h = low
+    one_below (suc i) h = absurd (omega arith)

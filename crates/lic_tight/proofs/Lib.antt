@@ -1,0 +1,10 @@
+pub mod Finding
+pub mod LiveRanges
+pub mod Sorting
+pub mod Gathering
+pub mod Noting
+pub mod Walking
+pub mod Single
+pub mod Keeping
+pub mod Placing
+pub mod Starting

@@ -1,0 +1,3 @@
+pub mod TightMatches
+pub mod Searches
+pub mod Steps
