@@ -79,6 +79,7 @@ const GATHERED: usize = 65_536;
 
 /// Writes the gathered lines and empties the list, where there are enough of them.
 pub fn put_gathered<W: Sink>(out: &mut W, lines: &mut Vec<u8>) -> Result<(), WriteFailed>
+    ensures few { OnOk result (length lines.new.items < 65_536) }
     ensures ok { OnOk result ((put : List ℕ) × Appends (W.taken out.old) (W.taken out.new) put × (lines.old.items ≡ put ++ lines.new.items)) }
     ensures part { OnErr result (BeginsWith (W.taken out.old) (W.taken out.new) lines.old.items) }
     ensures sound { OnOk result (W.failed out.new ≡ W.failed out.old) }
