@@ -145,12 +145,37 @@ fn tells_whether_one_triple_is_a_match(rt: HostRuntime) -> Result<(), Fail> {
     Ok(())
 }
 
+/// The steps of a new finder, and once it has given all matches.
+fn steps(alloc: Global, templates: &[&str], source: &str) -> Result<(u64, u64), Fail> {
+    let set = set_of(alloc, templates)?;
+    let text = text_of(alloc, source)?;
+    let mut finder = Finder::new(alloc, &set, &text)?;
+    let noting = finder.steps();
+    while finder.next().is_some() {}
+    Ok((noting, finder.steps()))
+}
+
+#[test]
+fn walks_where_a_match_begins_alone(rt: HostRuntime) -> Result<(), Fail> {
+    // Ten letters and three gaps from the end, and one letter from where the match begins.
+    let (noting, all) = steps(rt.alloc(), &["z"], "abc abc abc z")?;
+    assert!(rt; noting >= 10 && noting <= 22);
+    assert!(rt; all > noting && all <= noting + 4);
+    // No match, no walk from any token; the text is walked once all the same.
+    let (noting, all) = steps(rt.alloc(), &["abc z"], "abc abc abc y")?;
+    assert!(rt; noting >= 10 && noting <= 22);
+    assert_eq!(rt; all, noting);
+    let (noting, all) = steps(rt.alloc(), &[], "abc abc abc y")?;
+    assert!(rt; noting >= 10 && noting <= 22);
+    assert_eq!(rt; all, noting);
+    Ok(())
+}
+
 #[test]
 fn counts_steps_from_where_it_begins(rt: HostRuntime) -> Result<(), Fail> {
     let set = set_of(rt.alloc(), &["z"])?;
     let text = text_of(rt.alloc(), "abc abc abc z")?;
     let mut all = Finder::new(rt.alloc(), &set, &text)?;
-    assert_eq!(rt; all.steps(), 0);
     assert!(rt; all.next().is_some());
     let after = Triple {
         first: 3,
@@ -160,5 +185,24 @@ fn counts_steps_from_where_it_begins(rt: HostRuntime) -> Result<(), Fail> {
     let mut later = Finder::resume(rt.alloc(), &set, &text, after)?;
     assert!(rt; later.next().is_some());
     assert!(rt; later.steps() < all.steps());
+    Ok(())
+}
+
+#[test]
+fn enters_more_templates_than_are_noted_with_a_token(rt: HostRuntime) -> Result<(), Fail> {
+    let templates = [
+        "a",
+        "a b",
+        "A b c",
+        "a <<var;name=\"v\";original=\"x\";match=\".{0,9}\">>",
+        "a b c d",
+        "b",
+        "a",
+    ];
+    let shown = found(rt.alloc(), &templates, "a b c d", None)?;
+    assert_eq!(rt;
+        shown.as_str(),
+        "0-0-0 0-0-3 0-0-6 0-1-1 0-1-3 0-2-2 0-2-3 0-3-3 0-3-4 1-1-5 "
+    );
     Ok(())
 }

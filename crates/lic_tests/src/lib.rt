@@ -4,6 +4,8 @@
 #![tactic(auto)]
 
 #[cfg(test)]
+mod feeders;
+#[cfg(test)]
 mod filters;
 #[cfg(test)]
 mod finder;
@@ -13,6 +15,8 @@ mod keys;
 mod kinds;
 #[cfg(test)]
 mod letters;
+#[cfg(test)]
+mod line_rules;
 #[cfg(test)]
 mod lines;
 #[cfg(test)]

@@ -1,11 +1,11 @@
 //! Known lines and their tokens.
 
-use lic_kind::is_dropped;
+use lic_kind::{Rules, is_dropped};
 use lic_lines::{
-    Cell, LinePart, Room, Rules, SmallString, SourceChar, Texts, cells_of_line,
-    push_tokens_of_line, unplaced,
+    Cell, LinePart, Room, SmallString, SourceChar, cells_of_line, push_tokens_of_line, unplaced,
 };
 use std::alloc::{AllocError, Global};
+use std::test::Fail;
 
 const WHOLE: LinePart = LinePart {
     has_front: true,
@@ -120,16 +120,9 @@ fn parts_of_a_line(rt: HostRuntime) -> Result<(), AllocError> {
 }
 
 #[test]
-fn other_rules(rt: HostRuntime) -> Result<(), AllocError> {
+fn other_rules(rt: HostRuntime) -> Result<(), Fail> {
     let alloc = rt.alloc();
-    let mut lead = Vec::new(alloc);
-    lead.push(Vec::from_slice(alloc, &['@', '@'])?)?;
-    let rules = Rules {
-        lead: Texts::Owned(lead),
-        items: false,
-        separators: false,
-        ..Rules::profile(alloc)
-    };
+    let rules = Rules::read(alloc, "lead @@\nitems off\nseparators off")?;
     assert!(&rt;
         shown(alloc, &rules, WHOLE, "@@ foo // b")?.as_str() == "3-6 foo,7-8 /,8-9 /,10-11 b,"
     );

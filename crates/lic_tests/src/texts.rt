@@ -10,7 +10,7 @@ use std::fmt::Write;
 use std::test::Fail;
 
 /// The tokens of a text, each as its text and its span.
-fn show_tokens(alloc: Global, text: &Text) -> Result<String, Fail> {
+pub fn show_tokens(alloc: Global, text: &Text) -> Result<String, Fail> {
     let mut shown = String::new(alloc);
     for i in 0..text.len() {
         let token = text.token(i);
@@ -131,23 +131,41 @@ fn a_span_has_its_bytes(rt: HostRuntime) -> Result<(), Fail> {
 }
 
 #[test]
-fn refusals_have_texts(rt: HostRuntime) -> Result<(), Fail> {
-    let table: [(&[u8], &str); 4] = [
-        (&[0xFF], "X1 at 0: not UTF-8"),
+fn any_byte_is_read(rt: HostRuntime) -> Result<(), Fail> {
+    let table: [(&[u8], &str); 9] = [
+        (&[b'a', 0xFF, b'b'], "a\u{FFFD}b 0-3, "),
+        // Each byte of a character that is cut, or that no character can begin with, stands by itself.
+        (&[0xE2, 0x80], "\u{FFFD}\u{FFFD} 0-2, "),
+        (&[0xF0, 0x9F, 0x98, b'A'], "\u{FFFD}\u{FFFD}\u{FFFD}a 0-4, "),
+        (&[0xED, 0xA0, 0x80], "\u{FFFD}\u{FFFD}\u{FFFD} 0-3, "),
+        (&[0xC0, 0x80, b'.'], "\u{FFFD}\u{FFFD} 0-2, . 2-3, "),
+        // U+FFFD itself is one character.
+        (&[0xEF, 0xBF, 0xBD], "\u{FFFD} 0-3, "),
+        // A line end is none of a cut character's bytes.
         (
-            &[b'f', b'o', b'o', b' ', b'b', b'a', b'r', b' ', 0xFF],
-            "X1 at 8: not UTF-8",
+            &[0xE2, b'\n', 0x82, 0xAC],
+            "\u{FFFD} 0-1, \u{FFFD}\u{FFFD} 2-4, ",
         ),
-        (&[b'a', 0xC3], "X1 at 1: not UTF-8"),
-        (&[b'a', 0xE2, 0x82], "X1 at 1: not UTF-8"),
+        (
+            &[0xC3, 0xA9, 0xC3, b' ', 0xC3],
+            "\u{E9}\u{FFFD} 0-3, \u{FFFD} 4-5, ",
+        ),
+        (&[b'#', b' ', 0x80, b'#', b'\n'], "\u{FFFD} 2-3, # 3-4, "),
     ];
     let words = Words::none(rt.alloc());
     for (source, wanted) in table {
-        let fault = Text::read(rt.alloc(), source.to_vec(rt.alloc())?, &words)
-            .err()
-            .ok_or("accepted")?;
-        assert_eq!(rt; format!(in rt.alloc(); "{fault}")?.as_str(), wanted);
+        let text = Text::read(rt.alloc(), source.to_vec(rt.alloc())?, &words)?;
+        assert_eq!(rt;
+            show_tokens(rt.alloc(), &text)?.as_str(),
+            wanted,
+            "{source:?}"
+        );
     }
+    Ok(())
+}
+
+#[test]
+fn refusals_have_texts(rt: HostRuntime) -> Result<(), Fail> {
     assert_eq!(rt;
         format!(in rt.alloc(); "{}", TextFault::TooLong)?.as_str(),
         "X2: more than 67108864 bytes"
@@ -161,27 +179,16 @@ fn refusals_have_texts(rt: HostRuntime) -> Result<(), Fail> {
 
 #[test]
 fn long_inputs_are_refused(rt: HostRuntime) -> Result<(), Fail> {
-    let table = [
-        (MOST_BYTES + 1, 0, b'a', TextFault::TooLong),
-        (MOST_BYTES + 1, MOST_BYTES, 0xFF, TextFault::TooLong),
-        (MOST_BYTES + 1, MOST_BYTES - 1, 0xC3, TextFault::TooLong),
-        (MOST_BYTES + 1, 5, 0xFF, TextFault::NotUtf8 { at: 5 }),
-        (
-            MOST_BYTES,
-            MOST_BYTES - 1,
-            0xC3,
-            TextFault::NotUtf8 { at: MOST_BYTES - 1 },
-        ),
-    ];
+    let table = [(0, b'a'), (MOST_BYTES, 0xFF), (5, 0xFF)];
     let words = Words::none(rt.alloc());
-    for (length, place, byte, wanted) in table {
-        let mut source = vec![in rt.alloc(); b'a'; length]?;
+    for (place, byte) in table {
+        let mut source = vec![in rt.alloc(); b'a'; MOST_BYTES + 1]?;
         assert!(rt; place < source.len());
         source[place] = byte;
         let fault = Text::read(rt.alloc(), source, &words)
             .err()
             .ok_or("accepted")?;
-        assert_eq!(rt; fault, wanted);
+        assert_eq!(rt; fault, TextFault::TooLong);
     }
     Ok(())
 }
