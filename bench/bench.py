@@ -1,26 +1,21 @@
 #!/usr/bin/env python3
-"""Times a built licscan, as ratios within one run: python3 bench/bench.py PROGRAM
+"""Times a built licscan, as ratios within one run: python3 bench/bench.py PROGRAM [PART ..]
 
-It takes the licence texts and copyright files that a Debian system carries, cuts templates out of them by a fixed seed, and prints
-- tokenising 50 MB of such texts (a scan for a template that never occurs, and `tokens` with its output), against `wc -m`, each the
-  quickest of three runs;
-- letters that enter no template, with 10, 100 and 700 templates, each against 10;
-- real text with 10, 100 and 700 templates;
-- how long the sets take to be read, and the memory of each run;
-- the report of outer matches on 1 MB of real text, with the example templates and with one that begins with a wide variable, against
-  the list of all matches.
+Its inputs are what a Debian system carries (licence texts, copyright files, source trees); templates are cut out of them by a fixed seed. The
+parts, all of them where none is named:
+  reading    50 MB of licence texts: a scan for a template that never occurs and `tokens` with its output, against `wc -m`
+  sets       sets of 10, 100 and 700 templates of plain words: the time to read them, and three texts, each against the set of 10
+  published  700 templates in the shape of published ones: `scan --all` and `scan` beside `tokens` of the same files: source trees, 10,000 small
+             files, a megabyte of licence texts; the start alone, and the memory
+  shapes     templates that begin or end with wide variables, `foo .+ bar` on `foo ` repeated: twice the text against the text
+  report     the report of outer matches on a megabyte, against the list of all matches
+Each figure is the quickest of three runs, but for those of more than ten seconds, which are run once.
 """
 import glob, os, random, resource, subprocess, sys, tempfile, time
 
+from published import texts, write_folder
 
-def texts():
-    found = []
-    for path in sorted(glob.glob('/usr/share/common-licenses/*') + glob.glob('/usr/share/doc/*/copyright')):
-        try:
-            found.append(open(path, 'rb').read().decode())
-        except (UnicodeDecodeError, OSError):
-            pass
-    return found
+ENVIRONMENT = dict(os.environ, LC_ALL='C.UTF-8')
 
 
 def write_input(path, sources, size):
@@ -34,7 +29,8 @@ def write_input(path, sources, size):
                     break
 
 
-def write_templates(folder, sources, count):
+def write_word_templates(folder, sources, count):
+    """Templates of plain words with an optional front and one variable."""
     os.makedirs(folder)
     chance = random.Random(7)
     sources = [text.replace('<<', '').split() for text in sources]
@@ -50,59 +46,154 @@ def write_templates(folder, sources, count):
                       + ' <<var;name="v";original="x";match=".{0,500}">> ' + ' '.join(part[middle:]) + '\n')
 
 
-def timed(arguments):
-    before = resource.getrusage(resource.RUSAGE_CHILDREN).ru_maxrss
-    start = time.monotonic()
-    done = subprocess.run(arguments, stdout=subprocess.DEVNULL, stderr=subprocess.PIPE, env=dict(os.environ, LC_ALL='C.UTF-8'))
-    seconds = time.monotonic() - start
-    if done.returncode == 2:
-        sys.exit(f'{arguments}: {done.stderr.decode()}')
-    return seconds, max(before, resource.getrusage(resource.RUSAGE_CHILDREN).ru_maxrss) // 1024
+def source_files(most):
+    """Source files of this system that are UTF-8, up to so many bytes in all."""
+    found, size = [], 0
+    for pattern in ('/usr/include/**/*.h', '/usr/lib/python3*/**/*.py', '/usr/share/perl*/**/*.pm', '/usr/lib/node_modules/**/*.js'):
+        for path in sorted(glob.glob(pattern, recursive=True)):
+            try:
+                data = open(path, 'rb').read()
+                data.decode()
+            except (UnicodeDecodeError, OSError):
+                continue
+            if 0 < len(data) < 1_000_000:
+                found.append(path)
+                size += len(data)
+            if size >= most:
+                return found
+    return found
 
 
-def quickest(arguments):
-    runs = [timed(arguments) for _ in range(3)]
-    return min(seconds for seconds, _ in runs), runs[-1][1]
+def timed(arguments, files=()):
+    """Seconds and the greatest memory in megabytes of one run, over the files in as many calls as they need."""
+    seconds, memory = 0, 0
+    for at in range(0, max(1, len(files)), 4000):
+        start = time.monotonic()
+        done = subprocess.Popen(arguments + list(files[at:at + 4000]), stdout=subprocess.DEVNULL, stderr=subprocess.PIPE, env=ENVIRONMENT)
+        said = done.stderr.read().decode()
+        _, status, used = os.wait4(done.pid, 0)
+        done.returncode = os.waitstatus_to_exitcode(status)
+        seconds += time.monotonic() - start
+        memory = max(memory, used.ru_maxrss // 1024)
+        if done.returncode == 2:
+            sys.exit(f'{arguments}: {said}')
+    return seconds, memory
+
+
+def quickest(arguments, files=()):
+    seconds, memory = timed(arguments, files)
+    if seconds < 10:
+        for _ in range(2):
+            seconds = min(seconds, timed(arguments, files)[0])
+    return seconds, memory
+
+
+def line(name, seconds, base, what, memory):
+    print(f'{name:52} {seconds:9.3f} s {seconds / base:8.2f} times {what:24} {memory:6} MB', flush=True)
+
+
+def reading(program, at, sources):
+    write_input(at('real.txt'), sources, 50_000_000)
+    os.makedirs(at('never'))
+    with open(at('never/never.template.txt'), 'w') as out:
+        out.write('zzzyyyxxx wwwvvv\n')
+    counted, _ = quickest(['wc', '-m', at('real.txt')])
+    for name, arguments in [('a scan for nothing', ['scan', '--all', '--templates', at('never')]), ('tokens', ['tokens'])]:
+        seconds, memory = quickest([program] + arguments + [at('real.txt')])
+        line(name, seconds, counted, 'wc -m', memory)
+
+
+def sets(program, at, sources):
+    write_input(at('short.txt'), sources, 1_000_000)
+    with open(at('tiny.txt'), 'w') as out:
+        out.write('x\n')
+    with open(at('foreign.txt'), 'w') as out:
+        out.write('\u4e2d\u6587 \u6587\u5b57 ' * 400_000)
+    start = {}
+    for name in ['tiny.txt', 'foreign.txt', 'short.txt']:
+        first = None
+        for count in [10, 100, 700]:
+            folder = at(f'words{count}')
+            if not os.path.isdir(folder):
+                write_word_templates(folder, sources, count)
+            seconds, memory = quickest([program, 'scan', '--all', '--templates', folder, at(name)])
+            # the tiny text costs the reading of the set alone, which is taken off the other texts
+            seconds -= start.get(count, 0)
+            if name == 'tiny.txt':
+                start[count] = seconds
+            first = first or seconds
+            line(f'{name}, {count} templates', seconds, first, 'with 10', memory)
+
+
+def published(program, at, sources):
+    write_folder(at('published'), 700)
+    write_input(at('texts.txt'), sources, 1_000_000)
+    small = []
+    os.makedirs(at('small'))
+    trees = source_files(20_000_000)
+    for number, path in enumerate(trees * (1 + 10_000 // max(1, len(trees)))):
+        if number == 10_000:
+            break
+        small.append(at(f'small/{number}'))
+        with open(path, 'rb') as source, open(small[-1], 'wb') as out:
+            out.write(source.read(4096).decode(errors='ignore').encode())
+    with open(at('tiny.txt'), 'w') as out:
+        out.write('x\n')
+    scan = [program, 'scan', '--templates', at('published')]
+    start, memory = quickest(scan + ['--all', at('tiny.txt')])
+    line('the start, 700 templates', start, start, 'itself', memory)
+    for name, files in [('source trees', trees), ('10,000 small files', small), ('a megabyte of licence texts', [at('texts.txt')])]:
+        base, memory = quickest([program, 'tokens'], files)
+        line(f'{name}: tokens', base, base, 'itself', memory)
+        calls = 1 + (len(files) - 1) // 4000
+        for kind, arguments in [('scan --all', scan + ['--all']), ('scan', scan)]:
+            seconds, memory = quickest(arguments, files)
+            line(f'{name}: {kind}, start taken off', seconds - calls * start, base, 'tokens', memory)
+
+
+def shapes(program, at, sources):
+    wide = {'begins with .{0,5000}': '<<var;name="v";original="";match=".{0,5000}">> without any warranty',
+            'ends with .{0,5000}': 'without any warranty <<var;name="v";original="";match=".{0,5000}">>',
+            'begins with .{1,500}': '<<var;name="v";original="";match=".{1,500}">> without any warranty',
+            'foo .+ bar': 'foo <<var;name="v";original="x";match=".+">> bar'}
+    for number, (name, template) in enumerate(wide.items()):
+        folder = at(f'shape{number}')
+        os.makedirs(folder)
+        with open(f'{folder}/shape.template.txt', 'w') as out:
+            out.write(template + '\n')
+        for kind in ([], ['--all']):
+            once = None
+            for size in (100_000, 200_000):
+                if name.startswith('foo'):
+                    with open(at('input.txt'), 'w') as out:
+                        out.write('foo ' * (size // 4))
+                else:
+                    write_input(at('input.txt'), sources, size)
+                seconds, memory = quickest([program, 'scan', *kind, '--templates', folder, at('input.txt')])
+                once = once or seconds
+                line(f'{name}: scan {" ".join(kind)} of {size} bytes', seconds, once, '100000 bytes', memory)
+
+
+def report(program, at, sources):
+    write_input(at('short.txt'), sources, 1_000_000)
+    examples = os.path.join(os.path.dirname(os.path.abspath(__file__)), '..', 'examples', 'templates')
+    every, memory = quickest([program, 'scan', '--all', '--templates', examples, at('short.txt')])
+    line('examples: scan --all', every, every, 'itself', memory)
+    seconds, memory = quickest([program, 'scan', '--templates', examples, at('short.txt')])
+    line('examples: scan', seconds, every, 'scan --all', memory)
+
+
+PARTS = {part.__name__: part for part in (reading, sets, published, shapes, report)}
 
 
 def main():
+    if len(sys.argv) < 2 or not set(sys.argv[2:]) <= set(PARTS):
+        sys.exit(__doc__)
     program = os.path.abspath(sys.argv[1])
     sources = texts()
-    with tempfile.TemporaryDirectory() as folder:
-        at = lambda name: os.path.join(folder, name)
-        write_input(at('real.txt'), sources, 50_000_000)
-        write_input(at('short.txt'), sources, 1_000_000)
-        with open(at('foreign.txt'), 'w') as out:
-            out.write('\u4e2d\u6587 \u6587\u5b57 ' * 400_000)
-        open(at('tiny.txt'), 'w').write('x\n')
-        os.makedirs(at('never'))
-        open(at('never/never.template.txt'), 'w').write('zzzyyyxxx wwwvvv\n')
-        counted, _ = quickest(['wc', '-m', at('real.txt')])
-        print(f'wc -m                     {counted:8.2f} s')
-        for name, arguments in [('a scan for nothing', ['scan', '--all', '--templates', at('never')]), ('tokens', ['tokens'])]:
-            seconds, most = quickest([program] + arguments + [at('real.txt')])
-            print(f'{name:25} {seconds:8.2f} s  {seconds / counted:6.1f} times wc -m  at most {most} MB so far')
-        reading = {}
-        for name in ['tiny.txt', 'foreign.txt', 'short.txt']:
-            first = None
-            for count in [10, 100, 700]:
-                if not os.path.isdir(at(str(count))):
-                    write_templates(at(str(count)), sources, count)
-                seconds, most = timed([program, 'scan', '--all', '--templates', at(str(count)), at(name)])
-                # the tiny text costs the reading of the set alone, which is taken off the other texts
-                seconds -= reading.get(count, 0)
-                if name == 'tiny.txt':
-                    reading[count] = seconds
-                first = first or seconds
-                print(f'{name:12} {count:4} templates {seconds:8.2f} s  {seconds / first:6.1f} times 10 templates  at most {most} MB so far')
-        os.makedirs(at('wide'))
-        with open(at('wide/wide.template.txt'), 'w') as out:
-            out.write('<<var;name="front";original="x";match=".{1,500}">> without warranty\n')
-        examples = os.path.join(os.path.dirname(os.path.abspath(__file__)), '..', 'examples', 'templates')
-        for name, templates in [('examples', examples), ('a wide variable first', at('wide'))]:
-            every, _ = timed([program, 'scan', '--all', '--templates', templates, at('short.txt')])
-            seconds, most = timed([program, 'scan', '--templates', templates, at('short.txt')])
-            print(f'{name:25} {seconds:8.2f} s  {seconds / every:6.1f} times all matches  at most {most} MB so far')
+    for name in sys.argv[2:] or PARTS:
+        with tempfile.TemporaryDirectory() as folder:
+            PARTS[name](program, lambda file: os.path.join(folder, file), sources)
 
 
 main()
