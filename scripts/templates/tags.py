@@ -1,0 +1,86 @@
+#!/usr/bin/env python3
+"""Makes templates of licence tags: one for each identifier or expression that is given.
+
+Each template goes to OUT/NAME-identifier.template.txt and describes `SPDX-License-Identifier: IDENTIFIER`. With --field it goes
+to OUT/NAME-field.template.txt and describes the field of a manifest or header: `"license": "IDENTIFIER"`, `license = "IDENTIFIER"`,
+`:license: IDENTIFIER`. NAME is the identifier, with `-` for blanks and without parentheses. A file of that name is written anew.
+
+Identifiers come from the command line, from FILE (one on each line; `#` begins a comment), and from the names of the templates in
+DIR: `tags.py --folder license-list-data/template OUT` makes a tag for each licence that is published. An expression is one
+identifier, so it is given in quotes: `tags.py OUT 'Apache-2.0 WITH LLVM-exception'`.
+
+A tag is found wherever its tokens stand. The template of `MIT` is also found in `SPDX-License-Identifier: MIT OR ISC` and in that of
+`MIT-0`. Where the longer one has a template too, only the longer one is reported: give each expression and each longer
+identifier that your files hold.
+
+Status: 0 if the templates are written, 2 if not.
+"""
+import argparse
+import os
+import re
+import sys
+
+ENDING = ".template.txt"
+
+TAG = "SPDX-License-Identifier: {}\n"
+
+
+def optional(text):
+    return f"<<beginOptional>>{text}<<endOptional>>"
+
+
+# a quote, underscores, a colon or an equals sign, a quote; the blank behind the first word keeps a scan quick
+FIELD = "license " + "".join(map(optional, ['"', "__", ":", "=", '"'])) + "{}\n"
+
+
+def read_list(path):
+    """The identifiers of a file, one on each line."""
+    with open(path, encoding="utf-8") as file:
+        lines = [line.split("#")[0].strip() for line in file]
+    return [line for line in lines if line]
+
+
+def read_folder(path):
+    """The identifiers of the templates in a folder. The published names of old identifiers begin with `deprecated_`."""
+    names = sorted(os.listdir(path))
+    return [name.removesuffix(ENDING).removeprefix("deprecated_") for name in names if name.endswith(ENDING) and name != ENDING]
+
+
+def name_of(identifier):
+    """The name of an identifier's file, without its ending. Raises ValueError where it is no identifier or expression."""
+    if not re.fullmatch(r"[A-Za-z0-9.+()-]+( [A-Za-z0-9.+()-]+)*", identifier):
+        raise ValueError(f"not an identifier or expression: {identifier}")
+    return re.sub(r"[()]", "", identifier).replace(" ", "-")
+
+
+def read_arguments():
+    parser = argparse.ArgumentParser(description=__doc__, formatter_class=argparse.RawDescriptionHelpFormatter,
+                                     usage="tags.py [--field] [--list FILE] [--folder DIR] OUT [IDENTIFIER ..]")
+    parser.add_argument("out", metavar="OUT", help="the folder of the templates; it is made where it is missing")
+    parser.add_argument("identifiers", metavar="IDENTIFIER", nargs="*", help="an identifier or an expression")
+    parser.add_argument("--list", metavar="FILE", help="identifiers, one on each line")
+    parser.add_argument("--folder", metavar="DIR", help="a folder whose templates are named as the identifiers")
+    parser.add_argument("--field", action="store_true", help="templates of fields in place of tags")
+    return parser.parse_args()
+
+
+def main():
+    arguments = read_arguments()
+    suffix, text = ("-field", FIELD) if arguments.field else ("-identifier", TAG)
+    try:
+        identifiers = list(arguments.identifiers)
+        identifiers += read_list(arguments.list) if arguments.list else []
+        identifiers += read_folder(arguments.folder) if arguments.folder else []
+        names = [name_of(identifier) for identifier in identifiers]
+        os.makedirs(arguments.out, exist_ok=True)
+        for name, identifier in zip(names, identifiers):
+            with open(os.path.join(arguments.out, name + suffix + ENDING), "w", encoding="utf-8") as file:
+                file.write(text.format(identifier))
+    except (OSError, ValueError) as error:
+        print(f"tags.py: {error}", file=sys.stderr)
+        return 2
+    return 0
+
+
+if __name__ == "__main__":
+    sys.exit(main())

@@ -1,0 +1,97 @@
+#!/usr/bin/env python3
+"""Tries each template of examples/templates: python3 scripts/templates/try.py PROGRAM
+
+- `check` says `yes` of it, with examples/words and without.
+- Its original text is found as a comment in each of the styles below, among all templates.
+- The templates of tags and fields are those that tags.py makes of the lists beside it, and there are no others.
+"""
+import os
+import re
+import subprocess
+import sys
+import tempfile
+
+HERE = os.path.dirname(os.path.abspath(__file__))
+TEMPLATES = os.path.join(HERE, "..", "..", "examples", "templates")
+WORDS = os.path.join(HERE, "..", "..", "examples", "words")
+ENDING = ".template.txt"
+
+# how a comment begins, what stands before each line, and how it ends
+STYLES = {
+    "plain": ("", "", ""),
+    "hash": ("", "# ", ""),
+    "slashes": ("", "// ", ""),
+    "stars": ("/*\n", " * ", " */\n"),
+    "block": ("/* ", "   ", "*/\n"),
+    "semicolons": ("", ";; ", ""),
+    "dashes": ("", "-- ", ""),
+    "percent": ("", "% ", ""),
+    "dnl": ("", "dnl ", ""),
+    "manual page": ("", ".\\\" ", ""),
+    "markup": ("<!--\n", "  ", "-->\n"),
+    "box": ("/" + "*" * 60 + "\n", " * ", " " + "*" * 60 + "/\n"),
+}
+
+
+def original_of(template):
+    """The text of a template with all optional parts, and with each variable's original."""
+    text = re.sub(r"<<(begin|end)Optional.*?>>", "", template, flags=re.S)
+    return re.sub(r'<<var;.*?original="(.*?)".*?>>', r"\1", text, flags=re.S)
+
+
+def commented(text, style):
+    begin, prefix, end = STYLES[style]
+    return begin + "".join(prefix + line + "\n" for line in text.splitlines()) + end
+
+
+def read_templates(folder):
+    found = {}
+    for name in sorted(os.listdir(folder)):
+        if name.endswith(ENDING):
+            with open(os.path.join(folder, name), encoding="utf-8") as file:
+                found[name.removesuffix(ENDING)] = file.read()
+    return found
+
+
+def not_described(program, options):
+    """The templates that do not describe their own original texts."""
+    done = subprocess.run([program, "check", "--templates", TEMPLATES, *options], stdout=subprocess.PIPE, check=False, text=True)
+    answers = dict(line.split("\t")[::2] for line in done.stdout.splitlines())
+    return [f"{id}: check {' '.join(options)} says {answers.get(id, 'nothing')}" for id in read_templates(TEMPLATES) if answers.get(id) != "yes"]
+
+
+def not_found(program, style):
+    """The templates that are not found in their own original texts as comments."""
+    with tempfile.TemporaryDirectory() as folder:
+        templates = read_templates(TEMPLATES)
+        for id, template in templates.items():
+            with open(os.path.join(folder, id), "w", encoding="utf-8") as file:
+                file.write(commented(original_of(template), style))
+        done = subprocess.run([program, "scan", "--templates", os.path.abspath(TEMPLATES), "--", *templates], cwd=folder,
+                              stdout=subprocess.PIPE, check=False, text=True)
+    found = {tuple(line.split("\t")[:2]) for line in done.stdout.splitlines()}
+    return [f"{id}: not found, style {style}" for id in templates if (id, id) not in found]
+
+
+def not_made():
+    """How the templates of tags and fields differ from those that tags.py makes."""
+    with tempfile.TemporaryDirectory() as folder:
+        for options in (["--list", f"{HERE}/tags.txt"], ["--field", "--list", f"{HERE}/fields.txt"]):
+            subprocess.run([sys.executable, f"{HERE}/tags.py", *options, folder], check=True)
+        made = read_templates(folder)
+    kept = {id: text for id, text in read_templates(TEMPLATES).items() if id.endswith(("-identifier", "-field")) and id != "OR-field"}
+    return [f"{id}: not as tags.py makes it" for id in sorted(made.keys() | kept.keys()) if made.get(id) != kept.get(id)]
+
+
+def main():
+    program = os.path.abspath(sys.argv[1])
+    faults = not_described(program, []) + not_described(program, ["--words", WORDS]) + not_made()
+    faults += [fault for style in STYLES for fault in not_found(program, style)]
+    for fault in faults:
+        print(fault)
+    print(f"{len(read_templates(TEMPLATES))} templates tried in {len(STYLES)} styles, {len(faults)} faults")
+    return 1 if faults else 0
+
+
+if __name__ == "__main__":
+    sys.exit(main())
