@@ -19,7 +19,7 @@ FILES = {
     b'logo.png': b'\x89PNG\0\1 license: MIT',
     b'src/either.c': TAG + b'MIT OR Zlib\nint either;\n',
     b'src/exception.c': TAG + b'Apache-2.0 WITH LLVM-exception\n',
-    b'src/latin.py': b'# \xe9\n# License: BSD, see LICENSE\n',
+    b'old/latin.py': b'# \xe9\n# License: BSD, see LICENSE\n',
     b'src/nothing.c': b'int nothing;\n',
     b'src/two words.py': b'# This is free software; you can redistribute it and/or modify it under\n# the same terms as Perl itself.\n',
     b'odd/b\xe9d.c': TAG + b'ISC\n',
