@@ -40,7 +40,7 @@ pub sound_more : (lines : List Line) (n : ℕ) → AreSound lines n → cause_at
 sound_more lines n sound here k within =
     ⊎_elim (λ before. sound k before) (λ last. let same : k ≡ n = omega (arith, within, last) in ap (cause_at lines) same ∙ here) (cases_lt k n)
 
--- what is told of the first line at fault
+-- what is reported for the first line at fault
 pub told : (lines : List Line) (n : ℕ) (cause : RulesCause) → n < length lines → AreSound lines n → (cause_at lines n ≡ Some cause) ⊎ (cause ≡ OutOfMemory)
     → IsFirstFault lines (fault_at (n + 1) cause) ⊎ (fault_at (n + 1) cause ≡ out_of_memory)
 told lines n UnknownRule within sound (inl fault) = inl (record { before = n; line = refl; within = within; cause = fault; first = sound })

@@ -124,14 +124,14 @@ pub record IsFirstFault (lines : List Line) (fault : RulesFault) : Type 0 where
   pub cause : cause_at lines before ≡ Some fault.cause
   pub first : AreSound lines before
 
--- what is told of a cause on this line; want of memory is on no line
+-- what is reported for a cause on this line; lack of memory is on no line
 abbrev pub fault_at : ℕ → RulesCause → RulesFault
 fault_at number UnknownRule = record { line = number; cause = UnknownRule }
 fault_at number BadText = record { line = number; cause = BadText }
 fault_at number TooManyTexts = record { line = number; cause = TooManyTexts }
 fault_at number OutOfMemory = record { line = 0; cause = OutOfMemory }
 
--- want of memory
+-- lack of memory
 abbrev pub out_of_memory : RulesFault
 out_of_memory = record { line = 0; cause = OutOfMemory }
 

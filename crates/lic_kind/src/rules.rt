@@ -138,7 +138,7 @@ impl Rules {
     /// and separators are taken where no line says otherwise, and the last line that does counts.
     ///
     /// The first line at fault decides: it is of no known form; or it is text number 257, repeats counted; or
-    /// its text is missing or not as it has to be. Want of memory is on line 0.
+    /// its text is missing or not as it has to be. Lack of memory is on line 0.
     pub fn read(alloc: Global, text: &str) -> Result<Rules, RulesFault>
         ensures accepted { OnOk result (AreSound (lines_of text.now) (length (lines_of text.now))) }
         ensures rules { IfOk result (λ rules. rules_of rules ≡ rules_in (lines_of text.now)) }

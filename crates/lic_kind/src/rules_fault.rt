@@ -60,7 +60,7 @@ impl<T: Drop> From<AllocFailed<T>> for RulesCause {
 #[derive(Clone, Copy, Debug, PartialEq, Eq, Error)]
 #[error("{}{}: {}", .cause.code(), Place(*.line), .cause.text())]
 pub struct RulesFault {
-    /// The line at fault, counted from 1; 0 for want of memory.
+    /// The line at fault, counted from 1; 0 for lack of memory.
     pub line: usize,
     pub cause: RulesCause,
 }
@@ -68,7 +68,7 @@ pub struct RulesFault {
 impl RulesCause {
     ghost use Rattle.lic_kind.specs.RuleFiles.{fault_at};
 
-    /// The fault on this line; want of memory is on no line, which is told as line 0.
+    /// The fault on this line; lack of memory is on no line, which is reported as line 0.
     pub(crate) fn at(self, line: usize) -> RulesFault
         ensures { result ≡ fault_at line self }
     {

@@ -12,9 +12,12 @@ pub mod TailRows
 pub mod Stops
 pub mod SpaceRows
 pub mod ItemLemmas
+pub mod NoItems
 pub mod Gaps
 pub mod KindRows
 pub mod CutLemmas
 pub mod TokenLemmas
+pub mod AsciiLemmas
+pub mod PlainSigns
 pub mod LineByLine
 mod examples

@@ -2,6 +2,8 @@
 //! with their letters, and single copyright signs.
 #![tactic(auto)]
 
+mod ascii;
+mod ascii_cut;
 pub mod cell;
 pub mod cut;
 mod item;
@@ -19,6 +21,7 @@ mod text;
 pub mod tokens;
 mod walk;
 
+pub use ascii::push_tokens_of_ascii;
 pub use cell::Cell;
 pub use lic_kind::Rules;
 pub use line::{cells_of_line, push_tokens_of_line};

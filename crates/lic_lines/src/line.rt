@@ -52,7 +52,7 @@ fn push_blank_for(cells: &mut Vec<Cell>, length: usize) -> Result<(), AllocError
 /// are made of, with one blank for each of lead, item and tail that is not empty. Dropped characters are taken
 /// out of the line already.
 ///
-/// The error is want of memory.
+/// The error is that memory ran out.
 pub fn cells_of_line(
     alloc: Global,
     rules: &Rules,
@@ -78,7 +78,7 @@ pub fn cells_of_line(
 /// copyright sign by itself as the token `copyright`. Dropped characters are taken out of the line already; spans
 /// are in bytes. What a line before or behind this one holds has no effect, nor what the room holds.
 ///
-/// The error is want of memory; `out` then holds some of the line's tokens, and is of no use.
+/// The error is that memory ran out; `out` then holds some of the line's tokens, and is of no use.
 pub fn push_tokens_of_line(
     alloc: Global,
     rules: &Rules,

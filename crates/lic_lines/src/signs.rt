@@ -1,5 +1,5 @@
 //! Single copyright signs.
-ghost use Rattle.std.specs.Prelude.{◌≡◌, ◌+◌, ◌++◌, ◌<◌, ◌≤◌, length, take, drop, codes};
+ghost use Rattle.std.specs.Prelude.{◌≡◌, ◌+◌, ◌++◌, ◌<◌, ◌≤◌, length, false, take, drop, codes};
 ghost use Rattle.lic_lines.specs.Tokens.{is_text, is_sign_in_parentheses, as_sign, single_signs, token_in, tokens_in};
 
 use crate::small_string::SmallString;
@@ -59,13 +59,36 @@ fn settle(tokens: &mut [FirstToken], kept: usize, at: usize) -> usize
     }
 }
 
+/// Whether the token may be a sign or begin one.
+fn may_begin_sign(token: &FirstToken) -> bool
+    ensures parenthesis { result ≡ false → is_text (codes "(") (token_in token.now) ≡ false }
+    ensures sign { result ≡ false → as_sign (token_in token.now) ≡ token_in token.now }
+{
+    has_text(token, "(") | has_text(token, "\u{A9}")
+}
+
+/// The first place from this one on at which a sign may begin, or how many tokens there are.
+fn first_sign(tokens: &[FirstToken], from: usize) -> usize
+    requires { from ≤ length tokens.now }
+    ensures after { from ≤ result }
+    ensures within { result ≤ length tokens.now }
+    ensures plain { tokens_in (take result tokens.now) ++ single_signs (tokens_in (drop result tokens.now)) ≡ tokens_in (take from tokens.now) ++ single_signs (tokens_in (drop from tokens.now)) }
+{
+    let mut at = from;
+    while at < tokens.len() && !may_begin_sign(&tokens[at]) {
+        at += 1;
+    }
+    at
+}
+
 /// Makes each copyright sign from this token on one token by itself.
 pub fn join_single_signs(tokens: &mut Vec<FirstToken>, from: usize)
     requires { from ≤ length tokens.old.items }
     ensures { tokens_in tokens.new.items ≡ tokens_in (take from tokens.old.items) ++ single_signs (tokens_in (drop from tokens.old.items)) }
 {
-    let mut kept = from;
-    let mut at = from;
+    let first = first_sign(tokens, from);
+    let mut kept = first;
+    let mut at = first;
     while at < tokens.len() {
         at = settle(tokens, kept, at);
         kept += 1;

@@ -51,7 +51,7 @@ fn quick_look(rules: &Rules, side: Side, c: char) -> bool
 }
 
 /// Whether one of the texts of a side begins in white space or in this character.
-fn may_open(rules: &Rules, side: Side, c: char) -> bool
+pub(crate) fn may_open(rules: &Rules, side: Side, c: char) -> bool
     ensures { result ≡ may_open (rules_of rules.now) side c }
 {
     if !quick_look(rules, side, c) {

@@ -17,10 +17,10 @@ use std::alloc::{AllocError, Global};
 
 /// A row of characters of one kind that stands in front of a text.
 #[derive(Clone, Copy)]
-struct FrontRow {
-    length: usize,
+pub(crate) struct FrontRow {
+    pub(crate) length: usize,
     /// Whether a blank stands between its last token and what follows.
-    blank_behind: bool,
+    pub(crate) blank_behind: bool,
 }
 
 /// How many characters in front of a text are marks.
@@ -38,7 +38,7 @@ fn mark_count(text: &[SourceChar]) -> usize
 
 /// Adds the tokens of a row of marks, where a blank stands before it or does not, and says whether one
 /// stands behind its last token. The room may hold anything.
-fn push_marks(
+pub(crate) fn push_marks(
     alloc: Global,
     rules: &Rules,
     after_blank: bool,

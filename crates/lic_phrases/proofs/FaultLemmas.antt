@@ -37,7 +37,7 @@ fault_of-many before phrase many =
     let yes : nat_le 4096 before ≡ true = grind (arith, nat_tests) in
     ap (λ b. cond b (Some TooManyPhrases) (fault_of_phrase phrase)) yes
 
--- what is told of a cause
+-- what is reported for a cause
 pub fault_at-told : (number : ℕ) (cause : WordsCause) (first : Option WordsFault) → (first ≡ Some (record { line = number; cause = cause })) ⊎ (cause ≡ OutOfMemory)
     → (first ≡ Some (fault_at number cause)) ⊎ (fault_at number cause ≡ out_of_memory)
 fault_at-told number EmptyPhrase first (inl e) = inl e

@@ -7,12 +7,14 @@ use Rattle.std.proofs.lemmas.List.{length-map, map-append}
 use Rattle.lic_lines.specs.Texts.{groups, join_group}
 use Rattle.lic_lines.specs.Tokens.{Token, is_text, token_in, tokens_in}
 use Rattle.lic_lines.specs.declared.tokens.FirstToken.{FirstToken}
-use Rattle.lic_phrases.specs.Rewriting.{Phrase, SpannedText, spanned, both_signs, sign_of_row, sign_rows, https_as_http, longest_phrase, count_behind, phrases_behind, phrases_joined, rewritten}
+use Rattle.lic_phrases.specs.Rewriting.{Phrase, SpannedText, spanned, is_sign, both_signs, sign_of_row, sign_rows, https_as_http, longest_phrase, count_behind, phrases_behind, phrases_joined, rewritten}
 use Rattle.lic_phrases.specs.Settling.{Kept, nothing_kept, IsShort, left_of, left_of_rows, GivesRows, Settles}
 use Rattle.lic_phrases.specs.Held.{held}
 use Rattle.lic_phrases.specs.PhraseLists.{PhraseList}
 use Rattle.lic_phrases.specs.Waiting.{spanned_in, GivesMore}
 use Rattle.lic_phrases.specs.declared.final_token.FinalToken.{FinalToken}
+use Rattle.lic_phrases.specs.declared.final_token.TokenText.TheVariants.{Own}
+use Rattle.lic_phrases.proofs.SignLemmas.{sign_rows-other}
 use Rattle.lic_phrases.proofs.AddressLemmas.{https_as_http-other, https_as_http-few}
 
 -- ---- no step makes tokens
@@ -162,3 +164,22 @@ OnOk-both (Err e) P Q R follows p q = tt
 pub OnOk-from : {X E : Type 0} (r : Result X E) (P Q : Type 0) → (P → OnOk r Q) → OnOk r (P → Q)
 OnOk-from (Ok x) P Q follows = follows
 OnOk-from (Err e) P Q follows = tt
+
+-- ---- a token that is settled at once
+
+-- where nothing is kept back, and the token is no sign, no `https` and begins no phrase
+pub Settles-alone : (list : PhraseList) (token : FirstToken) (settled : List SpannedText) (taken : List Token)
+    → is_sign (token_in token) ≡ false → is_text (codes "https") (token_in token) ≡ false
+    → GivesMore list false [] (token ∷ []) (record { text = Own token.text; start = token.start; end = token.end } ∷ []) []
+    → Settles list.phrases taken settled nothing_kept
+    → Settles list.phrases (taken ++ token_in token ∷ []) (settled ++ spanned (token_in token) ∷ []) nothing_kept
+Settles-alone list token settled taken no_sign no_https more before =
+    let t = token_in token in
+    let one : List SpannedText = spanned t ∷ [] in
+    let given : FinalToken = record { text = Own token.text; start = token.start; end = token.end } in
+    Settles-more list.phrases taken settled (settled ++ one) nothing_kept nothing_kept t (t ∷ []) before
+    (λ rest. sign_rows-other t rest no_sign)
+    (subst (λ l. GivesRows list.phrases l nothing_kept (t ∷ []) (settled ++ one) nothing_kept) (append-nil settled)
+    (GivesRows-behind list.phrases settled [] one nothing_kept nothing_kept (t ∷ [])
+    (GivesRows-plain list [] (given ∷ []) [] [] token [] no_https more)))
+    (record { sign = omega arith; address = omega arith; phrase = omega arith })

@@ -78,14 +78,14 @@ fault_from before (phrase ∷ phrases) = fault_or (fault_of before phrase.1) phr
 abbrev pub first_fault : List ℕ → Option WordsFault
 first_fault text = fault_from 0 (located 1 (phrase_lines text))
 
--- what is told of a fault on this line; want of memory is on no line
+-- what is reported for a fault on this line; lack of memory is on no line
 abbrev pub fault_at : ℕ → WordsCause → WordsFault
 fault_at number EmptyPhrase = record { line = number; cause = EmptyPhrase }
 fault_at number TooManyPhrases = record { line = number; cause = TooManyPhrases }
 fault_at number PhraseTooLong = record { line = number; cause = PhraseTooLong }
 fault_at number OutOfMemory = record { line = 0; cause = OutOfMemory }
 
--- want of memory
+-- lack of memory
 abbrev pub out_of_memory : WordsFault
 out_of_memory = record { line = 0; cause = OutOfMemory }
 

@@ -60,7 +60,7 @@ impl<T: Drop> From<AllocFailed<T>> for WordsCause {
 #[derive(Clone, Copy, Debug, PartialEq, Eq, Error)]
 #[error("{}{}: {}", .cause.code(), Place(*.line), .cause.text())]
 pub struct WordsFault {
-    /// The line of the phrase at fault, counted from 1; 0 for want of memory.
+    /// The line of the phrase at fault, counted from 1; 0 for lack of memory.
     pub line: usize,
     pub cause: WordsCause,
 }
@@ -79,7 +79,7 @@ impl From<AllocError> for WordsFault {
 impl WordsCause {
     ghost use Rattle.lic_phrases.specs.WordLists.{fault_at};
 
-    /// The fault on this line; want of memory is on no line, which is told as line 0.
+    /// The fault on this line; lack of memory is on no line, which is reported as line 0.
     pub(crate) fn at(self, line: usize) -> WordsFault
         ensures { result ≡ fault_at line self }
     {

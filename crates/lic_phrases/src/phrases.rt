@@ -103,7 +103,7 @@ impl Phrases {
     }
 
     /// Adds a phrase to a class, with the texts of its tokens. If the phrase is there already, it
-    /// leaves its class for this one. Want of memory changes nothing.
+    /// leaves its class for this one. Lack of memory changes nothing.
     pub fn add(&mut self, alloc: Global, texts: &[String], class: usize) -> Result<(), AllocError>
         requires some { 0 < length texts.now }
         requires few { length texts.now ≤ MAX_TOKENS }

@@ -1,7 +1,7 @@
 //! The three steps of the rewriting in a row, token by token.
-ghost use Rattle.std.specs.Prelude.{◌≡◌, ◌∷◌, ◌++◌, [], List, OnOk, length, map};
+ghost use Rattle.std.specs.Prelude.{◌≡◌, ◌∷◌, ◌++◌, [], List, IsTrue, OnOk, length, map};
 ghost use Rattle.lic_lines.specs.Tokens.{Token, token_in, tokens_in};
-ghost use Rattle.lic_phrases.specs.Rewriting.{SpannedText, rewritten};
+ghost use Rattle.lic_phrases.specs.Rewriting.{SpannedText, rewritten, spanned};
 ghost use Rattle.lic_phrases.specs.Settling.{Settles, GivesRows, IsShort, nothing_kept};
 ghost use Rattle.lic_phrases.specs.Waiting.{spanned_in, AreKnown};
 
@@ -86,6 +86,23 @@ impl Rewriter {
             return Ok(());
         }
         self.take_row(phrases, token, output)
+    }
+
+    /// Whether a token that is taken next is settled at once and as it is: none is kept back, and it is no sign, no `https` and
+    /// begins no phrase. It need not be pushed then.
+    #[inline(always)]
+    pub fn passes(&self, phrases: &Phrases, token: &FirstToken) -> bool
+        ensures { IsTrue result → (settled : List SpannedText) (taken : List Token)
+            → Settles phrases.now.phrases taken settled self.now
+            → Settles phrases.now.phrases (taken ++ token_in token.now ∷ []) (settled ++ spanned (token_in token.now) ∷ []) self.now }
+    {
+        if self.sign.is_some() || !self.address.is_empty() || !self.waiting.is_empty() {
+            return false;
+        }
+        if is_sign(token) || is_https(token) {
+            return false;
+        }
+        phrases.most_from(token.text.as_str()) == 0
     }
 
     /// Ends the text: puts the tokens that were kept back at the end of the output. It is then

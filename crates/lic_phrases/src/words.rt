@@ -65,7 +65,7 @@ impl Words {
     /// all phrases that a chain of lines joins are written as the first of them in the list.
     ///
     /// Phrases are read in the order of the list, and the first at fault decides: it is number 4,097,
-    /// repeats counted; or it has no token; or more than 8 tokens or 256 bytes. Want of memory is on
+    /// repeats counted; or it has no token; or more than 8 tokens or 256 bytes. Lack of memory is on
     /// line 0.
     pub fn read(alloc: Global, text: &str) -> Result<Words, WordsFault>
         ensures accepted { OnOk result (first_fault text.now ≡ None) }

@@ -1,0 +1,39 @@
+use Rattle.std.proofs.Common.{◌≡◌, ◌∙◌, ◌++◌, ◌+◌, ◌-◌, ◌≤◌, sym, ap, ap₂, take, drop, length, arith}
+use Rattle.lic_lines.specs.LineRules.{rules_of}
+use Rattle.lic_lines.specs.Lines.{cells_of_cut, cut_of, whole_line, left_of}
+use Rattle.lic_lines.specs.Sources.{placed}
+use Rattle.lic_lines.specs.Tokens.{single_signs, stretch_tokens, tokens_of_cells, line_tokens, tokens_in}
+use Rattle.lic_lines.proofs.AsciiLemmas.{drop-placed, take-placed, length-placed, chars_of-placed}
+use Rattle.lic_lines.proofs.TokenLemmas.{tokens_of_cut, left_of-range, tokens_behind, take_old, drop_old}
+use Rattle.lic_lines.proofs.ascii.push_tokens_of_ascii.Goals as goal
+
+pub join_single_signs-requires : goal.join_single_signs-requires
+join_single_signs-requires c =
+    omega (arith, c.len-from.ensures, c.args.out.now.ok.0, tokens_behind c.args.out.now.items c.push_stretch.new.out.items _ c.in_ok-push_stretch.ensures)
+
+pub returns : goal.returns
+returns c =
+    let rules = rules_of c.args.rules.now in
+    let at = c.args.at in
+    let line = c.args.line.now in
+    let S = placed at line in
+    let old = c.args.out.now.items in
+    let pushed = c.push_stretch.new.out.items in
+    let cut = c.in_ok-cut.cut in
+    let lead = cut.lead + cut.item in
+    let size = length line - cut.tail - lead in
+    let from : c.len-from.result ≡ length old = c.len-from.ensures ∙ c.args.out.now.ok.0 in
+    let told = c.in_ok-push_stretch.ensures in
+    let bytes : c.as_bytes.result.now ≡ line = c.as_bytes.ensures.value in
+    let short : cut.lead + cut.item + cut.tail ≤ length line = omega (arith, c.in_ok-cut.ensures.within, ap length bytes) in
+    let left : placed (at + lead) c.range-left.result.now ≡ left_of cut S =
+    ap (placed (at + lead)) c.range-left.ensures.value ∙ sym (take-placed size (at + lead) (drop lead line))
+    ∙ ap (take size) (sym (drop-placed lead at line c.requires.ascii (omega arith)))
+    ∙ ap (λ m. take (m - cut.tail - lead) (drop lead S)) (sym (length-placed at line)) ∙ left_of-range cut S in
+    let tokens : single_signs (stretch_tokens rules (placed (at + lead) c.range-left.result.now)) ≡ line_tokens rules whole_line S =
+    ap (λ l. single_signs (stretch_tokens rules l)) left ∙ sym (tokens_of_cut rules cut S)
+    ∙ ap (λ k. tokens_of_cells rules (cells_of_cut k S)) (c.in_ok-cut.ensures.cut ∙ ap (cut_of rules whole_line) (bytes ∙ sym (chars_of-placed at line))) in
+    c.join_single_signs.ensures
+    ∙ ap (λ n. tokens_in (take n pushed) ++ single_signs (tokens_in (drop n pushed))) from
+    ∙ ap₂ (λ a b. a ++ single_signs b) (take_old old pushed _ told) (drop_old old pushed _ told)
+    ∙ ap (λ l. tokens_in old ++ l) tokens

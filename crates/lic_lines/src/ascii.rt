@@ -1,0 +1,250 @@
+//! The first tokens of a line of ASCII, straight from its bytes.
+ghost use Rattle.std.specs.Prelude.{◌≡◌, ◌≢◌, ◌+◌, ◌++◌, ◌<◌, ◌≤◌, ◌^◌, ℕ, length, map, drop, slice_index, All, IfOk, OnOk, IsAscii};
+ghost use Rattle.std.specs.Char.{to_ascii_lowercase};
+ghost use Rattle.lic_kind.specs.Kinds.{kind_of};
+ghost use Rattle.lic_lines.specs.LineRules.{rules_of};
+ghost use Rattle.lic_lines.specs.Lines.{cell_of, cut_of, whole_line};
+ghost use Rattle.lic_lines.specs.Runs.{runs_joined};
+ghost use Rattle.lic_lines.specs.Sources.{placed};
+ghost use Rattle.lic_lines.specs.Texts.{groups};
+ghost use Rattle.lic_lines.specs.Tokens.{both_words, blank_behind, line_tokens, stretch_tokens, tokens_after, tokens_from, tokens_in};
+
+use crate::ascii_cut::quick_cut;
+use crate::cut::{LineCut, cut_line};
+use crate::line_part::LinePart;
+use crate::room::Room;
+use crate::signs::join_single_signs;
+use crate::small_string::SmallString;
+use crate::source::SourceChar;
+use crate::text::{FrontRow, push_marks};
+use crate::tokens::FirstToken;
+use lic_kind::laws::words_are_folded;
+use lic_kind::{Kind, Rules, kind_of};
+use std::alloc::{AllocError, Global};
+use std::mem::replace;
+
+/// A line of a whole text.
+const WHOLE_LINE: LinePart = LinePart {
+    has_front: true,
+    has_end: true,
+    behind: None,
+};
+
+/// How many bytes in front of a text are of this kind.
+#[inline(always)]
+fn kind_count(kind: Kind, text: &[u8]) -> usize
+    ensures within { result ≤ length text.now }
+    ensures all { (i : ℕ) → i < result → kind_of (slice_index text.now i) ≡ kind }
+    ensures stop { result < length text.now → kind_of (slice_index text.now result) ≢ kind }
+{
+    let mut count = 0;
+    while count < text.len() && kind_of(text[count] as char) == kind {
+        count += 1;
+    }
+    count
+}
+
+/// Puts the source characters of a text that begins at this byte in the place of those that are there.
+fn place(characters: &mut Vec<SourceChar>, at: u32, text: &[u8]) -> Result<(), AllocError>
+    requires ascii { IsAscii text.now }
+    requires fits { at + length text.now < 2 ^ 32 }
+    ensures { OnOk result (characters.new.items ≡ placed at text.now) }
+{
+    characters.clear();
+    for (i, byte) in text.iter().enumerate() {
+        let start = at + i as u32;
+        characters.push(SourceChar {
+            char: *byte as char,
+            start,
+            end: start + 1,
+        })?;
+    }
+    Ok(())
+}
+
+/// What is taken from a whole line: mostly a quick look tells.
+fn cut_of_line(
+    alloc: Global,
+    rules: &Rules,
+    line: &[u8],
+    characters: &mut Vec<SourceChar>,
+) -> Result<LineCut, AllocError>
+    requires ascii { IsAscii line.now }
+    requires fits { length line.now < 2 ^ 32 }
+    ensures cut { IfOk result (λ cut. cut ≡ cut_of (rules_of rules.now) whole_line line.now) }
+    ensures within { IfOk result (λ cut. cut.lead + cut.item + cut.tail ≤ length line.now) }
+{
+    if let Some(cut) = quick_cut(rules, line) {
+        return Ok(cut);
+    }
+    place(characters, 0, line)?;
+    cut_line(alloc, rules, WHOLE_LINE, characters)
+}
+
+/// Adds the tokens of a row of marks that begins at this byte, where a blank stands before it or does not, and says
+/// whether one stands behind its last token. The room may hold anything.
+fn push_row_of_marks(
+    alloc: Global,
+    rules: &Rules,
+    after_blank: bool,
+    at: u32,
+    row: &[u8],
+    room: &mut Room,
+    out: &mut Vec<FirstToken>,
+) -> Result<bool, AllocError>
+    requires ascii { IsAscii row.now }
+    requires fits { at + length row.now < 2 ^ 32 }
+    requires marks { All (λ b. kind_of b ≡ Kind.Mark) row.now }
+    ensures tokens { OnOk result (tokens_in out.new.items ≡ tokens_in out.old.items ++ tokens_from after_blank (groups both_words (runs_joined (rules_of rules.now) (map cell_of (placed at row.now))))) }
+    ensures blank { IfOk result (λ blank. blank ≡ blank_behind after_blank (groups both_words (runs_joined (rules_of rules.now) (map cell_of (placed at row.now))))) }
+{
+    let mut marks = replace(&mut room.marks, Vec::new(alloc));
+    place(&mut marks, at, row)?;
+    let blank_behind = push_marks(alloc, rules, after_blank, &marks, room, out)?;
+    room.marks = marks;
+    Ok(blank_behind)
+}
+
+/// Adds the tokens of the longest row of bytes of one kind in front of a text, of which the small letters are
+/// given too.
+#[inline(always)]
+fn push_front(
+    alloc: Global,
+    rules: &Rules,
+    after_blank: bool,
+    at: u32,
+    text: &[u8],
+    lowered: &str,
+    room: &mut Room,
+    out: &mut Vec<FirstToken>,
+) -> Result<FrontRow, AllocError>
+    requires some { 0 < length text.now }
+    requires ascii { IsAscii text.now }
+    requires fits { at + length text.now < 2 ^ 32 }
+    requires lowered { lowered.now ≡ map to_ascii_lowercase text.now }
+    ensures some { IfOk result (λ row. 0 < row.length) }
+    ensures within { IfOk result (λ row. row.length ≤ length text.now) }
+    ensures tokens { IfOk result (λ row. tokens_in out.new.items ++ tokens_after (rules_of rules.now) row.blank_behind (placed (at + row.length) (drop row.length text.now)) ≡ tokens_in out.old.items ++ tokens_after (rules_of rules.now) after_blank (placed at text.now)) }
+{
+    match kind_of(text[0] as char) {
+        Kind::Blank | Kind::Dropped => Ok(FrontRow {
+            length: 1,
+            blank_behind: true,
+        }),
+        Kind::Word => {
+            let length = kind_count(Kind::Word, text);
+            words_are_folded();
+            let token = FirstToken {
+                text: SmallString::from_str(alloc, &lowered[..length])?,
+                start: at,
+                end: at + length as u32,
+                after_blank,
+            };
+            out.push(token)?;
+            Ok(FrontRow {
+                length,
+                blank_behind: false,
+            })
+        }
+        Kind::Mark => {
+            let length = kind_count(Kind::Mark, text);
+            let row = &text[..length];
+            let blank_behind = push_row_of_marks(alloc, rules, after_blank, at, row, room, out)?;
+            Ok(FrontRow {
+                length,
+                blank_behind,
+            })
+        }
+    }
+}
+
+/// Adds the first tokens of a text that begins at this byte and of which nothing is taken; its small letters are
+/// given too.
+fn push_text(
+    alloc: Global,
+    rules: &Rules,
+    at: u32,
+    text: &[u8],
+    lowered: &str,
+    room: &mut Room,
+    out: &mut Vec<FirstToken>,
+) -> Result<(), AllocError>
+    requires ascii { IsAscii text.now }
+    requires fits { at + length text.now < 2 ^ 32 }
+    requires lowered { lowered.now ≡ map to_ascii_lowercase text.now }
+    ensures { OnOk result (tokens_in out.new.items ≡ tokens_in out.old.items ++ stretch_tokens (rules_of rules.now) (placed at text.now)) }
+{
+    let mut after_blank = true;
+    let mut place = 0;
+    while place < text.len() {
+        let start = at + place as u32;
+        let row = push_front(
+            alloc,
+            rules,
+            after_blank,
+            start,
+            &text[place..],
+            &lowered[place..],
+            room,
+            out,
+        )?;
+        after_blank = row.blank_behind;
+        place += row.length;
+    }
+    Ok(())
+}
+
+/// Adds the first tokens of a text that begins at this byte and of which nothing is taken.
+fn push_stretch(
+    alloc: Global,
+    rules: &Rules,
+    at: u32,
+    text: &str,
+    room: &mut Room,
+    out: &mut Vec<FirstToken>,
+) -> Result<(), AllocError>
+    requires ascii { IsAscii text.now }
+    requires fits { at + length text.now < 2 ^ 32 }
+    ensures { OnOk result (tokens_in out.new.items ≡ tokens_in out.old.items ++ stretch_tokens (rules_of rules.now) (placed at text.now)) }
+{
+    let mut lowered = replace(&mut room.lowered, String::new(alloc));
+    lowered.clear();
+    lowered.push_str(text)?;
+    lowered.make_ascii_lowercase();
+    push_text(
+        alloc,
+        rules,
+        at,
+        text.as_bytes(),
+        lowered.as_str(),
+        room,
+        out,
+    )?;
+    room.lowered = lowered;
+    Ok(())
+}
+
+/// Adds the tokens of a whole line of ASCII that begins at this byte, as `push_tokens_of_line` adds those of its
+/// characters. What a line before or behind this one holds has no effect, nor what the room holds.
+///
+/// The error is that memory ran out; `out` then holds some of the line's tokens, and is of no use.
+pub fn push_tokens_of_ascii(
+    alloc: Global,
+    rules: &Rules,
+    at: u32,
+    line: &str,
+    room: &mut Room,
+    out: &mut Vec<FirstToken>,
+) -> Result<(), AllocError>
+    requires ascii { IsAscii line.now }
+    requires fits { at + length line.now < 2 ^ 32 }
+    ensures { OnOk result (tokens_in out.new.items ≡ tokens_in out.old.items ++ line_tokens (rules_of rules.now) whole_line (placed at line.now)) }
+{
+    let cut = cut_of_line(alloc, rules, line.as_bytes(), &mut room.marks)?;
+    let lead = cut.lead + cut.item;
+    let left = &line[lead..line.len() - cut.tail];
+    let from = out.len();
+    push_stretch(alloc, rules, at + lead as u32, left, room, out)?;
+    join_single_signs(out, from);
+    Ok(())
+}
