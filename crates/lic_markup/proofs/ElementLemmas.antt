@@ -11,7 +11,7 @@ use Rattle.lic_markup.specs.Faults.{fault_at, map_ok, Fails}
 use Rattle.lic_markup.specs.Rules.{Rule, tag_at, rule_at}
 use Rattle.lic_markup.specs.Elements.{Element, text, rule, rule_behind, and_then, elements, element_read, behind_rule}
 
--- a fault that is not want of memory is what reading meets
+-- a fault that is not lack of memory is what reading meets
 pub Fails-lasting : {A : Type 0} (cause : MarkupCause) (place : ℕ) (r : Result A MarkupFault) → (cause ≡ OutOfMemory → ⊥) → Fails cause place r → r ≡ Err (fault_at place cause)
 Fails-lasting OutOfMemory place r lasting h = absurd (lasting refl)
 Fails-lasting cause place r lasting h = h

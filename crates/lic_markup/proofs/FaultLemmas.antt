@@ -44,6 +44,6 @@ Fails-told_cause : (A : Type 0) (cause : MarkupCause) (place : ℕ) → Fails {Y
 Fails-told_cause A OutOfMemory place = refl
 Fails-told_cause A _ place = refl
 
--- a fault that is told is that of a reading that fails with it
+-- a fault that is reported is that of a reading that fails with it
 pub Fails-told : (A : Type 0) (e f : MarkupFault) → f ≡ told e → Fails {Y = A} f.cause f.place (Err e)
 Fails-told A e f is = subst (λ (g : MarkupFault). Fails {Y = A} g.cause g.place (Err e)) (sym is) (Fails-told_cause A e.cause e.place)

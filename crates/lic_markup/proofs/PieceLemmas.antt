@@ -8,6 +8,7 @@ use Rattle.std.proofs.lemmas.Str.{IsUtf8-append, chars-append, chars-nil}
 use Rattle.lic_lines.specs.Texts.{groups, join_group}
 use Rattle.lic_lines.specs.declared.cell.Cell.{Cell}
 use Rattle.lic_lines.specs.declared.cell.Cell.TheVariants.{Blank, Mark, Word}
+use Rattle.lic_lines.specs.LineRules.{LineRules}
 use Rattle.lic_lines.specs.Tokens.{both_words, tokens_from, single_signs}
 use Rattle.lic_phrases.specs.Rewriting.{Phrase, rewritten}
 use Rattle.lic_phrases.specs.Spelling.{blank_if, spelled}
@@ -39,10 +40,10 @@ no_tokens after_blank (Blank ∷ cells) all = blank_alone after_blank (groups bo
 no_tokens after_blank (Mark s ∷ cells) all = absurd (true≢false (sym all))
 no_tokens after_blank (Word s ∷ cells) all = absurd (true≢false (sym all))
 
-module _ (words : List Phrase) (at_line_start : Bool) (before : Next) (piece : List ℕ) where
-  no_texts : list_all is_blank (piece_cells at_line_start before piece) ≡ true → piece_texts words at_line_start before piece ≡ []
+module _ (rules : LineRules) (words : List Phrase) (at_line_start : Bool) (before : Next) (piece : List ℕ) where
+  no_texts : list_all is_blank (piece_cells rules at_line_start before piece) ≡ true → piece_texts rules words at_line_start before piece ≡ []
   unfolding piece_tokens
-  no_texts all = ap (λ ts. map (λ t. t.text) (rewritten words (single_signs ts))) (no_tokens true (piece_cells at_line_start before piece) all)
+  no_texts all = ap (λ ts. map (λ t. t.text) (rewritten words (single_signs ts))) (no_tokens true (piece_cells rules at_line_start before piece) all)
 
   -- ---- the edges
 
@@ -66,12 +67,12 @@ module _ (words : List Phrase) (at_line_start : Bool) (before : Next) (piece : L
       (with_behind b (blank_if a ++ chars (spelled ts)) (map chars ts) (with_before a (chars (spelled ts)) (map chars ts) (spelled_spells ts some utf8 token)))
 
   -- the letters of a piece spell its tokens
-  pub piece_spells : (piece_texts words at_line_start before piece ≡ [] → ⊥) → All IsUtf8 (piece_texts words at_line_start before piece) → All IsTokenText (piece_texts words at_line_start before piece) →
-      Spells (chars (piece_of words at_line_start before piece)) (map chars (piece_texts words at_line_start before piece))
+  pub piece_spells : (piece_texts rules words at_line_start before piece ≡ [] → ⊥) → All IsUtf8 (piece_texts rules words at_line_start before piece) → All IsTokenText (piece_texts rules words at_line_start before piece) →
+      Spells (chars (piece_of rules words at_line_start before piece)) (map chars (piece_texts rules words at_line_start before piece))
   unfolding piece_of
   piece_spells some utf8 token =
-      let cells = piece_cells at_line_start before piece in
-      let ts = piece_texts words at_line_start before piece in
+      let cells = piece_cells rules at_line_start before piece in
+      let ts = piece_texts rules words at_line_start before piece in
       elim (cases_Bool (list_all is_blank cells)) [
         | inl all ↦ absurd (some (no_texts all))
         | inr other ↦
@@ -84,14 +85,14 @@ still_some [] some none = some refl
 still_some (t ∷ ts) some none = absurd (omega (arith, ap length none))
 
 -- so a text with these letters describes them
-pub piece_described : (words : List Phrase) (at_line_start : Bool) (before : Next) (piece : List ℕ) (text : String Global) → string_bytes text ≡ piece_of words at_line_start before piece →
-    (piece_texts words at_line_start before piece ≡ [] → ⊥) → All IsUtf8 (piece_texts words at_line_start before piece) → All IsTokenText (piece_texts words at_line_start before piece) →
-    IsDescribed (part_words (Text text)) (map chars (piece_texts words at_line_start before piece))
-piece_described words at_line_start before piece text is some utf8 token =
-    let ts = piece_texts words at_line_start before piece in
+pub piece_described : (rules : LineRules) (words : List Phrase) (at_line_start : Bool) (before : Next) (piece : List ℕ) (text : String Global) → string_bytes text ≡ piece_of rules words at_line_start before piece →
+    (piece_texts rules words at_line_start before piece ≡ [] → ⊥) → All IsUtf8 (piece_texts rules words at_line_start before piece) → All IsTokenText (piece_texts rules words at_line_start before piece) →
+    IsDescribed (part_words (Text text)) (map chars (piece_texts rules words at_line_start before piece))
+piece_described rules words at_line_start before piece text is some utf8 token =
+    let ts = piece_texts rules words at_line_start before piece in
     let letters = chars (string_bytes text) in (
       still_some ts some,
       letters,
       subst (λ e. Language e letters) (sym (part_words-Text text)) (letters_complete letters),
-      subst (λ l. Spells (chars l) (map chars ts)) (sym is) (piece_spells words at_line_start before piece some utf8 token),
+      subst (λ l. Spells (chars l) (map chars ts)) (sym is) (piece_spells rules words at_line_start before piece some utf8 token),
     )

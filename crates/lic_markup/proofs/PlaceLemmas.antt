@@ -13,7 +13,7 @@ use Rattle.lic_lines.specs.declared.cell.Cell.{Cell}
 use Rattle.lic_lines.specs.declared.cell.Cell.TheVariants.{Blank, Mark, Word}
 use Rattle.lic_lines.specs.declared.cut.LineCut.{LineCut}
 use Rattle.lic_lines.specs.declared.line_part.LinePart.{LinePart}
-use Rattle.lic_lines.specs.LineRules.{LineRules, profile}
+use Rattle.lic_lines.specs.LineRules.{LineRules}
 use Rattle.lic_lines.specs.Lines.{whole_line, blank_for, cell_of, cells_of_cut, cut_of, left_of, line_cells, cells_of}
 use Rattle.lic_lines.specs.Runs.{end_after, joined, runs_joined, same_family, same_mark, with_joined, without_separator, without_separators}
 use Rattle.lic_lines.specs.Tokens.{Token, as_sign, both_words, first_tokens, is_sign_in_parentheses, is_text, letters_of, sign_from, single_signs, text_tokens, token_of, tokens_from}
@@ -160,11 +160,15 @@ bare-joined (Blank ∷ run) = refl
 bare-joined (Word s ∷ run) = refl
 bare-joined (Mark s ∷ run) = ap (λ n. Mark (record { char = s.char; start = 0; end = n }) ∷ []) (bare-end run)
 
-bare-runs : (cells : List Cell) → runs_joined profile (map bare_cell cells) ≡ map bare_cell (runs_joined profile cells)
-bare-runs cells =
-    let parted = without_separators cells in
-    ap with_joined
-    (ap (flat_map without_separator) (groups-map bare_cell same_mark bare-same_mark cells) ∙ flat-map bare_cell bare_cell without_separator bare-separator (groups same_mark cells))
+bare-separators : (separators : Bool) (cells : List Cell) → (if separators then without_separators (map bare_cell cells) else map bare_cell cells) ≡ map bare_cell (if separators then without_separators cells else cells)
+bare-separators true cells =
+    ap (flat_map without_separator) (groups-map bare_cell same_mark bare-same_mark cells) ∙ flat-map bare_cell bare_cell without_separator bare-separator (groups same_mark cells)
+bare-separators false cells = refl
+
+bare-runs : (rules : LineRules) (cells : List Cell) → runs_joined rules (map bare_cell cells) ≡ map bare_cell (runs_joined rules cells)
+bare-runs rules cells =
+    let parted = if rules.separators then without_separators cells else cells in
+    ap with_joined (bare-separators rules.separators cells)
     ∙ ap (flat_map joined) (groups-map bare_cell same_family bare-same_family parted)
     ∙ flat-map bare_cell bare_cell joined bare-joined (groups same_family parted)
 
@@ -291,33 +295,33 @@ part-whole line = both (ends_in_feed line)
     both true = refl
     both false = refl
 
-cells-whole : (lines : List (List SourceChar)) → cells_of_lines true LineEnd lines ≡ flat_map (line_cells profile whole_line) lines
-cells-whole [] = refl
-cells-whole (line ∷ lines) = ap₂ (λ xs ys. xs ++ ys) (ap (λ part. line_cells profile part line) (part-whole line)) (cells-whole lines)
+cells-whole : (rules : LineRules) (lines : List (List SourceChar)) → cells_of_lines rules true LineEnd lines ≡ flat_map (line_cells rules whole_line) lines
+cells-whole rules [] = refl
+cells-whole rules (line ∷ lines) = ap₂ (λ xs ys. xs ++ ys) (ap (λ part. line_cells rules part line) (part-whole line)) (cells-whole rules lines)
 
 reported-texts : (ts : List SpannedText) → map (λ t. t.text) (map reported ts) ≡ map (λ t. t.text) ts
 reported-texts [] = refl
 reported-texts (t ∷ ts) = ap (λ l. t.text ∷ l) (reported-texts ts)
 
-piece-whole : (piece : List ℕ) → piece_cells true LineEnd piece ≡ map bare_cell (runs_joined profile (cells_of profile (placed 0 (chars piece))))
+piece-whole : (rules : LineRules) (piece : List ℕ) → piece_cells rules true LineEnd piece ≡ map bare_cell (runs_joined rules (cells_of rules (placed 0 (chars piece))))
 unfolding piece_cells
-piece-whole piece =
+piece-whole rules piece =
     let text = placed 0 (chars piece) in
     let lines = lines_of (without_dropped text) in
-    ap (λ t. runs_joined profile (cells_of_lines true LineEnd (lines_of (without_dropped t)))) (sym (bare-placed 0 (chars piece)))
-    ∙ ap (λ t. runs_joined profile (cells_of_lines true LineEnd (lines_of t))) (bare-kept text)
-    ∙ ap (λ ls. runs_joined profile (cells_of_lines true LineEnd ls)) (bare-lines (without_dropped text))
-    ∙ ap (runs_joined profile) (cells-whole (map (map bare) lines) ∙ flat-map bare bare_cell (line_cells profile whole_line) (bare-line profile whole_line) lines)
-    ∙ bare-runs (cells_of profile text)
+    ap (λ t. runs_joined rules (cells_of_lines rules true LineEnd (lines_of (without_dropped t)))) (sym (bare-placed 0 (chars piece)))
+    ∙ ap (λ t. runs_joined rules (cells_of_lines rules true LineEnd (lines_of t))) (bare-kept text)
+    ∙ ap (λ ls. runs_joined rules (cells_of_lines rules true LineEnd ls)) (bare-lines (without_dropped text))
+    ∙ ap (runs_joined rules) (cells-whole rules (map (map bare) lines) ∙ flat-map bare bare_cell (line_cells rules whole_line) (bare-line rules whole_line) lines)
+    ∙ bare-runs rules (cells_of rules text)
 
 -- a piece that is whole lines has the tokens of the text that it is
-pub piece_texts-whole : (words : List Phrase) (piece : List ℕ) → IsUtf8 piece → piece_texts words true LineEnd piece ≡ map (λ t. t.text) (tokens_of words piece)
+pub piece_texts-whole : (rules : LineRules) (words : List Phrase) (piece : List ℕ) → IsUtf8 piece → piece_texts rules words true LineEnd piece ≡ map (λ t. t.text) (tokens_of rules words piece)
 unfolding piece_tokens first_tokens_of
-piece_texts-whole words piece utf8 =
-    let cells = runs_joined profile (cells_of profile (placed 0 (chars piece))) in
-    ap (λ cs. texts_after words (single_signs (first_tokens cs))) (piece-whole piece)
+piece_texts-whole rules words piece utf8 =
+    let cells = runs_joined rules (cells_of rules (placed 0 (chars piece))) in
+    ap (λ cs. texts_after words (single_signs (first_tokens cs))) (piece-whole rules piece)
     ∙ ap (λ ts. texts_after words (single_signs ts)) (bare-first cells)
     ∙ ap (texts_after words) (bare-signs (first_tokens cells))
     ∙ bare-texts words (single_signs (first_tokens cells))
     ∙ sym (reported-texts (rewritten words (single_signs (first_tokens cells))))
-    ∙ ap (λ text. map (λ t. t.text) (map reported (rewritten words (text_tokens profile text)))) (sym (source_of-utf8 0 piece utf8))
+    ∙ ap (λ text. map (λ t. t.text) (map reported (rewritten words (text_tokens rules text)))) (sym (source_of-utf8 0 piece utf8))

@@ -11,6 +11,7 @@ use Rattle.std.proofs.lemmas.List.{get_or-append-add}
 use Rattle.memchr.specs.Find.{IsFirstByte, is_byte}
 use Rattle.lic_ere.specs.Located.{Located, located, located_from, with_rest}
 use Rattle.lic_phrases.specs.Rewriting.{Phrase}
+use Rattle.lic_lines.specs.LineRules.{LineRules}
 use Rattle.lic_norm.specs.Pieces.{piece_of}
 use Rattle.lic_norm.specs.declared.pieces.Next.TheVariants.{LineEnd}
 use Rattle.lic_markup.specs.declared.fault.MarkupFault.{MarkupFault}
@@ -100,23 +101,23 @@ one_part : (text : List ℕ) → row_has_token (row (with_letters text (new_leve
 one_part [] h = absurd cc
 one_part (c ∷ cs) h = refl
 
-module _ (words : List Phrase) where
-  read_one : (all : List Located) → read_elements words (text all ∷ []) ≡ whole (with_letters (piece_of words true LineEnd (text_of all)) (new_level 0)).parts (text_of all)
+module _ (rules : LineRules) (words : List Phrase) where
+  read_one : (all : List Located) → read_elements rules words (text all ∷ []) ≡ whole (with_letters (piece_of rules words true LineEnd (text_of all)) (new_level 0)).parts (text_of all)
   unfolding read_on meet
-  read_one all = ap (λ follows. whole (with_letters (piece_of words true follows (text_of all)) (new_level 0)).parts (text_of all)) (line_end (ends_line all))
+  read_one all = ap (λ follows. whole (with_letters (piece_of rules words true follows (text_of all)) (new_level 0)).parts (text_of all)) (line_end (ends_line all))
     where
       line_end : (ends : Bool) → (if ends then LineEnd else LineEnd) ≡ LineEnd
       line_end true = refl
       line_end false = refl
 
-  pub plain_parts : (template : List ℕ) (r : Reading) → IsUtf8 template → list_any (λ c. c == less) (chars template) ≡ false → reading words template ≡ Ok r →
-      r.parts ≡ letters (piece_of words true LineEnd template) ∷ []
+  pub plain_parts : (template : List ℕ) (r : Reading) → IsUtf8 template → list_any (λ c. c == less) (chars template) ≡ false → reading rules words template ≡ Ok r →
+      r.parts ≡ letters (piece_of rules words true LineEnd template) ∷ []
   plain_parts template r utf8 none read =
-      let parts : List ℕ → List Node = λ t. (with_letters (piece_of words true LineEnd t) (new_level 0)).parts in
+      let parts : List ℕ → List Node = λ t. (with_letters (piece_of rules words true LineEnd t) (new_level 0)).parts in
       let same : text_of (located template) ≡ template = text_of-located 0 (chars template) ∙ encodes-chars template utf8 in
-      let one : read_elements words (elements [] 0 (located template)) ≡ whole (parts template) template =
-      ap (read_elements words) (one_piece [] 0 (chars template) none) ∙ read_one (located template) ∙ ap (λ t. whole (parts t) t) same in
+      let one : read_elements rules words (elements [] 0 (located template)) ≡ whole (parts template) template =
+      ap (read_elements rules words) (one_piece [] 0 (chars template) none) ∙ read_one (located template) ∙ ap (λ t. whole (parts t) t) same in
       let x : Reading = record { parts = parts template; weight = row_weight (row (parts template)); original = template } in
       let known = accepted_parts (row_has_token (row (parts template))) (nat_lt max_weight (row_weight (row (parts template)))) x r
-      (sym one ∙ accepted (nat_lt max_length (length template)) (read_elements words (elements [] 0 (located template))) r read) in
-      ap (λ (y : Reading). y.parts) (sym known.1) ∙ one_part (piece_of words true LineEnd template) known.0
+      (sym one ∙ accepted (nat_lt max_length (length template)) (read_elements rules words (elements [] 0 (located template))) r read) in
+      ap (λ (y : Reading). y.parts) (sym known.1) ∙ one_part (piece_of rules words true LineEnd template) known.0

@@ -19,7 +19,7 @@ abbrev pub map_ok : {A B : Type 0} → (A → B) → Result A MarkupFault → Re
 map_ok f (Ok x) = Ok (f x)
 map_ok f (Err e) = Err e
 
--- a refusal is the fault that reading meets, or want of memory, which is told at 0
+-- a refusal is the fault that reading meets, or out of memory, reported at 0
 abbrev pub Fails : {Y : Type 0} → MarkupCause → ℕ → Result Y MarkupFault → Type 0
 Fails OutOfMemory place read = place ≡ 0
 Fails cause place read = read ≡ Err (fault_at place cause)
@@ -29,11 +29,11 @@ abbrev pub Gives : {X Y : Type 0} → (X → Y) → Result X MarkupFault → Res
 Gives view (Ok x) read = read ≡ Ok (view x)
 Gives view (Err e) read = Fails e.cause e.place read
 
--- the fault is not want of memory
+-- the fault is not lack of memory
 abbrev pub IsLasting : MarkupFault → Type 0
 IsLasting e = e.cause ≢ OutOfMemory
 
--- a fault as it is told: want of memory has no place
+-- a fault as it is reported: lack of memory has no place
 abbrev pub told_cause : MarkupCause → MarkupFault → MarkupFault
 told_cause OutOfMemory e = out_of_memory
 told_cause _ e = e

@@ -1,5 +1,6 @@
 -- What a template stands for: a set of words over letters and blanks.
 use Rattle.std.specs.Prelude.{ℕ, Bool, true, List, map, chars}
+use Rattle.lic_lines.specs.LineRules.{LineRules}
 use Rattle.lic_phrases.specs.Rewriting.{Phrase, rewritten}
 use Rattle.lic_norm.specs.Pieces.{piece_tokens}
 use Rattle.lic_norm.specs.declared.pieces.Next.{Next}
@@ -54,5 +55,5 @@ abbrev pub part_words : Part → Expression
 part_words part = node_words (part_of part)
 
 -- the texts of the tokens that are read from a piece of a template's text
-abbrev pub piece_texts : List Phrase → Bool → Next → List ℕ → List (List ℕ)
-piece_texts words at_line_start before piece = map (λ t. t.text) (rewritten words (piece_tokens at_line_start before piece))
+abbrev pub piece_texts : LineRules → List Phrase → Bool → Next → List ℕ → List (List ℕ)
+piece_texts rules words at_line_start before piece = map (λ t. t.text) (rewritten words (piece_tokens rules at_line_start before piece))

@@ -6,6 +6,7 @@ use Rattle.lic_ere.specs.declared.fault.EreCause.TheVariants.{OutOfMemory}
 use Rattle.lic_ere.specs.Trees.{Tree}
 use Rattle.lic_ere.specs.Located.{Located, located}
 use Rattle.lic_ere.specs.Reading as ere
+use Rattle.lic_lines.specs.LineRules.{LineRules}
 use Rattle.lic_phrases.specs.Rewriting.{Phrase}
 use Rattle.lic_norm.specs.Pieces.{piece_of}
 use Rattle.lic_norm.specs.declared.pieces.Next.{Next}
@@ -46,16 +47,16 @@ with_letters [] l = l
 with_letters (c ∷ cs) l = with_part (letters (c ∷ cs)) l
 
 -- a piece of text, with what follows it in its line
-abbrev pub meet_text : List Phrase → List Located → Next → State → State
-meet_text words piece follows s =
+abbrev pub meet_text : LineRules → List Phrase → List Located → Next → State → State
+meet_text line_rules words piece follows s =
     record {
-      level = with_letters (piece_of words s.at_start (next_behind piece follows) (text_of piece)) s.level;
+      level = with_letters (piece_of line_rules words s.at_start (next_behind piece follows) (text_of piece)) s.level;
       outer = s.outer;
       original = s.original ++ text_of piece;
       at_start = at_line_start s.at_start piece;
     }
 
--- how the fault of a pattern is told, which begins at a place
+-- how the fault of a pattern is reported, which begins at a place
 abbrev pub told_cause : EreCause → ℕ → EreFault → MarkupFault
 told_cause OutOfMemory place e = out_of_memory
 told_cause cause place e = fault_at place (Pattern e)
@@ -89,13 +90,13 @@ meet_end place level [] s = Err (fault_at place EndWithoutBegin)
 meet_end place level (o ∷ outer) s = Ok (record s { level = with_part (optional (row level.parts)) o; outer = outer })
 
 -- one more piece or rule
-unfoldable pub meet : List Phrase → Element → Next → State → Result State MarkupFault
-meet words (text piece) follows s = Ok (meet_text words piece follows s)
-meet words (rule (rules.variable name original place pattern)) follows s =
+unfoldable pub meet : LineRules → List Phrase → Element → Next → State → Result State MarkupFault
+meet line_rules words (text piece) follows s = Ok (meet_text line_rules words piece follows s)
+meet line_rules words (rule (rules.variable name original place pattern)) follows s =
     meet_variable name original place (ere.reading pattern) s
-meet words (rule (rules.begin place)) follows s = meet_begin place s
-meet words (rule (rules.finish place)) follows s = meet_end place s.level s.outer s
-meet words (refused e) follows s = Err e
+meet line_rules words (rule (rules.begin place)) follows s = meet_begin place s
+meet line_rules words (rule (rules.finish place)) follows s = meet_end place s.level s.outer s
+meet line_rules words (refused e) follows s = Err e
 
 -- the greatest weight
 abbrev pub max_weight : ℕ
@@ -114,20 +115,20 @@ finish level [] original = whole level.parts original
 finish level (o ∷ outer) original = Err (fault_at level.place NotEnded)
 
 -- the elements that are left
-unfoldable pub read_on : List Phrase → State → List (Element × Next) → Result Reading MarkupFault
-read_on words s [] = finish s.level s.outer s.original
-read_on words s (e ∷ es) = meet words e.0 e.1 s >>= λ t. read_on words t es
+unfoldable pub read_on : LineRules → List Phrase → State → List (Element × Next) → Result Reading MarkupFault
+read_on line_rules words s [] = finish s.level s.outer s.original
+read_on line_rules words s (e ∷ es) = meet line_rules words e.0 e.1 s >>= λ t. read_on line_rules words t es
 
 -- all elements
-abbrev pub read_elements : List Phrase → List Element → Result Reading MarkupFault
-read_elements words es = read_on words start (with_next es)
+abbrev pub read_elements : LineRules → List Phrase → List Element → Result Reading MarkupFault
+read_elements line_rules words es = read_on line_rules words start (with_next es)
 
 -- how many bytes a template may have
 abbrev pub max_length : ℕ
 max_length = 1048576
 
 -- a template's text, given as its bytes: its parts, its weight and its original text, or the fault that decides
-abbrev pub reading : List Phrase → List ℕ → Result Reading MarkupFault
-reading words template =
+abbrev pub reading : LineRules → List Phrase → List ℕ → Result Reading MarkupFault
+reading line_rules words template =
     if nat_lt max_length (length template) then Err (fault_at 0 TooLong)
-    else read_elements words (elements [] 0 (located template))
+    else read_elements line_rules words (elements [] 0 (located template))

@@ -25,7 +25,7 @@ pub enum Element {
     Refused(MarkupFault),
 }
 
-/// Passes on a fault that is not want of memory.
+/// Passes on a fault that is not lack of memory.
 fn lasting(fault: MarkupFault) -> Result<MarkupFault, AllocError>
     ensures { IfOk result (λ f. IsLasting f × (f ≡ fault)) }
 {

@@ -79,7 +79,7 @@ impl MarkupFault {
     ghost use Rattle.std.specs.Prelude.{◌≡◌};
     ghost use Rattle.lic_markup.specs.Faults.{out_of_memory};
 
-    /// Want of memory, which is told at 0.
+    /// Out of memory, reported at 0.
     pub(crate) fn out_of_memory() -> MarkupFault
         ensures { result ≡ out_of_memory }
     {

@@ -5,6 +5,7 @@ ghost use Rattle.std.specs.Global.{Global};
 ghost use Rattle.std.specs.List.{concat, filter, list_any};
 ghost use Rattle.std.specs.Str.{IsUtf8};
 ghost use Rattle.std.specs.String.{string_bytes};
+ghost use Rattle.lic_lines.specs.LineRules.{LineRules};
 ghost use Rattle.lic_phrases.specs.Rewriting.{Phrase};
 ghost use Rattle.lic_phrases.specs.TokenTexts.{HaveTokenTexts, IsTokenText};
 ghost use Rattle.lic_norm.specs.Pieces.{piece_of};
@@ -42,29 +43,29 @@ pub fn a_text_describes_its_letters_alone()
 {}
 
 /// A text with the letters of a piece describes the tokens that are read from the piece, with the same
-/// facts of its lines and the same words, where these have the texts of tokens, in UTF-8.
+/// facts of its lines, the same line rules and the same words, where these have the texts of tokens, in UTF-8.
 pub fn a_text_describes_the_tokens_of_its_piece()
-    ensures { (words : List Phrase) (at_line_start : Bool) (before : Next) (piece : List ℕ)
-        → (text : String Global) → string_bytes text ≡ piece_of words at_line_start before piece
-        → ¬ (piece_texts words at_line_start before piece ≡ [])
-        → All IsUtf8 (piece_texts words at_line_start before piece)
-        → All IsTokenText (piece_texts words at_line_start before piece)
-        → IsDescribed (part_words (Text text)) (map chars (piece_texts words at_line_start before piece)) }
+    ensures { (rules : LineRules) (words : List Phrase) (at_line_start : Bool) (before : Next) (piece : List ℕ)
+        → (text : String Global) → string_bytes text ≡ piece_of rules words at_line_start before piece
+        → ¬ (piece_texts rules words at_line_start before piece ≡ [])
+        → All IsUtf8 (piece_texts rules words at_line_start before piece)
+        → All IsTokenText (piece_texts rules words at_line_start before piece)
+        → IsDescribed (part_words (Text text)) (map chars (piece_texts rules words at_line_start before piece)) }
 {}
 
 /// A text with the letters of a source in UTF-8, taken as whole lines, describes the tokens of that source.
 pub fn a_text_describes_its_source()
-    ensures { (words : List Phrase) (source : List ℕ) (text : String Global)
-        → HaveTokenTexts words → IsUtf8 source → string_bytes text ≡ piece_of words true LineEnd source
-        → ¬ (tokens_of words source ≡ [])
-        → All IsUtf8 (map (λ t. t.text) (tokens_of words source))
-        → IsDescribed (part_words (Text text)) (map (λ t. chars t.text) (tokens_of words source)) }
+    ensures { (rules : LineRules) (words : List Phrase) (source : List ℕ) (text : String Global)
+        → HaveTokenTexts words → IsUtf8 source → string_bytes text ≡ piece_of rules words true LineEnd source
+        → ¬ (tokens_of rules words source ≡ [])
+        → All IsUtf8 (map (λ t. t.text) (tokens_of rules words source))
+        → IsDescribed (part_words (Text text)) (map (λ t. chars t.text) (tokens_of rules words source)) }
 {}
 
 /// An accepted template without rules is one text, which has the letters of the whole template as a piece.
 pub fn a_template_without_rules_is_one_text()
-    ensures { (words : List Phrase) (template : List ℕ) (read : Reading)
+    ensures { (rules : LineRules) (words : List Phrase) (template : List ℕ) (read : Reading)
         → IsUtf8 template → list_any (λ c. c == less) (chars template) ≡ false
-        → reading words template ≡ Ok read
-        → read.parts ≡ letters (piece_of words true LineEnd template) ∷ [] }
+        → reading rules words template ≡ Ok read
+        → read.parts ≡ letters (piece_of rules words true LineEnd template) ∷ [] }
 {}

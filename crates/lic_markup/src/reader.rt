@@ -2,6 +2,7 @@
 ghost use Rattle.std.specs.Prelude.{◌≡◌, ◌≤◌, IfOk, OnOk, map};
 ghost use Rattle.std.specs.String.{string_bytes};
 ghost use Rattle.lic_ere.specs.Reading as patterns;
+ghost use Rattle.lic_kind.specs.LineRules.{rules_of};
 ghost use Rattle.lic_markup.specs.Faults.{Gives, told};
 ghost use Rattle.lic_markup.specs.Parts.{GiveToken, part_of, template_of, weight_of};
 ghost use Rattle.lic_markup.specs.Reading as reading;
@@ -15,6 +16,7 @@ use crate::rule::Rule;
 use crate::texts::text_of;
 use crate::weights::{have_token, parts_weight};
 use lic_ere::{EreCause, EreFault, read};
+use lic_kind::Rules;
 use lic_norm::pieces::{Next, piece};
 use lic_norm::words::Words;
 use std::alloc::{AllocError, Global};
@@ -44,6 +46,16 @@ impl Level {
             parts: Vec::new(alloc),
         }
     }
+
+    /// Adds the letters of a piece of text as a part; none are no part.
+    fn push_letters(&mut self, letters: String) -> Result<(), AllocError>
+        ensures { OnOk result (level_of self.new ≡ reading.with_letters (string_bytes letters) (level_of self.old)) }
+    {
+        if !letters.is_empty() {
+            self.parts.push(Part::Text(letters))?;
+        }
+        Ok(())
+    }
 }
 
 /// The innermost level, and those round it.
@@ -58,7 +70,7 @@ pub struct Reader {
     pub at_start: bool,
 }
 
-/// How the fault of a pattern is told, which begins at a place.
+/// How the fault of a pattern is reported, which begins at a place.
 fn told(place: usize, fault: EreFault) -> MarkupFault
     ensures { result ≡ reading.told place fault }
 {
@@ -71,7 +83,7 @@ fn told(place: usize, fault: EreFault) -> MarkupFault
     }
 }
 
-/// A fault as it is told: want of memory has no place.
+/// A fault as it is reported: lack of memory has no place.
 fn told_again(fault: MarkupFault) -> MarkupFault
     ensures { result ≡ told fault }
 {
@@ -98,11 +110,12 @@ impl Reader {
     fn text(
         &mut self,
         alloc: Global,
+        rules: &Rules,
         words: &Words,
         characters: &[(usize, char)],
         follows: Next,
     ) -> Result<(), AllocError>
-        ensures { OnOk result (state_of self.new ≡ reading.meet_text words.now characters.now follows (state_of self.old)) }
+        ensures { OnOk result (state_of self.new ≡ reading.meet_text (rules_of rules.now) words.now characters.now follows (state_of self.old)) }
     {
         let next = if ends_line(characters) {
             Next::LineEnd
@@ -110,10 +123,8 @@ impl Reader {
             follows
         };
         let text = text_of(alloc, characters)?;
-        let letters = piece(alloc, &text, self.at_start, next, words)?;
-        if !letters.is_empty() {
-            self.level.parts.push(Part::Text(letters))?;
-        }
+        let letters = piece(alloc, &text, self.at_start, next, words, rules)?;
+        self.level.push_letters(letters)?;
         self.original.push_str(&text)?;
         self.at_start = at_line_start(self.at_start, characters);
         Ok(())
@@ -179,14 +190,15 @@ impl Reader {
     pub fn meet(
         &mut self,
         alloc: Global,
+        rules: &Rules,
         words: &Words,
         element: Element,
         follows: Next,
     ) -> Result<(), MarkupFault>
-        ensures { Gives (λ _. state_of self.new) result (reading.meet words.now (element_of element) follows (state_of self.old)) }
+        ensures { Gives (λ _. state_of self.new) result (reading.meet (rules_of rules.now) words.now (element_of element) follows (state_of self.old)) }
     {
         match element {
-            Element::Text(characters) => self.text(alloc, words, &characters, follows)?,
+            Element::Text(characters) => self.text(alloc, rules, words, &characters, follows)?,
             Element::Rule(
                 Rule::Variable {
                     name,

@@ -1,5 +1,6 @@
 //! Reading a template.
 ghost use Rattle.std.specs.Prelude.{◌≡◌, ◌≤◌, IfOk, map, reverse};
+ghost use Rattle.lic_kind.specs.LineRules.{rules_of};
 ghost use Rattle.lic_markup.specs.Faults.{Gives};
 ghost use Rattle.lic_markup.specs.Parts.{GiveToken, template_of, weight_of};
 ghost use Rattle.lic_markup.specs.Reading.{start, read_on, reading};
@@ -10,6 +11,7 @@ use crate::fault::{MarkupCause, MarkupFault};
 use crate::lines::with_next;
 use crate::part::Template;
 use crate::reader::Reader;
+use lic_kind::Rules;
 use lic_norm::pieces::Next;
 use lic_norm::words::Words;
 use std::alloc::Global;
@@ -20,10 +22,11 @@ const MAX_LENGTH: usize = 1_048_576;
 /// Reads elements with what follows each in its line, the last one first.
 fn read_elements(
     alloc: Global,
+    rules: &Rules,
     words: &Words,
     elements: Vec<(Element, Next)>,
 ) -> Result<Template, MarkupFault>
-    ensures exact { Gives template_of result (read_on words.now start (map placed_of (reverse elements.items))) }
+    ensures exact { Gives template_of result (read_on (rules_of rules.now) words.now start (map placed_of (reverse elements.items))) }
     ensures weighed { IfOk result (λ t. t.weight ≡ weight_of t.parts) }
     ensures light { IfOk result (λ t. t.weight ≤ 131072) }
     ensures some_token { IfOk result (λ t. GiveToken t.parts) }
@@ -31,16 +34,21 @@ fn read_elements(
     let mut reader = Reader::new(alloc);
     let mut elements = elements;
     while let Some((element, follows)) = elements.pop() {
-        reader.meet(alloc, words, element, follows)?;
+        reader.meet(alloc, rules, words, element, follows)?;
     }
     reader.finish()
 }
 
 /// Reads a template (SPDX 2.3, Annex B, in this project's profile) into its parts. The letters of its texts are those
-/// that `words` and the normaliser give.
-pub fn read_template(alloc: Global, text: &str, words: &Words) -> Result<Template, MarkupFault>
+/// that the normaliser gives with these words and line rules.
+pub fn read_template(
+    alloc: Global,
+    text: &str,
+    words: &Words,
+    rules: &Rules,
+) -> Result<Template, MarkupFault>
     // The parts, the weight and the original text, or the fault that decides, unless memory runs out.
-    ensures exact { Gives template_of result (reading words.now text.now) }
+    ensures exact { Gives template_of result (reading (rules_of rules.now) words.now text.now) }
     // What a template weighs and holds, whatever was read.
     ensures weighed { IfOk result (λ t. t.weight ≡ weight_of t.parts) }
     ensures light { IfOk result (λ t. t.weight ≤ 131072) }
@@ -53,5 +61,5 @@ pub fn read_template(alloc: Global, text: &str, words: &Words) -> Result<Templat
         });
     }
     let elements = with_next(alloc, pieces_and_rules(alloc, text)?)?;
-    read_elements(alloc, words, elements)
+    read_elements(alloc, rules, words, elements)
 }

@@ -1,5 +1,5 @@
 -- The first line of an input and the rest of it, as source characters, lines and tokens.
-use Rattle.std.proofs.Common.{◌≡◌, ◌≢◌, ℕ, ◌+◌, ◌==◌, Bool, true, false, not, List, [], ◌∷◌, ◌++◌, length, get_or, drop, refl, sym, ap, ap₂, subst, ◌∙◌, append_assoc, append-nil, arith, All, inl, inr, length-append, eqb-true, eq-eqb, lit<}
+use Rattle.std.proofs.Common.{◌≡◌, ◌≢◌, ℕ, ◌+◌, ◌==◌, Bool, true, false, not, List, [], ◌∷◌, ◌++◌, length, get_or, drop, refl, sym, ap, ap₂, subst, ◌∙◌, append_assoc, append-nil, arith, All, None, inl, inr, length-append, eqb-true, eq-eqb, lit<}
 use Rattle.std.specs.List.{flat_map, onto_first}
 use Rattle.std.proofs.lemmas.Bool.{cond-true, cond-false, false_from_ne_true}
 use Rattle.std.proofs.lemmas.List.Concat.{flat_map-append}
@@ -9,9 +9,11 @@ use Rattle.lic_kind.specs.Kinds.{is_dropped}
 use Rattle.lic_lines.specs.Texts.{cut_after}
 use Rattle.lic_lines.specs.Sources.{chars_of, without_dropped, lines_of}
 use Rattle.lic_lines.specs.declared.source.SourceChar.{SourceChar}
-use Rattle.lic_lines.specs.LineRules.{profile}
-use Rattle.lic_lines.specs.Lines.{whole_line}
-use Rattle.lic_lines.specs.Tokens.{line_tokens, text_tokens}
+use Rattle.lic_lines.specs.LineRules.{LineRules}
+use Rattle.lic_lines.specs.Lines.{whole_line, tail_length, line_cells, cells_of_cut}
+use Rattle.lic_lines.specs.Tokens.{first_tokens, single_signs, line_tokens, text_tokens, tokens_of_cells}
+use Rattle.lic_lines.proofs.Gaps.{no_runs}
+use Rattle.lic_lines.proofs.ItemLemmas.{item_none, few_behind}
 use Rattle.lic_lines.proofs.LineByLine.{text_tokens-lines}
 use Rattle.lic_norm.specs.LineEnds.{IsFirstLine}
 use Rattle.lic_norm.specs.Sources.{source_of}
@@ -157,29 +159,34 @@ letters_of-first at line rest first =
 
 -- ---- tokens
 
-no_line : line_tokens profile whole_line [] ≡ []
-no_line = refl
+-- a line without characters leaves nothing
+pub no_cells_whole : (rules : LineRules) → line_cells rules whole_line [] ≡ []
+no_cells_whole rules = ap (λ n. cells_of_cut (record { lead = 0; item = n; tail = tail_length rules whole_line (drop n []) }) []) (item_none rules [] [] (omega arith) (few_behind None))
 
-line_or_none : (line : List SourceChar) → flat_map (line_tokens profile whole_line) (as_line line) ≡ line_tokens profile whole_line line
-line_or_none [] = sym no_line
-line_or_none (s ∷ line) = append-nil (line_tokens profile whole_line (s ∷ line))
+-- and no cells no tokens
+pub no_tokens : (rules : LineRules) → tokens_of_cells rules [] ≡ []
+no_tokens rules = ap (λ cells. single_signs (first_tokens cells)) (no_runs rules)
+
+line_or_none : (rules : LineRules) (line : List SourceChar) → flat_map (line_tokens rules whole_line) (as_line line) ≡ line_tokens rules whole_line line
+line_or_none rules [] = sym (ap (tokens_of_cells rules) (no_cells_whole rules) ∙ no_tokens rules)
+line_or_none rules (s ∷ line) = append-nil (line_tokens rules whole_line (s ∷ line))
 
 -- The tokens of an input are those of its first line and those of the rest.
-pub first_tokens_of-first : (at : ℕ) (input line rest : List ℕ) → input ≡ line ++ rest → IsFirstLine line rest → first_tokens_of at input ≡ line_tokens_of at line ++ first_tokens_of (at + length line) rest
+pub first_tokens_of-first : (rules : LineRules) (at : ℕ) (input line rest : List ℕ) → input ≡ line ++ rest → IsFirstLine line rest → first_tokens_of rules at input ≡ line_tokens_of rules at line ++ first_tokens_of rules (at + length line) rest
 unfolding first_tokens_of line_tokens_of
-first_tokens_of-first at input line rest parts first =
+first_tokens_of-first rules at input line rest parts first =
     let here = source_of at line in
     let there = source_of (at + length line) rest in
-    let f = line_tokens profile whole_line in
+    let f = line_tokens rules whole_line in
     let none : rest ≡ [] → there ≡ [] = λ e. ap (source_of (at + length line)) e ∙ source_of-none (at + length line) in
-    ap (λ t. text_tokens profile (source_of at t)) parts
-    ∙ ap (text_tokens profile) (source_of-first at line rest first)
-    ∙ text_tokens-lines profile (here ++ there)
+    ap (λ t. text_tokens rules (source_of at t)) parts
+    ∙ ap (text_tokens rules) (source_of-first at line rest first)
+    ∙ text_tokens-lines rules (here ++ there)
     ∙ ap (flat_map f) (lines_of-first here there (chars_of here) rest (letters_of-first at line rest first) refl none)
     ∙ flat_map-append f (as_line (without_dropped here)) (lines_of (without_dropped there))
-    ∙ ap₂ (λ a b. a ++ b) (line_or_none (without_dropped here)) (sym (text_tokens-lines profile there))
+    ∙ ap₂ (λ a b. a ++ b) (line_or_none rules (without_dropped here)) (sym (text_tokens-lines rules there))
 
 -- no input has no tokens
-pub first_tokens_of-none : (at : ℕ) → first_tokens_of at [] ≡ []
+pub first_tokens_of-none : (rules : LineRules) (at : ℕ) → first_tokens_of rules at [] ≡ []
 unfolding first_tokens_of
-first_tokens_of-none at = ap (text_tokens profile) (source_of-none at)
+first_tokens_of-none rules at = ap (text_tokens rules) (source_of-none at) ∙ no_tokens rules

@@ -13,6 +13,7 @@ pub mod TokenTexts
 pub mod WholeLines
 pub mod ReaderLemmas
 pub mod ReadingLemmas
+pub mod AsciiLines
 pub mod TextLemmas
 pub mod PieceLines
 pub mod SpellingPlaces

@@ -4,7 +4,7 @@ use Rattle.std.specs.List.{slice_range}
 use Rattle.std.proofs.lemmas.List.{map-append, take-append-le, drop-append-le, drop_all, length-map}
 use Rattle.std.proofs.lemmas.List.Elements.{All-append, All-nil}
 use Rattle.memchr.specs.Find.{IsFirstByte, is_byte}
-use Rattle.lic_lines.specs.LineRules.{rules_of, profile}
+use Rattle.lic_lines.specs.LineRules.{LineRules, rules_of}
 use Rattle.lic_phrases.specs.Rewriting.{rewritten}
 use Rattle.lic_phrases.specs.Settling.{left_of}
 use Rattle.lic_norm.specs.Feeding.{FeederValue, settled_in, AreLines, AreFirst, lines_read}
@@ -79,15 +79,14 @@ none_between source at end same =
     subst (All NoEnd) (sym (ap (λ n. take n (drop at source)) (let e : end - at ≡ 0 = omega (arith, same) in e))) (All-nil NoEnd)
 
 -- a reader that took the line that ends here has read up to there
-pub read_on : (old new : Reader) (end : ℕ) → rules_of new.rules ≡ rules_of old.rules → rules_of old.rules ≡ profile → new.line_start ≡ end → new.source.items ≡ old.source.items
-    → end ≤ length old.source.items → AreLines (take end old.source.items) → HasTaken new.rewriting (first_tokens_of 0 (take end old.source.items)) → HasRead new
-read_on old new end rules profiled start source within lines taken =
+pub read_on : (old new : Reader) (end : ℕ) → new.rules.now ≡ old.rules.now → new.line_start ≡ end → new.source.items ≡ old.source.items
+    → end ≤ length old.source.items → AreLines (take end old.source.items) → HasTaken new.rewriting (first_tokens_of (rules_of old.rules.now) 0 (take end old.source.items)) → HasRead new
+read_on old new end rules start source within lines taken =
     let same : take new.line_start new.source.items ≡ take end old.source.items = ap₂ (λ n l. take n l) start source in
     record {
-      rules = rules ∙ profiled;
       within = omega (arith, start, ap length source, within);
       lines = subst AreLines (sym same) lines;
-      taken = subst (λ bytes. HasTaken new.rewriting (first_tokens_of 0 bytes)) (sym same) taken;
+      taken = subst (HasTaken new.rewriting) (sym (ap₂ (λ r bytes. first_tokens_of (rules_of r) 0 bytes) rules same)) taken;
     }
 
 -- ---- more bytes
@@ -107,53 +106,55 @@ open_stays source bytes at within clear =
 -- ---- settled tokens
 
 -- the settled tokens of whole lines begin those of every input that begins so
-pub settled_first : (rewriting : Rewriting) (source more : List ℕ) (at : ℕ) → AreLines (take at source) → HasTaken rewriting (first_tokens_of 0 (take at source))
-    → AreFirst rewriting.tokens (tokens_of rewriting.phrases.now.phrases (source ++ more))
-settled_first rewriting source more at lines has =
+pub settled_first : (rules : LineRules) (rewriting : Rewriting) (source more : List ℕ) (at : ℕ) → AreLines (take at source) → HasTaken rewriting (first_tokens_of rules 0 (take at source))
+    → AreFirst rewriting.tokens (tokens_of rules rewriting.phrases.now.phrases (source ++ more))
+settled_first rules rewriting source more at lines has =
     let words = rewriting.phrases.now.phrases in
     let front = take at source in
     let behind = drop at source ++ more in
     let whole : source ++ more ≡ front ++ behind = ap (λ l. l ++ more) (sym (take-append-drop at source)) ∙ append_assoc front (drop at source) more in
-    let rest = first_tokens_of (0 + length front) behind in
+    let rest = first_tokens_of rules (0 + length front) behind in
     let kept = left_of words rewriting.rewriter rest in (
       map reported kept,
-      ap (λ l. map reported (rewritten words (first_tokens_of 0 l))) whole
-          ∙ ap (λ l. map reported (rewritten words l)) (first_tokens_of-lines 0 front behind lines)
+      ap (λ l. map reported (rewritten words (first_tokens_of rules 0 l))) whole
+          ∙ ap (λ l. map reported (rewritten words l)) (first_tokens_of-lines rules 0 front behind lines)
           ∙ ap (map reported) (has.settles.goes_on rest)
           ∙ map-append reported has.settled kept
           ∙ ap (λ l. l ++ map reported kept) (sym has.listed),
     )
 
 -- nearly all tokens of the lines that have ended are settled
-pub nearly_all_settled : (rewriting : Rewriting) (source : List ℕ) (at : ℕ) → AreLines (take at source) → All NoEnd (drop at source) → HasTaken rewriting (first_tokens_of 0 (take at source))
-    → length (tokens_of rewriting.phrases.now.phrases (lines_read source)) ≤ length rewriting.tokens + 12
-nearly_all_settled rewriting source at lines clear has =
+pub nearly_all_settled : (rules : LineRules) (rewriting : Rewriting) (source : List ℕ) (at : ℕ) → AreLines (take at source) → All NoEnd (drop at source) → HasTaken rewriting (first_tokens_of rules 0 (take at source))
+    → length (tokens_of rules rewriting.phrases.now.phrases (lines_read source)) ≤ length rewriting.tokens + 12
+nearly_all_settled rules rewriting source at lines clear has =
     let words = rewriting.phrases.now.phrases in
     let read : lines_read source ≡ take at source = ap lines_read (sym (take-append-drop at source)) ∙ lines_read-is (take at source) (drop at source) lines clear in
-    let all = rewritten words (first_tokens_of 0 (take at source)) in
-    let count : length (tokens_of words (lines_read source)) ≡ length all = ap (λ l. length (tokens_of words l)) read ∙ length-map all reported in
+    let all = rewritten words (first_tokens_of rules 0 (take at source)) in
+    let count : length (tokens_of rules words (lines_read source)) ≡ length all = ap (λ l. length (tokens_of rules words l)) read ∙ length-map all reported in
     let listed : length rewriting.tokens ≡ length has.settled = ap length has.listed ∙ length-map has.settled reported in
     omega (arith, count, listed, has.settles.nearly_all)
 
 -- ---- as callers see them
 
--- a caller sees the bytes, the words and the settled tokens of a reader that was not refused
-module _ (value : FeederValue) (reader : Reader) (refused : Option TextFault) (bytes : reader.source.items ≡ value.bytes) (words : reader.rewriting.phrases.now.phrases ≡ value.words)
+-- a caller sees the bytes, the words, the rules and the settled tokens of a reader that was not refused
+module _ (value : FeederValue) (reader : Reader) (refused : Option TextFault) (bytes : reader.source.items ≡ value.bytes) (words : reader.rewriting.phrases.now.phrases ≡ value.words) (rules : rules_of reader.rules.now ≡ value.rules)
     (tokens : settled_in refused reader.rewriting.tokens ≡ value.tokens) (none : refused ≡ None) (read : HasReadLines reader) where
   settled_same : reader.rewriting.tokens ≡ value.tokens
   settled_same = sym (ap (λ r. settled_in r reader.rewriting.tokens) none) ∙ tokens
 
-  pub seen_first : (more : List ℕ) → AreFirst value.tokens (tokens_of value.words (value.bytes ++ more))
+  pub seen_first : (more : List ℕ) → AreFirst value.tokens (tokens_of value.rules value.words (value.bytes ++ more))
   seen_first more =
-      let first : AreFirst reader.rewriting.tokens (tokens_of reader.rewriting.phrases.now.phrases (reader.source.items ++ more)) =
-      settled_first reader.rewriting reader.source.items more reader.line_start read.read.lines read.read.taken in
-      subst (λ ts. AreFirst ts (tokens_of value.words (value.bytes ++ more))) settled_same
-      (subst (λ ws. AreFirst reader.rewriting.tokens (tokens_of ws (value.bytes ++ more))) words
-      (subst (λ bs. AreFirst reader.rewriting.tokens (tokens_of reader.rewriting.phrases.now.phrases (bs ++ more))) bytes first))
+      let first : AreFirst reader.rewriting.tokens (tokens_of (rules_of reader.rules.now) reader.rewriting.phrases.now.phrases (reader.source.items ++ more)) =
+      settled_first (rules_of reader.rules.now) reader.rewriting reader.source.items more reader.line_start read.read.lines read.read.taken in
+      subst (λ ts. AreFirst ts (tokens_of value.rules value.words (value.bytes ++ more))) settled_same
+      (subst (λ rs. AreFirst reader.rewriting.tokens (tokens_of rs value.words (value.bytes ++ more))) rules
+      (subst (λ ws. AreFirst reader.rewriting.tokens (tokens_of (rules_of reader.rules.now) ws (value.bytes ++ more))) words
+      (subst (λ bs. AreFirst reader.rewriting.tokens (tokens_of (rules_of reader.rules.now) reader.rewriting.phrases.now.phrases (bs ++ more))) bytes first)))
 
-  pub seen_nearly_all : length (tokens_of value.words (lines_read value.bytes)) ≤ length reader.rewriting.tokens + 12
+  pub seen_nearly_all : length (tokens_of value.rules value.words (lines_read value.bytes)) ≤ length reader.rewriting.tokens + 12
   seen_nearly_all =
-      let all : length (tokens_of reader.rewriting.phrases.now.phrases (lines_read reader.source.items)) ≤ length reader.rewriting.tokens + 12 =
-      nearly_all_settled reader.rewriting reader.source.items reader.line_start read.read.lines read.open_line read.read.taken in
-      subst (λ ws. length (tokens_of ws (lines_read value.bytes)) ≤ length reader.rewriting.tokens + 12) words
-      (subst (λ bs. length (tokens_of reader.rewriting.phrases.now.phrases (lines_read bs)) ≤ length reader.rewriting.tokens + 12) bytes all)
+      let all : length (tokens_of (rules_of reader.rules.now) reader.rewriting.phrases.now.phrases (lines_read reader.source.items)) ≤ length reader.rewriting.tokens + 12 =
+      nearly_all_settled (rules_of reader.rules.now) reader.rewriting reader.source.items reader.line_start read.read.lines read.open_line read.read.taken in
+      subst (λ rs. length (tokens_of rs value.words (lines_read value.bytes)) ≤ length reader.rewriting.tokens + 12) rules
+      (subst (λ ws. length (tokens_of (rules_of reader.rules.now) ws (lines_read value.bytes)) ≤ length reader.rewriting.tokens + 12) words
+      (subst (λ bs. length (tokens_of (rules_of reader.rules.now) reader.rewriting.phrases.now.phrases (lines_read bs)) ≤ length reader.rewriting.tokens + 12) bytes all))

@@ -5,7 +5,7 @@ use Rattle.std.specs.List.{flat_map}
 use Rattle.std.proofs.lemmas.Bool.{cases_Bool, cond-true, cond-false}
 use Rattle.std.proofs.lemmas.List.Elements.{All-nil, All-cons}
 use Rattle.lic_lines.specs.Texts.{groups}
-use Rattle.lic_lines.specs.LineRules.{LineRules, profile}
+use Rattle.lic_lines.specs.LineRules.{LineRules}
 use Rattle.lic_lines.specs.Lines.{cells_of}
 use Rattle.lic_lines.specs.Runs.{runs_joined, end_after}
 use Rattle.lic_lines.specs.Tokens.{Token, both_words, tokens_from, first_tokens, is_text, is_sign_in_parentheses, sign_from, as_sign, single_signs, text_tokens}
@@ -155,12 +155,12 @@ module _ (source : List ℕ) where
       (tokens_from-Lie true 0 (groups both_words cells) to (subst (λ x. CellsLie source 0 x to) (sym (parts_of_groups both_words cells)) lies))
 
 -- the spans of an input's tokens
-pub tokens_of-AreSpans : (words : List Phrase) (input : List ℕ) → AreSpans input (tokens_of words input)
+pub tokens_of-AreSpans : (rules : LineRules) (words : List Phrase) (input : List ℕ) → AreSpans input (tokens_of rules words input)
 unfolding first_tokens_of
-tokens_of-AreSpans words input =
+tokens_of-AreSpans rules words input =
     let to = length input in
-    let lies = rewritten-Lie input words 0 (text_tokens profile (source_of 0 input)) to (text_tokens-Lie input profile) in
-    let joined = phrases_joined words (https_as_http (sign_rows (text_tokens profile (source_of 0 input)))) in
+    let lies = rewritten-Lie input words 0 (text_tokens rules (source_of 0 input)) to (text_tokens-Lie input rules) in
+    let joined = phrases_joined words (https_as_http (sign_rows (text_tokens rules (source_of 0 input)))) in
     record { rising = reported-rising input 0 joined to lies; within = reported-within input 0 joined to lies; boundaries = reported-boundaries input 0 joined to lies }
 
 -- no span is empty

@@ -19,7 +19,7 @@ use Rattle.lic_lines.specs.declared.source.SourceChar.{SourceChar}
 use Rattle.lic_lines.specs.declared.cell.Cell.{Cell}
 use Rattle.lic_lines.specs.declared.cell.Cell.TheVariants.{Blank, Mark, Word}
 use Rattle.lic_lines.specs.declared.line_part.LinePart.{LinePart}
-use Rattle.lic_lines.specs.LineRules.{LineRules, profile}
+use Rattle.lic_lines.specs.LineRules.{LineRules}
 use Rattle.lic_lines.specs.Lines.{whole_line, blank_for, cell_of, cut_of, cells_of, line_cells}
 use Rattle.lic_lines.specs.Runs.{same_mark, same_family, without_separator, without_separators, joined, runs_joined}
 use Rattle.lic_lines.specs.Tokens.{Token, both_words, letters_of, tokens_from, first_tokens, is_text, is_sign_in_parentheses, sign_from, as_sign, single_signs}
@@ -302,12 +302,12 @@ reported-texts [] h = All-nil (λ t. IsTokenText t.text)
 reported-texts (t ∷ ts) h = All-cons (λ u. IsTokenText u.text) (reported (spanned t)) (map reported (map spanned ts)) (first_has t ts h) (reported-texts ts (rest_have t ts h))
 
 -- the texts of an input's tokens
-pub tokens_of-AreTokenTexts : (words : List Phrase) (input : List ℕ) → HaveTokenTexts words → AreTokenTexts (tokens_of words input)
+pub tokens_of-AreTokenTexts : (rules : LineRules) (words : List Phrase) (input : List ℕ) → HaveTokenTexts words → AreTokenTexts (tokens_of rules words input)
 unfolding first_tokens_of
-tokens_of-AreTokenTexts words input known =
+tokens_of-AreTokenTexts rules words input known =
     let text = source_of 0 input in
-    let cells = runs_joined profile (cells_of profile text) in
-    let fit : KindsFit cells = fit-runs_joined profile (cells_of profile text) (fit-lines profile (lines_of (without_dropped text))) in
+    let cells = runs_joined rules (cells_of rules text) in
+    let fit : KindsFit cells = fit-runs_joined rules (cells_of rules text) (fit-lines rules (lines_of (without_dropped text))) in
     let first : HaveTexts (first_tokens cells) = tokens_from-texts true (groups both_words cells) (subst KindsFit (sym (parts_of_groups both_words cells)) fit) in
     let signs : HaveTexts (single_signs (first_tokens cells)) = single_signs-texts (first_tokens cells) first in
     let rows : HaveTexts (sign_rows (single_signs (first_tokens cells))) =

@@ -7,7 +7,7 @@ use Rattle.std.proofs.lemmas.List.Elements.{All-head, All-tail, filter-append}
 use Rattle.lic_kind.specs.Kinds.{is_dropped}
 use Rattle.lic_lines.specs.Sources.{without_dropped, lines_of}
 use Rattle.lic_lines.specs.declared.source.SourceChar.{SourceChar}
-use Rattle.lic_lines.specs.LineRules.{profile}
+use Rattle.lic_lines.specs.LineRules.{LineRules}
 use Rattle.lic_lines.specs.Lines.{whole_line}
 use Rattle.lic_lines.specs.Tokens.{line_tokens, text_tokens}
 use Rattle.lic_lines.proofs.LineByLine.{cut_after-end, text_tokens-lines}
@@ -16,7 +16,7 @@ use Rattle.lic_norm.specs.LineEnds.{IsFirstLine}
 use Rattle.lic_norm.specs.Sources.{source_of}
 use Rattle.lic_norm.specs.Tokens.{first_tokens_of, line_tokens_of}
 use Rattle.lic_norm.proofs.AnyBytes.{source_of-none, source_of-ascii, source_of-before_ascii}
-use Rattle.lic_norm.proofs.FirstLines.{first_tokens_of-first, first_tokens_of-none}
+use Rattle.lic_norm.proofs.FirstLines.{first_tokens_of-first, first_tokens_of-none, no_tokens}
 
 abbrev ends : SourceChar → Bool
 ends s = s.char == 0x0A
@@ -37,14 +37,14 @@ kept_feed xs feed ys is =
 -- ---- tokens
 
 -- the tokens of whole lines come first, and then those of what is behind them
-pub first_tokens_of-lines : (at : ℕ) (lines behind : List ℕ) → AreLines lines → first_tokens_of at (lines ++ behind) ≡ first_tokens_of at lines ++ first_tokens_of (at + length lines) behind
+pub first_tokens_of-lines : (rules : LineRules) (at : ℕ) (lines behind : List ℕ) → AreLines lines → first_tokens_of rules at (lines ++ behind) ≡ first_tokens_of rules at lines ++ first_tokens_of rules (at + length lines) behind
 unfolding first_tokens_of
-first_tokens_of-lines at lines behind (inl none) =
-    ap (λ l. text_tokens profile (source_of at (l ++ behind))) none
-    ∙ ap (λ n. text_tokens profile (source_of n behind)) (let e : at ≡ at + length lines = omega (arith, ap length none) in e)
-    ∙ ap (λ l. text_tokens profile l ++ text_tokens profile (source_of (at + length lines) behind)) (sym (ap (source_of at) none ∙ source_of-none at))
-first_tokens_of-lines at lines behind (inr (front, is)) =
-    let f = line_tokens profile whole_line in
+first_tokens_of-lines rules at lines behind (inl none) =
+    ap (λ l. text_tokens rules (source_of at (l ++ behind))) none
+    ∙ ap (λ n. text_tokens rules (source_of n behind)) (let e : at ≡ at + length lines = omega (arith, ap length none) in e)
+    ∙ ap (λ l. l ++ text_tokens rules (source_of (at + length lines) behind)) (sym (ap (text_tokens rules) (ap (source_of at) none ∙ source_of-none at) ∙ no_tokens rules))
+first_tokens_of-lines rules at lines behind (inr (front, is)) =
+    let f = line_tokens rules whole_line in
     let n = at + length front in
     let feed : SourceChar = record { char = 0x0A; start = n; end = n + 1 } in
     let before = source_of at front in
@@ -58,14 +58,14 @@ first_tokens_of-lines at lines behind (inr (front, is)) =
     let cut : lines_of (without_dropped (before ++ feed ∷ there)) ≡ lines_of (without_dropped (before ++ feed ∷ [])) ++ lines_of (without_dropped there) =
     ap lines_of (kept_feed before feed there refl) ∙ cut_after-end ends (without_dropped before) feed (without_dropped there) refl
     ∙ ap (λ l. lines_of l ++ lines_of (without_dropped there)) (sym (kept_feed before feed [] refl)) in
-    ap (text_tokens profile) whole ∙ text_tokens-lines profile (before ++ feed ∷ there)
+    ap (text_tokens rules) whole ∙ text_tokens-lines rules (before ++ feed ∷ there)
     ∙ ap (flat_map f) cut
     ∙ flat_map-append f (lines_of (without_dropped (before ++ feed ∷ []))) (lines_of (without_dropped there))
-    ∙ ap₂ (λ a b. a ++ b) (sym (ap (text_tokens profile) alone ∙ text_tokens-lines profile (before ++ feed ∷ []))) (sym (text_tokens-lines profile there))
+    ∙ ap₂ (λ a b. a ++ b) (sym (ap (text_tokens rules) alone ∙ text_tokens-lines rules (before ++ feed ∷ []))) (sym (text_tokens-lines rules there))
 
 -- a line by itself
-first_tokens_of-line : (at : ℕ) (line rest : List ℕ) → IsFirstLine line rest → first_tokens_of at line ≡ line_tokens_of at line
-first_tokens_of-line at line rest first =
+first_tokens_of-line : (rules : LineRules) (at : ℕ) (line rest : List ℕ) → IsFirstLine line rest → first_tokens_of rules at line ≡ line_tokens_of rules at line
+first_tokens_of-line rules at line rest first =
     let by_itself : IsFirstLine line [] = record {
       front = first.front;
       no_end = first.no_end;
@@ -74,23 +74,23 @@ first_tokens_of-line at line rest first =
         | inr none ↦ inr (none.0, refl)
       ];
     } in
-    first_tokens_of-first at line line [] (sym (append-nil line)) by_itself
-    ∙ ap (λ l. line_tokens_of at line ++ l) (first_tokens_of-none (at + length line)) ∙ append-nil (line_tokens_of at line)
+    first_tokens_of-first rules at line line [] (sym (append-nil line)) by_itself
+    ∙ ap (λ l. line_tokens_of rules at line ++ l) (first_tokens_of-none rules (at + length line)) ∙ append-nil (line_tokens_of rules at line)
 
 -- the bytes up to a place, and those from there up to another
 take_more_range : (source : List ℕ) (at end : ℕ) → at ≤ end → take end source ≡ take at source ++ slice_range source at end
 take_more_range source at end le = ap (λ n. take n source) (let e : end ≡ at + (end - at) = omega arith in e) ∙ take-add at (end - at) source
 
 -- one more line is taken behind whole lines
-pub one_more_line : (source : List ℕ) (at end : ℕ) → AreLines (take at source) → at ≤ end → end ≤ length source → IsFirstLine (slice_range source at end) (drop end source)
-    → first_tokens_of 0 (take at source) ++ line_tokens_of at (slice_range source at end) ≡ first_tokens_of 0 (take end source)
-one_more_line source at end lines order within first =
+pub one_more_line : (rules : LineRules) (source : List ℕ) (at end : ℕ) → AreLines (take at source) → at ≤ end → end ≤ length source → IsFirstLine (slice_range source at end) (drop end source)
+    → first_tokens_of rules 0 (take at source) ++ line_tokens_of rules at (slice_range source at end) ≡ first_tokens_of rules 0 (take end source)
+one_more_line rules source at end lines order within first =
     let line = slice_range source at end in
     let long : 0 + length (take at source) ≡ at = omega (arith, length-take-le at source (omega arith)) in
-    sym (ap (first_tokens_of 0) (take_more_range source at end order)
-    ∙ first_tokens_of-lines 0 (take at source) line lines
-    ∙ ap (λ n. first_tokens_of 0 (take at source) ++ first_tokens_of n line) long
-    ∙ ap (λ l. first_tokens_of 0 (take at source) ++ l) (first_tokens_of-line at line (drop end source) first))
+    sym (ap (first_tokens_of rules 0) (take_more_range source at end order)
+    ∙ first_tokens_of-lines rules 0 (take at source) line lines
+    ∙ ap (λ n. first_tokens_of rules 0 (take at source) ++ first_tokens_of rules n line) long
+    ∙ ap (λ l. first_tokens_of rules 0 (take at source) ++ l) (first_tokens_of-line rules at line (drop end source) first))
 
 -- ---- the front up to the last U+000A
 

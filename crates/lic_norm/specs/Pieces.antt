@@ -8,7 +8,7 @@ use Rattle.lic_lines.specs.declared.source.SourceChar.{SourceChar}
 use Rattle.lic_lines.specs.declared.line_part.LinePart.{LinePart}
 use Rattle.lic_lines.specs.declared.cell.Cell.{Cell}
 use Rattle.lic_lines.specs.declared.cell.Cell.TheVariants.{Blank, Mark, Word}
-use Rattle.lic_lines.specs.LineRules.{profile}
+use Rattle.lic_lines.specs.LineRules.{LineRules}
 use Rattle.lic_lines.specs.Lines.{line_cells}
 use Rattle.lic_lines.specs.Runs.{runs_joined}
 use Rattle.lic_lines.specs.Tokens.{Token, first_tokens, single_signs}
@@ -38,17 +38,17 @@ part_of has_front before line =
     else record { has_front = has_front; has_end = is_line_end before; behind = counts_as before }
 
 -- the cells of lines of which the first may lack its front
-abbrev pub cells_of_lines : Bool → Next → List (List SourceChar) → List Cell
-cells_of_lines has_front before [] = []
-cells_of_lines has_front before (line ∷ lines) = line_cells profile (part_of has_front before line) line ++ cells_of_lines true before lines
+abbrev pub cells_of_lines : LineRules → Bool → Next → List (List SourceChar) → List Cell
+cells_of_lines rules has_front before [] = []
+cells_of_lines rules has_front before (line ∷ lines) = line_cells rules (part_of has_front before line) line ++ cells_of_lines rules true before lines
 
 -- the list of blanks, marks and word characters of a piece
-unfoldable pub piece_cells : Bool → Next → List ℕ → List Cell
-piece_cells at_line_start before text = runs_joined profile (cells_of_lines at_line_start before (lines_of (without_dropped (unplaced (chars text)))))
+unfoldable pub piece_cells : LineRules → Bool → Next → List ℕ → List Cell
+piece_cells rules at_line_start before text = runs_joined rules (cells_of_lines rules at_line_start before (lines_of (without_dropped (unplaced (chars text)))))
 
 -- its tokens before the rewriting
-unfoldable pub piece_tokens : Bool → Next → List ℕ → List Token
-piece_tokens at_line_start before text = single_signs (first_tokens (piece_cells at_line_start before text))
+unfoldable pub piece_tokens : LineRules → Bool → Next → List ℕ → List Token
+piece_tokens rules at_line_start before text = single_signs (first_tokens (piece_cells rules at_line_start before text))
 
 abbrev pub is_blank : Cell → Bool
 is_blank Blank = true
@@ -69,6 +69,6 @@ with_edges cells letters =
     else blank_if (begins_in_blank cells) ++ letters ++ blank_if (ends_in_blank cells)
 
 -- the letters of a piece: the texts of its tokens in canonical spelling, between its edges
-unfoldable pub piece_of : List Phrase → Bool → Next → List ℕ → List ℕ
-piece_of words at_line_start before text =
-    with_edges (piece_cells at_line_start before text) (spelled (map (λ t. t.text) (rewritten words (piece_tokens at_line_start before text))))
+unfoldable pub piece_of : LineRules → List Phrase → Bool → Next → List ℕ → List ℕ
+piece_of rules words at_line_start before text =
+    with_edges (piece_cells rules at_line_start before text) (spelled (map (λ t. t.text) (rewritten words (piece_tokens rules at_line_start before text))))

@@ -1,6 +1,6 @@
 -- How far the reading of an input has come.
 use Rattle.std.specs.Prelude.{◌≡◌, ◌≢◌, ◌≤◌, List, length, take, drop, map, All}
-use Rattle.lic_lines.specs.LineRules.{rules_of, profile}
+use Rattle.lic_lines.specs.LineRules.{rules_of}
 use Rattle.lic_lines.specs.Tokens.{Token}
 use Rattle.lic_phrases.specs.Rewriting.{SpannedText}
 use Rattle.lic_phrases.specs.Settling.{Settles}
@@ -17,10 +17,9 @@ pub record HasTaken (rewriting : Rewriting) (taken : List Token) : Type 0 where
 
 -- the lines before the one that has not ended have been taken
 pub record HasRead (reader : Reader) : Type 0 where
-  pub rules : rules_of reader.rules ≡ profile
   pub within : reader.line_start ≤ length reader.source.items
   pub lines : AreLines (take reader.line_start reader.source.items)
-  pub taken : HasTaken reader.rewriting (first_tokens_of 0 (take reader.line_start reader.source.items))
+  pub taken : HasTaken reader.rewriting (first_tokens_of (rules_of reader.rules.now) 0 (take reader.line_start reader.source.items))
 
 -- and that one has no U+000A
 pub record HasReadLines (reader : Reader) : Type 0 where

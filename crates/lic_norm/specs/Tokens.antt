@@ -1,7 +1,7 @@
 -- From an input to its tokens.
 use Rattle.std.specs.Prelude.{ℕ, List, map}
 use Rattle.lic_lines.specs.Sources.{without_dropped}
-use Rattle.lic_lines.specs.LineRules.{profile}
+use Rattle.lic_lines.specs.LineRules.{LineRules}
 use Rattle.lic_lines.specs.Lines.{whole_line}
 use Rattle.lic_lines.specs.Tokens.{Token, line_tokens, text_tokens}
 use Rattle.lic_phrases.specs.Rewriting.{Phrase, SpannedText, rewritten}
@@ -17,14 +17,14 @@ pub record TokenValue : Type 0 where
 abbrev pub reported : SpannedText → TokenValue
 reported t = record { text = t.text; span = record { start = t.start; end = t.end } }
 
--- the tokens of bytes that begin at this byte of the input, before the rewriting
-unfoldable pub first_tokens_of : ℕ → List ℕ → List Token
-first_tokens_of at bytes = text_tokens profile (source_of at bytes)
+-- the tokens of bytes that begin at this byte of the input, by these line rules, before the rewriting
+unfoldable pub first_tokens_of : LineRules → ℕ → List ℕ → List Token
+first_tokens_of rules at bytes = text_tokens rules (source_of at bytes)
 
 -- those of one whole line
-unfoldable pub line_tokens_of : ℕ → List ℕ → List Token
-line_tokens_of at line = line_tokens profile whole_line (without_dropped (source_of at line))
+unfoldable pub line_tokens_of : LineRules → ℕ → List ℕ → List Token
+line_tokens_of rules at line = line_tokens rules whole_line (without_dropped (source_of at line))
 
--- the tokens of an input
-abbrev pub tokens_of : List Phrase → List ℕ → List TokenValue
-tokens_of words input = map reported (rewritten words (first_tokens_of 0 input))
+-- the tokens of an input, by these line rules and with these phrases
+abbrev pub tokens_of : LineRules → List Phrase → List ℕ → List TokenValue
+tokens_of rules words input = map reported (rewritten words (first_tokens_of rules 0 input))

@@ -1,3 +1,5 @@
+//! Why an input is refused.
+
 ghost use Rattle.std.specs.Prelude.{◌≡◌};
 ghost use Rattle.lic_norm.specs.declared.fault.TextFault.TheVariants.{Memory};
 
@@ -10,7 +12,7 @@ pub enum TextFault {
     /// More than 67,108,864 bytes.
     #[error("X2: more than 67108864 bytes")]
     TooLong,
-    /// A growth was refused.
+    /// Memory ran out.
     #[error("X3: out of memory")]
     Memory,
 }

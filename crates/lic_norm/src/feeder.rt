@@ -1,3 +1,5 @@
+//! An input that comes in pieces.
+
 ghost use Rattle.std.specs.Prelude.{◌≡◌, ◌≢◌, ◌<◌, ◌≤◌, ◌+◌, ◌++◌, ℕ, [], List, length, slice_index_or, IfOk, IfErr, OnOk, Some, None};
 
 use crate::fault::TextFault;
@@ -6,6 +8,7 @@ use crate::refusal::MOST_BYTES;
 use crate::text::Text;
 use crate::token::Token;
 use crate::words::Words;
+use lic_lines::Rules;
 use std::alloc::Global;
 use std::marker::Model;
 
@@ -19,6 +22,7 @@ pub struct Feeder<'w> {
 
 impl<'w> Model for Feeder<'w> {
     ghost use Rattle.std.specs.Prelude.{ℕ, ◌≡◌, ◌≤◌, List, length, None};
+    ghost use Rattle.lic_lines.specs.LineRules.{rules_of};
     ghost use Rattle.lic_norm.specs.Feeding.{FeederValue, settled_in};
     ghost use Rattle.lic_norm.specs.Reading.{HasReadLines};
     ghost use Rattle.lic_norm.specs.Refusal.{most_bytes};
@@ -28,6 +32,7 @@ impl<'w> Model for Feeder<'w> {
     ghost view = { λ f. record {
       bytes = f.reader.source.items;
       words = f.words.now;
+      rules = rules_of f.reader.rules.now;
       tokens = settled_in f.refused f.reader.rewriting.tokens;
       refused = f.refused;
     } };
@@ -37,18 +42,19 @@ impl<'w> Model for Feeder<'w> {
 }
 
 impl<'w> Feeder<'w> {
+    ghost use Rattle.lic_lines.specs.LineRules.{rules_of};
     ghost use Rattle.lic_norm.specs.Feeding.{AreFirst, lines_read};
     ghost use Rattle.lic_norm.specs.Refusal.{refusal_of};
     ghost use Rattle.lic_norm.specs.Spans.{AreSpans, AreTokenTexts};
     ghost use Rattle.lic_norm.specs.Tokens.{tokens_of};
 
     /// Nothing is fed yet.
-    pub fn new(alloc: Global, words: &'w Words) -> Feeder<'w>
-        ensures { result ≡ record { bytes = []; words = words.now; tokens = []; refused = None } }
+    pub fn new(alloc: Global, words: &'w Words, rules: &'w Rules) -> Feeder<'w>
+        ensures { result ≡ record { bytes = []; words = words.now; rules = rules_of rules.now; tokens = []; refused = None } }
     {
         Feeder {
             words,
-            reader: Reader::new(alloc, Vec::new(alloc), words),
+            reader: Reader::new(alloc, Vec::new(alloc), words, rules),
             refused: None,
         }
     }
@@ -57,7 +63,7 @@ impl<'w> Feeder<'w> {
     ///
     /// # Errors
     ///
-    /// `TooLong` as soon as there are more than 67,108,864 bytes; `Memory` where a growth was refused. From then on each
+    /// `TooLong` as soon as there are more than 67,108,864 bytes; `Memory` if memory ran out. From then on each
     /// call answers that same refusal.
     pub fn feed(&mut self, bytes: &[u8]) -> Result<(), TextFault>
         ensures fed { OnOk result (self.new.bytes ≡ self.old.bytes ++ bytes.now) }
@@ -68,6 +74,7 @@ impl<'w> Feeder<'w> {
         ensures stays { IfErr result (λ fault. self.new.refused ≡ Some fault) }
         ensures again { (fault : _) → self.old.refused ≡ Some fault → result ≡ Err fault }
         ensures words { self.new.words ≡ self.old.words }
+        ensures rules { self.new.rules ≡ self.old.rules }
     {
         if let Some(fault) = self.refused {
             return Err(fault);
@@ -83,8 +90,8 @@ impl<'w> Feeder<'w> {
     /// a refusal.
     pub fn ready(&self) -> usize
         ensures count { result ≡ length self.now.tokens }
-        ensures settled { self.now.refused ≡ None → (more : List ℕ) → AreFirst self.now.tokens (tokens_of self.now.words (self.now.bytes ++ more)) }
-        ensures nearly { self.now.refused ≡ None → length (tokens_of self.now.words (lines_read self.now.bytes)) ≤ result + 12 }
+        ensures settled { self.now.refused ≡ None → (more : List ℕ) → AreFirst self.now.tokens (tokens_of self.now.rules self.now.words (self.now.bytes ++ more)) }
+        ensures nearly { self.now.refused ≡ None → length (tokens_of self.now.rules self.now.words (lines_read self.now.bytes)) ≤ result + 12 }
         ensures refused { (fault : _) → self.now.refused ≡ Some fault → result ≡ 0 }
     {
         match self.refused {
@@ -106,10 +113,10 @@ impl<'w> Feeder<'w> {
     ///
     /// # Errors
     ///
-    /// The refusal, if there was one; `Memory` where a growth was refused.
+    /// The refusal, if there was one; `Memory` if memory ran out.
     pub fn finish(self) -> Result<Text, TextFault>
         ensures source { IfOk result (λ t. t.source ≡ self.entry.bytes) }
-        ensures tokens { IfOk result (λ t. t.tokens ≡ tokens_of self.entry.words self.entry.bytes) }
+        ensures tokens { IfOk result (λ t. t.tokens ≡ tokens_of self.entry.rules self.entry.words self.entry.bytes) }
         ensures spans { IfOk result (λ t. AreSpans t.source t.tokens) }
         ensures words { IfOk result (λ t. AreTokenTexts t.tokens) }
         ensures accepted { OnOk result (refusal_of self.entry.bytes ≡ None) }

@@ -4,6 +4,8 @@
 mod characters;
 pub mod fault;
 pub mod feeder;
+pub mod laws;
+mod line_tokens;
 mod lines;
 pub mod pieces;
 mod reader;

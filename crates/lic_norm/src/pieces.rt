@@ -85,11 +85,16 @@ impl Left {
 }
 
 /// What the lines of a piece leave, one line after another.
-fn left_of(alloc: Global, text: &str, at_line_start: bool, before: Next) -> Result<Left, AllocError>
-    ensures cells { IfOk result (λ left. left.cells.items ≡ piece_cells at_line_start before text.now) }
-    ensures tokens { IfOk result (λ left. tokens_in left.tokens.items ≡ piece_tokens at_line_start before text.now) }
+fn left_of(
+    alloc: Global,
+    rules: &Rules,
+    text: &str,
+    at_line_start: bool,
+    before: Next,
+) -> Result<Left, AllocError>
+    ensures cells { IfOk result (λ left. left.cells.items ≡ piece_cells (rules_of rules.now) at_line_start before text.now) }
+    ensures tokens { IfOk result (λ left. tokens_in left.tokens.items ≡ piece_tokens (rules_of rules.now) at_line_start before text.now) }
 {
-    let rules = Rules::profile(alloc);
     let mut left = Left {
         cells: Vec::new(alloc),
         tokens: Vec::new(alloc),
@@ -101,7 +106,7 @@ fn left_of(alloc: Global, text: &str, at_line_start: bool, before: Next) -> Resu
         let end = at + text_line_end(&text[at..]);
         let line = unplaced(alloc, &text[at..end])?;
         let part = part_of(has_front, before, &line);
-        left.push_line(alloc, &rules, part, &line, &mut room)?;
+        left.push_line(alloc, rules, part, &line, &mut room)?;
         has_front = true;
         at = end;
     }
@@ -156,20 +161,21 @@ fn with_edges(alloc: Global, cells: &[Cell], letters: &str) -> Result<String, Al
 
 /// The letters of a piece of a template's text: the texts of its tokens, with one blank between two
 /// whose meeting letters are both of kind Word, and one at each edge where the text has a blank after
-/// its line rules and runs (SPDX 2.3 Annex B; this project's profile).
+/// the line rules and runs (SPDX 2.3 Annex B; this project's profile).
 ///
 /// `at_line_start` says whether the piece begins at a line's start, where a lead and an item are
-/// taken away, and `before` what follows it in its line. The error is want of memory.
+/// taken away, and `before` what follows it in its line. The error is that memory ran out.
 pub fn piece(
     alloc: Global,
     text: &str,
     at_line_start: bool,
     before: Next,
     words: &Words,
+    rules: &Rules,
 ) -> Result<String, AllocError>
-    ensures { IfOk result (λ letters. string_bytes letters ≡ piece_of words.now at_line_start before text.now) }
+    ensures { IfOk result (λ letters. string_bytes letters ≡ piece_of (rules_of rules.now) words.now at_line_start before text.now) }
 {
-    let Left { cells, tokens } = left_of(alloc, text, at_line_start, before)?;
+    let Left { cells, tokens } = left_of(alloc, rules, text, at_line_start, before)?;
     let mut rewriting = Rewriting::new(alloc, words.phrases());
     rewriting.take(tokens)?;
     let tokens = rewriting.finish()?;

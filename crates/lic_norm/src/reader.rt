@@ -1,31 +1,24 @@
 //! Reads an input line by line, as its bytes come.
 ghost use Rattle.std.specs.Prelude.{◌≡◌, ◌≢◌, ◌+◌, ◌++◌, ◌<◌, ◌≤◌, ◌^◌, [], All, IfOk, IfErr, OnOk, Some, length, take, drop, slice_range};
-ghost use Rattle.lic_lines.specs.LineRules.{rules_of, profile};
+ghost use Rattle.lic_lines.specs.LineRules.{rules_of};
 ghost use Rattle.lic_lines.specs.Tokens.{tokens_in};
 ghost use Rattle.lic_norm.specs.LineEnds.{IsFirstLine};
 ghost use Rattle.lic_norm.specs.Reading.{HasTaken, HasRead, HasReadLines};
 ghost use Rattle.lic_norm.specs.Refusal.{most_bytes, refusal_of};
 ghost use Rattle.lic_norm.specs.Tokens.{first_tokens_of, line_tokens_of, tokens_of};
 
-use crate::characters::read_characters;
 use crate::fault::TextFault;
+use crate::line_tokens::push_line;
 use crate::refusal::MOST_BYTES;
 use crate::rewriting::Rewriting;
 use crate::token_list::TokenList;
 use crate::words::Words;
-use lic_lines::{FirstToken, LinePart, Room, Rules, SourceChar, push_tokens_of_line};
+use lic_lines::{FirstToken, Room, Rules, SourceChar};
 use memchr::memchr;
 use std::alloc::{AllocError, Global};
 
 /// So many characters a list may keep room for from one line to the next.
 const MOST_KEPT: usize = 65_536;
-
-/// A line of a whole input.
-const WHOLE_LINE: LinePart = LinePart {
-    has_front: true,
-    has_end: true,
-    behind: None,
-};
 
 /// Lets go of the characters of a long line, so that their room is free while its tokens are rewritten.
 fn give_back(alloc: Global, characters: &mut Vec<SourceChar>)
@@ -36,8 +29,8 @@ fn give_back(alloc: Global, characters: &mut Vec<SourceChar>)
     }
 }
 
-/// The tokens of a line that begins at this byte of the input, before the rewriting (this project's
-/// profile). The characters are room for those of the line, whatever they hold, and so is the room.
+/// The tokens of a line that begins at this byte of the input, before the rewriting. The characters are room for
+/// those of the line, whatever they hold, and so is the room.
 fn tokens_of_line(
     alloc: Global,
     rules: &Rules,
@@ -46,14 +39,12 @@ fn tokens_of_line(
     characters: &mut Vec<SourceChar>,
     room: &mut Room,
 ) -> Result<Vec<FirstToken>, AllocError>
-    requires profile { rules_of rules.now ≡ profile }
-    requires fits { at + length line.now < 2 ^ 32 }
-    ensures { IfOk result (λ tokens. tokens_in tokens.items ≡ line_tokens_of at line.now) }
+    requires { at + length line.now < 2 ^ 32 }
+    ensures { IfOk result (λ tokens. tokens_in tokens.items ≡ line_tokens_of (rules_of rules.now) at line.now) }
 {
-    read_characters(characters, at, line)?;
     // A token takes some five bytes of an input.
     let mut tokens = Vec::with_capacity(alloc, line.len() / 4)?;
-    push_tokens_of_line(alloc, rules, WHOLE_LINE, characters, room, &mut tokens)?;
+    push_line(alloc, rules, at, line, characters, room, &mut tokens)?;
     give_back(alloc, characters);
     Ok(tokens)
 }
@@ -67,26 +58,32 @@ pub(crate) struct Reader<'w> {
     /// Where the line begins that has not ended.
     line_start: usize,
     rewriting: Rewriting<'w>,
-    rules: Rules,
+    rules: &'w Rules,
     characters: Vec<SourceChar>,
     room: Room,
 }
 
 impl<'w> Reader<'w> {
     /// Nothing is read yet of this source.
-    pub(crate) fn new(alloc: Global, source: Vec<u8>, words: &'w Words) -> Reader<'w>
+    pub(crate) fn new(
+        alloc: Global,
+        source: Vec<u8>,
+        words: &'w Words,
+        rules: &'w Rules,
+    ) -> Reader<'w>
         ensures read { HasRead result }
         ensures source { result.source.items ≡ source.items }
         ensures start { result.line_start ≡ 0 }
         ensures tokens { result.rewriting.tokens ≡ [] }
         ensures words { result.rewriting.phrases.now.phrases ≡ words.now }
+        ensures rules { result.rules.now ≡ rules.now }
     {
         Reader {
             alloc,
             source,
             line_start: 0,
             rewriting: Rewriting::new(alloc, words.phrases()),
-            rules: Rules::profile(alloc),
+            rules,
             characters: Vec::new(alloc),
             room: Room::new(alloc),
         }
@@ -99,16 +96,16 @@ impl<'w> Reader<'w> {
         requires within { end ≤ length self.old.source.items }
         requires fits { length self.old.source.items < 2 ^ 32 }
         requires line { IsFirstLine (slice_range self.old.source.items self.old.line_start end) (drop end self.old.source.items) }
-        ensures taken { OnOk result (HasTaken self.new.rewriting (first_tokens_of 0 (take end self.old.source.items))) }
+        ensures taken { OnOk result (HasTaken self.new.rewriting (first_tokens_of (rules_of self.old.rules.now) 0 (take end self.old.source.items))) }
         ensures start { OnOk result (self.new.line_start ≡ end) }
         ensures source { self.new.source.items ≡ self.old.source.items }
-        ensures rules { rules_of self.new.rules ≡ rules_of self.old.rules }
         ensures words { self.new.rewriting.phrases.now ≡ self.old.rewriting.phrases.now }
+        ensures rules { self.new.rules.now ≡ self.old.rules.now }
     {
         let line = &self.source[self.line_start..end];
         let tokens = tokens_of_line(
             self.alloc,
-            &self.rules,
+            self.rules,
             self.line_start as u32,
             line,
             &mut self.characters,
@@ -129,6 +126,7 @@ impl<'w> Reader<'w> {
         ensures read { OnOk result (HasReadLines self.new) }
         ensures source { self.new.source.items ≡ self.old.source.items }
         ensures words { self.new.rewriting.phrases.now ≡ self.old.rewriting.phrases.now }
+        ensures rules { self.new.rules.now ≡ self.old.rules.now }
     {
         let mut searched = from;
         while let Some(place) = memchr(b'\n', &self.source[searched..]) {
@@ -147,6 +145,7 @@ impl<'w> Reader<'w> {
         ensures short { OnOk result (length self.new.source.items ≤ most_bytes) }
         ensures refused { IfErr result (λ fault. fault ≢ TextFault.Memory → refusal_of (self.old.source.items ++ bytes.now) ≡ Some fault) }
         ensures words { self.new.rewriting.phrases.now ≡ self.old.rewriting.phrases.now }
+        ensures rules { self.new.rules.now ≡ self.old.rules.now }
     {
         let searched = self.source.len();
         if bytes.len() > MOST_BYTES - searched {
@@ -169,7 +168,7 @@ impl<'w> Reader<'w> {
         requires read { HasReadLines self }
         requires fits { length self.source.items < 2 ^ 32 }
         ensures source { IfOk result (λ text. text.0.items ≡ self.entry.source.items) }
-        ensures tokens { IfOk result (λ text. text.1 ≡ tokens_of self.entry.rewriting.phrases.now.phrases self.entry.source.items) }
+        ensures tokens { IfOk result (λ text. text.1 ≡ tokens_of (rules_of self.entry.rules.now) self.entry.rewriting.phrases.now.phrases self.entry.source.items) }
     {
         let mut reader = self;
         let end = reader.source.len();

@@ -1,3 +1,5 @@
+//! How long an input may be.
+
 ghost use Rattle.std.specs.Prelude.{◌≡◌, ◌≤◌, length, IfErr, OnOk, Some, None};
 ghost use Rattle.lic_norm.specs.Refusal.{refusal_of};
 

@@ -1,6 +1,6 @@
 //! From first tokens to the tokens of the rewriting, as they are kept.
-ghost use Rattle.std.specs.Prelude.{◌≡◌, ◌++◌, [], List, map, IfOk, OnOk};
-ghost use Rattle.lic_lines.specs.Tokens.{Token, tokens_in};
+ghost use Rattle.std.specs.Prelude.{◌≡◌, ◌++◌, ◌∷◌, [], List, map, IfOk, OnOk};
+ghost use Rattle.lic_lines.specs.Tokens.{Token, token_in, tokens_in};
 ghost use Rattle.lic_phrases.specs.Rewriting.{rewritten};
 ghost use Rattle.lic_norm.specs.Reading.{HasTaken};
 ghost use Rattle.lic_norm.specs.Tokens.{reported};
@@ -35,6 +35,25 @@ impl<'w> Rewriting<'w> {
         }
     }
 
+    /// Takes the next token, and lists those that are settled then: mostly itself, as it is.
+    #[inline(always)]
+    fn take_one(&mut self, token: FirstToken) -> Result<(), AllocError>
+        requires { self.old.settled.items ≡ [] }
+        ensures taken { OnOk result ((taken : List Token) → HasTaken self.old taken → HasTaken self.new (taken ++ token_in token ∷ [])) }
+        ensures phrases { self.new.phrases.now ≡ self.old.phrases.now }
+        ensures emptied { OnOk result (self.new.settled.items ≡ []) }
+    {
+        if self.rewriter.passes(self.phrases, &token) {
+            return self
+                .tokens
+                .push(token.text.as_str(), token.start, token.end);
+        }
+        self.rewriter.push(self.phrases, token, &mut self.settled)?;
+        self.tokens.extend(self.phrases, &self.settled)?;
+        self.settled.clear();
+        Ok(())
+    }
+
     /// Takes the next tokens, and lists those that are settled then.
     pub(crate) fn take(&mut self, tokens: Vec<FirstToken>) -> Result<(), AllocError>
         ensures taken { OnOk result ((taken : List Token) → HasTaken self.old taken → HasTaken self.new (taken ++ tokens_in tokens.items)) }
@@ -42,9 +61,7 @@ impl<'w> Rewriting<'w> {
     {
         self.settled.clear();
         for token in tokens {
-            self.rewriter.push(self.phrases, token, &mut self.settled)?;
-            self.tokens.extend(self.phrases, &self.settled)?;
-            self.settled.clear();
+            self.take_one(token)?;
         }
         Ok(())
     }

@@ -1,4 +1,7 @@
+//! A source and its tokens.
+
 ghost use Rattle.std.specs.Prelude.{◌≡◌, ◌<◌, ◌≤◌, ◌≢◌, ◌^◌, length, slice_range, slice_index_or, IfOk, IfErr, OnOk, Some, None};
+ghost use Rattle.lic_norm.specs.Spans.{AreSpans};
 
 use crate::fault::TextFault;
 use crate::reader::Reader;
@@ -6,6 +9,7 @@ use crate::refusal::check_length;
 use crate::token::{Span, Token};
 use crate::token_list::TokenList;
 use crate::words::Words;
+use lic_lines::Rules;
 use lic_phrases::laws::spellings_are_token_texts;
 use std::alloc::{AllocError, Global};
 use std::marker::Model;
@@ -29,6 +33,7 @@ impl Model for Text {
 }
 
 impl Text {
+    ghost use Rattle.lic_lines.specs.LineRules.{rules_of};
     ghost use Rattle.lic_norm.specs.Reading.{HasReadLines};
     ghost use Rattle.lic_norm.specs.Refusal.{refusal_of};
     ghost use Rattle.lic_norm.specs.Tokens.{tokens_of};
@@ -37,23 +42,28 @@ impl Text {
     /// Reads a source of at most 67,108,864 bytes, whatever they are.
     ///
     /// A byte that lies in no UTF-8 character begun before it, and at which none begins, is read as U+FFFD.
-    /// From each line its lead, list item and tail are taken away; then a token is a longest row of
-    /// word characters with their letters, or a mark; and signs of copyright, web addresses and
-    /// equivalent words are written as one (this project's profile of SPDX 2.3 Annex B).
+    /// From each line its lead, list item and tail are taken away by the line rules; then a token is a
+    /// longest row of word characters with their letters, or a mark; and signs of copyright, web addresses
+    /// and equivalent words are written as one (this project's profile of SPDX 2.3 Annex B).
     ///
     /// # Errors
     ///
-    /// `TooLong` where there are more bytes; `Memory` where a growth was refused.
-    pub fn read(alloc: Global, source: Vec<u8>, words: &Words) -> Result<Text, TextFault>
+    /// `TooLong` where there are more bytes; `Memory` if memory ran out.
+    pub fn read(
+        alloc: Global,
+        source: Vec<u8>,
+        words: &Words,
+        rules: &Rules,
+    ) -> Result<Text, TextFault>
         ensures source { IfOk result (λ t. t.source ≡ source.items) }
-        ensures tokens { IfOk result (λ t. t.tokens ≡ tokens_of words.now source.items) }
+        ensures tokens { IfOk result (λ t. t.tokens ≡ tokens_of (rules_of rules.now) words.now source.items) }
         ensures spans { IfOk result (λ t. AreSpans t.source t.tokens) }
         ensures words { IfOk result (λ t. AreTokenTexts t.tokens) }
         ensures accepted { OnOk result (refusal_of source.items ≡ None) }
         ensures refused { IfErr result (λ fault. fault ≢ TextFault.Memory → refusal_of source.items ≡ Some fault) }
     {
         check_length(source.as_slice())?;
-        let mut reader = Reader::new(alloc, source, words);
+        let mut reader = Reader::new(alloc, source, words, rules);
         reader.take_lines(0)?;
         Ok(Text::of(reader, words)?)
     }
@@ -64,7 +74,7 @@ impl Text {
         requires fits { length reader.source.items < 2 ^ 32 }
         requires words { reader.rewriting.phrases.now.phrases ≡ words.now }
         ensures source { IfOk result (λ t. t.source ≡ reader.entry.source.items) }
-        ensures tokens { IfOk result (λ t. t.tokens ≡ tokens_of words.now reader.entry.source.items) }
+        ensures tokens { IfOk result (λ t. t.tokens ≡ tokens_of (rules_of reader.entry.rules.now) words.now reader.entry.source.items) }
         ensures spans { IfOk result (λ t. AreSpans t.source t.tokens) }
         ensures words { IfOk result (λ t. AreTokenTexts t.tokens) }
     {
@@ -107,4 +117,11 @@ impl Text {
     {
         &self.source[span.start..span.end]
     }
+}
+
+/// The spans of a text's tokens lie one behind another within its source, and cut no source character.
+pub fn tokens_have_spans(text: &Text)
+    ensures { AreSpans text.now.source text.now.tokens }
+{
+    let _ = &text.tokens;
 }

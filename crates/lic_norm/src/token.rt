@@ -1,3 +1,5 @@
+//! Tokens and their spans, as callers see them.
+
 /// Bytes of a source, from `start` up to `end`, which is left out.
 #[derive(Clone, Copy, Debug, PartialEq, Eq)]
 pub struct Span {

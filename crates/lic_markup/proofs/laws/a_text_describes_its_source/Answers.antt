@@ -30,11 +30,11 @@ letters [] = refl
 letters (t ∷ tokens) = ap (λ l. chars t.text ∷ l) (letters tokens)
 
 pub returns : goal.returns
-returns c = λ words source text known encoded is some utf8.
-    let tokens = tokens_of words source in
-    let same = piece_texts-whole words source encoded in
+returns c = λ rules words source text known encoded is some utf8.
+    let tokens = tokens_of rules words source in
+    let same = piece_texts-whole rules words source encoded in
     subst (λ ts. IsDescribed (part_words (Text text)) ts) (ap (map chars) same ∙ letters tokens)
-    (piece_described words true LineEnd source text is
+    (piece_described rules words true LineEnd source text is
     (λ none. some_texts tokens some (sym same ∙ none))
     (subst (All IsUtf8) (sym same) utf8)
-    (subst (All IsTokenText) (sym same) (all_texts tokens (tokens_of-AreTokenTexts words source known))))
+    (subst (All IsTokenText) (sym same) (all_texts tokens (tokens_of-AreTokenTexts rules words source known))))

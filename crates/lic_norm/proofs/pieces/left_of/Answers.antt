@@ -2,6 +2,7 @@ use Rattle.std.proofs.Common.{◌≡◌, ◌+◌, ◌++◌, true, take, drop, ap
 use Rattle.std.specs.List.{slice_range}
 use Rattle.std.specs.Str.{IsCharBoundary, chars}
 use Rattle.std.proofs.lemmas.Str.{IsCharBoundary-from_rest, IsCharBoundary-start}
+use Rattle.lic_lines.specs.LineRules.{rules_of}
 use Rattle.lic_lines.specs.Sources.{unplaced, without_dropped}
 use Rattle.lic_lines.specs.Tokens.{tokens_in}
 use Rattle.lic_norm.specs.LineEnds.{IsFirstLine}
@@ -11,8 +12,8 @@ use Rattle.lic_norm.proofs.pieces.left_of.Goals as goal
 
 pub loop-at-init : goal.loop-at-init
 loop-at-init c = record {
-  cells = ap (λ l. l ++ piece_cells c.args.at_line_start c.args.before c.args.text.now) c.new.ensures.items;
-  tokens = ap (λ l. tokens_in l ++ piece_tokens c.args.at_line_start c.args.before c.args.text.now) c.new-2.ensures.items;
+  cells = ap (λ l. l ++ piece_cells (rules_of c.args.rules.now) c.args.at_line_start c.args.before c.args.text.now) c.new.ensures.items;
+  tokens = ap (λ l. tokens_in l ++ piece_tokens (rules_of c.args.rules.now) c.args.at_line_start c.args.before c.args.text.now) c.new-2.ensures.items;
   boundary = IsCharBoundary-start c.args.text.now c.utf8.text;
 }
 
@@ -22,6 +23,7 @@ loop-at-preserved c =
     let text = c.args.text.now in
     let at = c.loop-at.at in
     let n = c.text_line_end.result in
+    let rules = rules_of c.args.rules.now in
     let before = c.args.before in
     let front = c.loop-at.has_front in
     let left : c.range_from.result.now ≡ drop at text = c.range_from.ensures.value in
@@ -31,21 +33,21 @@ loop-at-preserved c =
     let rest = drop (at + n) text in
     let here = c.in_ok-line.line.items in
     let is : here ≡ without_dropped (unplaced (chars (slice_range text at (at + n)))) = c.in_ok-line.ensures ∙ ap (λ l. without_dropped (unplaced (chars l))) c.range.ensures.value in record {
-      cells = ap (λ l. l ++ piece_cells true before rest)
-          (c.in_ok-push_line.ensures.cells ∙ ap (λ l. c.loop-at.left.cells.items ++ l) (line_cells-is _ _ front before here _ _ c.profile-rules.ensures c.deref.ensures.value c.deref-in-loop-at.ensures.value c.part_of-part.ensures))
-          ∙ append_assoc c.loop-at.left.cells.items _ (piece_cells true before rest)
-          ∙ ap (λ l. c.loop-at.left.cells.items ++ l) (sym (piece_cells-first front before (drop at text) (slice_range text at (at + n)) rest here cut.parts cut.utf8 cut.first is))
+      cells = ap (λ l. l ++ piece_cells rules true before rest)
+          (c.in_ok-push_line.ensures.cells ∙ ap (λ l. c.loop-at.left.cells.items ++ l) (line_cells-is rules _ front before here _ _ c.deref.ensures.value c.deref-in-loop-at.ensures.value c.part_of-part.ensures))
+          ∙ append_assoc c.loop-at.left.cells.items _ (piece_cells rules true before rest)
+          ∙ ap (λ l. c.loop-at.left.cells.items ++ l) (sym (piece_cells-first rules front before (drop at text) (slice_range text at (at + n)) rest here cut.parts cut.utf8 cut.first is))
           ∙ known.cells;
-      tokens = ap (λ l. l ++ piece_tokens true before rest)
-          (c.in_ok-push_line.ensures.tokens ∙ ap (λ l. tokens_in c.loop-at.left.tokens.items ++ l) (line_tokens-is _ _ front before here _ _ c.profile-rules.ensures c.deref.ensures.value c.deref-in-loop-at.ensures.value c.part_of-part.ensures))
-          ∙ append_assoc (tokens_in c.loop-at.left.tokens.items) _ (piece_tokens true before rest)
-          ∙ ap (λ l. tokens_in c.loop-at.left.tokens.items ++ l) (sym (piece_tokens-first front before (drop at text) (slice_range text at (at + n)) rest here cut.parts cut.utf8 cut.first is))
+      tokens = ap (λ l. l ++ piece_tokens rules true before rest)
+          (c.in_ok-push_line.ensures.tokens ∙ ap (λ l. tokens_in c.loop-at.left.tokens.items ++ l) (line_tokens-is rules _ front before here _ _ c.deref.ensures.value c.deref-in-loop-at.ensures.value c.part_of-part.ensures))
+          ∙ append_assoc (tokens_in c.loop-at.left.tokens.items) _ (piece_tokens rules true before rest)
+          ∙ ap (λ l. tokens_in c.loop-at.left.tokens.items ++ l) (sym (piece_tokens-first rules front before (drop at text) (slice_range text at (at + n)) rest here cut.parts cut.utf8 cut.first is))
           ∙ known.tokens;
       boundary = IsCharBoundary-from_rest text at n known.boundary.0 there;
     }
 
 pub returns-clause-cells : goal.returns-clause-cells
-returns-clause-cells c = no_more_cells c.loop-at.has_front c.args.before c.args.text.now c.loop-at.at _ _ c.loop-at-test.false c.loop-at.invariant.cells
+returns-clause-cells c = no_more_cells (rules_of c.args.rules.now) c.loop-at.has_front c.args.before c.args.text.now c.loop-at.at _ _ c.loop-at-test.false c.loop-at.invariant.cells
 
 pub returns-clause-tokens : goal.returns-clause-tokens
-returns-clause-tokens c = no_more_tokens c.loop-at.has_front c.args.before c.args.text.now c.loop-at.at _ _ c.loop-at-test.false c.loop-at.invariant.tokens
+returns-clause-tokens c = no_more_tokens (rules_of c.args.rules.now) c.loop-at.has_front c.args.before c.args.text.now c.loop-at.at _ _ c.loop-at-test.false c.loop-at.invariant.tokens

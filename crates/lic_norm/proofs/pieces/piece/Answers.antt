@@ -1,5 +1,6 @@
 use Rattle.std.proofs.Common.{◌≡◌, Global, String, map, string_bytes, ap, ap₂, ◌∙◌, []}
 use Rattle.std.proofs.lemmas.Result.{IfOk-weaker}
+use Rattle.lic_lines.specs.LineRules.{rules_of}
 use Rattle.lic_lines.specs.Tokens.{tokens_in}
 use Rattle.lic_phrases.specs.Rewriting.{rewritten}
 use Rattle.lic_phrases.specs.Spelling.{spelled}
@@ -12,7 +13,8 @@ pub returns : goal.returns
 unfolding piece_of
 returns c =
     let words = c.args.words.now in
-    let first = piece_tokens c.args.at_line_start c.args.before c.args.text.now in
+    let rules = rules_of c.args.rules.now in
+    let first = piece_tokens rules c.args.at_line_start c.args.before c.args.text.now in
     let listed = c.in_ok-tokens.ensures _ (c.in_ok-take.ensures.taken [] c.new-rewriting.ensures.taken) in
     let list : c.take.new.self.phrases.now.phrases ≡ words = ap (λ l. l.phrases) (c.in_ok-take.ensures.phrases ∙ c.new-rewriting.ensures.phrases) ∙ c.phrases.ensures in
     let taken : tokens_in c.in_ok-cells.field-0.tokens.items ≡ first = c.in_ok-cells.ensures.tokens in
@@ -22,6 +24,6 @@ returns c =
     let cells = c.deref.ensures.value ∙ c.in_ok-cells.ensures.cells in
     IfOk-weaker c.with_edges.result
     (λ (edged : String Global). string_bytes edged ≡ with_edges c.deref.result.now c.as_str.result.now)
-    (λ (edged : String Global). string_bytes edged ≡ piece_of words c.args.at_line_start c.args.before c.args.text.now)
+    (λ (edged : String Global). string_bytes edged ≡ piece_of rules words c.args.at_line_start c.args.before c.args.text.now)
     (λ edged told. told ∙ ap₂ with_edges cells letters)
     c.with_edges.ensures

@@ -1,9 +1,10 @@
-use Rattle.std.proofs.Common.{ℕ, List, None, ap₂, ◌∙◌}
+use Rattle.std.proofs.Common.{ℕ, List, [], None, ap, ap₂, ◌∙◌}
+use Rattle.lic_lines.specs.LineRules.{LineRules, rules_of}
 use Rattle.lic_norm.specs.Feeding.{FeederValue}
 use Rattle.lic_norm.specs.Tokens.{TokenValue}
 use Rattle.lic_norm.proofs.feeder.Feeder.new.Goals as goal
 
 pub returns : goal.returns
 returns c =
-    let seen : List ℕ → List TokenValue → FeederValue = λ bytes tokens. record { bytes = bytes; words = c.args.words.now; tokens = tokens; refused = None } in
-    ap₂ seen (c.new-2.ensures.source ∙ c.new.ensures.items) c.new-2.ensures.tokens
+    let seen : LineRules → List ℕ → List TokenValue → FeederValue = λ rules bytes tokens. record { bytes = bytes; words = c.args.words.now; rules = rules; tokens = tokens; refused = None } in
+    ap₂ (seen (rules_of c.new-2.result.rules.now)) (c.new-2.ensures.source ∙ c.new.ensures.items) c.new-2.ensures.tokens ∙ ap (λ r. seen (rules_of r) [] []) c.new-2.ensures.rules

@@ -1,5 +1,6 @@
 use Rattle.std.proofs.Common.{◌≡◌, length, drop, map, ap, ap₂, subst, ◌∙◌, arith, take_all}
 use Rattle.std.specs.List.{slice_range}
+use Rattle.lic_lines.specs.LineRules.{rules_of}
 use Rattle.lic_phrases.specs.Rewriting.{rewritten}
 use Rattle.lic_norm.specs.LineEnds.{IsFirstLine}
 use Rattle.lic_norm.specs.Tokens.{reported, first_tokens_of}
@@ -18,4 +19,4 @@ returns-clause-tokens c =
     let source = c.args.self.source.items in
     let end : c.len-end.result ≡ length source = omega (arith, c.len-end.ensures, c.args.self.source.ok) in
     c.in_ok-tokens.ensures _ c.in_ok-take_line.ensures.taken
-    ∙ ap₂ (λ words bytes. map reported (rewritten words (first_tokens_of 0 bytes))) (ap (λ p. p.phrases) c.take_line.ensures.words) (take_all c.len-end.result source (omega (arith, end)))
+    ∙ ap₂ (λ words bytes. map reported (rewritten words (first_tokens_of (rules_of c.args.self.rules.now) 0 bytes))) (ap (λ p. p.phrases) c.take_line.ensures.words) (take_all c.len-end.result source (omega (arith, end)))

@@ -1,5 +1,6 @@
 use Rattle.std.proofs.Common.{◌++◌, ap, subst, ◌∙◌, take}
 use Rattle.std.specs.List.{slice_range}
+use Rattle.lic_lines.specs.LineRules.{rules_of}
 use Rattle.lic_norm.specs.Reading.{HasTaken}
 use Rattle.lic_norm.specs.Tokens.{first_tokens_of, line_tokens_of}
 use Rattle.lic_norm.proofs.WholeLines.{one_more_line}
@@ -12,7 +13,8 @@ returns-clause-taken c =
     let source = old.source.items in
     let at = old.line_start in
     let end = c.args.end in
-    let before = first_tokens_of 0 (take at source) in
+    let rules = rules_of old.rules.now in
+    let before = first_tokens_of rules 0 (take at source) in
     subst (HasTaken c.take.new.self)
-    (ap (λ ts. before ++ ts) (c.in_ok-tokens.ensures ∙ ap (λ l. line_tokens_of at (slice_range l at end)) c.deref.ensures.value) ∙ one_more_line source at end known.read.lines known.order known.within known.line)
+    (ap (λ ts. before ++ ts) (c.in_ok-tokens.ensures ∙ ap (λ l. line_tokens_of rules at (slice_range l at end)) c.deref.ensures.value) ∙ one_more_line rules source at end known.read.lines known.order known.within known.line)
     (c.in_ok-take.ensures.taken before known.read.taken)

@@ -28,13 +28,14 @@ loop-place-preserved c =
     let start : new.line_start ≡ end = c.in_ok-take_line.ensures.start in
     let kept : new.source.items ≡ source = c.take_line.ensures.source in
     let inside = end_within source self.line_start searched place known.order known.clear found in record {
-      read = read_on self new end c.take_line.ensures.rules known.read.rules start kept inside
+      read = read_on self new end c.take_line.ensures.rules start kept inside
           (lines_found source self.line_start searched place known.order known.clear found) c.in_ok-take_line.ensures.taken;
       order = omega (arith, start);
       within = omega (arith, inside, ap length kept);
       clear = none_between new.source.items new.line_start end start;
       source = kept ∙ known.source;
       words = c.take_line.ensures.words ∙ known.words;
+      rules = c.take_line.ensures.rules ∙ known.rules;
     }
 
 pub returns-clause-read : goal.returns-clause-read

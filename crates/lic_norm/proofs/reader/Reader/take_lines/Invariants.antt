@@ -12,6 +12,7 @@ invariant-loop-place l = record {
   clear : All (λ b. b ≢ 0x0A) (slice_range l.self.source.items l.self.line_start l.searched);
   source : l.self.source.items ≡ l.fn.self.source.items;
   words : l.self.rewriting.phrases.now ≡ l.fn.self.rewriting.phrases.now;
+  rules : l.self.rules.now ≡ l.fn.self.rules.now;
 }
 
 abbrev pub decreases-loop-place : goal.decreases-loop-place

@@ -1,0 +1,3 @@
+//! Laws of texts, each the contract of a function that does nothing.
+
+pub use crate::text::tokens_have_spans;
