@@ -19,7 +19,7 @@ abbrev pub map_ok : {A B : Type 0} → (A → B) → Result A EreFault → Resul
 map_ok f (Ok x) = Ok (f x)
 map_ok f (Err e) = Err e
 
--- a refusal is the fault that reading meets, or want of memory, which is told at 0
+-- a refusal is the fault that reading meets, or out of memory, reported at 0
 abbrev pub Fails : {Y : Type 0} → EreCause → ℕ → Result Y EreFault → Type 0
 Fails OutOfMemory place read = place ≡ 0
 Fails cause place read = read ≡ Err (fault_at place cause)

@@ -44,7 +44,7 @@ impl Class {
     /// The same set once more.
     ///
     /// # Errors
-    /// Memory is lacking.
+    /// Memory ran out.
     pub fn copy(&self, alloc: Global) -> Result<Class, AllocError>
         ensures { IfOk result (λ copy. copy ≡ self.now) }
     {

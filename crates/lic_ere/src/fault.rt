@@ -81,7 +81,7 @@ impl EreFault {
     ghost use Rattle.std.specs.Prelude.{◌≡◌};
     ghost use Rattle.lic_ere.specs.Faults.{out_of_memory};
 
-    /// Want of memory, which is told at 0.
+    /// Out of memory, reported at 0.
     pub(crate) fn out_of_memory() -> EreFault
         ensures { result ≡ out_of_memory }
     {

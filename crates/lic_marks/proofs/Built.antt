@@ -5,11 +5,12 @@ use Rattle.std.specs.List.{list_all}
 use Rattle.lic_marks.specs.Cores.{Core, one, cat_all, alt_all, any_front, plus, tidy}
 use Rattle.lic_marks.specs.Marks.{is_nullable}
 use Rattle.lic_marks.specs.Rows.{weight}
-use Rattle.lic_marks.specs.Nodes.{core_of, passes, is_measured, letter_cores, IsBuilt}
+use Rattle.lic_marks.specs.Nodes.{core_of, passes, is_measured, letter_cores, so_many, IsBuilt}
 use Rattle.lic_marks.specs.declared.test.Test.{Test}
-use Rattle.lic_marks.specs.declared.node.Node.{Node, Letters, One, Copies, UpTo, Cat, Alt, Front, Plus, Tidy}
+use Rattle.lic_marks.specs.declared.node.Times.{Times}
+use Rattle.lic_marks.specs.declared.node.Node.{Node, Letters, One, Copies, UpTo, Cat, Alt, Repeat, Plus, Tidy}
 use Rattle.lic_marks.proofs.Cuts.{and_both}
-use Rattle.lic_marks.proofs.Nodes.{core_of-Letters, core_of-One, is_measured-Letters, is_measured-One, core_of-Copies, core_of-UpTo, is_measured-Copies, is_measured-UpTo, core_of-Cat, core_of-Alt, core_of-Front, core_of-Plus, core_of-Tidy, is_measured-Cat, is_measured-Alt, is_measured-Front, is_measured-Plus, is_measured-Tidy}
+use Rattle.lic_marks.proofs.Nodes.{core_of-Letters, core_of-One, is_measured-Letters, is_measured-One, core_of-Copies, core_of-UpTo, is_measured-Copies, is_measured-UpTo, core_of-Cat, core_of-Alt, core_of-Repeat, core_of-Plus, core_of-Tidy, is_measured-Cat, is_measured-Alt, is_measured-Repeat, is_measured-Plus, is_measured-Tidy}
 
 pub weight-alt_all : (rs : List Core) → weight (cat_all rs) ≡ weight (alt_all rs)
 weight-alt_all [] = refl
@@ -42,12 +43,12 @@ module _ (children : Vec Node Global) (kept : ℕ) (all : list_all is_measured c
         ∙ and_both (list_all is_measured children.items) _ all (eq-eqb kept _ (size ∙ weight-alt_all (map core_of children.items)));
   }
 
-  pub IsBuilt-Front : IsBuilt (any_front (map core_of children.items)) (Front children kept)
-  IsBuilt-Front = record {
-    stands = core_of-Front children kept;
-    measured = is_measured-Front children kept
-        ∙ and_both (list_all is_measured children.items) _ all (eq-eqb kept _ (size ∙ weight-any_front (map core_of children.items)));
-  }
+pub IsBuilt-Repeat : (child : Box Node Global) (times : Times) (kept : ℕ) → is_measured child.value ≡ true →
+    kept ≡ weight (so_many times (core_of child.value)) → IsBuilt (so_many times (core_of child.value)) (Repeat child times kept)
+IsBuilt-Repeat child times kept all size = record {
+  stands = core_of-Repeat child times kept;
+  measured = is_measured-Repeat child times kept ∙ and_both (is_measured child.value) _ all (eq-eqb kept _ size);
+}
 
 module _ (child : Box Node Global) (kept : ℕ) (all : is_measured child.value ≡ true) (size : kept ≡ weight (core_of child.value)) where
   pub IsBuilt-Plus : IsBuilt (plus (core_of child.value)) (Plus child kept)

@@ -8,12 +8,12 @@ pub mod Nodes
 pub mod LetterWalks
 pub mod RowWalks
 pub mod JoinedRows
+pub mod Counted
 pub mod Children
 pub mod StateLemmas
 pub mod Lists
 pub mod TokenRows
 pub mod Built
-pub mod Copied
 pub mod Patches
 pub mod Taken
 pub mod Moving

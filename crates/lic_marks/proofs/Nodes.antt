@@ -5,12 +5,13 @@ use Rattle.std.specs.Bool.{beq}
 use Rattle.lic_marks.specs.Cores.{Core, one, cat_all, alt_all, any_front, plus, tidy}
 use Rattle.lic_marks.specs.Marks.{is_nullable}
 use Rattle.lic_marks.specs.Rows.{weight}
-use Rattle.lic_marks.specs.Nodes.{passes, letter_cores, node_core, core_of, are_right, cores_of, node_is_measured, is_measured}
+use Rattle.lic_marks.specs.Nodes.{passes, letter_cores, so_many, node_core, core_of, are_right, cores_of, node_is_measured, is_measured}
 use Rattle.lic_marks.proofs.LetterWalks.{weight-letters, weight-copies, weight-up_to}
 use Rattle.lic_marks.proofs.Cuts.{and_left, and_right}
 use Rattle.lic_marks.specs.declared.test.Test.{Test}
+use Rattle.lic_marks.specs.declared.node.Times.{Times}
 use Rattle.lic_marks.specs.declared.node.Node.{Node, Node-F, fold-roll-Node, para-roll-Node}
-use Rattle.lic_marks.specs.declared.node.Node.TheVariants.{Letters, One, Copies, UpTo, Cat, Alt, Front, Plus, Tidy, rolls-Letters, rolls-One, rolls-Copies, rolls-UpTo, rolls-Cat, rolls-Alt, rolls-Front, rolls-Plus, rolls-Tidy}
+use Rattle.lic_marks.specs.declared.node.Node.TheVariants.{Letters, One, Copies, UpTo, Cat, Alt, Repeat, Plus, Tidy, rolls-Letters, rolls-One, rolls-Copies, rolls-UpTo, rolls-Cat, rolls-Alt, rolls-Repeat, rolls-Plus, rolls-Tidy}
 
 pub core_of-Letters : (text : Vec ℕ Global) → core_of (Letters text) ≡ cat_all (letter_cores text.items)
 core_of-Letters text = ap core_of (sym (rolls-Letters text)) ∙ fold-roll-Node Core node_core (Node-F.Letters text)
@@ -44,8 +45,19 @@ module _ (children : Vec Node Global) (kept : ℕ) where
   pub core_of-Alt : core_of (Alt children kept) ≡ alt_all (map core_of children.items)
   core_of-Alt = ap core_of (sym (rolls-Alt children kept)) ∙ fold-roll-Node Core node_core (Node-F.Alt children kept)
 
-  pub core_of-Front : core_of (Front children kept) ≡ any_front (map core_of children.items)
-  core_of-Front = ap core_of (sym (rolls-Front children kept)) ∙ fold-roll-Node Core node_core (Node-F.Front children kept)
+module _ (child : Box Node Global) (times : Times) (kept : ℕ) where
+  pub core_of-Repeat : core_of (Repeat child times kept) ≡ so_many times (core_of child.value)
+  core_of-Repeat = ap core_of (sym (rolls-Repeat child times kept)) ∙ fold-roll-Node Core node_core (Node-F.Repeat child times kept)
+
+  pub is_measured-Repeat : is_measured (Repeat child times kept)
+      ≡ (is_measured child.value && (kept == weight (so_many times (core_of child.value))))
+  is_measured-Repeat = ap is_measured (sym (rolls-Repeat child times kept)) ∙ para-roll-Node Bool node_is_measured (Node-F.Repeat child times kept)
+
+  pub weight-Repeat : is_measured (Repeat child times kept) ≡ true → kept ≡ weight (core_of (Repeat child times kept))
+  weight-Repeat h = rw core_of-Repeat (eqb-true kept _ (and_right (is_measured child.value) _ (rw is_measured-Repeat at h)))
+
+  pub child-Repeat : is_measured (Repeat child times kept) ≡ true → is_measured child.value ≡ true
+  child-Repeat h = and_left (is_measured child.value) _ (rw is_measured-Repeat at h)
 
 module _ (child : Box Node Global) (kept : ℕ) where
   pub core_of-Plus : core_of (Plus child kept) ≡ plus (core_of child.value)
@@ -106,11 +118,6 @@ module _ (children : Vec Node Global) (kept : ℕ) where
   is_measured-Alt = ap is_measured (sym (rolls-Alt children kept))
       ∙ para-roll-Node Bool node_is_measured (Node-F.Alt children kept) ∙ both kept alt_all children.items
 
-  pub is_measured-Front : is_measured (Front children kept)
-      ≡ (list_all is_measured children.items && (kept == weight (any_front (map core_of children.items))))
-  is_measured-Front = ap is_measured (sym (rolls-Front children kept))
-      ∙ para-roll-Node Bool node_is_measured (Node-F.Front children kept) ∙ both kept any_front children.items
-
 pub weight-Letters : (text : Vec ℕ Global) → length text.items ≡ weight (core_of (Letters text))
 weight-Letters text = rw (core_of-Letters text) (sym (weight-letters text.items))
 
@@ -125,17 +132,11 @@ module _ (children : Vec Node Global) (kept : ℕ) where
   pub weight-Alt : is_measured (Alt children kept) ≡ true → kept ≡ weight (core_of (Alt children kept))
   weight-Alt h = rw core_of-Alt (eqb-true kept _ (and_right (list_all is_measured children.items) _ (rw is_measured-Alt at h)))
 
-  pub weight-Front : is_measured (Front children kept) ≡ true → kept ≡ weight (core_of (Front children kept))
-  weight-Front h = rw core_of-Front (eqb-true kept _ (and_right (list_all is_measured children.items) _ (rw is_measured-Front at h)))
-
   pub children-Cat : is_measured (Cat children kept) ≡ true → list_all is_measured children.items ≡ true
   children-Cat h = and_left (list_all is_measured children.items) _ (rw is_measured-Cat at h)
 
   pub children-Alt : is_measured (Alt children kept) ≡ true → list_all is_measured children.items ≡ true
   children-Alt h = and_left (list_all is_measured children.items) _ (rw is_measured-Alt at h)
-
-  pub children-Front : is_measured (Front children kept) ≡ true → list_all is_measured children.items ≡ true
-  children-Front h = and_left (list_all is_measured children.items) _ (rw is_measured-Front at h)
 
 module _ (child : Box Node Global) (kept : ℕ) where
   pub weight-Plus : is_measured (Plus child kept) ≡ true → kept ≡ weight (core_of (Plus child kept))

@@ -3,11 +3,13 @@ use Rattle.std.specs.Prelude.{IsTrue, ◌≡◌, ℕ, Bool, true, ◌==◌, ◌&
 use Rattle.std.specs.Bool.{beq}
 use Rattle.std.specs.List.{list_all}
 use Rattle.lic_ere.specs.Sets.{is_in}
-use Rattle.lic_marks.specs.Cores.{Core, one, cat_all, alt_all, any_front, plus, tidy}
+use Rattle.lic_marks.specs.Cores.{Core, one, cat, cat_all, alt_all, any_front, copies, up_to, plus, tidy}
 use Rattle.lic_marks.specs.Marks.{is_nullable}
 use Rattle.lic_marks.specs.Rows.{weight}
 use Rattle.lic_marks.specs.declared.test.Test.{Test}
 use Rattle.lic_marks.specs.declared.test.Test.TheVariants.{Letter, Any, Class}
+use Rattle.lic_marks.specs.declared.node.Times.{Times}
+use Rattle.lic_marks.specs.declared.node.Times.TheVariants.{Bounded, Unbounded}
 use Rattle.lic_marks.specs.declared.node.Node.{Node}
 use Rattle.lic_marks.specs.declared.node.Node.TheOpen.{Node-F}
 use Rattle.lic_marks.specs.declared.node.Node.TheFolds.{fold-Node, para-Node}
@@ -22,6 +24,11 @@ passes (Class brackets) c = is_in brackets c
 abbrev pub letter_cores : List ℕ → List Core
 letter_cores text = map (λ d. one (λ c. c == d)) text
 
+-- so many of these in a row
+abbrev pub so_many : Times → Core → Core
+so_many (Bounded needed more) a = cat (copies needed a) (up_to more a)
+so_many (Unbounded before) a = cat (copies before a) (plus a)
+
 -- one node, with the core of each child in its place
 abbrev pub node_core : Node-F Core → Core
 node_core (Node-F.Letters text) = cat_all (letter_cores text.items)
@@ -30,7 +37,7 @@ node_core (Node-F.Copies test count) = cat_all (replicate count (one (passes tes
 node_core (Node-F.UpTo test count) = any_front (replicate count (one (passes test)))
 node_core (Node-F.Cat children weight) = cat_all children.items
 node_core (Node-F.Alt children weight) = alt_all children.items
-node_core (Node-F.Front children weight) = any_front children.items
+node_core (Node-F.Repeat child times weight) = so_many times child.value
 node_core (Node-F.Plus child weight) = plus child.value
 node_core (Node-F.Tidy child weight is_nullable) = tidy child.value
 
@@ -55,7 +62,7 @@ node_is_measured (Node-F.Copies test count) = true
 node_is_measured (Node-F.UpTo test count) = true
 node_is_measured (Node-F.Cat children kept) = are_right children.items && (kept == weight (cat_all (cores_of children.items)))
 node_is_measured (Node-F.Alt children kept) = are_right children.items && (kept == weight (alt_all (cores_of children.items)))
-node_is_measured (Node-F.Front children kept) = are_right children.items && (kept == weight (any_front (cores_of children.items)))
+node_is_measured (Node-F.Repeat child times kept) = child.value.1 && (kept == weight (so_many times (core_of child.value.0)))
 node_is_measured (Node-F.Plus child kept) = child.value.1 && (kept == weight (core_of child.value.0))
 node_is_measured (Node-F.Tidy child kept has_empty) =
     child.value.1 && (kept == weight (core_of child.value.0)) && beq has_empty (is_nullable (core_of child.value.0))

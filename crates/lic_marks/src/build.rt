@@ -5,9 +5,9 @@ ghost use Rattle.std.specs.List.{list_all};
 ghost use Rattle.lic_marks.specs.Cores.{one, cat_all, alt_all, any_front, plus, tidy};
 ghost use Rattle.lic_marks.specs.Marks.{is_nullable};
 ghost use Rattle.lic_marks.specs.Rows.{weight};
-ghost use Rattle.lic_marks.specs.Nodes.{core_of, is_measured, letter_cores, passes, IsBuilt};
+ghost use Rattle.lic_marks.specs.Nodes.{core_of, is_measured, letter_cores, passes, so_many, IsBuilt};
 
-use crate::node::Node;
+use crate::node::{Node, Times};
 use crate::test::Test;
 
 /// These letters in a row.
@@ -58,14 +58,22 @@ pub fn alt(children: Vec<Node>) -> Option<Node>
     Some(Node::Alt { children, weight })
 }
 
-/// One child after another, up to any of them, or `None` where the children together weigh more than the greatest `usize`.
-pub fn front(children: Vec<Node>) -> Option<Node>
-    requires { IsTrue (list_all is_measured children.items) }
-    ensures built { IfSome result (IsBuilt (any_front (map core_of children.items))) }
-    ensures heavy { IfNone result (usize.MAX < weight (cat_all (map core_of children.items))) }
+/// The child's words, so many in a row, or `None` where they weigh more than the greatest `usize`.
+pub fn repeat(child: Box<Node>, times: Times) -> Option<Node>
+    requires { IsTrue (is_measured child.value) }
+    ensures built { IfSome result (IsBuilt (so_many times (core_of child.value))) }
+    ensures heavy { IfNone result (usize.MAX < weight (so_many times (core_of child.value))) }
 {
-    let weight = total_weight(&children)?;
-    Some(Node::Front { children, weight })
+    let (needed, more) = times.counts();
+    let one = child.weight();
+    let needed = needed.checked_mul(one)?;
+    let more = more.checked_mul(one)?;
+    let weight = needed.checked_add(more)?;
+    Some(Node::Repeat {
+        child,
+        times,
+        weight,
+    })
 }
 
 /// The child's words, one or more in a row.
@@ -116,7 +124,10 @@ pub fn is_nullable(node: &Node) -> bool
         Node::UpTo { .. } => true,
         Node::Cat { children, .. } => are_all_nullable(children),
         Node::Alt { children, .. } => is_any_nullable(children),
-        Node::Front { .. } => true,
+        Node::Repeat { child, times, .. } => match times {
+            Times::Bounded { needed, .. } => (*needed == 0) | is_nullable(child),
+            Times::Unbounded { .. } => is_nullable(child),
+        },
         Node::Plus { child, .. } => is_nullable(child),
         Node::Tidy { child, .. } => is_nullable(child),
     }

@@ -3,7 +3,6 @@
 #![tactic(auto)]
 
 pub mod build;
-mod copy;
 pub mod laws;
 mod moves;
 pub mod node;

@@ -1,10 +1,36 @@
 //! Compiled expressions.
 
-ghost use Rattle.std.specs.Prelude.{◌≡◌, IsTrue};
+ghost use Rattle.std.specs.Prelude.{◌≡◌, ◌+◌, ◌*◌, IsTrue};
 
 use crate::test::Test;
 
-/// A compiled expression, whose repetitions are written out. Its weight is the number of its letter positions.
+/// How many words stand in a row.
+#[derive(Clone, Copy, Debug)]
+pub enum Times {
+    /// So many, and up to so many more.
+    Bounded { needed: usize, more: usize },
+    /// So many, and one or more.
+    Unbounded { before: usize },
+}
+
+impl Times {
+    ghost use Rattle.lic_marks.specs.Cores.{Core};
+    ghost use Rattle.lic_marks.specs.Rows.{weight};
+    ghost use Rattle.lic_marks.specs.Nodes.{so_many};
+
+    /// How many of the words are needed at first, and how many places there are behind them for one word each.
+    pub fn counts(self) -> (usize, usize)
+        ensures { (r : Core) → weight (so_many self r) ≡ result.0 * weight r + result.1 * weight r }
+    {
+        match self {
+            Times::Bounded { needed, more } => (needed, more),
+            Times::Unbounded { before } => (before, 1),
+        }
+    }
+}
+
+/// A compiled expression. Its weight is the number of its letter positions once its repetitions are written out; it has one
+/// child for all words of a repetition.
 #[derive(Drop, Debug)]
 pub enum Node {
     /// These letters in a row.
@@ -31,9 +57,10 @@ pub enum Node {
         children: Vec<Node>,
         weight: usize,
     },
-    /// One child after another, up to any of them.
-    Front {
-        children: Vec<Node>,
+    /// The child's words, so many in a row.
+    Repeat {
+        child: Box<Node>,
+        times: Times,
         weight: usize,
     },
     /// The child's words, one or more in a row.
@@ -65,7 +92,7 @@ impl Node {
             Node::UpTo { count, .. } => *count,
             Node::Cat { weight, .. } => *weight,
             Node::Alt { weight, .. } => *weight,
-            Node::Front { weight, .. } => *weight,
+            Node::Repeat { weight, .. } => *weight,
             Node::Plus { weight, .. } => *weight,
             Node::Tidy { weight, .. } => *weight,
         }

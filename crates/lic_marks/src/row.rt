@@ -39,7 +39,7 @@ impl Row {
     /// So many flags, none of them set.
     ///
     /// # Errors
-    /// Memory is lacking.
+    /// Memory ran out.
     pub fn new(alloc: Global, len: usize) -> Result<Row, AllocError>
         ensures { IfOk result (λ row. row ≡ replicate len false) }
     {

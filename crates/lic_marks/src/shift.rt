@@ -2,14 +2,14 @@
 
 ghost use Rattle.std.specs.Prelude.{◌≡◌, ℕ, ◌+◌, ◌≤◌, IsTrue, length, map, replicate};
 ghost use Rattle.std.specs.List.{list_all};
-ghost use Rattle.lic_marks.specs.Cores.{one, cat_all, alt_all, any_front, plus, tidy};
+ghost use Rattle.lic_marks.specs.Cores.{one, cat_all, alt_all, any_front, copies, up_to, plus, tidy};
 ghost use Rattle.lic_marks.specs.Marks.{is_nullable};
 ghost use Rattle.lic_marks.specs.Rows.{weight, Shifts};
 ghost use Rattle.lic_marks.specs.Windows.{IsClearOutside, TakesIn};
-ghost use Rattle.lic_marks.specs.Nodes.{core_of, is_measured, letter_cores, passes};
+ghost use Rattle.lic_marks.specs.Nodes.{core_of, is_measured, letter_cores, passes, so_many};
 
 use crate::moves::{Reading, move_copies, move_letters, put};
-use crate::node::Node;
+use crate::node::{Node, Times};
 use crate::rows::clear;
 use crate::test::Test;
 use crate::walk::{leaves, leaves_copies, leaves_letters, leaves_tidy, leaves_up_to};
@@ -53,20 +53,12 @@ pub fn shift(
             shift_copies(test, *count, row, at, entry, reading, marked)
         }
         Node::UpTo { test, count } => shift_up_to(test, *count, row, at, entry, reading, marked),
-        Node::Cat { children, .. } => {
-            let (behind_all, _) = shift_row(children, row, at, entry, reading, marked);
-            behind_all
-        }
+        Node::Cat { children, .. } => shift_row(children, row, at, entry, reading, marked),
         Node::Alt { children, .. } => shift_any(children, row, at, entry, reading, marked),
-        Node::Front { children, .. } => {
-            let (_, behind_any) = shift_row(children, row, at, entry, reading, marked);
-            behind_any
+        Node::Repeat { child, times, .. } => {
+            shift_repeat(child, *times, row, at, entry, reading, marked)
         }
-        Node::Plus { child, .. } => {
-            let again = leaves(child, row, at, reading.live, reading.after, entry);
-            shift(child, row, at, entry | again, reading, marked);
-            again
-        }
+        Node::Plus { child, .. } => shift_plus(child, row, at, entry, reading, marked),
         Node::Tidy {
             child,
             is_nullable,
@@ -136,8 +128,101 @@ fn shift_up_to(
     out
 }
 
-// Takes the marks of one child after another over the letter. Answers whether one could leave before it behind all
-// children, and whether behind any of them or before the first.
+// Takes the marks of one or more of the child's words in a row over the letter. Answers whether one could leave before it.
+#[cycle(shift)]
+fn shift_plus(
+    child: &Node,
+    row: &mut Bits,
+    at: usize,
+    entry: bool,
+    reading: Reading,
+    marked: &mut Window,
+) -> bool
+    requires measured { IsTrue (is_measured child.now) }
+    requires room { at + weight (plus (core_of child.now)) ≤ length row.old }
+    requires live { IsClearOutside reading.live row.old at (at + weight (plus (core_of child.now))) }
+    ensures shifts { Shifts (plus (core_of child.now)) reading.after entry reading.letter row.old at row.new result }
+    ensures marked { TakesIn marked.old marked.new row.new at (at + weight (plus (core_of child.now))) }
+    ensures len { length row.new ≡ length row.old }
+{
+    let again = leaves(child, row, at, reading.live, reading.after, entry);
+    shift(child, row, at, entry | again, reading, marked);
+    again
+}
+
+// Takes the marks of so many of the child's words in a row over the letter. Answers whether one could leave before it.
+#[cycle(shift)]
+fn shift_repeat(
+    child: &Node,
+    times: Times,
+    row: &mut Bits,
+    at: usize,
+    entry: bool,
+    reading: Reading,
+    marked: &mut Window,
+) -> bool
+    requires measured { IsTrue (is_measured child.now) }
+    requires room { at + weight (so_many times (core_of child.now)) ≤ length row.old }
+    requires live { IsClearOutside reading.live row.old at (at + weight (so_many times (core_of child.now))) }
+    ensures shifts { Shifts (so_many times (core_of child.now)) reading.after entry reading.letter row.old at row.new result }
+    ensures marked { TakesIn marked.old marked.new row.new at (at + weight (so_many times (core_of child.now))) }
+    ensures len { length row.new ≡ length row.old }
+{
+    let room = row.len();
+    prove!(at <= room);
+    match times {
+        Times::Bounded { needed, more } => {
+            let (behind, _) = shift_copies_of(child, needed, row, at, entry, reading, marked);
+            let place = at + needed * child.weight();
+            let (_, out) = shift_copies_of(child, more, row, place, behind, reading, marked);
+            out
+        }
+        Times::Unbounded { before } => {
+            let (behind, _) = shift_copies_of(child, before, row, at, entry, reading, marked);
+            let place = at + before * child.weight();
+            shift_plus(child, row, place, behind, reading, marked)
+        }
+    }
+}
+
+// Takes the marks of so many copies of the child, one after another, over the letter. Answers whether one could leave before
+// it behind all copies, and whether behind any of them or before the first.
+#[cycle(shift)]
+fn shift_copies_of(
+    child: &Node,
+    count: usize,
+    row: &mut Bits,
+    at: usize,
+    entry: bool,
+    reading: Reading,
+    marked: &mut Window,
+) -> (bool, bool)
+    requires measured { IsTrue (is_measured child.now) }
+    requires room { at + weight (copies count (core_of child.now)) ≤ length row.old }
+    requires live { IsClearOutside reading.live row.old at (at + weight (copies count (core_of child.now))) }
+    ensures all { Shifts (copies count (core_of child.now)) reading.after entry reading.letter row.old at row.new result.0 }
+    ensures any { Shifts (up_to count (core_of child.now)) reading.after entry reading.letter row.old at row.new result.1 }
+    ensures marked { TakesIn marked.old marked.new row.new at (at + weight (copies count (core_of child.now))) }
+    ensures len { length row.new ≡ length row.old }
+{
+    let room = row.len();
+    prove!(at <= room);
+    let weight = child.weight();
+    let mut place = at;
+    let mut flag = entry;
+    let mut found = false;
+    for _ in 0..count {
+        if !flag && reading.live.to <= place {
+            return (false, found);
+        }
+        found = found | flag;
+        flag = shift(child, row, place, flag, reading, marked);
+        place += weight;
+    }
+    (flag, found | flag)
+}
+
+// Takes the marks of one child after another over the letter. Answers whether one could leave before it behind all children.
 #[cycle(shift)]
 fn shift_row(
     children: &[Node],
@@ -146,12 +231,11 @@ fn shift_row(
     entry: bool,
     reading: Reading,
     marked: &mut Window,
-) -> (bool, bool)
+) -> bool
     requires measured { IsTrue (list_all is_measured children.now) }
     requires room { at + weight (cat_all (map core_of children.now)) ≤ length row.old }
     requires live { IsClearOutside reading.live row.old at (at + weight (cat_all (map core_of children.now))) }
-    ensures all { Shifts (cat_all (map core_of children.now)) reading.after entry reading.letter row.old at row.new result.0 }
-    ensures front { Shifts (any_front (map core_of children.now)) reading.after entry reading.letter row.old at row.new result.1 }
+    ensures shifts { Shifts (cat_all (map core_of children.now)) reading.after entry reading.letter row.old at row.new result }
     ensures marked { TakesIn marked.old marked.new row.new at (at + weight (cat_all (map core_of children.now))) }
     ensures len { length row.new ≡ length row.old }
 {
@@ -159,16 +243,14 @@ fn shift_row(
     prove!(at <= room);
     let mut place = at;
     let mut flag = entry;
-    let mut found = false;
     for child in children {
         if !flag && reading.live.to <= place {
-            return (false, found);
+            return false;
         }
-        found = found | flag;
         flag = shift(child, row, place, flag, reading, marked);
         place += child.weight();
     }
-    (flag, found | flag)
+    flag
 }
 
 #[cycle(shift)]

@@ -2,7 +2,7 @@
 
 ghost use Rattle.std.specs.Prelude.{IfSome, IsTrue, map};
 ghost use Rattle.std.specs.List.{list_all};
-ghost use Rattle.lic_marks.specs.Cores.{cat_all, alt_all, any_front};
+ghost use Rattle.lic_marks.specs.Cores.{cat_all, alt_all};
 ghost use Rattle.lic_marks.specs.Nodes.{core_of, is_measured};
 ghost use Rattle.lic_marks.specs.Stretches.{IsStretch};
 
@@ -65,7 +65,9 @@ pub fn letters_behind(node: &Node, place: usize) -> Option<&[char]>
         Node::Letters(text) if place < text.len() => Some(&text[place + 1..]),
         Node::Cat { children, .. } => behind_in_row(children, place),
         Node::Alt { children, .. } => behind_in_any(children, place),
-        Node::Front { children, .. } => behind_in_front(children, place),
+        Node::Repeat { child, weight, .. } if place < *weight => {
+            letters_behind(child, place % child.weight())
+        }
         Node::Plus { child, .. } => letters_behind(child, place),
         _ => None,
     }
@@ -76,23 +78,6 @@ pub fn letters_behind(node: &Node, place: usize) -> Option<&[char]>
 fn behind_in_row(children: &[Node], place: usize) -> Option<&[char]>
     requires { IsTrue (list_all is_measured children.now) }
     ensures { IfSome result (λ rest. IsStretch (cat_all (map core_of children.now)) place rest.now) }
-{
-    let mut at = place;
-    for child in children {
-        let weight = child.weight();
-        if at < weight {
-            return letters_behind(child, at);
-        }
-        at -= weight;
-    }
-    None
-}
-
-// The same for children one after another, up to any of them.
-#[cycle(letters_behind)]
-fn behind_in_front(children: &[Node], place: usize) -> Option<&[char]>
-    requires { IsTrue (list_all is_measured children.now) }
-    ensures { IfSome result (λ rest. IsStretch (any_front (map core_of children.now)) place rest.now) }
 {
     let mut at = place;
     for child in children {

@@ -33,7 +33,7 @@ impl Test {
     /// The same test once more.
     ///
     /// # Errors
-    /// Memory is lacking.
+    /// Memory ran out.
     pub fn copy(&self, alloc: Global) -> Result<Test, AllocError>
         ensures { IfOk result (λ copy. copy ≡ self.now) }
     {

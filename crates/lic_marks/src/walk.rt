@@ -2,13 +2,13 @@
 
 ghost use Rattle.std.specs.Prelude.{◌≡◌, ℕ, Bool, ◌+◌, ◌≤◌, IsTrue, length, map, replicate};
 ghost use Rattle.std.specs.List.{list_all};
-ghost use Rattle.lic_marks.specs.Cores.{one, cat_all, alt_all, any_front, tidy};
+ghost use Rattle.lic_marks.specs.Cores.{one, cat_all, alt_all, any_front, copies, up_to, tidy};
 ghost use Rattle.lic_marks.specs.Marks.{is_nullable};
 ghost use Rattle.lic_marks.specs.Rows.{weight, Leaves};
 ghost use Rattle.lic_marks.specs.Windows.{IsClearOutside};
-ghost use Rattle.lic_marks.specs.Nodes.{core_of, is_measured, letter_cores};
+ghost use Rattle.lic_marks.specs.Nodes.{core_of, is_measured, letter_cores, so_many};
 
-use crate::node::Node;
+use crate::node::{Node, Times};
 use crate::rows::is_any_set;
 use crate::window::Window;
 use lic_rows::bits::Bits;
@@ -34,14 +34,10 @@ pub fn leaves(node: &Node, row: &Bits, at: usize, live: Window, after: bool, ent
         Node::One(_) => row.get(at),
         Node::Copies { count, .. } => leaves_copies(*count, row, at, after, entry),
         Node::UpTo { count, .. } => leaves_up_to(*count, row, at, live, after, entry),
-        Node::Cat { children, .. } => {
-            let (behind_all, _) = leaves_row(children, row, at, live, after, entry);
-            behind_all
-        }
+        Node::Cat { children, .. } => leaves_row(children, row, at, live, after, entry),
         Node::Alt { children, .. } => leaves_any(children, row, at, live, after, entry),
-        Node::Front { children, .. } => {
-            let (_, behind_any) = leaves_row(children, row, at, live, after, entry);
-            behind_any
+        Node::Repeat { child, times, .. } => {
+            leaves_repeat(child, *times, row, at, live, after, entry)
         }
         Node::Plus { child, .. } => leaves(child, row, at, live, after, entry),
         Node::Tidy {
@@ -123,7 +119,75 @@ pub fn leaves_up_to(
     entry | is_marked
 }
 
-// Whether one may stand behind all children, one after another, and whether behind any of them or before the first.
+// Whether one may stand behind so many of the child's words in a row.
+#[cycle(leaves)]
+fn leaves_repeat(
+    child: &Node,
+    times: Times,
+    row: &Bits,
+    at: usize,
+    live: Window,
+    after: bool,
+    entry: bool,
+) -> bool
+    requires measured { IsTrue (is_measured child.now) }
+    requires room { at + weight (so_many times (core_of child.now)) ≤ length row.now }
+    requires live { IsClearOutside live row.now at (at + weight (so_many times (core_of child.now))) }
+    ensures { Leaves (so_many times (core_of child.now)) after entry row.now at result }
+{
+    let room = row.len();
+    prove!(at <= room);
+    match times {
+        Times::Bounded { needed, more } => {
+            let (behind, _) = leaves_copies_of(child, needed, row, at, live, after, entry);
+            let place = at + needed * child.weight();
+            let (_, out) = leaves_copies_of(child, more, row, place, live, after, behind);
+            out
+        }
+        Times::Unbounded { before } => {
+            let (behind, _) = leaves_copies_of(child, before, row, at, live, after, entry);
+            let place = at + before * child.weight();
+            leaves(child, row, place, live, after, behind)
+        }
+    }
+}
+
+// Whether one may stand behind so many copies of the child, one after another, and whether behind any of them or before the
+// first.
+#[cycle(leaves)]
+fn leaves_copies_of(
+    child: &Node,
+    count: usize,
+    row: &Bits,
+    at: usize,
+    live: Window,
+    after: bool,
+    entry: bool,
+) -> (bool, bool)
+    requires measured { IsTrue (is_measured child.now) }
+    requires room { at + weight (copies count (core_of child.now)) ≤ length row.now }
+    requires live { IsClearOutside live row.now at (at + weight (copies count (core_of child.now))) }
+    ensures all { Leaves (copies count (core_of child.now)) after entry row.now at result.0 }
+    ensures any { Leaves (up_to count (core_of child.now)) after entry row.now at result.1 }
+{
+    let room = row.len();
+    prove!(at <= room);
+    let weight = child.weight();
+    let mut place = at;
+    let mut flag = entry;
+    let mut found = false;
+    for _ in 0..count {
+        if !flag && live.to <= place {
+            return (false, found);
+        }
+        found = found | flag;
+        flag = leaves(child, row, place, live, after, flag);
+        place += weight;
+    }
+    (flag, found | flag)
+}
+
+// Whether one may stand behind all children, one after another.
 #[cycle(leaves)]
 fn leaves_row(
     children: &[Node],
@@ -132,27 +196,24 @@ fn leaves_row(
     live: Window,
     after: bool,
     entry: bool,
-) -> (bool, bool)
+) -> bool
     requires measured { IsTrue (list_all is_measured children.now) }
     requires room { at + weight (cat_all (map core_of children.now)) ≤ length row.now }
     requires live { IsClearOutside live row.now at (at + weight (cat_all (map core_of children.now))) }
-    ensures all { Leaves (cat_all (map core_of children.now)) after entry row.now at result.0 }
-    ensures front { Leaves (any_front (map core_of children.now)) after entry row.now at result.1 }
+    ensures { Leaves (cat_all (map core_of children.now)) after entry row.now at result }
 {
     let room = row.len();
     prove!(at <= room);
     let mut place = at;
     let mut flag = entry;
-    let mut found = false;
     for child in children {
         if !flag && live.to <= place {
-            return (false, found);
+            return false;
         }
-        found = found | flag;
         flag = leaves(child, row, place, live, after, flag);
         place += child.weight();
     }
-    (flag, found | flag)
+    flag
 }
 
 #[cycle(leaves)]

@@ -31,7 +31,7 @@ impl Bits {
     /// So many bits, none of them set.
     ///
     /// # Errors
-    /// Memory is lacking.
+    /// Memory ran out.
     pub fn new(alloc: Global, len: usize) -> Result<Bits, AllocError>
         ensures { IfOk result (λ row. row ≡ replicate len false) }
     {

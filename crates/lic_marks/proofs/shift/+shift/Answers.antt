@@ -1,14 +1,15 @@
-use Rattle.std.proofs.Common.{◌≡◌, ◌+◌, ◌<◌, ◌||◌, ◌&&◌, false, map, drop, set, length, refl, ap, ◌∙◌, rules, arith, eq-eqb}
+use Rattle.std.proofs.Common.{◌≡◌, ◌+◌, ◌-◌, ◌<◌, ◌||◌, ◌&&◌, false, map, drop, set, length, refl, ap, ◌∙◌, rules, arith, eq-eqb}
 use Rattle.std.proofs.lemmas.List.{length-set}
 use Rattle.lic_words.specs.Words.{blank}
-use Rattle.lic_marks.specs.Cores.{cat_all, alt_all, any_front}
+use Rattle.lic_marks.specs.Cores.{cat_all, alt_all, copies, up_to, plus}
 use Rattle.lic_marks.specs.Rows.{weight}
-use Rattle.lic_marks.specs.Nodes.{core_of, passes}
+use Rattle.lic_marks.specs.Nodes.{core_of, passes, so_many}
+use Rattle.lic_marks.specs.declared.node.Times.TheVariants.{Bounded, Unbounded}
 use Rattle.lic_marks.specs.declared.node.Node.{the_lemmas}
-use Rattle.lic_marks.proofs.Nodes.{core_of-One, core_of-Copies, core_of-UpTo, core_of-Cat, core_of-Alt, core_of-Front, core_of-Plus, core_of-Tidy, children-Cat, children-Alt, children-Front, child-Plus, child-Tidy, nullable-Tidy}
+use Rattle.lic_marks.proofs.Nodes.{core_of-One, core_of-Copies, core_of-UpTo, core_of-Cat, core_of-Alt, core_of-Repeat, core_of-Plus, core_of-Tidy, children-Cat, children-Alt, child-Repeat, child-Plus, child-Tidy, nullable-Tidy}
 use Rattle.lic_marks.proofs.LetterWalks.{weight-copies, weight-up_to}
 use Rattle.lic_marks.proofs.RowWalks.{Shifts-empty, Shifts-none, Shifts-one, Shifts-cat, Shifts-alt, Shifts-front, Shifts-plus, Shifts-tidy-clear}
-use Rattle.lic_marks.proofs.Built.{weight-any_front}
+use Rattle.lic_marks.proofs.Counted.{weight-copies as weight-copies_of, weight-same, place_behind, copies_more, up_to_more, copies_done, up_to_done}
 use Rattle.lic_marks.proofs.Children.{cores_more, cores_done, measured_at}
 use Rattle.lic_marks.proofs.Answers.{or_none, or_again}
 use Rattle.lic_marks.proofs.Taken.{clear_all, clear_part, TakesIn-clear, TakesIn-more}
@@ -27,8 +28,8 @@ shift-returns-then-not-meets t c =
       len = refl;
     }
 
-pub shift-shift_row-behind_all-requires : goal.shift-shift_row-behind_all-requires
-shift-shift_row-behind_all-requires t c = (
+pub shift-shift_row-requires : goal.shift-shift_row-requires
+shift-shift_row-requires t c = (
   search (rules, the_lemmas),
   (
     rw c.deref-in-Cat.ensures.value (children-Cat _ _ (rw c.in-Cat.is at c.requires.measured)),
@@ -50,33 +51,6 @@ shift-shift_any-requires t c = (
     ),
   ),
 )
-
-pub shift-shift_row-behind_any-requires : goal.shift-shift_row-behind_any-requires
-shift-shift_row-behind_any-requires t c = (
-  search (rules, the_lemmas),
-  (
-    rw c.deref-in-Front.ensures.value (children-Front _ _ (rw c.in-Front.is at c.requires.measured)),
-    (
-      rw (c.deref-in-Front.ensures.value, weight-any_front) (rw (c.in-Front.is, core_of-Front) at c.requires.room),
-      rw (c.deref-in-Front.ensures.value, weight-any_front) (rw (c.in-Front.is, core_of-Front) at c.requires.live),
-    ),
-  ),
-)
-
-pub shift-shift-requires : goal.shift-shift-requires
-shift-shift-requires t c = (
-  search (rules, the_lemmas),
-  (
-    rw c.deref-in-Plus-2.ensures (child-Plus _ _ (rw c.in-Plus.is at c.requires.measured)),
-    (
-      rw c.deref-in-Plus-2.ensures (rw (c.in-Plus.is, core_of-Plus) at c.requires.room),
-      rw c.deref-in-Plus-2.ensures (rw (c.in-Plus.is, core_of-Plus) at c.requires.live),
-    ),
-  ),
-)
-
-pub shift-leaves-again-requires-clause-measured : goal.shift-leaves-again-requires-clause-measured
-shift-leaves-again-requires-clause-measured t c = rw c.deref-in-Plus.ensures (child-Plus _ _ (rw c.in-Plus.is at c.requires.measured))
 
 pub shift-shift_tidy-requires : goal.shift-shift_tidy-requires
 shift-shift_tidy-requires t c = (
@@ -133,17 +107,50 @@ shift-returns-in-One t c =
       len = ap length c.put.ensures.row ∙ length-set c.args.row.now c.args.at _;
     }
 
+pub shift-shift_plus-requires : goal.shift-shift_plus-requires
+shift-shift_plus-requires t c = (
+  search (rules, the_lemmas),
+  (
+    rw c.deref-in-Plus.ensures (child-Plus _ _ (rw c.in-Plus.is at c.requires.measured)),
+    (
+      rw c.deref-in-Plus.ensures (rw (c.in-Plus.is, core_of-Plus) at c.requires.room),
+      rw c.deref-in-Plus.ensures (rw (c.in-Plus.is, core_of-Plus) at c.requires.live),
+    ),
+  ),
+)
+
 pub shift-returns-in-Plus : goal.shift-returns-in-Plus
 shift-returns-in-Plus t c = record {
-  shifts = rw (c.in-Plus.is, core_of-Plus) (Shifts-plus _ _ _ _ _ _ _ _ _ (rw c.deref-in-Plus.ensures at c.leaves-again.ensures)
-      (rw c.deref-in-Plus-2.ensures at c.shift.ensures.shifts));
-  marked = rw (c.in-Plus.is, core_of-Plus) (rw c.deref-in-Plus-2.ensures at c.shift.ensures.marked);
-  len = c.shift.ensures.len;
+  shifts = rw (c.in-Plus.is, core_of-Plus) (rw c.deref-in-Plus.ensures at c.shift_plus.ensures.shifts);
+  marked = rw (c.in-Plus.is, core_of-Plus) (rw c.deref-in-Plus.ensures at c.shift_plus.ensures.marked);
+  len = c.shift_plus.ensures.len;
 }
 
-pub shift-returns-in-Front-clause-marked : goal.shift-returns-in-Front-clause-marked
-shift-returns-in-Front-clause-marked t c =
-    rw (c.in-Front.is, core_of-Front) (rw (c.deref-in-Front.ensures.value, weight-any_front) at c.shift_row-behind_any.ensures.marked)
+pub shift-shift_repeat-requires : goal.shift-shift_repeat-requires
+shift-shift_repeat-requires t c = (
+  search (rules, the_lemmas),
+  (
+    rw c.deref-in-Repeat.ensures (child-Repeat _ _ _ (rw c.in-Repeat.is at c.requires.measured)),
+    (
+      rw c.deref-in-Repeat.ensures (rw (c.in-Repeat.is, core_of-Repeat) at c.requires.room),
+      rw c.deref-in-Repeat.ensures (rw (c.in-Repeat.is, core_of-Repeat) at c.requires.live),
+    ),
+  ),
+)
+
+pub shift-returns-in-Repeat : goal.shift-returns-in-Repeat
+shift-returns-in-Repeat t c = record {
+  shifts = rw (c.in-Repeat.is, core_of-Repeat) (rw c.deref-in-Repeat.ensures at c.shift_repeat.ensures.shifts);
+  marked = rw (c.in-Repeat.is, core_of-Repeat) (rw c.deref-in-Repeat.ensures at c.shift_repeat.ensures.marked);
+  len = c.shift_repeat.ensures.len;
+}
+
+pub shift_plus-returns : goal.shift_plus-returns
+shift_plus-returns t c = record {
+  shifts = Shifts-plus _ _ _ _ _ _ _ _ _ c.leaves-again.ensures c.shift.ensures.shifts;
+  marked = c.shift.ensures.marked;
+  len = c.shift.ensures.len;
+}
 
 pub shift-returns-in-Tidy : goal.shift-returns-in-Tidy
 shift-returns-in-Tidy t c = record {
@@ -179,7 +186,6 @@ shift_row-shift-flag-requires t c =
 
 pub shift_row-loop-child-preserved : goal.shift_row-loop-child-preserved
 shift_row-loop-child-preserved t c =
-    let mores = ap any_front (cores_more c.args.children.now c.loop-child.child-index _ c.loop-child-test.true c.child-item.is) in
     let more = ap cat_all (cores_more c.args.children.now c.loop-child.child-index _ c.loop-child-test.true c.child-item.is) in
     let rest = rw more at c.loop-child.invariant.rest in
     rw c.weight-place.ensures record {
@@ -189,9 +195,6 @@ shift_row-loop-child-preserved t c =
       taken = TakesIn-walk _ _ _ _ _ _ _ _ (omega (arith, rest)) c.shift-flag.ensures.shifts _ _ _ _ c.loop-child.invariant.taken c.shift-flag.ensures.marked;
       long = c.shift-flag.ensures.len ∙ c.loop-child.invariant.long;
       walk = λ new y q. c.loop-child.invariant.walk new y (rw more (Shifts-cat _ _ _ _ _ _ _ _ _ _ _ (omega (arith, rest)) c.shift-flag.ensures.shifts q));
-      front = λ new y q. rw (← or_again c.loop-child.found c.loop-child.flag y)
-          (c.loop-child.invariant.front new (c.loop-child.flag || y)
-          (rw mores (Shifts-front _ _ _ _ _ _ _ _ _ _ _ (omega (arith, rest)) c.shift-flag.ensures.shifts q)));
     }
 
 pub shift_row-returns : goal.shift_row-returns
@@ -200,23 +203,18 @@ shift_row-returns t c =
     let rest = rw done at c.loop-child.invariant.rest in
     let end : c.loop-child.place ≡ c.args.at + weight (cat_all (map core_of c.args.children.now)) = omega (arith, rest) in
     record {
-      all = c.loop-child.invariant.walk c.loop-child.row c.loop-child.flag (rw done (Shifts-empty _ _ _ _ _));
-      front = c.loop-child.invariant.front c.loop-child.row c.loop-child.flag (rw done (Shifts-empty _ _ _ _ _));
+      shifts = c.loop-child.invariant.walk c.loop-child.row c.loop-child.flag (rw done (Shifts-empty _ _ _ _ _));
       marked = rw end at c.loop-child.invariant.taken;
       len = c.loop-child.invariant.long;
     }
 
 pub shift_row-returns-then-reading-place : goal.shift_row-returns-then-reading-place
 shift_row-returns-then-reading-place t c =
-    let same = weight-any_front (map core_of (drop c.loop-child.child-index c.args.children.now)) in
     let clear = clear_from _ _ _ _ c.loop-child.invariant.live c.if-reading-place.true in
     let untouched = Shifts-untouched (cat_all (map core_of (drop c.loop-child.child-index c.args.children.now))) c.args.reading.after c.loop-child.row c.loop-child.place
     (omega (arith, c.loop-child.invariant.rest)) (λ k low high. clear k low (omega (arith, high, c.loop-child.invariant.rest))) c.args.reading.letter in
-    let fronts = Shifts-untouched (any_front (map core_of (drop c.loop-child.child-index c.args.children.now))) c.args.reading.after c.loop-child.row c.loop-child.place
-    (omega (arith, c.loop-child.invariant.rest, same)) (λ k low high. clear k low (omega (arith, high, c.loop-child.invariant.rest, same))) c.args.reading.letter in
     record {
-      all = c.loop-child.invariant.walk c.loop-child.row false (rw c.if-not-flag.true untouched);
-      front = rw (← or_none c.loop-child.found) (c.loop-child.invariant.front c.loop-child.row false (rw c.if-not-flag.true fronts));
+      shifts = c.loop-child.invariant.walk c.loop-child.row false (rw c.if-not-flag.true untouched);
       marked = TakesIn-more _ _ _ _ _ _ c.loop-child.invariant.taken (omega (arith, c.loop-child.invariant.rest)) clear;
       len = c.loop-child.invariant.long;
     }
@@ -270,4 +268,150 @@ shift_any-returns-then-reading-place t c =
       shifts = rw (← or_none c.loop-child.found) (c.loop-child.invariant.walk c.loop-child.row false (rw c.if-not-entry.true untouched));
       marked = TakesIn-more _ _ _ _ _ _ c.loop-child.invariant.taken (omega (arith, c.loop-child.invariant.rest)) clear;
       len = c.loop-child.invariant.long;
+    }
+
+pub shift_copies_of-shift-flag-requires : goal.shift_copies_of-shift-flag-requires
+shift_copies_of-shift-flag-requires t c =
+    let more = copies_more (core_of c.args.child.now) c.args.count c.loop.counter c.loop-test.true in
+    let rest = rw more at c.loop.invariant.rest in (
+      search (rules, the_lemmas),
+      (
+        c.requires.measured,
+        (
+          omega (arith, rest, c.requires.room),
+          clear_part _ _ _ _ _ _ c.loop.invariant.live (omega arith) (omega (arith, rest)),
+        ),
+      ),
+    )
+
+pub shift_copies_of-overflow_add-place : goal.shift_copies_of-overflow_add-place
+shift_copies_of-overflow_add-place t c =
+    let more = copies_more (core_of c.args.child.now) c.args.count c.loop.counter c.loop-test.true in
+    let rest = rw more at c.loop.invariant.rest in
+    omega (arith, rest, c.requires.room, c.weight-weight.ensures, c.len-room.ensures)
+
+pub shift_copies_of-loop-preserved : goal.shift_copies_of-loop-preserved
+shift_copies_of-loop-preserved t c =
+    let more = copies_more (core_of c.args.child.now) c.args.count c.loop.counter c.loop-test.true in
+    let mores = up_to_more (core_of c.args.child.now) c.args.count c.loop.counter c.loop-test.true in
+    let rest = rw more at c.loop.invariant.rest in
+    rw c.weight-weight.ensures record {
+      begun = omega (arith, c.loop.invariant.begun);
+      rest = omega (arith, rest);
+      live = clear_behind _ _ _ _ _ _ _ _ (omega (arith, rest)) c.shift-flag.ensures.shifts _ _ c.loop.invariant.live (omega (arith, rest));
+      taken = TakesIn-walk _ _ _ _ _ _ _ _ (omega (arith, rest)) c.shift-flag.ensures.shifts _ _ _ _ c.loop.invariant.taken c.shift-flag.ensures.marked;
+      long = c.shift-flag.ensures.len ∙ c.loop.invariant.long;
+      walk = λ new y q. c.loop.invariant.walk new y (rw more (Shifts-cat _ _ _ _ _ _ _ _ _ _ _ (omega (arith, rest)) c.shift-flag.ensures.shifts q));
+      front = λ new y q. rw (← or_again c.loop.found c.loop.flag y)
+          (c.loop.invariant.front new (c.loop.flag || y)
+          (rw mores (Shifts-front _ _ _ _ _ _ _ _ _ _ _ (omega (arith, rest)) c.shift-flag.ensures.shifts q)));
+    }
+
+pub shift_copies_of-returns : goal.shift_copies_of-returns
+shift_copies_of-returns t c =
+    let done = copies_done (core_of c.args.child.now) c.args.count c.loop.counter c.loop-test.false in
+    let dones = up_to_done (core_of c.args.child.now) c.args.count c.loop.counter c.loop-test.false in
+    let rest = rw done at c.loop.invariant.rest in
+    let end : c.loop.place ≡ c.args.at + weight (copies c.args.count (core_of c.args.child.now)) = omega (arith, rest) in
+    record {
+      all = c.loop.invariant.walk c.loop.row c.loop.flag (rw done (Shifts-empty _ _ _ _ _));
+      any = c.loop.invariant.front c.loop.row c.loop.flag (rw dones (Shifts-empty _ _ _ _ _));
+      marked = rw end at c.loop.invariant.taken;
+      len = c.loop.invariant.long;
+    }
+
+pub shift_copies_of-returns-then-reading-place : goal.shift_copies_of-returns-then-reading-place
+shift_copies_of-returns-then-reading-place t c =
+    let left = c.args.count - c.loop.counter in
+    let same = weight-same (core_of c.args.child.now) left in
+    let clear = clear_from _ _ _ _ c.loop.invariant.live c.if-reading-place.true in
+    let untouched = Shifts-untouched (copies left (core_of c.args.child.now)) c.args.reading.after c.loop.row c.loop.place
+    (omega (arith, c.loop.invariant.rest)) (λ k low high. clear k low (omega (arith, high, c.loop.invariant.rest))) c.args.reading.letter in
+    let fronts = Shifts-untouched (up_to left (core_of c.args.child.now)) c.args.reading.after c.loop.row c.loop.place
+    (omega (arith, c.loop.invariant.rest, same)) (λ k low high. clear k low (omega (arith, high, c.loop.invariant.rest, same))) c.args.reading.letter in
+    record {
+      all = c.loop.invariant.walk c.loop.row false (rw c.if-not-flag.true untouched);
+      any = rw (← or_none c.loop.found) (c.loop.invariant.front c.loop.row false (rw c.if-not-flag.true fronts));
+      marked = TakesIn-more _ _ _ _ _ _ c.loop.invariant.taken (omega (arith, c.loop.invariant.rest)) clear;
+      len = c.loop.invariant.long;
+    }
+
+pub shift_repeat-overflow_mul-place : goal.shift_repeat-overflow_mul-place
+shift_repeat-overflow_mul-place t c =
+    let room = rw c.in-Bounded.is at c.requires.room in
+    rw c.weight.ensures (omega (arith, room, c.len-room.ensures, weight-copies_of (core_of c.args.child.now) c.in-Bounded.needed))
+
+pub shift_repeat-overflow_add-place : goal.shift_repeat-overflow_add-place
+shift_repeat-overflow_add-place t c =
+    let room = rw c.in-Bounded.is at c.requires.room in
+    rw c.weight.ensures (omega (arith, room, c.len-room.ensures, weight-copies_of (core_of c.args.child.now) c.in-Bounded.needed))
+
+pub shift_repeat-shift_copies_of-out-requires : goal.shift_repeat-shift_copies_of-out-requires
+shift_repeat-shift_copies_of-out-requires t c =
+    let next = place_behind (core_of c.args.child.now) c.in-Bounded.needed c.args.at _ c.weight.ensures in
+    let same = weight-same (core_of c.args.child.now) c.in-Bounded.more in
+    let room = rw c.in-Bounded.is at c.requires.room in
+    let live = clear_behind _ _ _ _ _ _ _ _ (omega (arith, room)) c.shift_copies_of-behind.ensures.all _ _ (rw c.in-Bounded.is at c.requires.live) (omega arith) in (
+      search (rules, the_lemmas),
+      (
+        c.requires.measured,
+        (
+          rw next (omega (arith, room, same, c.shift_copies_of-behind.ensures.len)),
+          rw next (clear_part _ _ _ _ _ _ live (omega arith) (omega (arith, same))),
+        ),
+      ),
+    )
+
+pub shift_repeat-returns-in-Bounded : goal.shift_repeat-returns-in-Bounded
+shift_repeat-returns-in-Bounded t c =
+    let next = place_behind (core_of c.args.child.now) c.in-Bounded.needed c.args.at _ c.weight.ensures in
+    let same = weight-same (core_of c.args.child.now) c.in-Bounded.more in
+    let room = rw c.in-Bounded.is at c.requires.room in
+    let shifts = rw next at c.shift_copies_of-out.ensures.any in
+    let joined = TakesIn-walk _ _ _ _ _ _ _ _ (omega (arith, room, c.shift_copies_of-behind.ensures.len)) shifts _ _ _ _ c.shift_copies_of-behind.ensures.marked (rw (next, same) at c.shift_copies_of-out.ensures.marked) in
+    let end : c.args.at + weight (copies c.in-Bounded.needed (core_of c.args.child.now)) + weight (up_to c.in-Bounded.more (core_of c.args.child.now))
+    ≡ c.args.at + weight (so_many (Bounded c.in-Bounded.needed c.in-Bounded.more) (core_of c.args.child.now)) = omega arith in
+    record {
+      shifts = rw c.in-Bounded.is (Shifts-cat _ _ _ _ _ _ _ _ _ _ _ (omega (arith, room)) c.shift_copies_of-behind.ensures.all shifts);
+      marked = rw c.in-Bounded.is (rw end at joined);
+      len = c.shift_copies_of-out.ensures.len ∙ c.shift_copies_of-behind.ensures.len;
+    }
+
+pub shift_repeat-overflow_mul-place-in-Unbounded : goal.shift_repeat-overflow_mul-place-in-Unbounded
+shift_repeat-overflow_mul-place-in-Unbounded t c =
+    let room = rw c.in-Unbounded.is at c.requires.room in
+    rw c.weight-in-Unbounded.ensures (omega (arith, room, c.len-room.ensures, weight-copies_of (core_of c.args.child.now) c.in-Unbounded.before))
+
+pub shift_repeat-overflow_add-place-in-Unbounded : goal.shift_repeat-overflow_add-place-in-Unbounded
+shift_repeat-overflow_add-place-in-Unbounded t c =
+    let room = rw c.in-Unbounded.is at c.requires.room in
+    rw c.weight-in-Unbounded.ensures (omega (arith, room, c.len-room.ensures, weight-copies_of (core_of c.args.child.now) c.in-Unbounded.before))
+
+pub shift_repeat-shift_plus-requires : goal.shift_repeat-shift_plus-requires
+shift_repeat-shift_plus-requires t c =
+    let next = place_behind (core_of c.args.child.now) c.in-Unbounded.before c.args.at _ c.weight-in-Unbounded.ensures in
+    let room = rw c.in-Unbounded.is at c.requires.room in
+    let live = clear_behind _ _ _ _ _ _ _ _ (omega (arith, room)) c.shift_copies_of-behind-in-Unbounded.ensures.all _ _ (rw c.in-Unbounded.is at c.requires.live) (omega arith) in (
+      search (rules, the_lemmas),
+      (
+        c.requires.measured,
+        (
+          rw next (omega (arith, room, c.shift_copies_of-behind-in-Unbounded.ensures.len)),
+          rw next (clear_part _ _ _ _ _ _ live (omega arith) (omega arith)),
+        ),
+      ),
+    )
+
+pub shift_repeat-returns-in-Unbounded : goal.shift_repeat-returns-in-Unbounded
+shift_repeat-returns-in-Unbounded t c =
+    let next = place_behind (core_of c.args.child.now) c.in-Unbounded.before c.args.at _ c.weight-in-Unbounded.ensures in
+    let room = rw c.in-Unbounded.is at c.requires.room in
+    let shifts = rw next at c.shift_plus.ensures.shifts in
+    let joined = TakesIn-walk _ _ _ _ _ _ _ _ (omega (arith, room, c.shift_copies_of-behind-in-Unbounded.ensures.len)) shifts _ _ _ _ c.shift_copies_of-behind-in-Unbounded.ensures.marked (rw next at c.shift_plus.ensures.marked) in
+    let end : c.args.at + weight (copies c.in-Unbounded.before (core_of c.args.child.now)) + weight (plus (core_of c.args.child.now))
+    ≡ c.args.at + weight (so_many (Unbounded c.in-Unbounded.before) (core_of c.args.child.now)) = omega arith in
+    record {
+      shifts = rw c.in-Unbounded.is (Shifts-cat _ _ _ _ _ _ _ _ _ _ _ (omega (arith, room)) c.shift_copies_of-behind-in-Unbounded.ensures.all shifts);
+      marked = rw c.in-Unbounded.is (rw end at joined);
+      len = c.shift_plus.ensures.len ∙ c.shift_copies_of-behind-in-Unbounded.ensures.len;
     }

@@ -1,5 +1,5 @@
-use Rattle.std.proofs.Common.{◌≡◌, List, ◌+◌, ◌≤◌, Bool, ◌||◌, map, drop, length}
-use Rattle.lic_marks.specs.Cores.{cat_all, alt_all, any_front}
+use Rattle.std.proofs.Common.{◌≡◌, List, ◌+◌, ◌-◌, ◌≤◌, Bool, ◌||◌, map, drop, length}
+use Rattle.lic_marks.specs.Cores.{cat_all, alt_all, copies, up_to}
 use Rattle.lic_marks.specs.Rows.{weight, Shifts}
 use Rattle.lic_marks.specs.Windows.{IsClearOutside, TakesIn}
 use Rattle.lic_marks.specs.Nodes.{core_of}
@@ -15,8 +15,6 @@ invariant-shift_row-loop-child l = record {
   long : length l.row ≡ length l.initial.row;
   walk : (new : List Bool) (y : Bool) → Shifts (cat_all (map core_of (drop l.child-index l.children))) l.reading.after l.flag l.reading.letter l.row l.place new y →
       Shifts (cat_all (map core_of l.children)) l.reading.after l.entry l.reading.letter l.initial.row l.at new y;
-  front : (new : List Bool) (y : Bool) → Shifts (any_front (map core_of (drop l.child-index l.children))) l.reading.after l.flag l.reading.letter l.row l.place new y →
-      Shifts (any_front (map core_of l.children)) l.reading.after l.entry l.reading.letter l.initial.row l.at new (l.found || y);
 }
 
 abbrev pub invariant-shift_any-loop-child : goal.invariant-shift_any-loop-child
@@ -28,4 +26,17 @@ invariant-shift_any-loop-child l = record {
   long : length l.row ≡ length l.initial.row;
   walk : (new : List Bool) (y : Bool) → Shifts (alt_all (map core_of (drop l.child-index l.children))) l.reading.after l.entry l.reading.letter l.row l.place new y →
       Shifts (alt_all (map core_of l.children)) l.reading.after l.entry l.reading.letter l.initial.row l.at new (l.found || y);
+}
+
+abbrev pub invariant-shift_copies_of-loop : goal.invariant-shift_copies_of-loop
+invariant-shift_copies_of-loop l = record {
+  begun : l.at ≤ l.place;
+  rest : l.place + weight (copies (l.count - l.counter) (core_of l.child)) ≡ l.at + weight (copies l.count (core_of l.child));
+  live : IsClearOutside l.reading.live l.row l.place (l.at + weight (copies l.count (core_of l.child)));
+  taken : TakesIn l.initial.marked l.marked l.row l.at l.place;
+  long : length l.row ≡ length l.initial.row;
+  walk : (new : List Bool) (y : Bool) → Shifts (copies (l.count - l.counter) (core_of l.child)) l.reading.after l.flag l.reading.letter l.row l.place new y →
+      Shifts (copies l.count (core_of l.child)) l.reading.after l.entry l.reading.letter l.initial.row l.at new y;
+  front : (new : List Bool) (y : Bool) → Shifts (up_to (l.count - l.counter) (core_of l.child)) l.reading.after l.flag l.reading.letter l.row l.place new y →
+      Shifts (up_to l.count (core_of l.child)) l.reading.after l.entry l.reading.letter l.initial.row l.at new (l.found || y);
 }

@@ -1,12 +1,13 @@
-use Rattle.std.proofs.Common.{◌≡◌, ℕ, suc, ◌+◌, ◌-◌, ◌<◌, List, map, drop, rules, refl, ap, sym, arith, length, take, length-drop}
+use Rattle.std.proofs.Common.{◌≡◌, suc, ◌+◌, ◌-◌, ◌<◌, map, drop, rules, ap, ◌∙◌, arith, length, take, length-drop}
 use Rattle.std.proofs.lemmas.List.{take_all}
-use Rattle.lic_marks.specs.Cores.{empty, cat, plus, cat_all, alt_all, any_front}
+use Rattle.lic_marks.specs.Cores.{plus, cat_all, alt_all}
 use Rattle.lic_marks.specs.Rows.{weight}
-use Rattle.lic_marks.specs.Nodes.{core_of}
+use Rattle.lic_marks.specs.Nodes.{core_of, so_many}
 use Rattle.lic_marks.specs.Stretches.{IsStretch}
 use Rattle.lic_marks.specs.declared.node.Node.{the_lemmas}
-use Rattle.lic_marks.proofs.Nodes.{core_of-Letters, core_of-Cat, core_of-Alt, core_of-Front, core_of-Plus, children-Cat, children-Alt, children-Front, child-Plus}
-use Rattle.lic_marks.proofs.Children.{cores_more, measured_at}
+use Rattle.lic_marks.proofs.Nodes.{core_of-Letters, core_of-Repeat, core_of-Plus, children-Cat, children-Alt, child-Repeat, weight-Repeat, child-Plus}
+use Rattle.lic_marks.proofs.Counted.{IsStretch-so_many, some_weight}
+use Rattle.lic_marks.proofs.Children.{cores_more}
 use Rattle.lic_marks.proofs.Stretches.{letters_stretch, lift_found, IsStretch-left, IsStretch-right, IsStretch-left_alt, IsStretch-right_alt, IsStretch-plus}
 use Rattle.lic_marks.proofs.stretch.+letters_behind.Goals as goal
 
@@ -22,14 +23,31 @@ letters_behind-behind_in_any-requires t c = (
   rw c.deref-in-Alt.ensures.value (children-Alt _ _ (rw c.in-Alt.is at c.requires)),
 )
 
-pub letters_behind-behind_in_front-requires : goal.letters_behind-behind_in_front-requires
-letters_behind-behind_in_front-requires t c = (
-  search (rules, the_lemmas),
-  rw c.deref-in-Front.ensures.value (children-Front _ _ (rw c.in-Front.is at c.requires)),
-)
+pub letters_behind-weight-requires : goal.letters_behind-weight-requires
+letters_behind-weight-requires t c = rw c.deref-in-Repeat-2.ensures (child-Repeat _ _ _ (rw c.in-Repeat.is at c.requires))
+
+pub letters_behind-nonzero_rem-place : goal.letters_behind-nonzero_rem-place
+letters_behind-nonzero_rem-place t c =
+    let kept = weight-Repeat _ _ _ (rw c.in-Repeat.is at c.requires) ∙ ap weight (core_of-Repeat _ _ _) in
+    let one : c.weight.result ≡ weight (core_of c.in-Repeat.child.value) = rw c.deref-in-Repeat-2.ensures at c.weight.ensures in
+    omega (arith, one, some_weight (core_of c.in-Repeat.child.value) c.in-Repeat.times c.args.place (omega (arith, c.if-place-weight.true, kept)))
 
 pub letters_behind-letters_behind-requires : goal.letters_behind-letters_behind-requires
 letters_behind-letters_behind-requires t c = (
+  search (rules, the_lemmas),
+  rw c.deref-in-Repeat.ensures (child-Repeat _ _ _ (rw c.in-Repeat.is at c.requires)),
+)
+
+pub letters_behind-returns-in-Repeat : goal.letters_behind-returns-in-Repeat
+letters_behind-returns-in-Repeat t c =
+    let kept = weight-Repeat _ _ _ (rw c.in-Repeat.is at c.requires) ∙ ap weight (core_of-Repeat _ _ _) in
+    let one : c.weight.result ≡ weight (core_of c.in-Repeat.child.value) = rw c.deref-in-Repeat-2.ensures at c.weight.ensures in
+    rw (c.in-Repeat.is, core_of-Repeat) (lift_found _ (IsStretch (so_many c.in-Repeat.times (core_of c.in-Repeat.child.value)) c.args.place)
+    (λ rest s. IsStretch-so_many _ rest c.in-Repeat.times c.args.place (omega (arith, c.if-place-weight.true, kept)) s) _
+    (rw (one, c.deref-in-Repeat.ensures) at c.letters_behind.ensures))
+
+pub letters_behind-letters_behind-requires-in-Plus : goal.letters_behind-letters_behind-requires-in-Plus
+letters_behind-letters_behind-requires-in-Plus t c = (
   search (rules, the_lemmas),
   rw c.deref-in-Plus.ensures (child-Plus _ _ (rw c.in-Plus.is at c.requires)),
 )
@@ -37,7 +55,7 @@ letters_behind-letters_behind-requires t c = (
 pub letters_behind-returns-in-Plus : goal.letters_behind-returns-in-Plus
 letters_behind-returns-in-Plus t c =
     rw (c.in-Plus.is, core_of-Plus) (lift_found _ (IsStretch (plus (core_of c.in-Plus.child.value)) c.args.place) (λ rest s. IsStretch-plus _ _ rest s) _
-    (rw c.deref-in-Plus.ensures at c.letters_behind.ensures))
+    (rw c.deref-in-Plus.ensures at c.letters_behind-in-Plus.ensures))
 
 pub letters_behind-returns-in-Letters : goal.letters_behind-returns-in-Letters
 letters_behind-returns-in-Letters t c =
@@ -60,14 +78,6 @@ behind_in_any-returns-then-at-weight t c =
     lift_found _ (IsStretch (alt_all (map core_of c.args.children.now)) c.args.place) (λ rest s. c.loop-child.invariant.lifts rest (rw more (IsStretch-left_alt _ _ _ rest s))) _
     c.letters_behind.ensures
 
-pub behind_in_front-returns-then-at-weight : goal.behind_in_front-returns-then-at-weight
-behind_in_front-returns-then-at-weight t c =
-    let same : c.loop-child.at ≡ 0 + c.loop-child.at = omega arith in
-    let more = cores_more c.args.children.now c.loop-child.child-index _ c.loop-child-test.true c.child-item.is in
-    lift_found _ (IsStretch (any_front (map core_of c.args.children.now)) c.args.place) (λ rest s.
-    c.loop-child.invariant.lifts rest (rw more (IsStretch-right_alt empty _ c.loop-child.at c.loop-child.at rest same (IsStretch-left _ _ _ rest s)))) _
-    c.letters_behind.ensures
-
 pub behind_in_row-loop-child-preserved : goal.behind_in_row-loop-child-preserved
 behind_in_row-loop-child-preserved t c =
     let more = cores_more c.args.children.now c.loop-child.child-index _ c.loop-child-test.true c.child-item.is in
@@ -79,10 +89,3 @@ behind_in_any-loop-child-preserved t c =
     let more = cores_more c.args.children.now c.loop-child.child-index _ c.loop-child-test.true c.child-item.is in
     let size : c.loop-child.at ≡ weight (core_of c.child-item.result) + (c.loop-child.at - c.weight-weight.result) = omega (arith, c.weight-weight.ensures, c.if-at-weight.false) in
     record { lifts = λ rest s. c.loop-child.invariant.lifts rest (rw more (IsStretch-right_alt _ _ c.loop-child.at (c.loop-child.at - c.weight-weight.result) rest size s)) }
-
-pub behind_in_front-loop-child-preserved : goal.behind_in_front-loop-child-preserved
-behind_in_front-loop-child-preserved t c =
-    let more = cores_more c.args.children.now c.loop-child.child-index _ c.loop-child-test.true c.child-item.is in
-    let size : c.loop-child.at ≡ weight (core_of c.child-item.result) + (c.loop-child.at - c.weight-weight.result) = omega (arith, c.weight-weight.ensures, c.if-at-weight.false) in
-    let same : c.loop-child.at ≡ 0 + c.loop-child.at = omega arith in
-    record { lifts = λ rest s. c.loop-child.invariant.lifts rest (rw more (IsStretch-right_alt empty _ c.loop-child.at c.loop-child.at rest same (IsStretch-right _ _ c.loop-child.at (c.loop-child.at - c.weight-weight.result) rest size s))) }

@@ -1,12 +1,12 @@
-use Rattle.std.proofs.Common.{◌+◌, ◌<◌, ◌||◌, false, refl, ap, rules, arith, map, drop}
-use Rattle.lic_marks.specs.Cores.{cat_all, alt_all, any_front}
+use Rattle.std.proofs.Common.{◌+◌, ◌-◌, ◌<◌, ◌||◌, false, ap, rules, arith}
+use Rattle.lic_marks.specs.Cores.{cat_all, alt_all, up_to}
 use Rattle.lic_marks.specs.Rows.{weight}
 use Rattle.lic_marks.specs.Nodes.{core_of, passes}
 use Rattle.lic_marks.specs.declared.node.Node.{the_lemmas}
-use Rattle.lic_marks.proofs.Nodes.{core_of-One, core_of-Copies, core_of-UpTo, core_of-Cat, core_of-Alt, core_of-Front, core_of-Plus, core_of-Tidy, children-Cat, children-Alt, children-Front, child-Plus, child-Tidy, nullable-Tidy}
+use Rattle.lic_marks.proofs.Nodes.{core_of-One, core_of-Copies, core_of-UpTo, core_of-Cat, core_of-Alt, core_of-Repeat, core_of-Plus, core_of-Tidy, children-Cat, children-Alt, child-Repeat, child-Plus, child-Tidy, nullable-Tidy}
 use Rattle.lic_marks.proofs.LetterWalks.{weight-copies, weight-up_to}
 use Rattle.lic_marks.proofs.RowWalks.{Leaves-empty, Leaves-none, Leaves-one, Leaves-cat, Leaves-alt, Leaves-plus, Leaves-tidy, Leaves-tidy-after, Leaves-front}
-use Rattle.lic_marks.proofs.Built.{weight-any_front}
+use Rattle.lic_marks.proofs.Counted.{weight-copies as weight-copies_of, weight-same, place_behind, copies_more, up_to_more, copies_done, up_to_done}
 use Rattle.lic_marks.proofs.Children.{cores_more, cores_done, measured_at}
 use Rattle.lic_marks.proofs.Answers.{or_none, or_again}
 use Rattle.lic_marks.proofs.Taken.{clear_all, clear_part}
@@ -19,8 +19,8 @@ leaves-returns-then-not-meets t c =
     λ p. let meets = c.meets.ensures.1 (omega (arith, p.0, c.weight.ensures), p.1) in cc in
     rw c.if-not-entry.true (Leaves-clear _ c.args.after c.args.row.now c.args.at c.requires.room (clear_all _ _ _ _ c.requires.live apart))
 
-pub leaves-leaves_row-behind_all-requires : goal.leaves-leaves_row-behind_all-requires
-leaves-leaves_row-behind_all-requires t c = (
+pub leaves-leaves_row-requires : goal.leaves-leaves_row-requires
+leaves-leaves_row-requires t c = (
   search (rules, the_lemmas),
   (
     rw c.deref-in-Cat.ensures.value (children-Cat _ _ (rw c.in-Cat.is at c.requires.measured)),
@@ -39,18 +39,6 @@ leaves-leaves_any-requires t c = (
     (
       rw c.deref-in-Alt.ensures.value (rw (c.in-Alt.is, core_of-Alt) at c.requires.room),
       rw c.deref-in-Alt.ensures.value (rw (c.in-Alt.is, core_of-Alt) at c.requires.live),
-    ),
-  ),
-)
-
-pub leaves-leaves_row-behind_any-requires : goal.leaves-leaves_row-behind_any-requires
-leaves-leaves_row-behind_any-requires t c = (
-  search (rules, the_lemmas),
-  (
-    rw c.deref-in-Front.ensures.value (children-Front _ _ (rw c.in-Front.is at c.requires.measured)),
-    (
-      rw (c.deref-in-Front.ensures.value, weight-any_front) (rw (c.in-Front.is, core_of-Front) at c.requires.room),
-      rw (c.deref-in-Front.ensures.value, weight-any_front) (rw (c.in-Front.is, core_of-Front) at c.requires.live),
     ),
   ),
 )
@@ -135,25 +123,18 @@ leaves_row-leaves-flag-requires t c =
 
 pub leaves_row-loop-child-preserved : goal.leaves_row-loop-child-preserved
 leaves_row-loop-child-preserved t c =
-    let mores = ap any_front (cores_more c.args.children.now c.loop-child.child-index _ c.loop-child-test.true c.child-item.is) in
     let more = ap cat_all (cores_more c.args.children.now c.loop-child.child-index _ c.loop-child-test.true c.child-item.is) in
     let rest = rw more at c.loop-child.invariant.rest in
     rw c.weight-place.ensures record {
       begun = omega (arith, c.loop-child.invariant.begun);
       rest = omega (arith, rest);
       walk = λ y q. c.loop-child.invariant.walk y (rw more (Leaves-cat _ _ _ _ _ _ _ _ c.leaves-flag.ensures q));
-      front = λ y q. rw (← or_again c.loop-child.found c.loop-child.flag y)
-          (c.loop-child.invariant.front (c.loop-child.flag || y)
-          (rw mores (Leaves-front _ _ _ _ _ _ _ _ c.leaves-flag.ensures q)));
     }
 
 pub leaves_row-returns : goal.leaves_row-returns
 leaves_row-returns t c =
-    let done = cores_done c.args.children.now c.loop-child.child-index c.loop-child-test.false in
-    record {
-      all = c.loop-child.invariant.walk c.loop-child.flag (rw done (Leaves-empty _ _ _ _));
-      front = c.loop-child.invariant.front c.loop-child.flag (rw done (Leaves-empty _ _ _ _));
-    }
+    c.loop-child.invariant.walk c.loop-child.flag
+    (rw (cores_done c.args.children.now c.loop-child.child-index c.loop-child-test.false) (Leaves-empty _ _ _ _))
 
 pub leaves_any-leaves-out-requires : goal.leaves_any-leaves-out-requires
 leaves_any-leaves-out-requires t c =
@@ -187,17 +168,10 @@ leaves_any-returns t c =
 
 pub leaves_row-returns-then-live-place : goal.leaves_row-returns-then-live-place
 leaves_row-returns-then-live-place t c =
-    let same = weight-any_front (map core_of (drop c.loop-child.child-index c.args.children.now)) in
-    record {
-      all = c.loop-child.invariant.walk false
-          (rw c.if-not-flag.true (Leaves-clear _ c.args.after c.args.row.now c.loop-child.place
-          (omega (arith, c.loop-child.invariant.rest, c.requires.room)) (λ k low high.
-          c.requires.live.behind k (omega (arith, c.loop-child.invariant.begun)) (omega (arith, c.loop-child.invariant.rest)) (omega (arith, c.if-live-place.true)))));
-      front = rw (← or_none c.loop-child.found) (c.loop-child.invariant.front false
-          (rw c.if-not-flag.true (Leaves-clear (any_front (map core_of (drop c.loop-child.child-index c.args.children.now))) c.args.after c.args.row.now c.loop-child.place
-          (omega (arith, c.loop-child.invariant.rest, c.requires.room, same)) (λ k low high.
-          c.requires.live.behind k (omega (arith, c.loop-child.invariant.begun)) (omega (arith, c.loop-child.invariant.rest, same, high)) (omega (arith, c.if-live-place.true))))));
-    }
+    c.loop-child.invariant.walk false
+    (rw c.if-not-flag.true (Leaves-clear _ c.args.after c.args.row.now c.loop-child.place
+    (omega (arith, c.loop-child.invariant.rest, c.requires.room)) (λ k low high.
+    c.requires.live.behind k (omega (arith, c.loop-child.invariant.begun)) (omega (arith, c.loop-child.invariant.rest)) (omega (arith, c.if-live-place.true)))))
 
 pub leaves_any-returns-then-live-place : goal.leaves_any-returns-then-live-place
 leaves_any-returns-then-live-place t c =
@@ -205,3 +179,132 @@ leaves_any-returns-then-live-place t c =
     (rw c.if-not-entry.true (Leaves-clear _ c.args.after c.args.row.now c.loop-child.place
     (omega (arith, c.loop-child.invariant.rest, c.requires.room)) (λ k low high.
     c.requires.live.behind k (omega (arith, c.loop-child.invariant.begun)) (omega (arith, c.loop-child.invariant.rest)) (omega (arith, c.if-live-place.true))))))
+
+pub leaves-leaves_repeat-requires : goal.leaves-leaves_repeat-requires
+leaves-leaves_repeat-requires t c = (
+  search (rules, the_lemmas),
+  (
+    rw c.deref-in-Repeat.ensures (child-Repeat _ _ _ (rw c.in-Repeat.is at c.requires.measured)),
+    (
+      rw c.deref-in-Repeat.ensures (rw (c.in-Repeat.is, core_of-Repeat) at c.requires.room),
+      rw c.deref-in-Repeat.ensures (rw (c.in-Repeat.is, core_of-Repeat) at c.requires.live),
+    ),
+  ),
+)
+
+pub leaves-returns-in-Repeat : goal.leaves-returns-in-Repeat
+leaves-returns-in-Repeat t c = rw (c.in-Repeat.is, core_of-Repeat) (rw c.deref-in-Repeat.ensures at c.leaves_repeat.ensures)
+
+pub leaves_copies_of-leaves-flag-requires : goal.leaves_copies_of-leaves-flag-requires
+leaves_copies_of-leaves-flag-requires t c =
+    let more = copies_more (core_of c.args.child.now) c.args.count c.loop.counter c.loop-test.true in
+    let rest = rw more at c.loop.invariant.rest in (
+      search (rules, the_lemmas),
+      (
+        c.requires.measured,
+        (
+          omega (arith, rest, c.requires.room),
+          clear_part _ _ _ _ _ _ c.requires.live c.loop.invariant.begun (omega (arith, rest)),
+        ),
+      ),
+    )
+
+pub leaves_copies_of-overflow_add-place : goal.leaves_copies_of-overflow_add-place
+leaves_copies_of-overflow_add-place t c =
+    let more = copies_more (core_of c.args.child.now) c.args.count c.loop.counter c.loop-test.true in
+    let rest = rw more at c.loop.invariant.rest in
+    omega (arith, rest, c.requires.room, c.weight-weight.ensures, c.len-room.ensures)
+
+pub leaves_copies_of-loop-preserved : goal.leaves_copies_of-loop-preserved
+leaves_copies_of-loop-preserved t c =
+    let more = copies_more (core_of c.args.child.now) c.args.count c.loop.counter c.loop-test.true in
+    let mores = up_to_more (core_of c.args.child.now) c.args.count c.loop.counter c.loop-test.true in
+    let rest = rw more at c.loop.invariant.rest in
+    rw c.weight-weight.ensures record {
+      begun = omega (arith, c.loop.invariant.begun);
+      rest = omega (arith, rest);
+      walk = λ y q. c.loop.invariant.walk y (rw more (Leaves-cat _ _ _ _ _ _ _ _ c.leaves-flag.ensures q));
+      front = λ y q. rw (← or_again c.loop.found c.loop.flag y)
+          (c.loop.invariant.front (c.loop.flag || y)
+          (rw mores (Leaves-front _ _ _ _ _ _ _ _ c.leaves-flag.ensures q)));
+    }
+
+pub leaves_copies_of-returns : goal.leaves_copies_of-returns
+leaves_copies_of-returns t c =
+    record {
+      all = c.loop.invariant.walk c.loop.flag (rw (copies_done (core_of c.args.child.now) c.args.count c.loop.counter c.loop-test.false) (Leaves-empty _ _ _ _));
+      any = c.loop.invariant.front c.loop.flag (rw (up_to_done (core_of c.args.child.now) c.args.count c.loop.counter c.loop-test.false) (Leaves-empty _ _ _ _));
+    }
+
+pub leaves_copies_of-returns-then-live-place : goal.leaves_copies_of-returns-then-live-place
+leaves_copies_of-returns-then-live-place t c =
+    let same = weight-same (core_of c.args.child.now) (c.args.count - c.loop.counter) in
+    record {
+      all = c.loop.invariant.walk false
+          (rw c.if-not-flag.true (Leaves-clear _ c.args.after c.args.row.now c.loop.place
+          (omega (arith, c.loop.invariant.rest, c.requires.room)) (λ k low high.
+          c.requires.live.behind k (omega (arith, c.loop.invariant.begun)) (omega (arith, c.loop.invariant.rest)) (omega (arith, c.if-live-place.true)))));
+      any = rw (← or_none c.loop.found) (c.loop.invariant.front false
+          (rw c.if-not-flag.true (Leaves-clear (up_to (c.args.count - c.loop.counter) (core_of c.args.child.now)) c.args.after c.args.row.now c.loop.place
+          (omega (arith, c.loop.invariant.rest, c.requires.room, same)) (λ k low high.
+          c.requires.live.behind k (omega (arith, c.loop.invariant.begun)) (omega (arith, c.loop.invariant.rest, same, high)) (omega (arith, c.if-live-place.true))))));
+    }
+
+pub leaves_repeat-overflow_mul-place : goal.leaves_repeat-overflow_mul-place
+leaves_repeat-overflow_mul-place t c =
+    let room = rw c.in-Bounded.is at c.requires.room in
+    rw c.weight.ensures (omega (arith, room, c.len-room.ensures, weight-copies_of (core_of c.args.child.now) c.in-Bounded.needed))
+
+pub leaves_repeat-overflow_add-place : goal.leaves_repeat-overflow_add-place
+leaves_repeat-overflow_add-place t c =
+    let room = rw c.in-Bounded.is at c.requires.room in
+    rw c.weight.ensures (omega (arith, room, c.len-room.ensures, weight-copies_of (core_of c.args.child.now) c.in-Bounded.needed))
+
+pub leaves_repeat-leaves_copies_of-out-requires : goal.leaves_repeat-leaves_copies_of-out-requires
+leaves_repeat-leaves_copies_of-out-requires t c =
+    let next = place_behind (core_of c.args.child.now) c.in-Bounded.needed c.args.at _ c.weight.ensures in
+    let same = weight-same (core_of c.args.child.now) c.in-Bounded.more in
+    let room = rw c.in-Bounded.is at c.requires.room in (
+      search (rules, the_lemmas),
+      (
+        c.requires.measured,
+        (
+          rw next (omega (arith, room, same)),
+          rw next (clear_part _ _ _ _ _ _ (rw c.in-Bounded.is at c.requires.live) (omega arith) (omega (arith, same))),
+        ),
+      ),
+    )
+
+pub leaves_repeat-returns-in-Bounded : goal.leaves_repeat-returns-in-Bounded
+leaves_repeat-returns-in-Bounded t c =
+    let next = place_behind (core_of c.args.child.now) c.in-Bounded.needed c.args.at _ c.weight.ensures in
+    rw c.in-Bounded.is (Leaves-cat _ _ _ _ _ _ _ _ c.leaves_copies_of-behind.ensures.all (rw next at c.leaves_copies_of-out.ensures.any))
+
+pub leaves_repeat-overflow_mul-place-in-Unbounded : goal.leaves_repeat-overflow_mul-place-in-Unbounded
+leaves_repeat-overflow_mul-place-in-Unbounded t c =
+    let room = rw c.in-Unbounded.is at c.requires.room in
+    rw c.weight-in-Unbounded.ensures (omega (arith, room, c.len-room.ensures, weight-copies_of (core_of c.args.child.now) c.in-Unbounded.before))
+
+pub leaves_repeat-overflow_add-place-in-Unbounded : goal.leaves_repeat-overflow_add-place-in-Unbounded
+leaves_repeat-overflow_add-place-in-Unbounded t c =
+    let room = rw c.in-Unbounded.is at c.requires.room in
+    rw c.weight-in-Unbounded.ensures (omega (arith, room, c.len-room.ensures, weight-copies_of (core_of c.args.child.now) c.in-Unbounded.before))
+
+pub leaves_repeat-leaves-requires : goal.leaves_repeat-leaves-requires
+leaves_repeat-leaves-requires t c =
+    let next = place_behind (core_of c.args.child.now) c.in-Unbounded.before c.args.at _ c.weight-in-Unbounded.ensures in
+    let room = rw c.in-Unbounded.is at c.requires.room in (
+      search (rules, the_lemmas),
+      (
+        c.requires.measured,
+        (
+          rw next (omega (arith, room)),
+          rw next (clear_part _ _ _ _ _ _ (rw c.in-Unbounded.is at c.requires.live) (omega arith) (omega arith)),
+        ),
+      ),
+    )
+
+pub leaves_repeat-returns-in-Unbounded : goal.leaves_repeat-returns-in-Unbounded
+leaves_repeat-returns-in-Unbounded t c =
+    let next = place_behind (core_of c.args.child.now) c.in-Unbounded.before c.args.at _ c.weight-in-Unbounded.ensures in
+    rw c.in-Unbounded.is (Leaves-cat _ _ _ _ _ _ _ _ c.leaves_copies_of-behind-in-Unbounded.ensures.all (Leaves-plus _ _ _ _ _ _ (rw next at c.leaves.ensures)))

@@ -1,5 +1,5 @@
 use Rattle.std.proofs.Common.{arith}
-use Rattle.lic_marks.proofs.Nodes.{weight-Letters, weight-Copies, weight-UpTo, weight-Cat, weight-Alt, weight-Front, weight-Plus, weight-Tidy}
+use Rattle.lic_marks.proofs.Nodes.{weight-Letters, weight-Copies, weight-UpTo, weight-Cat, weight-Alt, weight-Repeat, weight-Plus, weight-Tidy}
 use Rattle.lic_marks.proofs.node.Node.weight.Goals as goal
 
 pub returns-in-Letters : goal.returns-in-Letters
@@ -11,8 +11,8 @@ returns-in-Cat c = rw c.in-Cat.is (weight-Cat _ _ (rw c.in-Cat.is at c.requires)
 pub returns-in-Alt : goal.returns-in-Alt
 returns-in-Alt c = rw c.in-Alt.is (weight-Alt _ _ (rw c.in-Alt.is at c.requires))
 
-pub returns-in-Front : goal.returns-in-Front
-returns-in-Front c = rw c.in-Front.is (weight-Front _ _ (rw c.in-Front.is at c.requires))
+pub returns-in-Repeat : goal.returns-in-Repeat
+returns-in-Repeat c = rw c.in-Repeat.is (weight-Repeat _ _ _ (rw c.in-Repeat.is at c.requires))
 
 pub returns-in-Plus : goal.returns-in-Plus
 returns-in-Plus c = rw c.in-Plus.is (weight-Plus _ _ (rw c.in-Plus.is at c.requires))
