@@ -1,11 +1,11 @@
 -- The first letter of a token, and the heads of the words that spell lists which begin with it.
-use Rattle.std.proofs.Common.{◌≡◌, ◌≢◌, ℕ, true, false, List, [], ◌∷◌, ◌++◌, length, reverse, Some, ne_eqb, append-nil, lit<, refl, sym, ap, ◌∙◌, arith}
+use Rattle.std.proofs.Common.{◌≡◌, ◌≢◌, ℕ, true, false, List, [], ◌∷◌, ◌++◌, length, reverse, Some, ne_eqb, lit<, refl, sym, ap, ◌∙◌, arith}
 use Rattle.lic_words.specs.Words.{blank}
 use Rattle.lic_words.specs.Describing.{IsDescribed}
 use Rattle.lic_words.specs.Expressions.{Expression}
 use Rattle.lic_marks.specs.Cores.{Core, WordsOf, HasWordsOf}
 use Rattle.lic_auto.specs.Heads.{head_of, BeginsWithLetter}
-use Rattle.lic_auto.specs.Beginnings.{Begins}
+use Rattle.lic_auto.specs.Beginnings.{HasHead}
 use Rattle.lic_auto.proofs.Heads.{head-some, head-spelled}
 use Rattle.std.specs.List.{slice_get}
 use Rattle.std.specs.Str.{chars, IsUtf8}
@@ -20,12 +20,12 @@ use Rattle.lic_auto.specs.declared.direction.Direction.{Direction}
 use Rattle.lic_auto.specs.declared.direction.Direction.TheVariants.{Forward, Backward}
 use Rattle.lic_auto.specs.Directions.{ordered}
 
--- an expression that describes tokens has a word that begins with the head of the first
-pub Begins-described : (r : Core) (e : Expression) (c : ℕ) (letters : List ℕ) (more : List (List ℕ)) → HasWordsOf r e → c ≢ blank →
-    IsDescribed e ((c ∷ letters) ∷ more) → Begins (WordsOf r) (head_of (c ∷ letters))
-Begins-described r e c letters more words letter (some, w, language, spells) =
+-- an expression that describes tokens has a word with the head of the first
+pub HasHead-described : (r : Core) (e : Expression) (c : ℕ) (letters : List ℕ) (more : List (List ℕ)) → HasWordsOf r e → c ≢ blank →
+    IsDescribed e ((c ∷ letters) ∷ more) → HasHead (WordsOf r) (head_of (c ∷ letters))
+HasHead-described r e c letters more words letter (some, w, language, spells) =
     let same = head-spelled w c letters more letter spells in
-    (w, [], (words w).1 language, (λ no_head. head-some c letters (ne_eqb c blank letter) (sym same ∙ no_head)), ap head_of (append-nil w) ∙ same)
+    (w, (words w).1 language, (λ no_head. head-some c letters (ne_eqb c blank letter) (sym same ∙ no_head)), same)
 
 -- the first letter of a row
 pub first_of : (cs : List ℕ) (c : ℕ) → slice_get cs 0 ≡ Some c → (rest : List ℕ) × (cs ≡ c ∷ rest)

@@ -1,4 +1,4 @@
--- Runs that change one after another.
+-- Machines over trees that change one after another.
 use Rattle.std.proofs.Common.{◌≡◌, ◌≢◌, ℕ, zero, suc, ◌<◌, List, [], ◌∷◌, ◌++◌, length, Some, refl, sym, ap, ◌∙◌, subst, arith}
 use Rattle.std.specs.List.{slice_get, Contains}
 use Rattle.std.proofs.Math.ListN.{set}
@@ -7,9 +7,8 @@ use Rattle.std.proofs.lemmas.Option.{same_Some, slice_get_within, slice_get-get_
 use Rattle.std.proofs.lemmas.List.{length-set, get_or-set_same}
 use Rattle.std.proofs.lemmas.List.Elements.{Contains-push, Contains-push_cases, Contains-append_left}
 use Rattle.std.proofs.Math.Logic.{⊎_elim}
-use Rattle.lic_marks.specs.Runs.{tree_of}
-use Rattle.lic_marks.specs.declared.run.Run.{Run}
-use Rattle.lic_auto.specs.Walks.{AreChanged, AreKept, IsForGood}
+use Rattle.lic_marks.specs.declared.node.Node.{Node}
+use Rattle.lic_auto.specs.Changes.{AreChangedAt, AreKeptOf}
 
 -- an element that stands there
 pub slice_get-some : {X Y : Type 0} → (xs : List X) (ys : List Y) (k : ℕ) (y : Y) → length ys ≡ length xs → slice_get ys k ≡ Some y → (x : X) × (slice_get xs k ≡ Some x)
@@ -29,30 +28,29 @@ slice_get-set_other (y ∷ xs) zero (suc k) x apart = refl
 slice_get-set_other (y ∷ xs) (suc i) zero x apart = refl
 slice_get-set_other (y ∷ xs) (suc i) (suc k) x apart = slice_get-set_other xs i k x (λ same. apart (ap suc same))
 
-module _ (changes : Run → Run → Type 0) where
-  pub AreChanged-start : (old : List Run) → AreChanged changes [] old old
-  AreChanged-start old = record {
+module _ {X : Type 0} (tree : X → Node) (changes : ℕ → X → X → Type 0) where
+  pub Changed-start : (old : List X) → AreChangedAt tree changes [] old old
+  Changed-start old = record {
     count = refl;
-    trees = λ k a b p q. ap tree_of (same_Some b a (sym q ∙ p));
+    trees = λ k a b p q. ap tree (same_Some b a (sym q ∙ p));
     others = λ k h. refl;
     each = λ k a b (j, within, is) p q. absurd (omega arith);
   }
 
-  -- one more run changes
-  pub AreChanged-more : (seen : List ℕ) (n : ℕ) (old new : List Run) (a b : Run) → AreChanged changes seen old new → ¬ (Contains seen n) →
-      slice_get new n ≡ Some a → tree_of b ≡ tree_of a → changes a b → AreChanged changes (seen ++ n ∷ []) old (set new n b)
-  AreChanged-more seen n old new a b m fresh here tree change =
+  -- one more machine changes
+  pub Changed-more : (seen : List ℕ) (n : ℕ) (old new : List X) (a b : X) → AreChangedAt tree changes seen old new → ¬ (Contains seen n) →
+      slice_get new n ≡ Some a → tree b ≡ tree a → changes n a b → AreChangedAt tree changes (seen ++ n ∷ []) old (set new n b)
+  Changed-more seen n old new a b m fresh here over change =
       let within : n < length new = slice_get_within new n a here in
       let was : slice_get old n ≡ Some a = sym (m.others n fresh) ∙ here in
       let is : slice_get (set new n b) n ≡ Some b = slice_get-set_same new n b within in
+      let at_n : (k : ℕ) (x y : X) → k ≡ n → slice_get old k ≡ Some x → slice_get (set new n b) k ≡ Some y → (x ≡ a) × (y ≡ b) =
+      λ k x y same p q. (same_Some x a (sym p ∙ ap (slice_get old) same ∙ was), same_Some y b (sym q ∙ ap (slice_get (set new n b)) same ∙ is)) in
       record {
         count = length-set new n b ∙ m.count;
         trees = λ k x y p q.
             ⊎_elim
-            (λ (same : k ≡ n).
-            let x_is : x ≡ a = same_Some x a (sym p ∙ ap (slice_get old) same ∙ was) in
-            let y_is : y ≡ b = same_Some y b (sym q ∙ ap (slice_get (set new n b)) same ∙ is) in
-            ap tree_of y_is ∙ tree ∙ ap tree_of (sym x_is))
+            (λ (same : k ≡ n). let e = at_n k x y same p q in ap tree e.1 ∙ over ∙ ap tree (sym e.0))
             (λ (apart : k ≢ n). m.trees k x y p (sym (slice_get-set_other new n k b apart) ∙ q))
             (cases_eq k n);
         others = λ k h.
@@ -64,44 +62,44 @@ module _ (changes : Run → Run → Type 0) where
             let apart : k ≢ n = λ same. fresh (subst (Contains seen) same inside) in
             m.each k x y inside p (sym (slice_get-set_other new n k b apart) ∙ q))
             (λ (same : n ≡ k).
-            let x_is : x ≡ a = same_Some x a (sym p ∙ ap (slice_get old) (sym same) ∙ was) in
-            let y_is : y ≡ b = same_Some y b (sym q ∙ ap (slice_get (set new n b)) (sym same) ∙ is) in
-            subst (λ z. changes z y) (sym x_is) (subst (changes a) (sym y_is) change))
+            let e = at_n k x y (sym same) p q in
+            subst (λ j. changes j x y) same (subst (λ z. changes n z y) (sym e.0) (subst (changes n a) (sym e.1) change)))
             (Contains-push_cases seen n k h);
       }
 
-pub AreKept-start : (runs : List Run) → AreKept [] [] runs
-AreKept-start runs = record { within = λ k h. h; dropped = λ k run (j, within, is) gone p. absurd (omega arith) }
+pub Kept-start : {X : Type 0} (nothing : X → Type 0) (machines : List X) → AreKeptOf nothing [] [] machines
+Kept-start nothing machines = record { within = λ k h. h; dropped = λ k x (j, within, is) gone p. absurd (omega arith) }
 
-module _ (seen kept : List ℕ) (n : ℕ) (runs : List Run) (b : Run) (m : AreKept seen kept runs) (fresh : ¬ (Contains seen n)) where
-  -- the run of a number that was seen before is as it was
-  before : (k : ℕ) (run : Run) → Contains seen k → slice_get (set runs n b) k ≡ Some run → slice_get runs k ≡ Some run
-  before k run h p = let apart : k ≢ n = λ same. fresh (subst (Contains seen) same h) in sym (slice_get-set_other runs n k b apart) ∙ p
+module _ {X : Type 0} (nothing : X → Type 0) (seen kept : List ℕ) (n : ℕ) (machines : List X) (b : X) (m : AreKeptOf nothing seen kept machines)
+    (fresh : ¬ (Contains seen n)) where
+  -- the machine of a number that was seen before is as it was
+  before : (k : ℕ) (x : X) → Contains seen k → slice_get (set machines n b) k ≡ Some x → slice_get machines k ≡ Some x
+  before k x h p = let apart : k ≢ n = λ same. fresh (subst (Contains seen) same h) in sym (slice_get-set_other machines n k b apart) ∙ p
 
   -- one more number is kept
-  pub AreKept-kept : AreKept (seen ++ n ∷ []) (kept ++ n ∷ []) (set runs n b)
-  AreKept-kept = record {
+  pub Kept-kept : AreKeptOf nothing (seen ++ n ∷ []) (kept ++ n ∷ []) (set machines n b)
+  Kept-kept = record {
     within = λ k h.
         ⊎_elim
         (λ (inside : Contains kept k). Contains-append_left seen (n ∷ []) k (m.within k inside))
         (λ (same : n ≡ k). subst (Contains (seen ++ n ∷ [])) same (Contains-push seen n))
         (Contains-push_cases kept n k h);
-    dropped = λ k run h gone p.
+    dropped = λ k x h gone p.
         ⊎_elim
-        (λ (inside : Contains seen k). m.dropped k run inside (λ there. gone (Contains-append_left kept (n ∷ []) k there)) (before k run inside p))
+        (λ (inside : Contains seen k). m.dropped k x inside (λ there. gone (Contains-append_left kept (n ∷ []) k there)) (before k x inside p))
         (λ (same : n ≡ k). absurd (gone (subst (Contains (kept ++ n ∷ [])) same (Contains-push kept n))))
         (Contains-push_cases seen n k h);
   }
 
   -- one more number is dropped
-  pub AreKept-dropped : n < length runs → IsForGood b → AreKept (seen ++ n ∷ []) kept (set runs n b)
-  AreKept-dropped within good = record {
+  pub Kept-dropped : n < length machines → nothing b → AreKeptOf nothing (seen ++ n ∷ []) kept (set machines n b)
+  Kept-dropped within good = record {
     within = λ k h. Contains-append_left seen (n ∷ []) k (m.within k h);
-    dropped = λ k run h gone p.
+    dropped = λ k x h gone p.
         ⊎_elim
-        (λ (inside : Contains seen k). m.dropped k run inside gone (before k run inside p))
+        (λ (inside : Contains seen k). m.dropped k x inside gone (before k x inside p))
         (λ (same : n ≡ k).
-        let is : run ≡ b = same_Some run b (sym p ∙ ap (slice_get (set runs n b)) (sym same) ∙ slice_get-set_same runs n b within) in
-        subst IsForGood (sym is) good)
+        let is : x ≡ b = same_Some x b (sym p ∙ ap (slice_get (set machines n b)) (sym same) ∙ slice_get-set_same machines n b within) in
+        subst nothing (sym is) good)
         (Contains-push_cases seen n k h);
   }

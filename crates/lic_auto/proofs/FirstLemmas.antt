@@ -1,11 +1,14 @@
 -- With which heads the words of a core begin, and which of them are blanks alone.
-use Rattle.std.proofs.Common.{◌≡◌, ◌≢◌, ◌⊎◌, ℕ, zero, suc, Bool, ◌==◌, List, [], ◌∷◌, ◌++◌, replicate, eqb-true, refl, sym, ap, ◌∙◌, inl, inr, append_assoc, append-nil}
-use Rattle.lic_words.specs.Words.{Word, Cat, Power}
-use Rattle.lic_marks.specs.Cores.{Core, one, plus, tidy, Star, WordsOf, cat_all, alt_all, any_front}
-use Rattle.lic_marks.specs.Nodes.{letter_cores}
+use Rattle.std.proofs.Common.{◌≡◌, ◌≢◌, ◌⊎◌, ℕ, zero, suc, Bool, ◌==◌, List, [], ◌∷◌, ◌++◌, replicate, eq-eqb, eqb-true, refl, sym, ap, ◌∙◌, inl, inr, append_assoc, append-nil}
+use Rattle.lic_words.specs.Words.{Word, blank, Cat, Power}
+use Rattle.lic_marks.specs.Cores.{Core, one, copies, up_to, plus, tidy, Star, WordsOf, cat_all, alt_all, any_front}
+use Rattle.lic_marks.specs.Nodes.{letter_cores, so_many}
+use Rattle.lic_marks.specs.declared.node.Times.{Times}
+use Rattle.lic_marks.specs.declared.node.Times.TheVariants.{Bounded, Unbounded}
+use Rattle.lic_auto.proofs.Repetitions.{so_many_words}
 use Rattle.lic_auto.specs.Heads.{head_of}
-use Rattle.lic_auto.specs.Beginnings.{Begins, HasBlanks}
-use Rattle.lic_auto.proofs.Heads.{head-append_blanks, head-append_letters}
+use Rattle.lic_auto.specs.Beginnings.{Begins, HasBlanks, HasHead}
+use Rattle.lic_auto.proofs.Heads.{head-append_blanks, head-append_letters, head-then_blank}
 
 -- no head begins the empty word
 empty_begins : (head : List ℕ) → Begins (λ w. w ≡ []) head → ⊥
@@ -45,6 +48,19 @@ Begins-plus r head b =
 
 pub HasBlanks-plus : (r : Core) → HasBlanks (WordsOf (plus r)) → HasBlanks (WordsOf r)
 HasBlanks-plus r h = (HasBlanks-Cat (WordsOf r) (Star (WordsOf r)) h).0
+
+-- so many words in a row
+pub Begins-so_many : (r : Core) (times : Times) (head : List ℕ) → Begins (WordsOf (so_many times r)) head → Begins (WordsOf r) head
+Begins-so_many r times head (w, more, h, some, is) =
+    let (k, words) = so_many_words r times w h in
+    Begins-Power (WordsOf r) k head (w, more, words, some, is)
+
+pub HasBlanks-bounded : (r : Core) (n more : ℕ) → HasBlanks (WordsOf (so_many (Bounded (suc n) more) r)) → HasBlanks (WordsOf r)
+HasBlanks-bounded r n more h =
+    (HasBlanks-Cat (WordsOf r) (WordsOf (copies n r)) (HasBlanks-Cat (WordsOf (copies (suc n) r)) (WordsOf (up_to more r)) h).0).0
+
+pub HasBlanks-unbounded : (r : Core) (before : ℕ) → HasBlanks (WordsOf (so_many (Unbounded before) r)) → HasBlanks (WordsOf r)
+HasBlanks-unbounded r before h = HasBlanks-plus r (HasBlanks-Cat (WordsOf (copies before r)) (WordsOf (plus r)) h).1
 
 pub Begins-tidy : (r : Core) (head : List ℕ) → Begins (WordsOf (tidy r)) head → Begins (WordsOf r) head
 Begins-tidy r head (w, more, h, some, is) = (w, more, h.0, some, is)
@@ -91,6 +107,25 @@ letters_sound : (text w : Word) → WordsOf (cat_all (letter_cores text)) w → 
 letters_sound [] w h = h
 letters_sound (c ∷ text) w (u, v, (d, p, e), q, f) =
     f ∙ ap (λ x. x ++ v) e ∙ ap (λ x. x ∷ v) (eqb-true d c p) ∙ ap (λ x. c ∷ x) (letters_sound text v q)
+
+letters_itself : (text : Word) → WordsOf (cat_all (letter_cores text)) text
+letters_itself [] = refl
+letters_itself (c ∷ text) = (c ∷ [], text, (c, eq-eqb c c refl, refl), letters_itself text, refl)
+
+-- the head of a text by itself begins the text with a blank behind it
+pub Begins-alone : (text : Word) → head_of text ≢ [] → Begins (WordsOf (cat_all (letter_cores (text ++ blank ∷ [])))) (head_of text)
+Begins-alone text some =
+    let same : head_of (text ++ blank ∷ []) ≡ head_of text = head-then_blank text [] some in
+    (text ++ blank ∷ [], [], letters_itself (text ++ blank ∷ []), (λ none. some (sym same ∙ none)), ap head_of (append-nil (text ++ blank ∷ [])) ∙ same)
+
+-- the one word of a text has the head of the text
+pub HasHead-letters : (text : Word) (head : List ℕ) → HasHead (WordsOf (cat_all (letter_cores text))) head → (head_of text ≢ []) × (head_of text ≡ head)
+HasHead-letters text head (w, v, some, is) =
+    let same = letters_sound text w v in
+    ((λ none. some (ap head_of same ∙ none)), ap head_of (sym same) ∙ is)
+
+pub Begins-head : (P : Word → Type 0) (head : List ℕ) → HasHead P head → Begins P head
+Begins-head P head (w, p, some, is) = (w, [], p, some, ap head_of (append-nil w) ∙ is)
 
 -- the heads of a text, whatever stands behind it
 pub Begins-letters : (text : Word) (head : List ℕ) → Begins (WordsOf (cat_all (letter_cores text))) head →

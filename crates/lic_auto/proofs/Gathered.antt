@@ -1,5 +1,5 @@
 -- The numbers of live templates, gathered place by place.
-use Rattle.std.proofs.Common.{◌≡◌, ℕ, ◌+◌, ◌<◌, ◌≤◌, ◌↔◌, ◌⊎◌, inl, inr, Bool, true, false, IsTrue, List, [], ◌∷◌, ◌++◌, length, get_or, Some, refl, sym, ap, ◌∙◌, subst, arith}
+use Rattle.std.proofs.Common.{◌≡◌, ℕ, ◌<◌, ◌↔◌, Bool, true, false, IsTrue, List, [], ◌∷◌, ◌++◌, length, get_or, Some, sym, ◌∙◌, subst, arith}
 use Rattle.std.specs.List.{slice_get, Contains}
 use Rattle.std.proofs.Math.Logic.{⊎_elim, ∥∥₁_map, ∥∥₁_elim}
 use mathlib.Core.HLevel.{⊥_prop}
@@ -17,60 +17,61 @@ use Rattle.lic_auto.specs.Seeking.{AllSeek}
 use Rattle.lic_auto.proofs.Ends.{untruncated_end}
 use Rattle.lic_auto.proofs.Living.{Found, Found-more, Found-cases}
 
--- the list has the numbers of those before a place that are found, in rising order
-pub record AreGathered (templates : List Known) (numbers : List ℕ) (seekers : List Seeker) (found : List ℕ) (end : ℕ) : Type 0 where
+-- the list has the numbers of those at these places that are found, in rising order
+pub record AreGathered (templates : List Known) (numbers : List ℕ) (seekers : List Seeker) (seen found : List ℕ) : Type 0 where
   pub rising : IsRising found (length templates)
-  pub known : (n : ℕ) → Contains found n → (place : ℕ) × (place < end) × (get_or numbers place 0 ≡ n)
-  pub exactly : (ts : List (List ℕ)) → AllSeek (picked templates numbers) seekers ts → (n : ℕ) → Contains found n ↔ Found templates numbers end ts n
+  pub known : (n : ℕ) → Contains found n → (place : ℕ) × Contains seen place × (get_or numbers place 0 ≡ n)
+  pub exactly : (ts : List (List ℕ)) → AllSeek (picked templates numbers) seekers ts → (n : ℕ) → Contains found n ↔ Found templates numbers seen ts n
 
-module _ (templates : List Known) (numbers : List ℕ) (up : IsRising numbers (length templates)) (seekers : List Seeker) (found : List ℕ) (end : ℕ)
-    (s : Seeker) (here : slice_get seekers end ≡ Some s) (b : Bool)
-    (answers : (e : Expression) (ts : List (List ℕ)) → Seeks s e ts → IsTrue b ↔ DescribesEnd e ts) (g : AreGathered templates numbers seekers found end) where
+module _ (templates : List Known) (numbers : List ℕ) (up : IsRising numbers (length templates)) (seekers : List Seeker) (seen found : List ℕ) (place : ℕ)
+    (s : Seeker) (here : slice_get seekers place ≡ Some s) (b : Bool)
+    (answers : (e : Expression) (ts : List (List ℕ)) → Seeks s e ts → IsTrue b ↔ DescribesEnd e ts) (g : AreGathered templates numbers seekers seen found) where
   -- the seeker at the place accepts nothing
-  pub Gathered-skip : b ≡ false → AreGathered templates numbers seekers found (end + 1)
+  pub Gathered-skip : b ≡ false → AreGathered templates numbers seekers (seen ++ place ∷ []) found
   Gathered-skip rejects = record {
     rising = g.rising;
-    known = λ n h. let (place, low, is) = g.known n h in (place, omega (arith, low), is);
+    known = λ n h. let (at, among, is) = g.known n h in (at, Contains-append_left seen (place ∷ []) at among, is);
     exactly = λ ts stand n. (
-      λ h. Found-more templates numbers ts end n ((g.exactly ts stand n).0 h),
+      λ h. Found-more templates numbers seen ts place n ((g.exactly ts stand n).0 h),
       λ f. ⊎_elim
           (λ before. (g.exactly ts stand n).1 before)
-          (λ (is, (known, there, described)). absurd (∥∥₁_elim (stand end known s there here) ⊥_prop
+          (λ (is, (known, there, described)). absurd (∥∥₁_elim (stand place known s there here) ⊥_prop
           (λ seeks. false≢true (sym rejects ∙ (answers (mirrored (words_of known)) ts seeks).1 described))))
-          (Found-cases templates numbers ts end n f),
+          (Found-cases templates numbers seen ts place n f),
     );
   }
 
   -- it accepts, and its number is put to the end
-  pub Gathered-add : b ≡ true → end < length numbers → (known : Known) → slice_get (picked templates numbers) end ≡ Some known →
-      AreGathered templates numbers seekers (found ++ get_or numbers end 0 ∷ []) (end + 1)
-  Gathered-add accepts inside known there =
-      let number = get_or numbers end 0 in
+  pub Gathered-add : b ≡ true → place < length numbers → ((k : ℕ) → Contains seen k → k < place) → (known : Known) →
+      slice_get (picked templates numbers) place ≡ Some known →
+      AreGathered templates numbers seekers (seen ++ place ∷ []) (found ++ get_or numbers place 0 ∷ [])
+  Gathered-add accepts inside above known there =
+      let number = get_or numbers place 0 in
       let less : (x : ℕ) → Contains found x → x < number = λ x h.
-      let (place, low, is) = g.known x h in omega (arith, rises numbers (length templates) up place end low inside, is) in
+      let (at, among, is) = g.known x h in omega (arith, rises numbers (length templates) up at place (above at among) inside, is) in
       record {
-        rising = IsRising-push found (length templates) number (length templates) g.rising (omega arith) less (up.below end inside);
+        rising = IsRising-push found (length templates) number (length templates) g.rising (omega arith) less (up.below place inside);
         known = λ n h. ⊎_elim
-            (λ before. let (place, low, is) = g.known n before in (place, omega (arith, low), is))
-            (λ (same : number ≡ n). (end, omega arith, same))
+            (λ before. let (at, among, is) = g.known n before in (at, Contains-append_left seen (place ∷ []) at among, is))
+            (λ (same : number ≡ n). (place, Contains-push seen place, same))
             (Contains-push_cases found number n h);
         exactly = λ ts stand n. (
           λ h. ⊎_elim
-              (λ before. Found-more templates numbers ts end n ((g.exactly ts stand n).0 before))
+              (λ before. Found-more templates numbers seen ts place n ((g.exactly ts stand n).0 before))
               (λ (same : number ≡ n). (
-                end,
-                omega arith,
+                place,
+                Contains-push seen place,
                 same,
                 (
                   known,
                   there,
-                  untruncated_end (mirrored (words_of known)) ts (∥∥₁_map (stand end known s there here) (λ seeks. (answers (mirrored (words_of known)) ts seeks).0 accepts)),
+                  untruncated_end (mirrored (words_of known)) ts (∥∥₁_map (stand place known s there here) (λ seeks. (answers (mirrored (words_of known)) ts seeks).0 accepts)),
                 ),
               ))
               (Contains-push_cases found number n h),
           λ f. ⊎_elim
               (λ before. Contains-append_left found (number ∷ []) n ((g.exactly ts stand n).1 before))
               (λ (is, rest). subst (Contains (found ++ number ∷ [])) is (Contains-push found number))
-              (Found-cases templates numbers ts end n f),
+              (Found-cases templates numbers seen ts place n f),
         );
       }

@@ -1,5 +1,5 @@
 -- Gathering the heads with which words begin, child by child.
-use Rattle.std.proofs.Common.{◌≡◌, ◌≢◌, ◌⊎◌, ℕ, suc, Bool, true, false, ◌==◌, ◌||◌, List, [], ◌∷◌, ◌++◌, map, replicate, ne_eqb, append-nil, String, string_bytes, Global, refl, sym, ap, ◌∙◌, subst, inl, inr}
+use Rattle.std.proofs.Common.{◌≡◌, ◌≢◌, ◌⊎◌, ℕ, zero, suc, Bool, true, false, ◌==◌, ◌||◌, List, [], ◌∷◌, ◌++◌, map, replicate, ne_eqb, append-nil, String, string_bytes, Global, refl, sym, ap, ◌∙◌, subst, inl, inr, take}
 use Rattle.std.specs.Str.{chars, IsUtf8}
 use Rattle.std.proofs.Math.Utf8.{encodes}
 use Rattle.std.proofs.lemmas.Str.{encodes-chars}
@@ -11,13 +11,23 @@ use Rattle.std.proofs.Math.Logic.{⊎_elim}
 use Rattle.std.proofs.lemmas.Bool.{false≢true}
 use Rattle.lic_words.specs.Words.{Word, blank}
 use Rattle.lic_marks.specs.Cores.{Core, one, plus, tidy, WordsOf, cat_all, alt_all, any_front}
-use Rattle.lic_auto.specs.Heads.{head_of, BeginsWithLetter, IsBehindBlanks}
+use Rattle.lic_auto.specs.Heads.{head_of, letter_of, BeginsWithLetter, IsBehindBlanks}
 use Rattle.lic_auto.specs.Beginnings.{Begins, HasBlanks}
 use Rattle.lic_auto.specs.Firsts.{IsFirst, AddsHead, Gathers, GathersRow}
+use Rattle.lic_auto.specs.declared.direction.Direction.TheVariants.{Forward}
 use Rattle.lic_auto.specs.declared.first.Firsts.{Firsts}
-use Rattle.lic_auto.proofs.FirstLemmas.{Begins-front_nil, Begins-front_cons, HasBlanks-cat_cons, front_of_cat, Begins-alt_cons, Begins-alt_nil, HasBlanks-alt_cons, HasBlanks-alt_nil, Begins-plus, HasBlanks-plus, Begins-tidy, HasBlanks-tidy, Begins-up_to, Begins-copies, HasBlanks-copies, Begins-letters, HasBlanks-letters, Begins-one_letter, HasBlanks-one_letter}
-use Rattle.lic_auto.proofs.Heads.{head-some}
-use Rattle.lic_marks.specs.Nodes.{letter_cores}
+use Rattle.lic_auto.proofs.FirstLemmas.{Begins-front_nil, Begins-front_cons, HasBlanks-cat_cons, front_of_cat, Begins-alt_cons, Begins-alt_nil, HasBlanks-alt_cons, HasBlanks-alt_nil, Begins-plus, HasBlanks-plus, Begins-so_many, HasBlanks-bounded, HasBlanks-unbounded, Begins-tidy, HasBlanks-tidy, Begins-up_to, Begins-copies, HasBlanks-copies, Begins-letters, HasBlanks-letters, Begins-one_letter, HasBlanks-one_letter}
+use Rattle.lic_auto.proofs.Heads.{head-some, head-first}
+use Rattle.lic_marks.specs.Nodes.{letter_cores, so_many}
+use Rattle.lic_marks.specs.declared.node.Times.TheVariants.{Bounded, Unbounded}
+
+or_left : (a b : Bool) → a ≡ true → (a || b) ≡ true
+or_left true b h = refl
+or_left false b h = absurd (false≢true h)
+
+or_right : (a b : Bool) → b ≡ true → (a || b) ≡ true
+or_right true b h = refl
+or_right false b h = h
 
 module _ (old new : Firsts) where
   pub Gathers-cat : (rs : List Core) (passes : Bool) → GathersRow rs old new passes → Gathers (cat_all rs) old new passes
@@ -27,15 +37,30 @@ module _ (old new : Firsts) where
     blanks = g.blanks;
   }
 
-  pub Gathers-front : (rs : List Core) (passes : Bool) → GathersRow rs old new passes → Gathers (any_front rs) old new true
-  Gathers-front rs passes g = record { kept = g.kept; begins = g.begins; blanks = λ _. refl }
-
   module _ (r : Core) (passes : Bool) (g : Gathers r old new passes) where
     pub Gathers-plus : Gathers (plus r) old new passes
     Gathers-plus = record {
       kept = g.kept;
       begins = λ q utf8 b. g.begins q utf8 (Begins-plus r (chars q) b);
       blanks = λ h. g.blanks (HasBlanks-plus r h);
+    }
+
+    pub Gathers-bounded : (needed more : ℕ) → Gathers (so_many (Bounded needed more) r) old new (passes || (needed == 0))
+    Gathers-bounded needed more = record {
+      kept = g.kept;
+      begins = λ q utf8 b. g.begins q utf8 (Begins-so_many r (Bounded needed more) (chars q) b);
+      blanks = by_needed needed;
+    }
+      where
+        by_needed : (n : ℕ) → HasBlanks (WordsOf (so_many (Bounded n more) r)) → IsTrue (passes || (n == 0))
+        by_needed zero h = or_right passes true refl
+        by_needed (suc n) h = or_left passes (suc n == 0) (g.blanks (HasBlanks-bounded r n more h))
+
+    pub Gathers-unbounded : (before : ℕ) → Gathers (so_many (Unbounded before) r) old new passes
+    Gathers-unbounded before = record {
+      kept = g.kept;
+      begins = λ q utf8 b. g.begins q utf8 (Begins-so_many r (Unbounded before) (chars q) b);
+      blanks = λ h. g.blanks (HasBlanks-unbounded r before h);
     }
 
     pub Gathers-tidy : Gathers (tidy r) old new passes
@@ -66,14 +91,14 @@ Gathers-nil firsts = record { kept = λ q h. h; begins = λ q utf8 b. absurd (Be
 
 -- What is gathered of a row, whose last children are left. A word of the row begins with a gathered head, or one of the rest does.
 pub record RowSoFar (rs rest : List Core) (old now : Firsts) : Type 0 where
-  pub kept : (q : List ℕ) → IsFirst old q → IsFirst now q
-  pub begins : (q : List ℕ) → IsUtf8 q → Begins (WordsOf (any_front rs)) (chars q) → IsFirst now q ⊎ Begins (WordsOf (any_front rest)) (chars q)
+  pub kept : (q : List ℕ) → IsFirst Forward old q → IsFirst Forward now q
+  pub begins : (q : List ℕ) → IsUtf8 q → Begins (WordsOf (any_front rs)) (chars q) → IsFirst Forward now q ⊎ Begins (WordsOf (any_front rest)) (chars q)
   pub blanks : HasBlanks (WordsOf (cat_all rs)) → HasBlanks (WordsOf (cat_all rest))
 
 -- The same of a choice.
 pub record EachSoFar (rs rest : List Core) (any : Bool) (old now : Firsts) : Type 0 where
-  pub kept : (q : List ℕ) → IsFirst old q → IsFirst now q
-  pub begins : (q : List ℕ) → IsUtf8 q → Begins (WordsOf (alt_all rs)) (chars q) → IsFirst now q ⊎ Begins (WordsOf (alt_all rest)) (chars q)
+  pub kept : (q : List ℕ) → IsFirst Forward old q → IsFirst Forward now q
+  pub begins : (q : List ℕ) → IsUtf8 q → Begins (WordsOf (alt_all rs)) (chars q) → IsFirst Forward now q ⊎ Begins (WordsOf (alt_all rest)) (chars q)
   pub blanks : HasBlanks (WordsOf (alt_all rs)) → IsTrue any ⊎ HasBlanks (WordsOf (alt_all rest))
 
 pub RowSoFar-start : (rs : List Core) (old : Firsts) → RowSoFar rs rs old old
@@ -88,7 +113,7 @@ module _ (rs rest : List Core) (r : Core) (old now new : Firsts) where
     kept = λ q h. g.kept q (so_far.kept q h);
     begins = λ q utf8 b.
         ⊎_elim
-        (λ (first : IsFirst now q). inl (g.kept q first))
+        (λ (first : IsFirst Forward now q). inl (g.kept q first))
         (λ (later : Begins (WordsOf (any_front (r ∷ rest))) (chars q)).
         ⊎_elim
         (λ (here : Begins (WordsOf r) (chars q)). inl (g.begins q utf8 here))
@@ -104,7 +129,7 @@ module _ (rs rest : List Core) (r : Core) (old now new : Firsts) where
     kept = λ q h. g.kept q (so_far.kept q h);
     begins = λ q utf8 b.
         ⊎_elim
-        (λ (first : IsFirst now q). g.kept q first)
+        (λ (first : IsFirst Forward now q). g.kept q first)
         (λ (later : Begins (WordsOf (any_front (r ∷ rest))) (chars q)).
         ⊎_elim
         (λ (here : Begins (WordsOf r) (chars q)). g.begins q utf8 here)
@@ -119,7 +144,7 @@ module _ (rs rest : List Core) (r : Core) (old now new : Firsts) where
     kept = λ q h. g.kept q (so_far.kept q h);
     begins = λ q utf8 b.
         ⊎_elim
-        (λ (first : IsFirst now q). inl (g.kept q first))
+        (λ (first : IsFirst Forward now q). inl (g.kept q first))
         (λ (later : Begins (WordsOf (alt_all (r ∷ rest))) (chars q)).
         ⊎_elim
         (λ (here : Begins (WordsOf r) (chars q)). inl (g.begins q utf8 here))
@@ -136,26 +161,18 @@ module _ (rs rest : List Core) (r : Core) (old now new : Firsts) where
         (HasBlanks-alt_cons r rest later))
         (so_far.blanks h);
   }
-    where
-      or_left : (a b : Bool) → a ≡ true → (a || b) ≡ true
-      or_left true b h = refl
-      or_left false b h = absurd (false≢true h)
-
-      or_right : (a b : Bool) → b ≡ true → (a || b) ≡ true
-      or_right true b h = refl
-      or_right false b h = h
 
 pub RowSoFar-end : (rs : List Core) (old now : Firsts) → RowSoFar rs [] old now → GathersRow rs old now true
 RowSoFar-end rs old now so_far = record {
   kept = so_far.kept;
-  begins = λ q utf8 b. ⊎_elim (λ (first : IsFirst now q). first) (λ (none : Begins (WordsOf (any_front [])) (chars q)). absurd (Begins-front_nil (chars q) none)) (so_far.begins q utf8 b);
+  begins = λ q utf8 b. ⊎_elim (λ (first : IsFirst Forward now q). first) (λ (none : Begins (WordsOf (any_front [])) (chars q)). absurd (Begins-front_nil (chars q) none)) (so_far.begins q utf8 b);
   blanks = λ h. refl;
 }
 
 pub EachSoFar-end : (rs : List Core) (any : Bool) (old now : Firsts) → EachSoFar rs [] any old now → Gathers (alt_all rs) old now any
 EachSoFar-end rs any old now so_far = record {
   kept = so_far.kept;
-  begins = λ q utf8 b. ⊎_elim (λ (first : IsFirst now q). first) (λ (none : Begins (WordsOf (alt_all [])) (chars q)). absurd (Begins-alt_nil (chars q) none)) (so_far.begins q utf8 b);
+  begins = λ q utf8 b. ⊎_elim (λ (first : IsFirst Forward now q). first) (λ (none : Begins (WordsOf (alt_all [])) (chars q)). absurd (Begins-alt_nil (chars q) none)) (so_far.begins q utf8 b);
   blanks = λ h. ⊎_elim (λ (is : IsTrue any). is) (λ (none : HasBlanks (WordsOf (alt_all []))). absurd (HasBlanks-alt_nil none)) (so_far.blanks h);
 }
 
@@ -200,22 +217,42 @@ Gathers-letter d old new passes g = record {
 
 -- the head is the same whatever stands behind the letters
 module _ (letters head : List ℕ) (old new : Firsts) (text : String Global) (known : (more : List ℕ) → head_of (letters ++ more) ≡ head)
-    (spelled : string_bytes text ≡ encodes head) (same : new.any ≡ old.any) (more_heads : new.heads.items ≡ old.heads.items ++ text ∷ []) where
+    (spelled : string_bytes text ≡ encodes head) (same : new.any ≡ old.any) (same_letters : new.letters.items ≡ old.letters.items) (more_heads : new.heads.items ≡ old.heads.items ++ text ∷ []) where
   texts_more : map string_bytes new.heads.items ≡ map string_bytes old.heads.items ++ string_bytes text ∷ []
   texts_more = ap (map string_bytes) more_heads ∙ map-append string_bytes old.heads.items (text ∷ [])
 
-  IsFirst-kept : (q : List ℕ) → IsFirst old q → IsFirst new q
+  IsFirst-kept : (q : List ℕ) → IsFirst Forward old q → IsFirst Forward new q
   IsFirst-kept q (inl any) = inl (same ∙ any)
-  IsFirst-kept q (inr there) = inr (subst (λ xs. Contains xs q) (sym texts_more) (Contains-append_left (map string_bytes old.heads.items) (string_bytes text ∷ []) q there))
+  IsFirst-kept q (inr (inl there)) = inr (inl (subst (λ xs. Contains xs q) (sym texts_more) (Contains-append_left (map string_bytes old.heads.items) (string_bytes text ∷ []) q there)))
+  IsFirst-kept q (inr (inr there)) = inr (inr (subst (λ xs. Contains (map string_bytes xs) (letter_of Forward q)) (sym same_letters) there))
 
   pub AddsHead-known : AddsHead letters old new
   AddsHead-known = record {
     kept = IsFirst-kept;
     added = λ q more utf8 is.
         let this : string_bytes text ≡ q = spelled ∙ ap encodes (sym (known more) ∙ is) ∙ encodes-chars q utf8 in
-        inr (subst (Contains (map string_bytes new.heads.items)) this
-        (subst (λ xs. Contains xs (string_bytes text)) (sym texts_more) (Contains-push (map string_bytes old.heads.items) (string_bytes text))));
+        inr (inl (subst (Contains (map string_bytes new.heads.items)) this
+        (subst (λ xs. Contains xs (string_bytes text)) (sym texts_more) (Contains-push (map string_bytes old.heads.items) (string_bytes text)))));
   }
 
-pub AddsHead-any : (letters : List ℕ) (old new : Firsts) → new.any ≡ true → AddsHead letters old new
-AddsHead-any letters old new any = record { kept = λ q h. inl any; added = λ q more utf8 is. inl any }
+-- the head begins with the first letter
+module _ (letters : List ℕ) (old new : Firsts) (text : String Global) (begins : BeginsWithLetter letters)
+    (spelled : string_bytes text ≡ encodes (take 1 letters)) (same : new.any ≡ old.any) (same_heads : new.heads.items ≡ old.heads.items)
+    (more_letters : new.letters.items ≡ old.letters.items ++ text ∷ []) where
+  letters_more : map string_bytes new.letters.items ≡ map string_bytes old.letters.items ++ string_bytes text ∷ []
+  letters_more = ap (map string_bytes) more_letters ∙ map-append string_bytes old.letters.items (text ∷ [])
+
+  IsFirst-kept_heads : (q : List ℕ) → IsFirst Forward old q → IsFirst Forward new q
+  IsFirst-kept_heads q (inl any) = inl (same ∙ any)
+  IsFirst-kept_heads q (inr (inl there)) = inr (inl (subst (λ xs. Contains (map string_bytes xs) q) (sym same_heads) there))
+  IsFirst-kept_heads q (inr (inr there)) =
+      inr (inr (subst (λ xs. Contains xs (letter_of Forward q)) (sym letters_more) (Contains-append_left (map string_bytes old.letters.items) (string_bytes text ∷ []) (letter_of Forward q) there)))
+
+  pub AddsHead-letter : AddsHead letters old new
+  AddsHead-letter = record {
+    kept = IsFirst-kept_heads;
+    added = λ q more utf8 is.
+        let this : string_bytes text ≡ letter_of Forward q = spelled ∙ ap encodes (sym (head-first letters begins more) ∙ ap (take 1) is) in
+        inr (inr (subst (Contains (map string_bytes new.letters.items)) this
+        (subst (λ xs. Contains xs (string_bytes text)) (sym letters_more) (Contains-push (map string_bytes old.letters.items) (string_bytes text)))));
+  }

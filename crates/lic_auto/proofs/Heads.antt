@@ -55,6 +55,19 @@ head-word c w h k = rw (h, k) refl
 pub head-other : (c : ℕ) (w : Word) → (c == blank) ≡ false → is_word c ≡ false → head_of (c ∷ w) ≡ c ∷ []
 head-other c w h k = rw (h, k) refl
 
+-- a blank behind a word that has a head adds nothing to it
+pub head-then_blank : (w more : Word) → head_of w ≢ [] → head_of (w ++ blank ∷ more) ≡ head_of w
+head-then_blank [] more some = absurd (some refl)
+head-then_blank (c ∷ w) more some = by_blank (head-then_blank w more) (c == blank) refl
+  where
+    by_kind : (c == blank) ≡ false → (b : Bool) → is_word c ≡ b → head_of (c ∷ w ++ blank ∷ more) ≡ head_of (c ∷ w)
+    by_kind h true k = head-word c (w ++ blank ∷ more) h k ∙ front-append (c ∷ w) (blank ∷ more) (front-blank more) ∙ sym (head-word c w h k)
+    by_kind h false k = head-other c (w ++ blank ∷ more) h k ∙ sym (head-other c w h k)
+
+    by_blank : (head_of w ≢ [] → head_of (w ++ blank ∷ more) ≡ head_of w) → (b : Bool) → (c == blank) ≡ b → head_of (c ∷ w ++ blank ∷ more) ≡ head_of (c ∷ w)
+    by_blank rest true h = head-blank c (w ++ blank ∷ more) h ∙ rest (λ none. some (head-blank c w h ∙ none)) ∙ sym (head-blank c w h)
+    by_blank rest false h = by_kind h (is_word c) refl
+
 -- a word that begins with a letter has a head
 pub head-some : (c : ℕ) (w : Word) → (c == blank) ≡ false → head_of (c ∷ w) ≢ []
 head-some c w h = by_kind (is_word c) refl
@@ -62,6 +75,18 @@ head-some c w h = by_kind (is_word c) refl
     by_kind : (b : Bool) → is_word c ≡ b → head_of (c ∷ w) ≢ []
     by_kind true k = λ e. let two : c ∷ front_of w ≡ [] = sym (head-word c w h k ∙ front-word c w k) ∙ e in cc
     by_kind false k = λ e. let two : c ∷ [] ≡ [] = sym (head-other c w h k) ∙ e in cc
+
+-- a word that begins with a letter has a head that begins with this letter
+first-of_letter : (c : ℕ) (w : Word) → (c == blank) ≡ false → take 1 (head_of (c ∷ w)) ≡ c ∷ []
+first-of_letter c w h = by_kind (is_word c) refl
+  where
+    by_kind : (b : Bool) → is_word c ≡ b → take 1 (head_of (c ∷ w)) ≡ c ∷ []
+    by_kind true k = ap (take 1) (head-word c w h k ∙ front-word c w k)
+    by_kind false k = ap (take 1) (head-other c w h k)
+
+pub head-first : (letters : Word) → BeginsWithLetter letters → (more : Word) → take 1 (head_of (letters ++ more)) ≡ take 1 letters
+head-first letters (c, rest, letter, e) more =
+    ap (λ w. take 1 (head_of (w ++ more))) e ∙ first-of_letter c (rest ++ more) (ne_eqb c blank letter) ∙ sym (ap (take 1) e)
 
 head-blanks : (n : ℕ) (w : Word) → head_of (blanks n ++ w) ≡ head_of w
 head-blanks zero w = refl

@@ -25,4 +25,5 @@ pub mod Places
 pub mod PickedLemmas
 pub mod TurnedSeekers
 pub mod Living
+pub mod Joined
 pub mod Gathered

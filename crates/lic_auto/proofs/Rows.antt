@@ -1,6 +1,6 @@
 -- Cores one after another, and one of them, as the list of them grows.
 use Rattle.std.proofs.Common.{List, [], ◌∷◌, ◌++◌}
-use Rattle.lic_words.specs.Words.{Word, Cat}
+use Rattle.lic_words.specs.Words.{Cat}
 use Rattle.lic_marks.specs.Cores.{Core, WordsOf, cat_all, alt_all}
 use Rattle.lic_auto.specs.Compiling.{AreSame}
 use Rattle.lic_auto.proofs.WordSets.{AreSame-refl, AreSame-sym, AreSame-trans, Either, Cat-same, Either-same, Cat-empty_left, Cat-empty_right, Either-none, Either-none_left, Cat-assoc, Either-assoc}
@@ -23,12 +23,3 @@ pub cat_all-keep : (rs ss : List Core) (r : Core) → AreSame (WordsOf (cat_all 
 cat_all-keep rs ss r same =
     AreSame-trans (cat_all-push rs r)
     (AreSame-trans (Cat-same same (AreSame-refl (WordsOf r))) (AreSame-sym (cat_all-push ss r)))
-
-module _ (E : Word → Type 0) (rs ss : List Core) (r : Core) where
-  -- two choices with the same words have them with one child more
-  pub alt_all-keep : AreSame (Either E (WordsOf (alt_all rs))) (WordsOf (alt_all ss)) →
-      AreSame (Either E (WordsOf (alt_all (rs ++ r ∷ [])))) (WordsOf (alt_all (ss ++ r ∷ [])))
-  alt_all-keep same =
-      AreSame-trans (Either-same (AreSame-refl E) (alt_all-push rs r))
-      (AreSame-trans (AreSame-sym (Either-assoc E (WordsOf (alt_all rs)) (WordsOf r)))
-      (AreSame-trans (Either-same same (AreSame-refl (WordsOf r))) (AreSame-sym (alt_all-push ss r))))

@@ -18,7 +18,7 @@ use Rattle.lic_marks.specs.Nodes.{core_of, is_measured, letter_cores, IsBuilt}
 use Rattle.lic_marks.specs.declared.node.Node.{Node}
 use Rattle.lic_marks.proofs.Cuts.{and_both}
 use Rattle.lic_auto.specs.Compiling.{AreSame, HasWords, AllHaveWords, Repeats, pattern_words}
-use Rattle.lic_auto.proofs.WordSets.{AreSame-refl, AreSame-trans, Cat-same, Either-same}
+use Rattle.lic_auto.proofs.WordSets.{AreSame-refl, AreSame-trans, Cat-same}
 use Rattle.lic_auto.specs.declared.direction.Direction.{Direction}
 use Rattle.lic_auto.specs.declared.direction.Direction.TheVariants.{Forward, Backward}
 use Rattle.lic_auto.specs.Directions.{ordered, read}
@@ -38,13 +38,6 @@ pub AllHaveWords-measured : (ns : List Node) (es : List Expression) → AllHaveW
 AllHaveWords-measured [] es all = refl
 AllHaveWords-measured (n ∷ ns) [] all = absurd all
 AllHaveWords-measured (n ∷ ns) (e ∷ es) all = and_both (is_measured n) (list_all is_measured ns) all.0.measured (AllHaveWords-measured ns es all.1)
-
-pub AllHaveWords-choice : (ns : List Node) (es : List Expression) → AllHaveWords ns es →
-    AreSame (WordsOf (alt_all (map core_of ns))) (Language (words.alt_all es))
-AllHaveWords-choice [] [] all = AreSame-refl (Language words.none)
-AllHaveWords-choice [] (e ∷ es) all = absurd all
-AllHaveWords-choice (n ∷ ns) [] all = absurd all
-AllHaveWords-choice (n ∷ ns) (e ∷ es) all = Either-same all.0.words (AllHaveWords-choice ns es all.1)
 
 pub tree_of-Cat : (subs : Vec Ere Global) → tree_of (Cat subs) ≡ trees.cat (trees.row (map tree_of subs.items))
 tree_of-Cat subs = ap tree_of (sym (rolls-Cat subs)) ∙ fold-roll-Ere Tree node_tree (Ere-F.Cat subs)
@@ -119,17 +112,17 @@ row_read Backward (n ∷ ns) (e ∷ es) all =
     subst (λ rs. AreSame (WordsOf (cat_all rs)) (Language (words.cat (mirrored (words.cat_all es)) (mirrored e)))) (sym (reverse-cons (core_of n) (map core_of ns)))
     (AreSame-trans (cat_all-push (reverse (map core_of ns)) (core_of n)) (Cat-same (row_read Backward ns es all.1) all.0.words))
 
--- a compiled row, a compiled choice and a compiled repetition of a pattern
+-- a compiled row, a choice and a compiled repetition of a pattern
 module _ (d : Direction) (ere : Ere) (subs : Vec Ere Global) (ns : List Node) (all : AllHaveWords ns (map (read d) (map pattern_words subs.items))) where
   pub compiled_row : ere ≡ Cat subs → AreSame (WordsOf (cat_all (ordered d (map core_of ns)))) (Language (read d (pattern_words ere)))
   compiled_row e =
       AreSame-trans (row_read d ns (map pattern_words subs.items) all)
       (language_same (ap (read d) (row_words-list subs.items ∙ sym (ap tree_words (ap tree_of e ∙ tree_of-Cat subs)))))
 
-  pub compiled_choice : ere ≡ Alt subs → AreSame (WordsOf (alt_all (map core_of ns))) (Language (read d (pattern_words ere)))
-  compiled_choice e =
-      AreSame-trans (AllHaveWords-choice ns (map (read d) (map pattern_words subs.items)) all)
-      (language_same (read-alt_all d (map pattern_words subs.items) ∙ ap (read d) (choice_words-list subs.items ∙ sym (ap tree_words (ap tree_of e ∙ tree_of-Alt subs)))))
+pub compiled_choice : (d : Direction) (ere : Ere) (subs : Vec Ere Global) → ere ≡ Alt subs →
+    AreSame (Language (words.alt_all (map (read d) (map pattern_words subs.items)))) (Language (read d (pattern_words ere)))
+compiled_choice d ere subs e =
+    language_same (read-alt_all d (map pattern_words subs.items) ∙ ap (read d) (choice_words-list subs.items ∙ sym (ap tree_words (ap tree_of e ∙ tree_of-Alt subs))))
 
 pub compiled_repetition : (d : Direction) (ere : Ere) (body : Box Ere Global) (min : ℕ) (max : Option ℕ) (node : Node) → ere ≡ Repeat body min max →
     HasWords (Language (read d (pattern_words body.value))) node → AreSame (Repeats (WordsOf (core_of node)) min max) (Language (read d (pattern_words ere)))

@@ -2,7 +2,7 @@
 use Rattle.std.proofs.Common.{◌≡◌, ℕ, zero, suc, ◌<◌, Bool, true, false, ◌||◌, List, [], ◌∷◌, ◌++◌, map, length, get_or, ◌⊎◌, inl, inr, refl, sym, ap, ◌∙◌, subst, arith, ◌==◌, eqb-true, Option}
 use Rattle.std.proofs.lemmas.Bool.{eqb-false}
 use Rattle.lic_words.specs.Words.{Word, Power}
-use Rattle.lic_marks.specs.Cores.{Core, empty, one, cat, none, alt, plus, tidy, WordsOf, cat_all, alt_all}
+use Rattle.lic_marks.specs.Cores.{Core, empty, one, cat, none, alt, plus, tidy, WordsOf, cat_all}
 use Rattle.lic_marks.specs.Marks.{is_nullable}
 use Rattle.lic_marks.specs.Rows.{weight}
 use Rattle.lic_marks.specs.Nodes.{core_of}
@@ -12,8 +12,8 @@ use Rattle.lic_words.specs.Expressions.{IsAtMost}
 use Rattle.lic_marks.proofs.Cuts.{or_cases}
 use Rattle.lic_auto.specs.Compiling.{AreSame, Repeats}
 use Rattle.lic_auto.proofs.Repetitions.{Repeats-left_out, Repeats-empty, Repeats-none}
-use Rattle.lic_auto.proofs.WordSets.{AreSame-refl, AreSame-sym, AreSame-trans, IsEmpty, IsNone, EmptyIf, EmptyIf-or, Either, Cat-same, Either-same, Cat-empty_right}
-use Rattle.lic_auto.proofs.Rows.{cat_all-push, alt_all-push}
+use Rattle.lic_auto.proofs.WordSets.{AreSame-refl, AreSame-sym, AreSame-trans, IsEmpty, IsNone, EmptyIf, Cat-same, Cat-empty_right}
+use Rattle.lic_auto.proofs.Rows.{cat_all-push}
 
 bool_cases : (b : Bool) → (b ≡ true) ⊎ (b ≡ false)
 bool_cases true = inl refl
@@ -80,14 +80,6 @@ weightless_words r light = elim (bool_cases (is_nullable r)) [
   | inl h ↦ rw h (weightless_empty r light h)
   | inr h ↦ rw h (weightless_none r light h)
 ]
-
-module _ (empty_too : Bool) (rs ss : List Core) (r : Core) (light : weight r ≡ 0) where
-  -- of a child without a letter position a choice has at most the empty word
-  pub alt_all-leave_out : AreSame (Either (EmptyIf empty_too) (WordsOf (alt_all rs))) (WordsOf (alt_all ss)) →
-      AreSame (Either (EmptyIf (empty_too || is_nullable r)) (WordsOf (alt_all rs))) (WordsOf (alt_all (ss ++ r ∷ [])))
-  alt_all-leave_out same =
-      AreSame-trans (EmptyIf-or (WordsOf (alt_all rs)) empty_too (is_nullable r))
-      (AreSame-trans (Either-same same (AreSame-sym (weightless_words r light))) (AreSame-sym (alt_all-push ss r)))
 
 -- a row with a child that has no word has none
 pub cat_all-none : (ns : List Node) (i : ℕ) (n : Node) → i < length ns → n ≡ get_or ns i n → AreSame (WordsOf (core_of n)) IsNone →

@@ -2,27 +2,30 @@
 use Rattle.std.specs.Prelude.{◌≡◌, ◌⊎◌, ◌++◌, ℕ, Bool, List, map, IsTrue, Contains, string_bytes}
 use Rattle.std.specs.Str.{chars, IsUtf8}
 use Rattle.lic_marks.specs.Cores.{Core, WordsOf, cat_all, any_front}
-use Rattle.lic_auto.specs.Heads.{head_of}
+use Rattle.lic_auto.specs.Heads.{head_of, letter_of}
 use Rattle.lic_auto.specs.Beginnings.{Begins, HasBlanks}
+use Rattle.lic_auto.specs.declared.direction.Direction.{Direction}
+use Rattle.lic_auto.specs.declared.direction.Direction.TheVariants.{Forward}
 use Rattle.lic_auto.specs.declared.first.Firsts.{Firsts}
 
--- any head can begin a word, or this text is among them
-abbrev pub IsFirst : Firsts → List ℕ → Type 0
-IsFirst firsts text = IsTrue firsts.any ⊎ Contains (map string_bytes firsts.heads.items) text
+-- any head can begin a word, or this text is among them, or its first letter as it is read
+abbrev pub IsFirst : Direction → Firsts → List ℕ → Type 0
+IsFirst direction firsts text =
+    IsTrue firsts.any ⊎ (Contains (map string_bytes firsts.heads.items) text ⊎ Contains (map string_bytes firsts.letters.items) (letter_of direction text))
 
 -- the text of the head of these letters is added, whatever stands behind them
 pub record AddsHead (letters : List ℕ) (old new : Firsts) : Type 0 where
-  pub kept : (text : List ℕ) → IsFirst old text → IsFirst new text
-  pub added : (text more : List ℕ) → IsUtf8 text → head_of (letters ++ more) ≡ chars text → IsFirst new text
+  pub kept : (text : List ℕ) → IsFirst Forward old text → IsFirst Forward new text
+  pub added : (text more : List ℕ) → IsUtf8 text → head_of (letters ++ more) ≡ chars text → IsFirst Forward new text
 
 -- the texts of the heads that begin words of the core are added, and it is said whether one of the words may be blanks alone, or empty
 pub record Gathers (r : Core) (old new : Firsts) (passes : Bool) : Type 0 where
-  pub kept : (text : List ℕ) → IsFirst old text → IsFirst new text
-  pub begins : (text : List ℕ) → IsUtf8 text → Begins (WordsOf r) (chars text) → IsFirst new text
+  pub kept : (text : List ℕ) → IsFirst Forward old text → IsFirst Forward new text
+  pub begins : (text : List ℕ) → IsUtf8 text → Begins (WordsOf r) (chars text) → IsFirst Forward new text
   pub blanks : HasBlanks (WordsOf r) → IsTrue passes
 
 -- the same for one core after another, up to any of them; what is said of blanks, of them all
 pub record GathersRow (rs : List Core) (old new : Firsts) (passes : Bool) : Type 0 where
-  pub kept : (text : List ℕ) → IsFirst old text → IsFirst new text
-  pub begins : (text : List ℕ) → IsUtf8 text → Begins (WordsOf (any_front rs)) (chars text) → IsFirst new text
+  pub kept : (text : List ℕ) → IsFirst Forward old text → IsFirst Forward new text
+  pub begins : (text : List ℕ) → IsUtf8 text → Begins (WordsOf (any_front rs)) (chars text) → IsFirst Forward new text
   pub blanks : HasBlanks (WordsOf (cat_all rs)) → IsTrue passes

@@ -9,6 +9,8 @@ pub mod Picked
 pub mod Compiled
 pub mod Compiling
 pub mod Choices
+pub mod Changes
+pub mod Joining
 pub mod Walks
 pub mod Seeking
 pub mod Backs

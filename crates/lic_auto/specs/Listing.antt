@@ -7,3 +7,9 @@ pub record Grows (number : ℕ) (old new : List ℕ) : Type 0 where
   pub kept : (k : ℕ) → Contains old k → Contains new k
   pub rising : IsRising old (number + 1) → IsRising new (number + 1)
   pub added : Contains new number
+
+-- the list keeps its numbers and its order, and the number is put into it if this holds
+pub record GrowsIf (Holds : Type 0) (number : ℕ) (old new : List ℕ) : Type 0 where
+  pub kept : (k : ℕ) → Contains old k → Contains new k
+  pub rising : IsRising old (number + 1) → IsRising new (number + 1)
+  pub added : Holds → Contains new number

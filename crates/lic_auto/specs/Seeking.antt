@@ -1,5 +1,5 @@
 -- Seekers, one for each template, over a list of tokens that is read from its end.
-use Rattle.std.specs.Prelude.{◌≡◌, ℕ, ◌<◌, ◌≤◌, List, [], ◌∷◌, ◌++◌, length, reverse, slice_index, Some, Contains}
+use Rattle.std.specs.Prelude.{◌≡◌, ℕ, List, [], ◌∷◌, ◌++◌, reverse, slice_index, Some, Contains}
 use Rattle.std.specs.List.{slice_get}
 use Rattle.lic_words.specs.Expressions.{Expression}
 use Rattle.lic_words.specs.Mirrors.{mirrored}
@@ -9,6 +9,7 @@ use Rattle.lic_marks.specs.Seeks.{DescribesEnd, NoneBegins, Seeks, tree_of}
 use Rattle.lic_marks.specs.declared.seek.Seeker.{Seeker}
 use Rattle.lic_auto.specs.Sets.{Known, words_of}
 use Rattle.lic_auto.specs.Choices.{templates_of}
+use Rattle.lic_auto.specs.Changes.{AreChangedAt}
 use Rattle.lic_auto.specs.declared.chosen.Chosen.{Chosen}
 
 -- each seeker's tree has the words of its template, read from their ends
@@ -21,12 +22,9 @@ abbrev pub AllSeek : List Known → List Seeker → List (List ℕ) → Type 0
 AllSeek set seekers ts = (k : ℕ) (known : Known) (s : Seeker) → slice_get set k ≡ Some known → slice_get seekers k ≡ Some s
     → ∥ Seeks s (mirrored (words_of known)) ts ∥₁
 
--- the seekers before a place have changed so, each over its tree, and the others are as they were
-pub record AreChangedBefore (changes : ℕ → Seeker → Seeker → Type 0) (end : ℕ) (old new : List Seeker) : Type 0 where
-  pub count : length new ≡ length old
-  pub trees : (k : ℕ) (a b : Seeker) → slice_get old k ≡ Some a → slice_get new k ≡ Some b → tree_of b ≡ tree_of a
-  pub before : (k : ℕ) (a b : Seeker) → k < end → slice_get old k ≡ Some a → slice_get new k ≡ Some b → changes k a b
-  pub others : (k : ℕ) → end ≤ k → slice_get new k ≡ slice_get old k
+-- the seekers at these places have changed so, each over its tree, and the others are as they were
+abbrev pub AreTurned : (ℕ → Seeker → Seeker → Type 0) → List ℕ → List Seeker → List Seeker → Type 0
+AreTurned changes places old new = AreChangedAt tree_of changes places old new
 
 -- the seeker begins anew
 abbrev pub BeginsAnew : ℕ → Seeker → Seeker → Type 0
@@ -37,7 +35,16 @@ abbrev pub TakesTurned : List ℕ → List ℕ → ℕ → Seeker → Seeker →
 TakesTurned entered token k old new = (e : Expression) (ts : List (List ℕ)) → Seeks old e ts
     → ((Contains entered k → ⊥) → NoneBegins e (reverse token)) → Seeks new e (ts ++ reverse token ∷ [])
 
--- the template of this number, at a place before `end`, describes some end of the tokens
-abbrev pub IsFoundBefore : Chosen → ℕ → List (List ℕ) → ℕ → Type 0
-IsFoundBefore chosen end ts n = (place : ℕ) × (place < end) × (slice_index chosen.numbers.items place ≡ n)
+-- no end of what the seeker stands for is described, and it stands as it is for one token more with which nothing begins
+pub record IsQuiet (s : Seeker) : Type 0 where
+  pub none : (e : Expression) (ts : List (List ℕ)) → Seeks s e ts → ¬ (DescribesEnd e ts)
+  pub skips : (e : Expression) (ts : List (List ℕ)) (token : List ℕ) → Seeks s e ts → NoneBegins e token → ∥ Seeks s e (ts ++ token ∷ []) ∥₁
+
+-- all seekers are quiet, but perhaps those at these places
+abbrev pub AreQuietBut : List ℕ → List Seeker → Type 0
+AreQuietBut places seekers = (k : ℕ) (s : Seeker) → ¬ (Contains places k) → slice_get seekers k ≡ Some s → IsQuiet s
+
+-- the template of this number, at one of these places, describes some end of the tokens
+abbrev pub IsFoundAt : Chosen → List ℕ → List (List ℕ) → ℕ → Type 0
+IsFoundAt chosen places ts n = (place : ℕ) × Contains places place × (slice_index chosen.numbers.items place ≡ n)
     × ((known : Known) × (slice_get (templates_of chosen) place ≡ Some known) × DescribesEnd (mirrored (words_of known)) ts)

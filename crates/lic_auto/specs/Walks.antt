@@ -1,5 +1,5 @@
 -- What becomes of runs, one for each template, when those of some numbers begin anew or take a token.
-use Rattle.std.specs.Prelude.{◌≡◌, ℕ, List, [], ◌∷◌, ◌++◌, length, Some, Contains}
+use Rattle.std.specs.Prelude.{◌≡◌, ℕ, List, [], ◌∷◌, ◌++◌, Some, Contains}
 use Rattle.std.specs.List.{slice_get}
 use Rattle.lic_words.specs.Expressions.{Expression}
 use Rattle.lic_words.specs.Describing.{IsDescribed}
@@ -8,6 +8,7 @@ use Rattle.lic_marks.specs.Nodes.{core_of}
 use Rattle.lic_marks.specs.Runs.{Stands, tree_of}
 use Rattle.lic_marks.specs.declared.run.Run.{Run}
 use Rattle.lic_auto.specs.Sets.{Known, words_of}
+use Rattle.lic_auto.specs.Changes.{AreChangedAt, AreKeptOf}
 
 -- each run is over a tree with the words of its template
 abbrev pub HaveTrees : List Known → List Run → Type 0
@@ -37,13 +38,9 @@ abbrev pub IsForGood : Run → Type 0
 IsForGood run = (e : Expression) (ts : List (List ℕ)) → Stands run e ts → (more : List (List ℕ)) → ¬ (IsDescribed e (ts ++ more))
 
 -- the runs of these numbers have changed so, each over its tree, and the others are as they were
-pub record AreChanged (changes : Run → Run → Type 0) (numbers : List ℕ) (old new : List Run) : Type 0 where
-  pub count : length new ≡ length old
-  pub trees : (k : ℕ) (a b : Run) → slice_get old k ≡ Some a → slice_get new k ≡ Some b → tree_of b ≡ tree_of a
-  pub others : (k : ℕ) → ¬ (Contains numbers k) → slice_get new k ≡ slice_get old k
-  pub each : (k : ℕ) (a b : Run) → Contains numbers k → slice_get old k ≡ Some a → slice_get new k ≡ Some b → changes a b
+abbrev pub AreChanged : (Run → Run → Type 0) → List ℕ → List Run → List Run → Type 0
+AreChanged changes numbers old new = AreChangedAt tree_of (λ k. changes) numbers old new
 
 -- of these numbers those are kept whose runs may still come to describe something
-pub record AreKept (numbers kept : List ℕ) (runs : List Run) : Type 0 where
-  pub within : (k : ℕ) → Contains kept k → Contains numbers k
-  pub dropped : (k : ℕ) (run : Run) → Contains numbers k → ¬ (Contains kept k) → slice_get runs k ≡ Some run → IsForGood run
+abbrev pub AreKept : List ℕ → List ℕ → List Run → Type 0
+AreKept numbers kept runs = AreKeptOf IsForGood numbers kept runs

@@ -7,24 +7,31 @@ ghost use Rattle.lic_phrases.specs.TokenTexts.{IsTokenText};
 ghost use Rattle.lic_keys.specs.Rising.{IsRising};
 ghost use Rattle.lic_auto.specs.Choices.{templates_of};
 ghost use Rattle.lic_auto.specs.Picked.{AreAll};
-ghost use Rattle.lic_auto.specs.Seeking.{HaveMirrors};
+ghost use Rattle.lic_auto.specs.Seeking.{AreQuietBut, HaveMirrors};
 ghost use Rattle.lic_auto.specs.declared.direction.Direction.TheVariants.{Backward};
 
 use crate::chosen::{Chosen, all_numbers};
 use crate::direction::Direction;
-use crate::seeking::{begin_anew, gather_live, seekers_of, take_turned};
+use crate::joining::join_rising;
+use crate::seeking::{begin_anew, gather_live, name_all, seekers_of, take_turned};
 use crate::set::Set;
 use crate::walk::count_steps;
 use lic_marks::seek::Seeker;
 use std::alloc::{AllocError, Global};
 
 /// Templates of a set, all or some, over a list of tokens that grows at its front. It keeps no token, and takes memory in its
-/// constructors alone, in proportion to its own templates.
+/// constructors alone, in proportion to its own templates. A token costs what the templates cost that it enters, and those that
+/// are on their way; the others are ignored.
 #[derive(Debug, Drop)]
 pub struct Back<'s> {
     chosen: Chosen<'s>,
     // one for each template that was chosen
     seekers: Vec<Seeker<'s>>,
+    // the places of the seekers that may not be dead in rising order, and then anything
+    marked: Vec<usize>,
+    marked_count: usize,
+    // room for the places of those that take a token
+    turns: Vec<usize>,
     // the numbers of the live templates in rising order, and then anything
     live: Vec<usize>,
     live_count: usize,
@@ -32,6 +39,11 @@ pub struct Back<'s> {
     ghost backward: { chosen.direction ≡ Backward },
     ghost count: { vec_len seekers ≡ length (templates_of chosen) },
     ghost mirrors: { HaveMirrors (templates_of chosen) seekers.items },
+    ghost marked_room: { vec_len marked ≡ length (templates_of chosen) },
+    ghost marked_within: { marked_count ≤ vec_len marked },
+    ghost marked_rising: { IsRising (take marked_count marked.items) (length (templates_of chosen)) },
+    ghost quiet: { AreQuietBut (take marked_count marked.items) seekers.items },
+    ghost turns_room: { vec_len turns ≡ length (templates_of chosen) },
     ghost live_room: { vec_len live ≡ length (templates_of chosen) },
     ghost live_within: { live_count ≤ vec_len live },
     ghost live_rising: { IsRising (take live_count live.items) (length chosen.set.now) },
@@ -61,11 +73,17 @@ impl<'s> Back<'s> {
     {
         let chosen = Chosen::new(alloc, set, numbers, Direction::Backward)?;
         let count = chosen.len();
+        let mut marked = vec![in alloc; 0usize; count]?;
+        name_all(&mut marked);
+        let turns = vec![in alloc; 0usize; count]?;
         let live = vec![in alloc; 0usize; count]?;
         let seekers = seekers_of(alloc, &chosen)?;
         Ok(Back {
             chosen,
             seekers,
+            marked,
+            marked_count: count,
+            turns,
             live,
             live_count: 0,
             steps: 0,
@@ -79,7 +97,9 @@ impl<'s> Back<'s> {
         ensures numbers { numbers_behind self.new ≡ numbers_behind self.old }
         ensures steps { (steps_behind self.old ≤ steps_behind self.new) × (steps_behind self.new ≤ steps_behind self.old + 2) }
     {
-        begin_anew(&mut self.seekers);
+        name_all(&mut self.marked);
+        begin_anew(&mut self.seekers, &self.marked);
+        self.marked_count = self.marked.len();
         self.live_count = 0;
     }
 
@@ -98,8 +118,12 @@ impl<'s> Back<'s> {
     {
         self.steps = count_steps(self.steps, text);
         let entered = self.chosen.entered_by(text);
-        take_turned(&mut self.seekers, entered, text);
-        self.live_count = gather_live(&self.chosen, &self.seekers, &mut self.live);
+        let marked = &self.marked[..self.marked_count];
+        let count = join_rising(marked, entered, &mut self.turns);
+        let turns = &self.turns[..count];
+        self.marked_count = take_turned(&mut self.seekers, turns, entered, text, &mut self.marked);
+        let marked = &self.marked[..self.marked_count];
+        self.live_count = gather_live(&self.chosen, &self.seekers, marked, &mut self.live);
     }
 
     /// Whether some template of this machine describes a beginning of the list of tokens.

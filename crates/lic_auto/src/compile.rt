@@ -1,21 +1,21 @@
 //! Parts of templates as compiled trees.
 
-ghost use Rattle.std.specs.Prelude.{◌≡◌, ◌<◌, ◌≤◌, ℕ, Option, IsTrue, IfOk, Some, None, [], ◌∷◌, map, replicate, chars};
+ghost use Rattle.std.specs.Prelude.{◌≡◌, ◌<◌, ◌≤◌, ℕ, Option, IsTrue, IfOk, Some, None, [], ◌∷◌, map, chars};
 ghost use Rattle.std.specs.List.{list_all};
-ghost use Rattle.lic_words.specs.Expressions.{Language, IsAtMost, letters, empty, none, repeat};
+ghost use Rattle.lic_words.specs.Expressions.{Language, IsAtMost, letters, empty, none, alt_all as any_of};
 ghost use Rattle.lic_markup.specs.Meaning.{parts_words, part_words};
 ghost use Rattle.lic_markup.specs.Parts.{part_of};
-ghost use Rattle.lic_marks.specs.Cores.{WordsOf, cat_all, alt_all, alt as either, copies, up_to, empty as nothing};
+ghost use Rattle.lic_marks.specs.Cores.{WordsOf, cat_all, alt as either, empty as nothing};
 ghost use Rattle.lic_marks.specs.Marks.{is_nullable};
 ghost use Rattle.lic_marks.specs.Rows.{weight};
-ghost use Rattle.lic_marks.specs.Nodes.{core_of, is_measured, IsBuilt};
+ghost use Rattle.lic_marks.specs.Nodes.{core_of, is_measured};
 ghost use Rattle.lic_auto.specs.Directions.{ordered, read};
 ghost use Rattle.lic_auto.specs.Compiling.{HasWords, AllHaveWords, Repeats, pattern_words};
 
 use crate::direction::Direction;
 use lic_ere::Ere;
 use lic_marks::build;
-use lic_marks::node::Node;
+use lic_marks::node::{Node, Times};
 use lic_marks::test::Test;
 use lic_markup::Part;
 use std::alloc::{AllocError, Global};
@@ -23,7 +23,7 @@ use std::alloc::{AllocError, Global};
 /// The words of parts in a row as they are read in a direction, as a compiled tree.
 ///
 /// # Errors
-/// Memory is lacking, or the tree weighs more than the greatest `usize`.
+/// Memory ran out, or the tree weighs more than the greatest `usize`.
 #[cycle(compile)]
 pub(crate) fn compile(
     alloc: Global,
@@ -64,7 +64,7 @@ fn compile_text(alloc: Global, text: &str, direction: Direction) -> Result<Node,
 /// The words of a pattern, as a compiled tree.
 ///
 /// # Errors
-/// Memory is lacking, or the tree weighs more than the greatest `usize`.
+/// Memory ran out, or the tree weighs more than the greatest `usize`.
 pub fn compile_pattern(alloc: Global, ere: &Ere) -> Result<Node, AllocError>
     ensures { IfOk result (HasWords (Language (pattern_words ere.now))) }
 {
@@ -81,7 +81,7 @@ fn compile_tree(alloc: Global, ere: &Ere, direction: Direction) -> Result<Node, 
         Ere::Any => Ok(build::one(Test::Any)),
         Ere::Set(class) => Ok(build::one(Test::Class(class.copy(alloc)?))),
         Ere::Cat(subs) => ordered_row(alloc, compile_trees(alloc, subs, direction)?, direction),
-        Ere::Alt(subs) => choice(alloc, compile_trees(alloc, subs, direction)?),
+        Ere::Alt(subs) => compile_choice(alloc, subs, direction),
         Ere::Repeat { body, min, max } => match *max {
             Some(max) if max < *min => Ok(no_word(alloc)),
             Some(0) => Ok(empty_word(alloc)),
@@ -102,6 +102,27 @@ fn compile_trees(alloc: Global, subs: &[Ere], direction: Direction) -> Result<Ve
         nodes.push(compile_tree(alloc, sub, direction)?)?;
     }
     Ok(nodes)
+}
+
+/// Any one of these patterns. Those that weigh 0 are left out, but for one empty word where one of them has it.
+#[cycle(compile_tree)]
+fn compile_choice(alloc: Global, subs: &[Ere], direction: Direction) -> Result<Node, AllocError>
+    ensures { IfOk result (HasWords (Language (any_of (map (read direction) (map pattern_words subs.now))))) }
+{
+    let mut kept = Vec::new(alloc);
+    let mut has_empty = false;
+    for sub in subs {
+        let node = compile_tree(alloc, sub, direction)?;
+        if node.weight() > 0 {
+            kept.push(node)?;
+        } else {
+            has_empty = has_empty | has_empty_word(node);
+        }
+    }
+    if has_empty {
+        kept.push(empty_word(alloc))?;
+    }
+    build::alt(kept).ok_or(AllocError)
 }
 
 /// The empty word alone.
@@ -167,35 +188,18 @@ fn joined(mut children: Vec<Node>) -> Result<Node, AllocError>
     }
 }
 
-/// Any one child. Those that weigh 0 are left out, but for one that has the empty word.
-fn choice(alloc: Global, children: Vec<Node>) -> Result<Node, AllocError>
-    requires { IsTrue (list_all is_measured children.items) }
-    ensures { IfOk result (HasWords (WordsOf (alt_all (map core_of children.items)))) }
-{
-    let mut kept = Vec::new(alloc);
-    let mut has_empty = false;
-    for child in children {
-        if child.weight() > 0 {
-            kept.push(child)?;
-        } else {
-            has_empty = has_empty | has_empty_word(child);
-        }
-    }
-    if has_empty {
-        kept.push(empty_word(alloc))?;
-    }
-    build::alt(kept).ok_or(AllocError)
-}
-
 /// The body, or the empty word.
 fn optional(alloc: Global, body: Node) -> Result<Node, AllocError>
     requires { IsTrue (is_measured body) }
     ensures { IfOk result (HasWords (WordsOf (either nothing (core_of body)))) }
 {
+    if body.weight() == 0 {
+        return Ok(empty_word(alloc));
+    }
     let mut children = Vec::new(alloc);
-    children.push(empty_word(alloc))?;
     children.push(body)?;
-    choice(alloc, children)
+    children.push(empty_word(alloc))?;
+    build::alt(children).ok_or(AllocError)
 }
 
 /// From `min` to `max` words of the body in a row; without `max`, `min` or more.
@@ -208,7 +212,7 @@ fn repetition(alloc: Global, body: Node, min: u32, max: Option<u32>) -> Result<N
         return Ok(weightless_repetition(alloc, body, min));
     }
     match max {
-        Some(max) => bounded(alloc, &body, min as usize, max as usize),
+        Some(max) => bounded(alloc, body, min as usize, max as usize),
         None => unbounded(alloc, body, min as usize),
     }
 }
@@ -227,15 +231,26 @@ fn weightless_repetition(alloc: Global, body: Node, min: u32) -> Node
 }
 
 /// From `min` to `max` words of the body in a row.
-fn bounded(alloc: Global, body: &Node, min: usize, max: usize) -> Result<Node, AllocError>
-    requires measured { IsTrue (is_measured body.now) }
+fn bounded(alloc: Global, body: Node, min: usize, max: usize) -> Result<Node, AllocError>
+    requires measured { IsTrue (is_measured body) }
     requires some { min ≤ max }
-    ensures { IfOk result (HasWords (Repeats (WordsOf (core_of body.now)) min (Some max))) }
+    ensures { IfOk result (HasWords (Repeats (WordsOf (core_of body)) min (Some max))) }
 {
-    let mut children = Vec::new(alloc);
-    children.push(copies(alloc, body, min)?)?;
-    children.push(up_to(alloc, body, max - min)?)?;
-    row(alloc, children)
+    match body {
+        Node::One(test) => {
+            let mut children = Vec::new(alloc);
+            children.push(build::copies(test.copy(alloc)?, min))?;
+            children.push(build::up_to(test, max - min))?;
+            row(alloc, children)
+        }
+        body => {
+            let times = Times::Bounded {
+                needed: min,
+                more: max - min,
+            };
+            build::repeat(Box::new(alloc, body)?, times).ok_or(AllocError)
+        }
+    }
 }
 
 /// `min` words of the body in a row, or more.
@@ -246,43 +261,20 @@ fn unbounded(alloc: Global, body: Node, min: usize) -> Result<Node, AllocError>
     if min == 0 {
         return optional(alloc, build::plus(Box::new(alloc, body)?));
     }
-    let mut children = Vec::new(alloc);
-    children.push(copies(alloc, &body, min - 1)?)?;
-    children.push(build::plus(Box::new(alloc, body)?))?;
-    row(alloc, children)
-}
-
-/// `count` words of the body in a row.
-fn copies(alloc: Global, body: &Node, count: usize) -> Result<Node, AllocError>
-    requires { IsTrue (is_measured body.now) }
-    ensures { IfOk result (IsBuilt (copies count (core_of body.now))) }
-{
+    if min == 1 {
+        return Ok(build::plus(Box::new(alloc, body)?));
+    }
+    let before = min - 1;
     match body {
-        Node::One(test) => Ok(build::copies(test.copy(alloc)?, count)),
-        _ => build::cat(copied(alloc, body, count)?).ok_or(AllocError),
+        Node::One(test) => {
+            let mut children = Vec::new(alloc);
+            children.push(build::copies(test.copy(alloc)?, before))?;
+            children.push(build::plus(Box::new(alloc, build::one(test))?))?;
+            row(alloc, children)
+        }
+        body => {
+            let times = Times::Unbounded { before };
+            build::repeat(Box::new(alloc, body)?, times).ok_or(AllocError)
+        }
     }
-}
-
-/// Up to `count` words of the body in a row.
-fn up_to(alloc: Global, body: &Node, count: usize) -> Result<Node, AllocError>
-    requires { IsTrue (is_measured body.now) }
-    ensures { IfOk result (IsBuilt (up_to count (core_of body.now))) }
-{
-    match body {
-        Node::One(test) => Ok(build::up_to(test.copy(alloc)?, count)),
-        _ => build::front(copied(alloc, body, count)?).ok_or(AllocError),
-    }
-}
-
-/// The body `count` times.
-fn copied(alloc: Global, body: &Node, count: usize) -> Result<Vec<Node>, AllocError>
-    requires { IsTrue (is_measured body.now) }
-    ensures measured { IfOk result (λ nodes. IsTrue (list_all is_measured nodes.items)) }
-    ensures cores { IfOk result (λ nodes. map core_of nodes.items ≡ replicate count (core_of body.now)) }
-{
-    let mut nodes = Vec::new(alloc);
-    for _ in 0..count {
-        nodes.push(body.copy(alloc)?)?;
-    }
-    Ok(nodes)
 }

@@ -1,23 +1,27 @@
 //! The heads with which the words of a compiled expression can begin.
 
-ghost use Rattle.std.specs.Prelude.{◌≡◌, ℕ, List, IfOk, OnOk, map, replicate, reverse, string_bytes};
+ghost use Rattle.std.specs.Prelude.{◌≡◌, ◌≢◌, ℕ, [], List, IfOk, OnOk, map, replicate, reverse, string_bytes};
+ghost use Rattle.lic_auto.specs.declared.direction.Direction.TheVariants.{Forward, Backward};
 ghost use Rattle.std.specs.Str.{chars, IsUtf8, encode_utf8_all};
-ghost use Rattle.lic_auto.specs.Heads.{BeginsWithLetter};
+ghost use Rattle.lic_auto.specs.Heads.{BeginsWithLetter, head_of};
 ghost use Rattle.lic_marks.specs.Cores.{WordsOf, one, cat_all, alt_all, any_front};
-ghost use Rattle.lic_marks.specs.Nodes.{core_of, letter_cores, passes};
-ghost use Rattle.lic_auto.specs.Beginnings.{Begins};
+ghost use Rattle.lic_marks.specs.Nodes.{core_of, letter_cores, passes, so_many};
+ghost use Rattle.lic_auto.specs.Beginnings.{HasHead};
 ghost use Rattle.lic_auto.specs.Directions.{ordered};
 
 use crate::direction::Direction;
 use crate::head::{known_head, letters_from};
-use lic_marks::node::Node;
+use lic_marks::node::{Node, Times};
 use lic_marks::test::Test;
 use std::alloc::{AllocError, Global};
 
-/// The texts of heads with which words can begin.
+/// With which heads words can begin as they are read in a direction.
 #[derive(Debug, Drop)]
 pub struct Firsts {
+    /// The texts of heads.
     pub heads: Vec<String>,
+    /// The first letters of all other heads, as they are read, each a text of its own.
+    pub letters: Vec<String>,
     /// Whether any head can.
     pub any: bool,
 }
@@ -25,24 +29,25 @@ pub struct Firsts {
 impl Firsts {
     ghost use Rattle.lic_auto.specs.Firsts.{IsFirst};
 
-    /// The texts that begin words of the expression once they are read in a direction, and perhaps some others.
+    /// The texts of the heads of words of the expression once they are read in a direction, and perhaps some others.
     pub fn of(alloc: Global, node: &Node, direction: Direction) -> Result<Firsts, AllocError>
-        ensures { IfOk result (λ firsts. (text : List ℕ) → IsUtf8 text → Begins (WordsOf (core_of node.now)) (ordered direction (chars text)) → IsFirst firsts text) }
+        ensures { IfOk result (λ firsts. (text : List ℕ) → IsUtf8 text → HasHead (WordsOf (core_of node.now)) (ordered direction (chars text)) → IsFirst direction firsts text) }
     {
         let mut firsts = Firsts {
             heads: Vec::new(alloc),
+            letters: Vec::new(alloc),
             any: false,
         };
-        let _ = gather(alloc, node, &mut firsts)?;
+        gather_whole(alloc, node, &mut firsts)?;
         match direction {
             Direction::Forward => Ok(firsts),
             Direction::Backward => firsts.turned(alloc),
         }
     }
 
-    // The same texts from their ends.
-    fn turned(&self, alloc: Global) -> Result<Firsts, AllocError>
-        ensures { IfOk result (λ firsts. (text : List ℕ) → IsUtf8 text → IsFirst self.now (encode_utf8_all (reverse (chars text))) → IsFirst firsts text) }
+    // The same texts from their ends. A first letter, as it is read, stays.
+    fn turned(self, alloc: Global) -> Result<Firsts, AllocError>
+        ensures { IfOk result (λ firsts. (text : List ℕ) → IsUtf8 text → IsFirst Forward self (encode_utf8_all (reverse (chars text))) → IsFirst Backward firsts text) }
     {
         let mut heads = Vec::with_capacity(alloc, self.heads.len())?;
         for head in &self.heads {
@@ -50,6 +55,7 @@ impl Firsts {
         }
         Ok(Firsts {
             heads,
+            letters: self.letters,
             any: self.any,
         })
     }
@@ -64,7 +70,30 @@ fn turned_text(alloc: Global, text: &str) -> Result<String, AllocError>
     text_of(alloc, &letters)
 }
 
-ghost use Rattle.lic_auto.specs.Firsts.{Gathers, GathersRow, AddsHead};
+ghost use Rattle.lic_auto.specs.Firsts.{Gathers, GathersRow, AddsHead, IsFirst};
+
+// Adds the heads of the expression's words, with nothing behind them.
+fn gather_whole(alloc: Global, node: &Node, firsts: &mut Firsts) -> Result<(), AllocError>
+    ensures { OnOk result ((text : List ℕ) → IsUtf8 text → HasHead (WordsOf (core_of node.now)) (chars text) → IsFirst Forward firsts.new text) }
+{
+    match node {
+        Node::Letters(text) => gather_alone(alloc, text, firsts),
+        _ => {
+            let _ = gather(alloc, node, firsts)?;
+            Ok(())
+        }
+    }
+}
+
+// Adds the head of a text that stands alone: no letters behind it belong to its head, as behind a blank.
+fn gather_alone(alloc: Global, text: &[char], firsts: &mut Firsts) -> Result<(), AllocError>
+    ensures { OnOk result ((head : List ℕ) → IsUtf8 head → (head_of text.now ≢ []) → head_of text.now ≡ chars head → IsFirst Forward firsts.new head) }
+{
+    let mut letters = Vec::from_slice(alloc, text)?;
+    letters.push(' ')?;
+    let _ = gather_text(alloc, &letters, firsts)?;
+    Ok(())
+}
 
 // Adds the heads with which words of the expression can begin, and says whether a word can be blanks alone, or empty.
 #[cycle(gather)]
@@ -78,10 +107,7 @@ fn gather(alloc: Global, node: &Node, firsts: &mut Firsts) -> Result<bool, Alloc
         Node::UpTo { test, .. } => gather_up_to(alloc, test, firsts),
         Node::Cat { children, .. } => gather_row(alloc, children, firsts),
         Node::Alt { children, .. } => gather_each(alloc, children, firsts),
-        Node::Front { children, .. } => {
-            let _ = gather_row(alloc, children, firsts)?;
-            Ok(true)
-        }
+        Node::Repeat { child, times, .. } => gather_repeat(alloc, child, *times, firsts),
         Node::Plus { child, .. } => gather(alloc, child, firsts),
         Node::Tidy { child, .. } => gather(alloc, child, firsts),
     }
@@ -99,6 +125,23 @@ fn gather_row(alloc: Global, children: &[Node], firsts: &mut Firsts) -> Result<b
         }
     }
     Ok(true)
+}
+
+// The same for so many of the child's words in a row.
+#[cycle(gather)]
+fn gather_repeat(
+    alloc: Global,
+    child: &Node,
+    times: Times,
+    firsts: &mut Firsts,
+) -> Result<bool, AllocError>
+    ensures { IfOk result (λ found. Gathers (so_many times (core_of child.now)) firsts.old firsts.new found) }
+{
+    let passes = gather(alloc, child, firsts)?;
+    match times {
+        Times::Bounded { needed, .. } => Ok(passes | (needed == 0)),
+        Times::Unbounded { .. } => Ok(passes),
+    }
 }
 
 // The same for any one child.
@@ -126,7 +169,7 @@ fn gather_text(alloc: Global, text: &[char], firsts: &mut Firsts) -> Result<bool
     }
 }
 
-// Adds the head of a text with what may stand behind it.
+// Adds the head of a text with what may stand behind it, or its first letter where no more is known of the head.
 fn add_head(alloc: Global, text: &[char], firsts: &mut Firsts) -> Result<(), AllocError>
     requires { BeginsWithLetter text.now }
     ensures { OnOk result (AddsHead text.now firsts.old firsts.new) }
@@ -136,7 +179,10 @@ fn add_head(alloc: Global, text: &[char], firsts: &mut Firsts) -> Result<(), All
             let head = text_of(alloc, head)?;
             firsts.heads.push(head)?;
         }
-        None => firsts.any = true,
+        None => {
+            let letter = text_of(alloc, &text[..1])?;
+            firsts.letters.push(letter)?;
+        }
     }
     Ok(())
 }

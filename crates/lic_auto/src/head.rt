@@ -1,11 +1,11 @@
 //! Heads, by which templates are looked up: the letters of words in front, or else the first letter alone.
 
-ghost use Rattle.std.specs.Prelude.{◌≡◌, ◌≢◌, ◌∷◌, ◌++◌, ℕ, List, [], IfSome, IfNone, reverse};
-ghost use Rattle.std.specs.Str.{chars};
+ghost use Rattle.std.specs.Prelude.{◌≡◌, ◌≢◌, ◌∷◌, ◌++◌, ℕ, List, [], IfSome, IfNone, reverse, take};
+ghost use Rattle.std.specs.Str.{chars, encode_utf8_all};
 ghost use Rattle.lic_words.specs.Words.{blank};
 ghost use Rattle.lic_phrases.specs.TokenTexts.{IsTokenText};
 ghost use Rattle.lic_auto.specs.Directions.{ordered};
-ghost use Rattle.lic_auto.specs.Heads.{head_of, BeginsWithLetter, IsBehindBlanks};
+ghost use Rattle.lic_auto.specs.Heads.{head_of, letter_of, BeginsWithLetter, IsBehindBlanks};
 
 use crate::direction::Direction;
 use lic_kind::is_word;
@@ -61,6 +61,39 @@ pub fn read_head(token: &str, direction: Direction) -> &str
     match direction {
         Direction::Forward => head_of(token),
         Direction::Backward => tail_of(token),
+    }
+}
+
+/// The first letter of a text as it is read in a direction: its first, or its last. An empty text has none.
+pub fn read_letter(text: &str, direction: Direction) -> &str
+    ensures { result.now ≡ letter_of direction text.now }
+{
+    match direction {
+        Direction::Forward => front_letter(text),
+        Direction::Backward => back_letter(text),
+    }
+}
+
+fn front_letter(text: &str) -> &str
+    ensures { result.now ≡ encode_utf8_all (take 1 (chars text.now)) }
+{
+    let mut letters = text.chars();
+    match letters.next() {
+        Some(first) => &text[..first.len_utf8()],
+        None => text,
+    }
+}
+
+fn back_letter(text: &str) -> &str
+    ensures { result.now ≡ encode_utf8_all (take 1 (reverse (chars text.now))) }
+{
+    let mut letters = text.chars();
+    match letters.next_back() {
+        Some(_) => {
+            let front = letters.as_str();
+            &text[front.len()..]
+        }
+        None => text,
     }
 }
 

@@ -1,32 +1,39 @@
 //! Which templates a text can enter, by the head of its first token.
 
-ghost use Rattle.std.specs.Prelude.{◌≡◌, ◌<◌, ◌-◌, ◌↔◌, ℕ, IfOk, OnOk, IsTrue, length, map, slice_index_or, vec_len, List, Some, Contains, string_bytes, []};
+ghost use Rattle.std.specs.Prelude.{◌≡◌, ◌<◌, ◌≤◌, ◌-◌, ◌+◌, ◌↔◌, ℕ, IfOk, OnOk, IsTrue, length, map, slice_index_or, vec_len, List, Some, Contains, string_bytes, []};
 ghost use Rattle.std.specs.HashMap.{get_by_text};
 ghost use Rattle.std.specs.List.{slice_get};
-ghost use Rattle.lic_auto.specs.Listing.{Grows};
+ghost use Rattle.lic_auto.specs.Heads.{letter_of};
+ghost use Rattle.lic_auto.specs.Listing.{Grows, GrowsIf};
 
 use crate::direction::Direction;
 use crate::first::Firsts;
+use crate::head::read_letter;
 use lic_marks::node::Node;
 use std::alloc::{AllocError, Global};
 use std::collections::HashMap;
 
 // The most heads with a list of their own: each list repeats the numbers that any head can begin.
-const MOST_HEADS: usize = 1_024;
+const MOST_HEADS: usize = 4_096;
 
 /// For each head the numbers of the trees that have a word which begins with it.
 #[derive(Debug, Drop)]
 pub struct Index {
+    direction: Direction,
     // where the list of a head stands
     places: HashMap<String, usize>,
     lists: Vec<Vec<usize>>,
-    // the list of each head that has no place
+    // the first letter of the head of each list, as it is read
+    letters: Vec<String>,
+    // the list of each head that has no place, and whose first letter has none
     others: Vec<usize>,
     ghost in_range: { (text : List ℕ) (place : ℕ) → get_by_text places text ≡ Some place → place < vec_len lists },
+    ghost lettered: { vec_len lists ≤ vec_len letters },
+    ghost letter: { (text : List ℕ) (place : ℕ) → get_by_text places text ≡ Some place → slice_index_or (map string_bytes letters.items) place [] ≡ letter_of direction text },
 }
 
 impl Index {
-    ghost use Rattle.lic_auto.specs.Indexes.{IsIndexOf, Adds, listed};
+    ghost use Rattle.lic_auto.specs.Indexes.{IsIndexOf, Adds, listed, place_for};
     ghost use Rattle.lic_auto.specs.Firsts.{IsFirst};
 
     /// An index of trees whose words are read in a direction, each under its place.
@@ -34,8 +41,10 @@ impl Index {
         ensures { IfOk result (λ index. IsIndexOf direction index (map (λ tree. tree.now) trees.now)) }
     {
         let mut index = Index {
+            direction,
             places: HashMap::new(alloc),
             lists: Vec::new(alloc),
+            letters: Vec::new(alloc),
             others: Vec::new(alloc),
         };
         for (number, tree) in trees.iter().enumerate() {
@@ -49,25 +58,37 @@ impl Index {
     pub fn entered_by(&self, head: &str) -> &[usize]
         ensures { result.now ≡ listed self.now head.now }
     {
-        match self.places.get(head) {
-            Some(place) => &self.lists[*place],
+        match self.place_for(head) {
+            Some(place) => &self.lists[place],
             None => &self.others,
         }
     }
 
-    // Adds a number that is greater than all: to the lists of these heads, or to all lists where any head can begin, or where
-    // there would be too many lists.
+    // The place of the list of a head, or else of its first letter.
+    fn place_for(&self, head: &str) -> Option<usize>
+        ensures { result ≡ place_for self.now head.now }
+    {
+        if let Some(place) = self.places.get(head) {
+            return Some(*place);
+        }
+        let letter = read_letter(head, self.direction);
+        self.places.get(letter).copied()
+    }
+
+    // Adds a number that is greater than all: to the lists of these heads and of those that begin with these letters, or to all
+    // lists where any head can begin, or where there would be too many lists.
     fn add(&mut self, alloc: Global, number: usize, firsts: &Firsts) -> Result<(), AllocError>
-        ensures { OnOk result (Adds (IsFirst firsts.now) number self.old self.new) }
+        ensures { OnOk result (Adds (IsFirst self.old.direction firsts.now) number self.old self.new) }
     {
         if firsts.any {
             return self.add_to_all(number);
         }
         let room = MOST_HEADS.saturating_sub(self.lists.len());
-        if firsts.heads.len() > room {
+        if firsts.heads.len().saturating_add(firsts.letters.len()) > room {
             return self.add_to_all(number);
         }
-        self.add_to_each(alloc, number, &firsts.heads)
+        self.add_to_each(alloc, number, &firsts.heads)?;
+        self.add_to_letters(alloc, number, &firsts.letters)
     }
 
     fn add_to_each(
@@ -80,6 +101,20 @@ impl Index {
     {
         for head in heads {
             self.add_to_one(alloc, number, head.as_str())?;
+        }
+        Ok(())
+    }
+
+    fn add_to_letters(
+        &mut self,
+        alloc: Global,
+        number: usize,
+        letters: &[String],
+    ) -> Result<(), AllocError>
+        ensures { OnOk result (Adds (λ text. Contains (map string_bytes letters.now) (letter_of self.old.direction text)) number self.old self.new) }
+    {
+        for letter in letters {
+            self.add_to_letter(alloc, number, letter.as_str())?;
         }
         Ok(())
     }
@@ -99,21 +134,51 @@ impl Index {
         push_once(&mut self.lists[place], number)
     }
 
+    // Adds the number to the list of the letter, and to that of each head which begins with it.
+    fn add_to_letter(
+        &mut self,
+        alloc: Global,
+        number: usize,
+        letter: &str,
+    ) -> Result<(), AllocError>
+        ensures { OnOk result (Adds (λ text. letter_of self.old.direction text ≡ letter.now) number self.old self.new) }
+    {
+        let _ = self.place_of(alloc, letter)?;
+        push_where(&mut self.lists, &self.letters, letter, number)
+    }
+
     // The place of a head's list. A head without one gets a list of its own, of the same numbers.
     fn place_of(&mut self, alloc: Global, head: &str) -> Result<usize, AllocError>
         ensures placed { IfOk result (λ place. get_by_text self.new.places head.now ≡ Some place) }
+        ensures direction { self.new.direction ≡ self.old.direction }
         ensures kept { OnOk result ((text : List ℕ) → listed self.new text ≡ listed self.old text) }
     {
         if let Some(place) = self.places.get(head) {
             return Ok(*place);
         }
         let key = String::from_str(alloc, head)?;
+        let letter = String::from_str(alloc, read_letter(head, self.direction))?;
+        let list = Vec::from_slice(alloc, self.entered_by(head))?;
         let place = self.lists.len();
-        let list = Vec::from_slice(alloc, &self.others)?;
+        put_at(&mut self.letters, place, letter)?;
         self.lists.push(list)?;
         self.places.insert(key, place)?;
         Ok(place)
     }
+}
+
+// Puts the text at a place, in front of which all stay. What stood there and behind it goes: a call that failed may have left
+// one.
+fn put_at(texts: &mut Vec<String>, place: usize, text: String) -> Result<(), AllocError>
+    requires { place ≤ vec_len texts.old }
+    ensures long { place ≤ vec_len texts.new }
+    ensures kept { (k : ℕ) → k < place → slice_index_or (map string_bytes texts.new.items) k [] ≡ slice_index_or (map string_bytes texts.old.items) k [] }
+    ensures last { OnOk result (vec_len texts.new ≡ place + 1) }
+    ensures put { OnOk result (slice_index_or (map string_bytes texts.new.items) place [] ≡ string_bytes text) }
+{
+    texts.truncate(place);
+    texts.push(text)?;
+    Ok(())
 }
 
 fn push_to_each(lists: &mut [Vec<usize>], number: usize) -> Result<(), AllocError>
@@ -125,6 +190,35 @@ fn push_to_each(lists: &mut [Vec<usize>], number: usize) -> Result<(), AllocErro
         push_once(list, number)?;
     }
     Ok(())
+}
+
+// Puts the number into each list whose letter this is.
+fn push_where(
+    lists: &mut [Vec<usize>],
+    letters: &[String],
+    letter: &str,
+    number: usize,
+) -> Result<(), AllocError>
+    requires { length lists.old ≤ length letters.now }
+    ensures { OnOk result ((k : ℕ) → k < length lists.old
+        → GrowsIf (slice_index_or (map string_bytes letters.now) k [] ≡ letter.now) number
+        (slice_index_or (map (λ list. list.items) lists.old) k []) (slice_index_or (map (λ list. list.items) lists.new) k [])) }
+{
+    for k in 0..lists.len() {
+        let begins = letters[k].as_str() == letter;
+        let list = &mut lists[k];
+        push_if(list, begins, number)?;
+    }
+    Ok(())
+}
+
+fn push_if(list: &mut Vec<usize>, holds: bool, number: usize) -> Result<(), AllocError>
+    ensures { OnOk result (GrowsIf (IsTrue holds) number list.old.items list.new.items) }
+{
+    if !holds {
+        return Ok(());
+    }
+    push_once(list, number)
 }
 
 // Puts the number at the end, unless it stands there.

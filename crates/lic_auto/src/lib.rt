@@ -8,6 +8,7 @@ mod direction;
 mod first;
 mod head;
 mod index;
+mod joining;
 pub mod laws;
 pub mod run;
 mod seeking;

@@ -5,7 +5,8 @@ ghost use Rattle.std.specs.Str.{chars};
 ghost use Rattle.lic_words.specs.Letters.{letters_in};
 ghost use Rattle.lic_keys.specs.Rising.{IsRising};
 ghost use Rattle.lic_auto.specs.Choices.{templates_of};
-ghost use Rattle.lic_auto.specs.Seeking.{AllSeek, AreChangedBefore, BeginsAnew, HaveMirrors, IsFoundBefore, TakesTurned};
+ghost use Rattle.lic_auto.specs.Changes.{AreKeptOf};
+ghost use Rattle.lic_auto.specs.Seeking.{AllSeek, AreTurned, BeginsAnew, HaveMirrors, IsFoundAt, IsQuiet, TakesTurned};
 ghost use Rattle.lic_auto.specs.declared.direction.Direction.TheVariants.{Backward};
 
 use crate::chosen::Chosen;
@@ -28,27 +29,58 @@ pub fn seekers_of<'s>(alloc: Global, chosen: &Chosen<'s>) -> Result<Vec<Seeker<'
     Ok(seekers)
 }
 
-/// All begin anew.
-pub fn begin_anew(seekers: &mut [Seeker<'_>])
-    ensures { AreChangedBefore BeginsAnew (length seekers.old) seekers.old seekers.new }
+/// Writes the place of each seeker, in rising order.
+pub fn name_all(places: &mut [usize])
+    ensures rising { IsRising places.new (length places.new) }
+    ensures all { (k : ℕ) → k < length places.new → Contains places.new k }
 {
-    for place in 0..seekers.len() {
-        let seeker = &mut seekers[place];
+    for place in 0..places.len() {
+        places[place] = place;
+    }
+}
+
+/// Those at these places begin anew.
+pub fn begin_anew(seekers: &mut [Seeker<'_>], places: &[usize])
+    requires { IsRising places.now (length seekers.old) }
+    ensures { AreTurned BeginsAnew places.now seekers.old seekers.new }
+{
+    for place in places {
+        let seeker = &mut seekers[*place];
         seeker.reset();
     }
 }
 
-/// All take a token from its end. Those are entered there that stand at these places.
-pub fn take_turned(seekers: &mut [Seeker<'_>], entered: &[usize], token: &str)
-    requires rising { IsRising entered.now (length seekers.old) }
+/// Those at these places take a token from its end, and are entered there where their places are among `entered`. Writes the
+/// places of those that are not dead then, and gives how many they are.
+pub fn take_turned(
+    seekers: &mut [Seeker<'_>],
+    places: &[usize],
+    entered: &[usize],
+    token: &str,
+    kept: &mut [usize],
+) -> usize
+    requires rising { IsRising places.now (length seekers.old) }
+    requires room { length places.now ≤ length kept.old }
+    requires entered { IsRising entered.now (length seekers.old) }
     requires letters { 0 < letters_in (chars token.now) }
-    ensures { AreChangedBefore (TakesTurned entered.now (chars token.now)) (length seekers.old) seekers.old seekers.new }
+    ensures count { result ≤ length kept.new }
+    ensures room { length kept.new ≡ length kept.old }
+    ensures rising { IsRising (take result kept.new) (length seekers.new) }
+    ensures taken { AreTurned (TakesTurned entered.now (chars token.now)) places.now seekers.old seekers.new }
+    ensures kept { AreKeptOf IsQuiet places.now (take result kept.new) seekers.new }
 {
-    for place in 0..seekers.len() {
+    let mut count = 0;
+    for place in places {
+        let place = *place;
         let may_begin = has(entered, place);
         let seeker = &mut seekers[place];
         seeker.push_turned(token, may_begin);
+        if !seeker.is_dead() {
+            kept[count] = place;
+            count += 1;
+        }
     }
+    count
 }
 
 // Whether a list of rising numbers may have this one.
@@ -62,21 +94,27 @@ fn has(numbers: &[usize], number: usize) -> bool
     }
 }
 
-/// Puts the numbers of the templates that describe some end of the tokens to the front, in rising order, and gives how many
-/// they are.
-pub fn gather_live(chosen: &Chosen<'_>, seekers: &[Seeker<'_>], live: &mut [usize]) -> usize
+/// Of the templates at these places, puts the numbers of those that describe some end of the tokens to the front, in rising
+/// order, and gives how many they are.
+pub fn gather_live(
+    chosen: &Chosen<'_>,
+    seekers: &[Seeker<'_>],
+    places: &[usize],
+    live: &mut [usize],
+) -> usize
     requires count { length seekers.now ≡ length (templates_of chosen.now) }
+    requires rising { IsRising places.now (length seekers.now) }
     requires room { length live.old ≡ length (templates_of chosen.now) }
     ensures room { length live.new ≡ length live.old }
     ensures count { result ≤ length live.new }
     ensures rising { IsRising (take result live.new) (length chosen.now.set.now) }
     ensures exactly { (ts : List (List ℕ)) → AllSeek (templates_of chosen.now) seekers.now ts
-        → (n : ℕ) → Contains (take result live.new) n ↔ IsFoundBefore chosen.now (length seekers.now) ts n }
+        → (n : ℕ) → Contains (take result live.new) n ↔ IsFoundAt chosen.now places.now ts n }
 {
     let mut count = 0;
-    for place in 0..seekers.len() {
-        if seekers[place].accepts() {
-            live[count] = chosen.number(place);
+    for place in places {
+        if seekers[*place].accepts() {
+            live[count] = chosen.number(*place);
             count += 1;
         }
     }

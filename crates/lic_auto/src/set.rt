@@ -34,7 +34,7 @@ pub enum BuildFault {
     /// More than 4,096 templates.
     #[error("B2: more than 4096 templates")]
     TooMany,
-    /// A growth was refused.
+    /// Memory ran out.
     #[error("B3: out of memory")]
     Memory,
 }
@@ -87,7 +87,7 @@ impl Set {
 
     /// Makes a set of templates, each under its identifier, with what the search needs to look for all of them at once.
     ///
-    /// More than 4,096 templates, two of one identifier, and want of memory are refused, in this order (this project's
+    /// More than 4,096 templates, two of one identifier, and lack of memory are refused, in this order (this project's
     /// profile).
     pub fn build(alloc: Global, mut templates: Vec<(String, Template)>) -> Result<Set, BuildFault>
         ensures holds { IfOk result (λ set. IsSetOf (pairs_known templates.items) set) }
@@ -96,7 +96,7 @@ impl Set {
         ensures twice { (id : _) → IsErrOf result (BuildFault.Twice id)
             → (length templates.items ≤ 4096) × StandsTwice (string_bytes id) (pairs_known templates.items) }
 
-        // Want of memory is told only where nothing else stands against a set.
+        // Lack of memory is reported only where nothing else stands against a set.
         ensures memory { IsErrOf result BuildFault.Memory → (set : _) × IsSetOf (pairs_known templates.items) set }
     {
         if templates.len() > MOST_TEMPLATES {

@@ -1,6 +1,5 @@
-use Rattle.std.proofs.Common.{◌≡◌, true, map, length, vec_len, sym, ap, ◌∙◌, subst, arith}
+use Rattle.std.proofs.Common.{map, ap, ◌∙◌, subst, arith}
 use Rattle.std.specs.List.{list_all}
-use Rattle.std.specs.Vec.{with_items}
 use Rattle.std.proofs.lemmas.List.{with_items_is}
 use Rattle.std.specs.Result.{IfOk}
 use Rattle.lic_marks.specs.Cores.{WordsOf, cat_all}

@@ -2,9 +2,9 @@ use Rattle.std.proofs.Common.{◌≡◌, ◌+◌, false, [], ◌∷◌, drop, ma
 use Rattle.std.proofs.lemmas.List.{drop_more, drop_all}
 use Rattle.std.proofs.lemmas.Result.{IfOk-weaker}
 use Rattle.lic_marks.specs.Nodes.{core_of}
-use Rattle.lic_marks.proofs.Nodes.{core_of-Letters, core_of-One, core_of-Copies, core_of-UpTo, core_of-Cat, core_of-Alt, core_of-Front, core_of-Plus, core_of-Tidy}
+use Rattle.lic_marks.proofs.Nodes.{core_of-Letters, core_of-One, core_of-Copies, core_of-UpTo, core_of-Cat, core_of-Alt, core_of-Repeat, core_of-Plus, core_of-Tidy}
 use Rattle.lic_auto.specs.Firsts.{Gathers}
-use Rattle.lic_auto.proofs.Gathering.{RowSoFar, EachSoFar, RowSoFar-more, RowSoFar-stop, RowSoFar-end, EachSoFar-more, EachSoFar-end, Gathers-cat, Gathers-front, Gathers-plus, Gathers-tidy}
+use Rattle.lic_auto.proofs.Gathering.{RowSoFar, EachSoFar, RowSoFar-more, RowSoFar-stop, RowSoFar-end, EachSoFar-more, EachSoFar-end, Gathers-cat, Gathers-bounded, Gathers-unbounded, Gathers-plus, Gathers-tidy}
 use Rattle.lic_auto.proofs.first.+gather.Goals as goal
 
 pub gather-returns-in-Letters : goal.gather-returns-in-Letters
@@ -25,9 +25,16 @@ gather-returns-in-Cat t c = rw (c.in-Cat.is, core_of-Cat, ← c.deref-in-Cat.ens
 pub gather-returns-in-Alt : goal.gather-returns-in-Alt
 gather-returns-in-Alt t c = rw (c.in-Alt.is, core_of-Alt, ← c.deref-in-Alt.ensures.value) c.gather_each.ensures
 
-pub gather-returns-in_ok-gather_row-in-Front : goal.gather-returns-in_ok-gather_row-in-Front
-gather-returns-in_ok-gather_row-in-Front t c =
-    rw (c.in-Front.is, core_of-Front, ← c.deref-in-Front.ensures.value) (Gathers-front _ _ _ _ c.in_ok-gather_row-in-Front.ensures)
+pub gather-returns-in-Repeat : goal.gather-returns-in-Repeat
+gather-returns-in-Repeat t c =
+    let same : c.deref-in-Repeat.result.now ≡ c.in-Repeat.child.value = search rules in
+    rw (c.in-Repeat.is, core_of-Repeat, ← same) c.gather_repeat.ensures
+
+pub gather_repeat-returns-in-Bounded : goal.gather_repeat-returns-in-Bounded
+gather_repeat-returns-in-Bounded t c = rw c.in-Bounded.is (Gathers-bounded _ _ _ _ c.in_ok-passes.ensures c.in-Bounded.needed c.in-Bounded.more)
+
+pub gather_repeat-returns-in-Unbounded : goal.gather_repeat-returns-in-Unbounded
+gather_repeat-returns-in-Unbounded t c = rw c.in-Unbounded.is (Gathers-unbounded _ _ _ _ c.in_ok-passes.ensures c.in-Unbounded.before)
 
 pub gather-returns-in-Plus : goal.gather-returns-in-Plus
 gather-returns-in-Plus t c =

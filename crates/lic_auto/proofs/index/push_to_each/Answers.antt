@@ -15,6 +15,6 @@ loop-k-preserved c =
     let grows : Grows c.args.number (get_or (items_of old) k []) c.push_once.new.list.items =
     subst (λ xs. Grows c.args.number xs c.push_once.new.list.items) here c.in_ok-push_once.ensures in
     record {
-      done = done_more c.args.number k old now c.push_once.new.list within c.loop-k.invariant.done grows;
-      rest = rest_more c.args.number k old now c.push_once.new.list within c.loop-k.invariant.rest;
+      done = done_more (λ j. Grows c.args.number) k old now c.push_once.new.list within c.loop-k.invariant.done grows;
+      rest = rest_more (λ j. Grows c.args.number) k old now c.push_once.new.list within c.loop-k.invariant.rest;
     }

@@ -3,9 +3,10 @@ use Rattle.std.specs.List.{slice_get, Contains}
 use Rattle.std.proofs.Math.ListN.{set}
 use Rattle.std.proofs.lemmas.List.{take_more}
 use Rattle.std.proofs.lemmas.Option.{slice_get-get_or}
+use Rattle.lic_marks.specs.Runs.{tree_of}
 use Rattle.lic_auto.specs.Walks.{AreChanged, Resets}
 use Rattle.lic_keys.proofs.RisingLemmas.{fresh_before}
-use Rattle.lic_auto.proofs.Changing.{AreChanged-more}
+use Rattle.lic_auto.proofs.Changing.{Changed-more}
 use Rattle.lic_auto.proofs.walk.reset_each.Goals as goal
 
 pub loop-number-preserved : goal.loop-number-preserved
@@ -20,5 +21,5 @@ loop-number-preserved c =
     let run = get_or runs n c.index-runs-number.result in
     let here : slice_get runs n ≡ Some run = slice_get-get_or runs n c.index-runs-number.result within in
     subst (λ s. AreChanged Resets s c.args.runs.now (set runs n c.reset.new.self)) (sym (take_more numbers i 0 inside))
-    (AreChanged-more Resets (take i numbers) n c.args.runs.now runs run c.reset.new.self
+    (Changed-more tree_of (λ _. Resets) (take i numbers) n c.args.runs.now runs run c.reset.new.self
     c.loop-number.invariant fresh here c.reset.ensures.tree c.reset.ensures.stands)

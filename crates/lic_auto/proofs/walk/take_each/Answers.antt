@@ -4,10 +4,11 @@ use Rattle.std.specs.Str.{chars}
 use Rattle.std.proofs.Math.ListN.{set}
 use Rattle.std.proofs.lemmas.List.{take_more, take_more_set, length-set, get_or-set_other}
 use Rattle.std.proofs.lemmas.Option.{slice_get-get_or}
+use Rattle.lic_marks.specs.Runs.{tree_of}
 use Rattle.lic_keys.specs.Rising.{IsRising}
 use Rattle.lic_auto.specs.Walks.{AreChanged, AreKept, Takes, IsForGood}
 use Rattle.lic_keys.proofs.RisingLemmas.{fresh_before, less_before, IsRising-push, IsRising-more}
-use Rattle.lic_auto.proofs.Changing.{AreChanged-more, AreKept-kept, AreKept-dropped}
+use Rattle.lic_auto.proofs.Changing.{Changed-more, Kept-kept, Kept-dropped}
 use Rattle.lic_auto.proofs.walk.take_each.Goals as goal
 use Rattle.lic_auto.proofs.walk.take_each.Goals.{then-not-is_dead, else-not-is_dead}
 
@@ -31,7 +32,7 @@ loop-i-preserved c =
     let size : length (set runs n b) ≡ length runs = length-set runs n b in
     let taken : AreChanged (Takes (chars c.args.token.now)) (take (i + 1) old) c.args.runs.now (set runs n b) =
     subst (λ s. AreChanged (Takes (chars c.args.token.now)) s c.args.runs.now (set runs n b)) (sym more)
-    (AreChanged-more (Takes (chars c.args.token.now)) (take i old) n c.args.runs.now runs a b invariant.taken fresh here c.push.ensures.tree c.push.ensures.stands) in
+    (Changed-more tree_of (λ _. Takes (chars c.args.token.now)) (take i old) n c.args.runs.now runs a b invariant.taken fresh here c.push.ensures.tree c.push.ensures.stands) in
     elim c.if-not-is_dead.branch [
       | then-not-is_dead w ↦
           let room : kept < length now = omega (arith, invariant.count, inside, c.loop-i.auto) in
@@ -47,7 +48,7 @@ loop-i-preserved c =
                 ap (λ xs. get_or xs j 0) w.numbers-is ∙ get_or-set_other now kept j n 0 apart ∙ invariant.rest j (omega arith);
             taken = taken;
             kept = subst (λ xs. AreKept (take (i + 1) old) xs (set runs n b)) (sym front)
-                (subst (λ s. AreKept s (take kept now ++ n ∷ []) (set runs n b)) (sym more) (AreKept-kept (take i old) (take kept now) n runs b invariant.kept fresh));
+                (subst (λ s. AreKept s (take kept now ++ n ∷ []) (set runs n b)) (sym more) (Kept-kept IsForGood (take i old) (take kept now) n runs b invariant.kept fresh));
           }
       | else-not-is_dead w ↦
           let dead : c.is_dead.result ≡ true = search rules in
@@ -59,6 +60,6 @@ loop-i-preserved c =
             rest = λ j h. ap (λ xs. get_or xs j 0) w.numbers-is ∙ invariant.rest j (omega arith);
             taken = taken;
             kept = subst (λ xs. AreKept (take (i + 1) old) xs (set runs n b)) (sym same)
-                (subst (λ s. AreKept s (take kept now) (set runs n b)) (sym more) (AreKept-dropped (take i old) (take kept now) n runs b invariant.kept fresh within good));
+                (subst (λ s. AreKept s (take kept now) (set runs n b)) (sym more) (Kept-dropped IsForGood (take i old) (take kept now) n runs b invariant.kept fresh within good));
           }
     ]

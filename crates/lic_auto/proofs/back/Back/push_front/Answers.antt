@@ -1,38 +1,101 @@
-use Rattle.std.proofs.Common.{◌≡◌, ◌↔◌, ◌<◌, ◌≤◌, ◌++◌, ◌∷◌, [], ℕ, Some, length, take, reverse, get_or, sym, ap, ◌∙◌, subst, arith, chars}
+use Rattle.std.proofs.Common.{◌≡◌, ◌↔◌, ◌⊎◌, ◌++◌, ◌∷◌, [], ℕ, Some, length, take, reverse, sym, ap, ◌∙◌, subst, arith, chars}
+use Rattle.std.specs.Vec.{with_items}
 use Rattle.std.specs.List.{slice_get, Contains}
 use Rattle.std.proofs.lemmas.List.{with_items_is}
 use Rattle.lic_words.specs.Mirrors.{mirrored, turned}
 use Rattle.lic_marks.specs.Seeks.{NoneBegins}
 use Rattle.lic_keys.specs.Rising.{IsRising}
+use Rattle.lic_keys.proofs.RisingLemmas.{length-rising}
 use Rattle.lic_words.specs.Describing.{IsDescribed}
 use Rattle.lic_auto.specs.Sets.{Known, words_of}
 use Rattle.lic_auto.specs.Backs.{IsLive}
 use Rattle.lic_auto.specs.Choices.{templates_of}
 use Rattle.lic_auto.specs.Directions.{read, ordered}
-use Rattle.lic_auto.specs.Seeking.{AllSeek, HaveMirrors, TakesTurned}
+use Rattle.lic_auto.specs.Seeking.{AllSeek, AreQuietBut, HaveMirrors}
 use Rattle.lic_auto.proofs.Beginning.{BeginsWithLetter-token}
 use Rattle.lic_auto.proofs.Ends.{turned-cons}
 use Rattle.lic_auto.proofs.PickedLemmas.{length-picked}
-use Rattle.lic_auto.proofs.TurnedSeekers.{HaveMirrors-changed, AllSeek-taken}
-use Rattle.lic_auto.proofs.Living.{has_letters, live-found, found-live, Found}
+use Rattle.lic_auto.proofs.Places.{below_bound}
+use Rattle.lic_auto.proofs.TurnedSeekers.{HaveMirrors-changed, AllSeek-taken, AreQuietBut-kept}
+use Rattle.lic_auto.proofs.Living.{has_letters, live-found, found-live}
 use Rattle.lic_auto.proofs.back.Back.push_front.Goals as goal
 
-pub take_turned-requires-clause-letters : goal.take_turned-requires-clause-letters
-take_turned-requires-clause-letters c = has_letters (chars c.args.text.now) (BeginsWithLetter-token c.args.text.now c.utf8.text c.requires)
+pub join_rising-count-requires : goal.join_rising-count-requires
+join_rising-count-requires c =
+    let self = c.args.self.now in
+    let size : length c.deref_mut.result.now ≡ length (templates_of self.chosen) = omega (arith, c.deref_mut.ensures.len, self.turns_room) in
+    record {
+      some = subst (λ xs. IsRising (take self.marked_count xs) (length c.deref_mut.result.now)) (sym c.deref.ensures.value)
+          (subst (IsRising (take self.marked_count self.marked.items)) (sym size) self.marked_rising);
+      others = subst (IsRising c.entered_by-entered.result.now) (sym size) c.entered_by-entered.ensures.rising;
+    }
+
+pub take_turned-self-requires : goal.take_turned-self-requires
+take_turned-self-requires c =
+    let self = c.args.self.now in
+    let all = length (templates_of self.chosen) in
+    let count = c.join_rising-count.result in
+    let joined = c.join_rising-count.new.joined in
+    let turns = c.deref-2.ensures.value ∙ with_items_is self.turns joined (omega (arith, c.join_rising-count.ensures.room, c.deref_mut.ensures.len)) in
+    let size : length joined ≡ all = omega (arith, c.join_rising-count.ensures.room, c.deref_mut.ensures.len, self.turns_room) in
+    let seekers : length c.deref_mut-2.result.now ≡ all = omega (arith, c.deref_mut-2.ensures.len, self.count) in
+    let up : IsRising (take count c.deref-2.result.now) all =
+    subst (λ xs. IsRising (take count xs) all) (sym turns) (subst (IsRising (take count joined)) size c.join_rising-count.ensures.rising) in
+    record {
+      rising = subst (IsRising (take count c.deref-2.result.now)) (sym seekers) up;
+      room = omega (arith, length-rising (take count c.deref-2.result.now) all up, c.deref_mut-3.ensures.len, self.marked_room);
+      entered = subst (IsRising c.entered_by-entered.result.now) (sym seekers) c.entered_by-entered.ensures.rising;
+      letters = has_letters (chars c.args.text.now) (BeginsWithLetter-token c.args.text.now c.utf8.text c.requires);
+    }
+
+pub gather_live-self-requires : goal.gather_live-self-requires
+gather_live-self-requires c =
+    let self = c.args.self.now in
+    let all = length (templates_of self.chosen) in
+    let kept = c.take_turned-self.new.kept in
+    let items = with_items_is self.seekers c.take_turned-self.new.seekers (omega (arith, c.take_turned-self.auto, c.deref_mut-2.ensures.len)) in
+    let marked = with_items_is self.marked kept (omega (arith, c.take_turned-self.ensures.room, c.deref_mut-3.ensures.len)) in
+    let seekers : length c.deref-4.result.now ≡ all = omega (arith, c.deref-4.ensures.len, self.count) in
+    let size : length c.take_turned-self.new.seekers ≡ all = omega (arith, c.take_turned-self.auto, c.deref_mut-2.ensures.len, self.count) in
+    record {
+      count = seekers;
+      rising = subst (IsRising (take c.take_turned-self.result c.deref-3.result.now)) (size ∙ sym seekers)
+          (subst (λ xs. IsRising (take c.take_turned-self.result xs) (length c.take_turned-self.new.seekers)) (sym (c.deref-3.ensures.value ∙ marked)) c.take_turned-self.ensures.rising);
+      room = omega (arith, c.deref_mut-4.ensures.len, self.live_room);
+    }
 
 pub invariant_of-self : goal.invariant_of-self
 invariant_of-self c =
     let self = c.args.self.now in
     let set = templates_of self.chosen in
-    let items = with_items_is self.seekers c.take_turned.new.seekers (omega (arith, c.take_turned.auto, c.deref_mut.ensures.len)) in
-    let live = with_items_is self.live c.gather_live-self.new.live (omega (arith, c.gather_live-self.auto, c.deref_mut-2.ensures.len)) in
-    let before : HaveMirrors set c.deref_mut.result.now = subst (HaveMirrors set) (sym c.deref_mut.ensures.value) self.mirrors in
+    let kept = c.take_turned-self.new.kept in
+    let count = c.take_turned-self.result in
+    let places = take c.join_rising-count.result c.deref-2.result.now in
+    let turns = c.deref-2.ensures.value ∙ with_items_is self.turns c.join_rising-count.new.joined (omega (arith, c.join_rising-count.ensures.room, c.deref_mut.ensures.len)) in
+    let items = with_items_is self.seekers c.take_turned-self.new.seekers (omega (arith, c.take_turned-self.auto, c.deref_mut-2.ensures.len)) in
+    let marked = with_items_is self.marked kept (omega (arith, c.take_turned-self.ensures.room, c.deref_mut-3.ensures.len)) in
+    let live = with_items_is self.live c.gather_live-self.new.live (omega (arith, c.gather_live-self.ensures.room, c.deref_mut-4.ensures.len)) in
+    let before : HaveMirrors set c.deref_mut-2.result.now = subst (HaveMirrors set) (sym c.deref_mut-2.ensures.value) self.mirrors in
+    let quiet : AreQuietBut (take self.marked_count c.deref.result.now) c.deref_mut-2.result.now =
+    subst (λ xs. AreQuietBut (take self.marked_count xs) c.deref_mut-2.result.now) (sym c.deref.ensures.value)
+    (subst (AreQuietBut (take self.marked_count self.marked.items)) (sym c.deref_mut-2.ensures.value) self.quiet) in
+    let both : (k : ℕ) → Contains places k ↔ (Contains (take self.marked_count c.deref.result.now) k ⊎ Contains c.entered_by-entered.result.now k) =
+    λ k. subst (λ xs. Contains (take c.join_rising-count.result xs) k ↔ (Contains (take self.marked_count c.deref.result.now) k ⊎ Contains c.entered_by-entered.result.now k)) (sym turns)
+    (c.join_rising-count.ensures.both k) in
+    let size : length c.take_turned-self.new.seekers ≡ length set = omega (arith, c.take_turned-self.auto, c.deref_mut-2.ensures.len, self.count) in
     record {
       backward = self.backward;
       count = self.count;
-      mirrors = subst (HaveMirrors set) (sym items) (HaveMirrors-changed set _ _ _ _ c.take_turned.ensures before);
+      mirrors = subst (HaveMirrors set) (sym items) (HaveMirrors-changed set _ _ _ places c.take_turned-self.ensures.taken before);
+      marked_room = self.marked_room;
+      marked_within = omega (arith, c.take_turned-self.ensures.count, c.take_turned-self.ensures.room, c.deref_mut-3.ensures.len);
+      marked_rising = subst (λ xs. IsRising (take count xs) (length set)) (sym marked) (subst (IsRising (take count kept)) size c.take_turned-self.ensures.rising);
+      quiet = subst (λ xs. AreQuietBut (take count xs) (with_items self.seekers c.take_turned-self.new.seekers).items) (sym marked) (subst (AreQuietBut (take count kept)) (sym items)
+          (AreQuietBut-kept set _ _ (take self.marked_count c.deref.result.now) c.entered_by-entered.result.now places (chars c.args.text.now) quiet c.take_turned-self.ensures.taken both
+          (take count kept) c.take_turned-self.ensures.kept));
+      turns_room = self.turns_room;
       live_room = self.live_room;
-      live_within = omega (arith, c.gather_live-self.ensures.count, c.gather_live-self.auto, c.deref_mut-2.ensures.len);
+      live_within = omega (arith, c.gather_live-self.ensures.count, c.gather_live-self.ensures.room, c.deref_mut-4.ensures.len);
       live_rising = subst (λ xs. IsRising (take c.gather_live-self.result xs) (length self.chosen.set.now)) (sym live) c.gather_live-self.ensures.rising;
     }
 
@@ -40,27 +103,46 @@ pub returns-clause-stands : goal.returns-clause-stands
 returns-clause-stands c = λ ts s.
     let self = c.args.self.now in
     let set = templates_of self.chosen in
+    let known = self.chosen.set.now in
     let numbers = self.chosen.numbers.items in
     let token = chars c.args.text.now in
-    let items = with_items_is self.seekers c.take_turned.new.seekers (omega (arith, c.take_turned.auto, c.deref_mut.ensures.len)) in
-    let live = with_items_is self.live c.gather_live-self.new.live (omega (arith, c.gather_live-self.auto, c.deref_mut-2.ensures.len)) in
-    let before : AllSeek set c.deref_mut.result.now (turned ts) = subst (λ xs. AllSeek set xs (turned ts)) (sym c.deref_mut.ensures.value) s.seekers in
-    let rest : (k : ℕ) (known : Known) → slice_get set k ≡ Some known → (Contains c.entered_by-entered.result.now k → ⊥) → NoneBegins (mirrored (words_of known)) (reverse token) =
-    λ k known is out more described.
-    c.entered_by-entered.ensures.rest k known is out more
-    (subst (λ d. IsDescribed (read d (words_of known)) (ordered d token ∷ more)) (sym self.backward) described) in
-    let taken : AllSeek set c.take_turned.new.seekers (turned ts ++ reverse token ∷ []) =
-    AllSeek-taken set _ _ _ (omega arith) c.entered_by-entered.result.now token (turned ts) c.take_turned.ensures rest before in
-    let after : AllSeek set c.take_turned.new.seekers (turned (token ∷ ts)) = subst (AllSeek set c.take_turned.new.seekers) (sym (turned-cons token ts)) taken in
-    let size : length c.deref.result.now ≡ length numbers =
-    omega (arith, c.deref.ensures.len, self.count, length-picked self.chosen.set.now numbers self.chosen.rising.below) in
-    let seen : AllSeek set c.deref.result.now (turned (token ∷ ts)) = subst (λ xs. AllSeek set xs (turned (token ∷ ts))) (sym (c.deref.ensures.value ∙ items)) after in
+    let kept = c.take_turned-self.new.kept in
+    let count = c.take_turned-self.result in
+    let entered = c.entered_by-entered.result.now in
+    let places = take c.join_rising-count.result c.deref-2.result.now in
+    let before_marked = take self.marked_count c.deref.result.now in
+    let turns = c.deref-2.ensures.value ∙ with_items_is self.turns c.join_rising-count.new.joined (omega (arith, c.join_rising-count.ensures.room, c.deref_mut.ensures.len)) in
+    let items = with_items_is self.seekers c.take_turned-self.new.seekers (omega (arith, c.take_turned-self.auto, c.deref_mut-2.ensures.len)) in
+    let marked = with_items_is self.marked kept (omega (arith, c.take_turned-self.ensures.room, c.deref_mut-3.ensures.len)) in
+    let live = with_items_is self.live c.gather_live-self.new.live (omega (arith, c.gather_live-self.ensures.room, c.deref_mut-4.ensures.len)) in
+    let before : AllSeek set c.deref_mut-2.result.now (turned ts) = subst (λ xs. AllSeek set xs (turned ts)) (sym c.deref_mut-2.ensures.value) s.seekers in
+    let quiet : AreQuietBut before_marked c.deref_mut-2.result.now =
+    subst (λ xs. AreQuietBut (take self.marked_count xs) c.deref_mut-2.result.now) (sym c.deref.ensures.value)
+    (subst (AreQuietBut (take self.marked_count self.marked.items)) (sym c.deref_mut-2.ensures.value) self.quiet) in
+    let both : (k : ℕ) → Contains places k ↔ (Contains before_marked k ⊎ Contains entered k) =
+    λ k. subst (λ xs. Contains (take c.join_rising-count.result xs) k ↔ (Contains before_marked k ⊎ Contains entered k)) (sym turns) (c.join_rising-count.ensures.both k) in
+    let rest : (k : ℕ) (one : Known) → slice_get set k ≡ Some one → (Contains entered k → ⊥) → NoneBegins (mirrored (words_of one)) (reverse token) =
+    λ k one is out more described.
+    c.entered_by-entered.ensures.rest k one is out more
+    (subst (λ d. IsDescribed (read d (words_of one)) (ordered d token ∷ more)) (sym self.backward) described) in
+    let taken : AllSeek set c.take_turned-self.new.seekers (turned ts ++ reverse token ∷ []) =
+    AllSeek-taken set _ _ before_marked entered places token quiet c.take_turned-self.ensures.taken both (turned ts) rest before in
+    let after : AllSeek set c.take_turned-self.new.seekers (turned (token ∷ ts)) = subst (AllSeek set c.take_turned-self.new.seekers) (sym (turned-cons token ts)) taken in
+    let calm : AreQuietBut (take count kept) c.take_turned-self.new.seekers =
+    AreQuietBut-kept set _ _ before_marked entered places token quiet c.take_turned-self.ensures.taken both (take count kept) c.take_turned-self.ensures.kept in
+    let size : length set ≡ length numbers = length-picked known numbers self.chosen.rising.below in
+    let seekers : length c.take_turned-self.new.seekers ≡ length set = omega (arith, c.take_turned-self.auto, c.deref_mut-2.ensures.len, self.count) in
+    let seen : AllSeek set c.deref-4.result.now (turned (token ∷ ts)) = subst (λ xs. AllSeek set xs (turned (token ∷ ts))) (sym (c.deref-4.ensures.value ∙ items)) after in
+    let at : take count c.deref-3.result.now ≡ take count kept = ap (take count) (c.deref-3.ensures.value ∙ marked) in
+    let up : IsRising (take count kept) (length numbers) = subst (IsRising (take count kept)) (seekers ∙ size) c.take_turned-self.ensures.rising in
+    let found = λ (k : ℕ). c.gather_live-self.ensures.exactly (turned (token ∷ ts)) seen k in
     record {
       seekers = subst (λ xs. AllSeek set xs (turned (token ∷ ts))) (sym items) after;
-      live = λ k. subst (λ xs. Contains (take c.gather_live-self.result xs) k ↔ (Contains numbers k × IsLive self.chosen.set.now (token ∷ ts) k)) (sym live) (
-        λ h. live-found self.chosen.set.now numbers self.chosen.rising (token ∷ ts) k
-            (subst (λ n. Found self.chosen.set.now numbers n (turned (token ∷ ts)) k) size ((c.gather_live-self.ensures.exactly (turned (token ∷ ts)) seen k).0 h)),
-        λ h. (c.gather_live-self.ensures.exactly (turned (token ∷ ts)) seen k).1
-            (subst (λ n. Found self.chosen.set.now numbers n (turned (token ∷ ts)) k) (sym size) (found-live self.chosen.set.now numbers self.chosen.rising (token ∷ ts) k h)),
+      live = λ k. subst (λ xs. Contains (take c.gather_live-self.result xs) k ↔ (Contains numbers k × IsLive known (token ∷ ts) k)) (sym live) (
+        λ h. live-found known numbers self.chosen.rising (take count c.deref-3.result.now) (token ∷ ts) k
+            (λ p among. below_bound (take count kept) (length numbers) p up (subst (λ xs. Contains xs p) at among)) ((found k).0 h),
+        λ h. (found k).1
+            (found-live known numbers self.chosen.rising (take count c.deref-3.result.now) (token ∷ ts) k c.take_turned-self.new.seekers (sym seekers)
+            (subst (λ xs. AreQuietBut xs c.take_turned-self.new.seekers) (sym at) calm) after h),
       );
     }

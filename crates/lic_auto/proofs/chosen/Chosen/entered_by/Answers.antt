@@ -1,6 +1,5 @@
 use Rattle.std.proofs.Common.{◌∷◌, map, sym, ap, ◌∙◌, subst}
 use Rattle.std.specs.List.{Contains}
-use Rattle.std.specs.Str.{chars}
 use Rattle.std.proofs.Math.Logic.{∥∥₁_elim}
 use mathlib.Core.HLevel.{⊥_prop}
 use Rattle.lic_words.specs.Describing.{IsDescribed}
@@ -8,11 +7,11 @@ use Rattle.lic_marks.specs.Cores.{WordsOf}
 use Rattle.lic_marks.specs.Nodes.{core_of}
 use Rattle.lic_auto.specs.Choices.{templates_of}
 use Rattle.lic_auto.specs.Heads.{head_of}
-use Rattle.lic_auto.specs.Beginnings.{Begins}
-use Rattle.lic_auto.specs.Directions.{read, ordered}
+use Rattle.lic_auto.specs.Beginnings.{HasHead}
+use Rattle.lic_auto.specs.Directions.{read}
 use Rattle.lic_auto.specs.Sets.{words_of}
 use Rattle.lic_auto.proofs.Changing.{slice_get-some}
-use Rattle.lic_auto.proofs.Beginning.{Begins-described, BeginsWithLetter-read}
+use Rattle.lic_auto.proofs.Beginning.{HasHead-described, BeginsWithLetter-read}
 use Rattle.lic_auto.proofs.chosen.Chosen.entered_by.Goals as goal
 
 pub returns-clause-rest : goal.returns-clause-rest
@@ -25,6 +24,6 @@ returns-clause-rest c = λ k known is gone more described.
     ∥∥₁_elim (self.indexed.trees.words k known tree is there) ⊥_prop
     (λ words. self.indexed.index.rest c.read_head.result.now k tree c.read_head.utf8 there
     (λ h. gone (subst (λ xs. Contains xs k) (sym c.entered_by.ensures) h))
-    (subst (Begins (WordsOf (core_of tree))) (ap head_of (sym text_is) ∙ sym c.read_head.ensures)
-    (Begins-described (core_of tree) (read d (words_of known)) first letters more words letter
+    (subst (HasHead (WordsOf (core_of tree))) (ap head_of (sym text_is) ∙ sym c.read_head.ensures)
+    (HasHead-described (core_of tree) (read d (words_of known)) first letters more words letter
     (subst (λ t. IsDescribed (read d (words_of known)) (t ∷ more)) text_is described))))

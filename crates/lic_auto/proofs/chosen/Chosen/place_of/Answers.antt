@@ -1,5 +1,4 @@
 use Rattle.std.proofs.Common.{length, Err, subst}
-use Rattle.std.specs.List.{Contains}
 use Rattle.std.specs.List.Sorted.{IsBinarySearchResult}
 use Rattle.std.specs.Ordering.{nat_cmp}
 use Rattle.lic_auto.proofs.Places.{search_finds}

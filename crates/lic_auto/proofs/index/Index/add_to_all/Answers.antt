@@ -15,4 +15,4 @@ returns c =
     λ k h. subst (λ xs. Grows number (get_or (items_of old.lists.items) k []) (get_or (items_of xs) k [])) (sym is)
     (subst (λ xs. Grows number (get_or (items_of xs) k []) (get_or (items_of c.push_to_each.new.lists) k [])) same
     (c.in_ok-push_to_each.ensures k (omega (arith, ap length same, h)))) in
-    Adds-all number old _ (λ d. refl) each c.in_ok-push_once.ensures
+    Adds-all number old _ (λ d. refl) refl each c.in_ok-push_once.ensures

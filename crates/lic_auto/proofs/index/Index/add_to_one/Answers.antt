@@ -14,5 +14,5 @@ returns c =
     ap (λ l. l.items) c.index_mut.ensures.value ∙ sym (get_or-map (λ l. l.items) mid.lists.items place c.index_mut.result.now [] within) in
     IfOk-weaker _ _ _
     (λ done grows. Adds-one c.args.number c.args.head.now place c.args.self.now mid _ c.push_once.new.list c.in_ok-place.ensures.kept c.in_ok-place.ensures.placed
-    (subst (λ xs. Grows c.args.number xs c.push_once.new.list.items) here grows) (λ d. refl) refl refl)
+    (subst (λ xs. Grows c.args.number xs c.push_once.new.list.items) here grows) (λ d. refl) c.place_of.ensures.direction refl refl refl)
     c.push_once.ensures
