@@ -1,3 +1,5 @@
+//! The finder: one match after another, by a run from each token with which matches begin.
+
 ghost use Rattle.std.specs.Prelude.{◌≡◌, ℕ, ◌+◌, ◌-◌, ◌*◌, ◌^◌, ◌<◌, ◌≤◌, ◌↔◌, ◌∷◌, [], List, IfOk, IfSome, IfNone, Some, None, Contains, length, drop};
 ghost use Rattle.std.specs.Iterator.{item_count};
 ghost use Rattle.std.specs.Option.{option_or};
@@ -53,7 +55,7 @@ pub struct Finder<'a> {
 impl<'a> Finder<'a> {
     ghost use Rattle.lic_find.specs.Rest.{IsBegun, IsOnSameWalk, place_of, rest_of, set_in, steps_taken, tokens_in};
 
-    /// All matches. Fails where a growth is refused.
+    /// All matches. Fails if memory runs out.
     pub fn new(alloc: Global, set: &'a Set, text: &'a Text) -> Result<Finder<'a>, AllocError>
         ensures all { IfOk result (λ f. AreMatches set.now text.now.tokens None (rest_of f)) }
         ensures only { IfOk result (λ f. (others : List Triple) → AreMatches set.now text.now.tokens None others → others ≡ rest_of f) }
@@ -64,7 +66,7 @@ impl<'a> Finder<'a> {
         Finder::behind(alloc, set, text, None)
     }
 
-    /// The matches after a triple, which may be a match or not, in range or not. Fails where a growth is refused.
+    /// The matches after a triple, which may be a match or not, in range or not. Fails if memory runs out.
     ///
     /// It begins at the triple's first token, and does not walk what lies before.
     pub fn resume(

@@ -14,7 +14,7 @@ use std::alloc::{AllocError, Global};
 ///
 /// # Errors
 ///
-/// Fails where a growth is refused.
+/// Fails if memory runs out.
 pub fn is_match(alloc: Global, set: &Set, text: &Text, triple: Triple) -> Result<bool, AllocError>
     ensures { IfOk result (λ yes. IsTrue yes ↔ IsMatch set.now text.now.tokens triple) }
 {

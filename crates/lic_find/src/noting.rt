@@ -17,7 +17,7 @@ use std::alloc::{AllocError, Global};
 
 /// The first tokens of matches from this token on, and the steps of the walk over these tokens that noted them.
 ///
-/// The templates of the kept numbers are walked with alone. Fails where a growth is refused.
+/// The templates of the kept numbers are walked with alone. Fails if memory runs out.
 pub fn first_tokens(
     alloc: Global,
     set: &Set,

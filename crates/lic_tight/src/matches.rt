@@ -87,7 +87,7 @@ fn add_tight_of(
 ///
 /// # Errors
 ///
-/// Fails where a growth is refused.
+/// Fails if memory runs out.
 pub fn tight_matches(alloc: Global, set: &Set, text: &Text) -> Result<Tight, AllocError>
     ensures tight { IfOk result (λ found. (all : List Triple) → AreMatches set.now text.now.tokens None all → found.matches.items ≡ tight_of all) }
     ensures least { IfOk result (λ found. found.steps < 2 ^ 64 - 1 → HaveRead text.now.tokens (text_letters text.now.tokens) found.matches.items found.steps) }

@@ -1,5 +1,5 @@
 -- Where the words of a variable can end.
-use Rattle.std.proofs.Common.{rules, ◌≡◌, ℕ, zero, suc, ◌+◌, ◌-◌, ◌<◌, ◌≤◌, ◌==◌, ◌&&◌, Bool, true, false, IsTrue, List, [], ◌∷◌, ◌++◌, length, take, drop, Option, Some, None, get_or, refl, sym, ap, ◌∙◌, subst, arith, append-nil, if◌then◌else◌}
+use Rattle.std.proofs.Common.{◌≡◌, ℕ, zero, suc, ◌+◌, ◌-◌, ◌<◌, ◌≤◌, ◌==◌, ◌&&◌, Bool, true, false, List, [], ◌∷◌, ◌++◌, length, take, drop, Option, Some, None, get_or, refl, sym, ap, ◌∙◌, subst, arith, append-nil, if◌then◌else◌}
 use Rattle.std.proofs.lemmas.List.{drop_more, drop-drop, drop-map, length-map, length-drop, take-append-drop, length-take-le}
 use Rattle.lic_words.specs.Words.{Word, IsTidy, blank, blanks}
 use Rattle.lic_words.specs.Expressions.{Expression, Language, tidy}
@@ -10,19 +10,15 @@ use Rattle.lic_marks.specs.Marks.{is_nullable}
 use Rattle.lic_marks.specs.Standing.{After}
 use Rattle.lic_marks.proofs.Shifting.{is_nullable_sound, is_nullable_complete}
 use Rattle.lic_marks.proofs.TidyLetters.{tidy_first}
-use Rattle.lic_vars.specs.Moves.{State, NoBlanks, fits, pick, read_word, Move, CanFinish}
+use Rattle.lic_vars.specs.Moves.{State, NoBlanks, fits, pick, read_word, Move, variable, Finishes, takes}
 use Rattle.lic_vars.specs.Cuts.{gapped_of, gap_before, left_from}
-use Rattle.lic_vars.specs.Takes.{after_tidy, Takes, NoneBelow, IsShortest, IsStuck}
-use Rattle.lic_vars.specs.Rows.{IsRow, IsSet}
-use Rattle.lic_vars.specs.Ends.{joined, CanEnd, IsEnd, IsFirstEnd}
+use Rattle.lic_vars.specs.Ends.{joined, CanEnd, MayFollow, after_tidy}
 use Rattle.lic_vars.specs.declared.letters.Letter.{Letter}
 use Rattle.lic_vars.specs.declared.letters.Cut.{Cut}
-use Rattle.lic_vars.specs.declared.table.Row.{Row}
 use Rattle.lic_vars.proofs.ReadLemmas.{read-left, tidy-apart}
 use Rattle.lic_vars.proofs.CutLemmas.{read-letter}
 use Rattle.lic_vars.proofs.SpellLemmas.{apart_by}
 use Rattle.lic_vars.proofs.VariableLemmas.{first-letter, after-taken, taken-after}
-use Rattle.lic_vars.proofs.TableLemmas.{set-can, can-set}
 
 -- no more letters are read than there are
 within_cons : (b m : Bool) (x y : Option State) (s : State) (n k : ℕ) →
@@ -114,7 +110,7 @@ no_blanks_drop zero xs h = h
 no_blanks_drop (suc n) [] h = tt
 no_blanks_drop (suc n) (x ∷ xs) h = no_blanks_drop n xs h.1
 
-no_blanks_take : (n : ℕ) (xs : List (Gap × ℕ)) → NoBlanks xs → NoBlanks (take n xs)
+pub no_blanks_take : (n : ℕ) (xs : List (Gap × ℕ)) → NoBlanks xs → NoBlanks (take n xs)
 no_blanks_take zero xs h = tt
 no_blanks_take (suc n) [] h = tt
 no_blanks_take (suc n) (x ∷ xs) h = (h.0, no_blanks_take n xs h.1)
@@ -137,106 +133,68 @@ tidy_empty [] t e = refl
 tidy_empty (c ∷ u) t e =
     absurd (let one : letters_in (c ∷ u) ≡ suc (letters_in u) = count_if (c == blank) (letters_in u) (tidy_first c u t) in cc)
 
-true_is : (b : Bool) → b ≡ true → IsTrue b
-true_is true e = search rules
-true_is false e = absurd cc
+-- letters that can end are read by a word
+takes_all : (P : Word → Type 0) (all : List (Gap × ℕ)) (apart : Bool) (k : ℕ) → NoBlanks all → suc k ≤ length all →
+    ((p : Gap × ℕ) (left : List (Gap × ℕ)) → all ≡ p ∷ left → fits p.0 apart ≡ true) → After P (joined (take (suc k) all)) [] →
+    (u : Word) × P u × (letters_in u ≡ suc k) × (read_word u all apart ≡ Some (drop (suc k) all, false))
+takes_all P [] apart k n l f h = absurd (omega arith)
+takes_all P (p ∷ left) apart k n l f h =
+    let enough : k ≤ length left = omega arith in
+    let u = ends_sound P p (take k left) apart n.0 (no_blanks_take k left n.1) (f p left refl) h in (
+      u.0,
+      u.1,
+      u.2 ∙ ap suc (length-take-le k left enough),
+      ap (λ x. read_word u.0 (p ∷ x) apart) (sym (take-append-drop k left)) ∙ u.3 (drop k left),
+    )
 
-is_true_of : (b : Bool) → IsTrue b → b ≡ true
-is_true_of true t = refl
-is_true_of false t = absurd (search (rules, t))
+-- The ways of a variable and of the moves behind it: its word has no letter, or it ends behind some letters.
+pub data Way (r : Core) (ms : List Move) (letters : List Letter) (from : Cut) : List ℕ → Type 0 where
+  stays : {q : List ℕ} → is_nullable r ≡ true → Finishes ms (left_from letters from.at) from.is_apart q → Way r ms letters from (0 ∷ q)
+  goes : {q : List ℕ} (k : ℕ) → from.at + suc k ≤ length letters → MayFollow letters from → CanEnd r letters from.at (suc k) →
+      Finishes ms (left_from letters (from.at + suc k)) false q → Way r ms letters from (suc k ∷ q)
 
--- where the first letter may follow
-abbrev pub MayFollow : List Letter → Cut → Type 0
-MayFollow letters from = (p : Gap × ℕ) (left : List (Gap × ℕ)) → left_from letters from.at ≡ p ∷ left → fits p.0 from.is_apart ≡ true
-
-module _ (r : Core) (re : Expression) (words : HasWordsOf r (tidy re)) (ms : List Move) (letters : List Letter) (from : Cut) (wanted rest : Row)
-    (is : IsRow ms letters wanted rest) (within : from.at ≤ length letters)
-    (covers : (n : ℕ) → from.at + n ≤ length letters → IsSet wanted (from.at + n) (after_tidy n from.is_apart)) where
-  from_here : from.at + 0 ≡ from.at
-  from_here = omega arith
-
-  -- no word without letters
-  none_empty : (is_nullable r ≡ true → IsSet rest from.at from.is_apart → ⊥) → (v : Word) (s : State) → Language (tidy re) v → letters_in v ≡ 0 →
-      read_word v (left_from letters from.at) from.is_apart ≡ Some s → CanFinish ms s.0 s.1 → ⊥
-  none_empty empty v s l n e can =
-      let nothing : v ≡ [] = tidy_empty v l.1 n in
+module _ (r : Core) (name : List ℕ) (re : Expression) (words : HasWordsOf r (tidy re)) (ms : List Move) (letters : List Letter) (from : Cut) where
+  -- a word without letters
+  way_empty : (q : List ℕ) (u : Word) (s : State) → Language (tidy re) u → letters_in u ≡ 0 →
+      read_word u (left_from letters from.at) from.is_apart ≡ Some s → Finishes ms s.0 s.1 q → Way r ms letters from (0 ∷ q)
+  way_empty q u s l n e f =
+      let nothing : u ≡ [] = tidy_empty u l.1 n in
       let here : WordsOf r [] = (words []).1 (subst (λ (x : Word). Language (tidy re) x) nothing l) in
-      let stay : (left_from letters from.at, from.is_apart) ≡ s =
-      let f : read_word [] (left_from letters from.at) from.is_apart ≡ Some s = subst (λ (x : Word). read_word x (left_from letters from.at) from.is_apart ≡ Some s) nothing e in cc in
-      let want : IsSet wanted from.at from.is_apart = subst (λ (k : ℕ). IsSet wanted k from.is_apart) from_here (covers 0 (omega arith)) in
-      empty (is_nullable_complete r here)
-      (can-set ms letters wanted rest is from.at from.is_apart within want (subst (λ (t : State). CanFinish ms t.0 t.1) (sym stay) can))
+      let stay : s ≡ (left_from letters from.at, from.is_apart) =
+      let g : read_word [] (left_from letters from.at) from.is_apart ≡ Some s = subst (λ (x : Word). read_word x (left_from letters from.at) from.is_apart ≡ Some s) nothing e in cc in
+      stays (is_nullable_complete r here) (subst (λ (t : State). Finishes ms t.0 t.1 q) stay f)
 
-  -- no word with letters
-  none_some : (n k : ℕ) → ((m : ℕ) → m < n → MayFollow letters from → IsEnd r letters from.at rest.close.items m → ⊥) →
-      (v : Word) (s : State) → Language (tidy re) v → letters_in v ≡ suc k → suc k < n →
-      read_word v (left_from letters from.at) from.is_apart ≡ Some s → CanFinish ms s.0 s.1 → ⊥
-  none_some n k ends v s l m b e can =
-      let t = complete_all (WordsOf r) (left_from letters from.at) from.is_apart s k v l.1 ((words v).1 l) e m in
+  -- a word with letters
+  way_some : from.at ≤ length letters → (q : List ℕ) (k : ℕ) (u : Word) (s : State) → Language (tidy re) u → letters_in u ≡ suc k →
+      read_word u (left_from letters from.at) from.is_apart ≡ Some s → Finishes ms s.0 s.1 q → Way r ms letters from (suc k ∷ q)
+  way_some within q k u s l m e f =
+      let t = complete_all (WordsOf r) (left_from letters from.at) from.is_apart s k u l.1 ((words u).1 l) e m in
       let long : length (left_from letters from.at) ≡ length letters - from.at = length_left letters from.at in
       let short = t.within in
       let bound : from.at + suc k ≤ length letters = omega arith in
       let gone : s.0 ≡ left_from letters (from.at + suc k) =
-      read-left v (left_from letters from.at) from.is_apart s e ∙ ap (λ j. drop j (left_from letters from.at)) m ∙ left_drop letters from.at (suc k) in
-      let close : s.1 ≡ false = tidy-apart v (left_from letters from.at) from.is_apart s l.1 e ∙ ap (λ j. after_tidy j from.is_apart) m in
-      let there : CanFinish ms (left_from letters (from.at + suc k)) false =
-      subst (λ (a : Bool). CanFinish ms (left_from letters (from.at + suc k)) a) close (subst (λ (f : List (Gap × ℕ)). CanFinish ms f s.1) gone can) in
-      ends (suc k) b t.fit (record {
-        some = omega arith;
-        within = bound;
-        set = can-set ms letters wanted rest is (from.at + suc k) false bound (covers (suc k) bound) there;
-        can = t.after;
-      })
+      read-left u (left_from letters from.at) from.is_apart s e ∙ ap (λ j. drop j (left_from letters from.at)) m ∙ left_drop letters from.at (suc k) in
+      let close : s.1 ≡ false = tidy-apart u (left_from letters from.at) from.is_apart s l.1 e ∙ ap (λ j. after_tidy j from.is_apart) m in
+      let there : Finishes ms (left_from letters (from.at + suc k)) false q =
+      subst (λ (a : Bool). Finishes ms (left_from letters (from.at + suc k)) a q) close (subst (λ (g : List (Gap × ℕ)). Finishes ms g s.1 q) gone f) in
+      goes k bound t.fit t.after there
 
-  pub none-below : (n : ℕ) → (is_nullable r ≡ true → IsSet rest from.at from.is_apart → ⊥) →
-      ((m : ℕ) → m < n → MayFollow letters from → IsEnd r letters from.at rest.close.items m → ⊥) → NoneBelow re ms letters from n
-  none-below n empty ends v s l b e can = at (letters_in v) refl
-    where
-      at : (j : ℕ) → letters_in v ≡ j → ⊥
-      at zero m = none_empty empty v s l m e can
-      at (suc k) m = none_some n k ends v s l m (omega arith) e can
+  way_at : from.at ≤ length letters → (q : List ℕ) (n : ℕ) (u : Word) (s : State) → Language (tidy re) u → letters_in u ≡ n →
+      read_word u (left_from letters from.at) from.is_apart ≡ Some s → Finishes ms s.0 s.1 q → Way r ms letters from (n ∷ q)
+  way_at within q zero u s l n e f = way_empty q u s l n e f
+  way_at within q (suc k) u s l n e f = way_some within q k u s l n e f
 
-  pub stuck-of : (is_nullable r ≡ true → IsSet rest from.at from.is_apart → ⊥) →
-      ((m : ℕ) → MayFollow letters from → IsEnd r letters from.at rest.close.items m → ⊥) → IsStuck re ms letters from
-  stuck-of empty ends v s l e can = none-below (suc (letters_in v)) empty (λ m b f end. ends m f end) v s l (omega arith) e can
+  pub way-of-finishes : from.at ≤ length letters → (q : List ℕ) → Finishes (variable name re ∷ ms) (left_from letters from.at) from.is_apart q → Way r ms letters from q
+  way-of-finishes within q (takes {n = n} u next after l m e f) = way_at within _ n u (next, after) l m e f
 
-  -- the empty word
-  pub shortest-empty : is_nullable r ≡ true → IsSet rest from.at from.is_apart → IsShortest re ms letters from 0
-  shortest-empty nullable set =
-      let here : Language (tidy re) [] = (words []).0 (is_nullable_sound r nullable) in
-      record {
-        within = omega arith;
-        takes = ([], here, refl, ap (λ k. Some (left_from letters k, from.is_apart)) (sym from_here));
-        finishes = subst (λ (k : ℕ). CanFinish ms (left_from letters k) from.is_apart) (sym from_here) (set-can ms letters wanted rest is from.at from.is_apart set);
-        shorter = λ v s l b e can. absurd (omega arith);
-      }
+  finishes_goes : NoBlanks (gapped_of letters) → (q : List ℕ) (k : ℕ) → from.at + suc k ≤ length letters → MayFollow letters from → CanEnd r letters from.at (suc k) →
+      Finishes ms (left_from letters (from.at + suc k)) false q → Finishes (variable name re ∷ ms) (left_from letters from.at) from.is_apart (suc k ∷ q)
+  finishes_goes clean q k bound fit can f =
+      let long : length (left_from letters from.at) ≡ length letters - from.at = length_left letters from.at in
+      let u = takes_all (WordsOf r) (left_from letters from.at) from.is_apart k (no_blanks_left letters from.at clean) (omega arith) fit can in
+      takes u.0 (left_from letters (from.at + suc k)) false ((words u.0).0 u.1) u.2 (u.3 ∙ ap (λ x. Some (x, false)) (left_drop letters from.at (suc k))) f
 
-  -- a word of the letters up to an end
-  takes_of : (k : ℕ) (d : Letter) → NoBlanks (gapped_of letters) → fits (gap_before (get_or letters from.at d)) from.is_apart ≡ true →
-      from.at + suc k ≤ length letters → CanEnd r letters from.at (suc k) → Takes re letters from (suc k)
-  takes_of k d n fit bound can =
-      let p : Gap × ℕ = (gap_before (get_or letters from.at d), (get_or letters from.at d).letter) in
-      let left : List (Gap × ℕ) = left_from letters (from.at + 1) in
-      let all : left_from letters from.at ≡ p ∷ left = left_at letters from.at d (omega arith) in
-      let long : length left ≡ length letters - (from.at + 1) = length_left letters (from.at + 1) in
-      let enough : k ≤ length left = omega arith in
-      let count : length (take k left) ≡ k = length-take-le k left enough in
-      let clean : NoBlanks (p ∷ left) = subst NoBlanks all (no_blanks_left letters from.at n) in
-      let after : After (WordsOf r) ((no_gap, p.1) ∷ take k left) [] =
-      subst (λ (f : List (Gap × ℕ)). After (WordsOf r) (joined (take (suc k) f)) []) all can in
-      let u = ends_sound (WordsOf r) p (take k left) from.is_apart clean.0 (no_blanks_take k left clean.1) fit after in
-      let place : (from.at + 1) + k ≡ from.at + suc k = omega arith in
-      let behind : drop k left ≡ left_from letters (from.at + suc k) = left_drop letters (from.at + 1) k ∙ ap (λ j. left_from letters j) place in
-      let read : read_word u.0 (left_from letters from.at) from.is_apart ≡ Some (drop k left, false) =
-      ap (λ f. read_word u.0 f from.is_apart) (all ∙ ap (λ f. p ∷ f) (sym (take-append-drop k left))) ∙ u.3 (drop k left) in
-      (u.0, (words u.0).0 u.1, u.2 ∙ ap suc count, read ∙ ap (λ f. Some (f, false)) behind)
-
-  pub shortest-of : (n : ℕ) (d : Letter) → NoBlanks (gapped_of letters) → fits (gap_before (get_or letters from.at d)) from.is_apart ≡ true →
-      (is_nullable r ≡ true → IsSet rest from.at from.is_apart → ⊥) → IsFirstEnd r letters from.at rest.close.items n → IsShortest re ms letters from n
-  shortest-of zero d n fit empty f = absurd (let h = f.0.some in omega arith)
-  shortest-of (suc k) d n fit empty f = record {
-    within = f.0.within;
-    takes = takes_of k d n fit f.0.within f.0.can;
-    finishes = set-can ms letters wanted rest is (from.at + suc k) false f.0.set;
-    shorter = none-below (suc k) empty (λ m b g end. f.1 m b end);
-  }
+  pub finishes-of-way : NoBlanks (gapped_of letters) → (q : List ℕ) → Way r ms letters from q → Finishes (variable name re ∷ ms) (left_from letters from.at) from.is_apart q
+  finishes-of-way clean q (stays nullable f) =
+      takes [] (left_from letters from.at) from.is_apart ((words []).0 (is_nullable_sound r nullable)) refl refl f
+  finishes-of-way clean q (goes k bound fit can f) = finishes_goes clean _ k bound fit can f

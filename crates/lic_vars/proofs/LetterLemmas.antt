@@ -1,6 +1,6 @@
 -- Letters that are gathered.
-use Rattle.std.proofs.Common.{◌≡◌, ℕ, suc, ◌+◌, ◌-◌, ◌<◌, ◌≤◌, ◌==◌, Bool, true, false, List, [], ◌∷◌, ◌++◌, length, get_or, map, take, drop, replicate, refl, sym, ap, ◌∙◌, arith, append_assoc, append-nil, get_or-drop, length-drop, if◌then◌else◌}
-use Rattle.std.proofs.lemmas.List.{drop_more, take_more, map-append, length_push}
+use Rattle.std.proofs.Common.{◌≡◌, ℕ, suc, ◌+◌, ◌-◌, ◌<◌, ◌≤◌, true, List, [], ◌∷◌, ◌++◌, length, get_or, map, take, drop, replicate, refl, sym, ap, ◌∙◌, arith, append_assoc, append-nil, get_or-drop, length-drop}
+use Rattle.std.proofs.lemmas.List.{take_more, map-append}
 use Rattle.std.specs.List.{slice_range}
 use Rattle.std.specs.Str.{chars}
 use Rattle.lic_words.specs.Words.{blank}
@@ -13,25 +13,6 @@ use Rattle.lic_norm.specs.declared.token.Span.{Span}
 use Rattle.lic_vars.specs.Values.{letter_spans}
 use Rattle.lic_vars.specs.Cuts.{gap_before, gapped_of, spans_of}
 use Rattle.lic_vars.specs.declared.letters.Letter.{Letter}
-
--- the next letter of a text, in front of what comes after it
-pub next-letter : (cs ys : List ℕ) (c : ℕ) → (length ys < length cs) × (c ≡ get_or cs (length ys) c) →
-    drop (length ys) cs ≡ c ∷ drop (length (ys ++ c ∷ [])) cs
-next-letter cs ys c h = drop_more cs (length ys) c h.0 ∙ rw (length_push, ← h.1) refl
-
-count_letter : (b : Bool) (n : ℕ) → b ≡ false → (if b then n else suc n) ≡ suc n
-count_letter true n h = absurd cc
-count_letter false n h = refl
-
-count_blank : (b : Bool) (n : ℕ) → b ≡ true → (if b then n else suc n) ≡ n
-count_blank true n h = refl
-count_blank false n h = absurd cc
-
-pub letters_in-letter : (c : ℕ) (w : List ℕ) → (c == blank) ≡ false → letters_in (c ∷ w) ≡ suc (letters_in w)
-letters_in-letter c w h = count_letter (c == blank) (letters_in w) h
-
-pub letters_in-blank : (c : ℕ) (w : List ℕ) → (c == blank) ≡ true → letters_in (c ∷ w) ≡ letters_in w
-letters_in-blank c w h = count_blank (c == blank) (letters_in w) h
 
 pub gapped-pushed : (a b : List Letter) (x : Letter) (g : Gap × ℕ) (rest : List (Gap × ℕ)) → b ≡ a ++ x ∷ [] → (gap_before x, x.letter) ≡ g →
     gapped_of b ++ rest ≡ gapped_of a ++ g ∷ rest

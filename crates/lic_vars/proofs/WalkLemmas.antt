@@ -1,5 +1,5 @@
 -- The walk of a variable over letters.
-use Rattle.std.proofs.Common.{◌≡◌, ℕ, zero, suc, ◌+◌, ◌-◌, ◌<◌, ◌≤◌, ◌==◌, ◌&&◌, Bool, true, false, List, [], ◌∷◌, ◌++◌, length, take, drop, get_or, inl, inr, ◌⊎◌, eq-eqb, refl, sym, ap, ◌∙◌, subst, arith}
+use Rattle.std.proofs.Common.{◌≡◌, ℕ, zero, suc, ◌+◌, ◌-◌, ◌<◌, ◌≤◌, ◌==◌, ◌&&◌, Bool, true, false, List, [], ◌∷◌, ◌++◌, length, take, drop, get_or, inl, inr, eq-eqb, refl, sym, ap, ◌∙◌, subst, arith}
 use Rattle.std.proofs.Math.Seq.{take-add}
 use Rattle.lic_words.specs.Words.{Word, blank, blanks}
 use Rattle.lic_words.specs.Spelling.{Gap, no_gap, gap_of, Allows}
@@ -9,7 +9,7 @@ use Rattle.lic_marks.specs.Standing.{After, StandsAtOnce}
 use Rattle.lic_marks.proofs.Shifting.{Completes-no_marks}
 use Rattle.lic_vars.specs.Moves.{NoBlanks}
 use Rattle.lic_vars.specs.Cuts.{gapped_of, gap_before, left_from}
-use Rattle.lic_vars.specs.Ends.{joined, CanEnd, IsEnd, NoEndBelow}
+use Rattle.lic_vars.specs.Ends.{joined, CanEnd}
 use Rattle.lic_vars.specs.declared.letters.Letter.{Letter}
 use Rattle.lic_vars.proofs.EndLemmas.{left_drop, left_at, no_blanks_left}
 
@@ -90,32 +90,3 @@ letter-at letters at d h n e =
     let b : ((get_or letters at d).letter == blank) ≡ false = letter_of _ _ _ (left_at letters at d h) (no_blanks_left letters at n) in
     let t : ((get_or letters at d).letter == blank) ≡ true = eq-eqb (get_or letters at d).letter blank e in
     cc
-
--- one end more is none
-pub no_end-next : (r : Core) (letters : List Letter) (start : ℕ) (ends : List Bool) (k n : ℕ) → n ≡ suc k → NoEndBelow r letters start ends k →
-    (IsEnd r letters start ends k → ⊥) → NoEndBelow r letters start ends n
-no_end-next r letters start ends k n e h none m b end = at (split m k (omega arith))
-  where
-    split : (a c : ℕ) → a < suc c → (a < c) ⊎ (a ≡ c)
-    split zero zero l = inr refl
-    split zero (suc c) l = inl (omega arith)
-    split (suc a) zero l = absurd (omega arith)
-    split (suc a) (suc c) l = elim (split a c (omega arith)) [ inl p ↦ inl (omega arith) | inr p ↦ inr (ap suc p) ]
-
-    at : (m < k) ⊎ (m ≡ k) → ⊥
-    at (inl p) = h m p end
-    at (inr p) = none (subst (λ (j : ℕ). IsEnd r letters start ends j) p end)
-
--- fewer than k cannot end, nor can k or more
-pub no_end-all : (r : Core) (letters : List Letter) (start : ℕ) (ends : List Bool) (k n : ℕ) → NoEndBelow r letters start ends k →
-    ((m : ℕ) → k ≤ m → IsEnd r letters start ends m → ⊥) → NoEndBelow r letters start ends n
-no_end-all r letters start ends k n h more m b end = at (split m k)
-  where
-    split : (a c : ℕ) → (a < c) ⊎ (c ≤ a)
-    split a zero = inr (omega arith)
-    split zero (suc c) = inl (omega arith)
-    split (suc a) (suc c) = elim (split a c) [ inl p ↦ inl (omega arith) | inr p ↦ inr (omega arith) ]
-
-    at : (m < k) ⊎ (k ≤ m) → ⊥
-    at (inl p) = h m p end
-    at (inr p) = more m p end

@@ -1,5 +1,5 @@
 -- Which of the triples in a list are tight, and which of these are outer ones.
-use Rattle.std.specs.Prelude.{◌↔◌, ◌==◌, ◌&&◌, Bool, not, nat_le, nat_lt, List, Contains, filter}
+use Rattle.std.specs.Prelude.{◌↔◌, ◌==◌, ◌&&◌, Bool, not, nat_le, List, Contains, filter}
 use Rattle.std.specs.List.{list_any}
 use Rattle.std.specs.Ordering.{nat_cmp, ordering_then}
 use Rattle.std.specs.declared.cmp.Ordering.{Ordering}
@@ -43,18 +43,6 @@ outermost_of list = filter (is_outer list) list
 -- the outer members of a list, in its order: the outermost of the tight ones
 abbrev pub outer_of : List Triple → List Triple
 outer_of list = outermost_of (tight_of list)
-
--- s has the first token and the template of t, and ends before it
-abbrev pub is_shorter : Triple → Triple → Bool
-is_shorter s t = has_template_of s t && (s.first == t.first && nat_lt s.last t.last)
-
--- no member of the list is shorter
-abbrev pub is_shortest : List Triple → Triple → Bool
-is_shortest list t = not (list_any (λ s. is_shorter s t) list)
-
--- of each first token and template the members with the least last token, in the list's order
-abbrev pub shortest_of : List Triple → List Triple
-shortest_of list = filter (is_shortest list) list
 
 -- the order of triples: by first token, then by last token, then by template
 abbrev pub triple_cmp : Triple → Triple → Ordering

@@ -4,7 +4,6 @@ pub mod Values
 pub mod Moves
 pub mod Recorded
 pub mod Cuts
-pub mod Takes
-pub mod Rows
 pub mod Ends
+pub mod Branches
 pub mod Views

@@ -7,8 +7,9 @@ ghost use Rattle.lic_norm.specs.declared.token.Span.{Span};
 ghost use Rattle.lic_markup.specs.Parts.{Nodes};
 ghost use Rattle.lic_markup.specs.Meaning.{nodes_words};
 ghost use Rattle.lic_auto.specs.Sets.{Known};
+ghost use Rattle.lic_find.specs.Matches.{IsMatch};
 ghost use Rattle.lic_find.specs.declared.triple.Triple.{Triple};
-ghost use Rattle.lic_vars.specs.Filters.{tight_of, outer_of, shortest_of};
+ghost use Rattle.lic_vars.specs.Filters.{tight_of, outer_of};
 ghost use Rattle.lic_vars.specs.Derivations.{Choice, Derivation, record_of};
 ghost use Rattle.lic_vars.specs.Values.{Assigned, AreValues, RunsFrom, choice_values};
 
@@ -52,6 +53,12 @@ pub fn described_tokens_have_derivations()
         → IsDescribed (nodes_words ns) ts ↔ ((ts ≡ [] → ⊥) × Derivation ns ts) }
 {}
 
+/// Each match has a list of values.
+pub fn matches_have_values()
+    ensures { (set : List Known) (tokens : List TokenValue) (t : Triple)
+        → IsMatch set tokens t → (values : List Assigned) × AreValues set tokens t values }
+{}
+
 /// There is one list of the values of a match.
 pub fn values_are_one_list()
     ensures { (set : List Known) (tokens : List TokenValue) (t : Triple) (xs ys : List Assigned)
@@ -62,9 +69,4 @@ pub fn values_are_one_list()
 pub fn values_run_over_tokens()
     ensures { (set : List Known) (tokens : List TokenValue) (t : Triple) (values : List Assigned) (value : Assigned) (span : Span)
         → AreValues set tokens t values → Contains values value → value.span ≡ Some span → RunsFrom tokens t span }
-{}
-
-/// The outer triples of a list are those of its shortest members.
-pub fn outer_needs_the_shortest_alone()
-    ensures { (list : List Triple) → outer_of (shortest_of list) ≡ outer_of list }
 {}

@@ -9,9 +9,9 @@ ghost use Rattle.lic_vars.specs.Values.{letter_spans};
 ghost use Rattle.lic_vars.specs.Moves.{read_word, fits};
 ghost use Rattle.lic_vars.specs.Cuts.{gap_before, gapped_of, spans_of, states, left_from};
 
-use lic_kind::is_word;
 use lic_norm::text::Text;
 use lic_norm::token::Span;
+use lic_words::letters::Letters;
 use std::alloc::{AllocError, Global};
 
 /// A letter of the tokens that is no blank.
@@ -27,7 +27,7 @@ pub struct Letter {
 }
 
 /// A place between two letters, and whether blanks of its gap are written already.
-#[derive(Clone, Copy, Debug)]
+#[derive(Clone, Copy, Debug, PartialEq, Eq, Hash, Drop)]
 pub struct Cut {
     pub at: usize,
     pub is_apart: bool,
@@ -62,29 +62,22 @@ fn push_letters(
     letters: &mut Vec<Letter>,
     text: &str,
     span: Span,
-    mut before: char,
+    before: char,
 ) -> Result<char, AllocError>
     ensures last { IfOk result (λ last. last ≡ last_letter before (chars text.now)) }
     ensures gapped { OnOk result (gapped_of letters.new.items ≡ gapped_of letters.old.items ++ gapped_from before true (chars text.now)) }
     ensures spans { OnOk result (spans_of letters.new.items ≡ spans_of letters.old.items ++ replicate (letters_in (chars text.now)) span) }
 {
-    let mut is_apart = true;
-    for c in text.chars() {
-        if c == ' ' {
-            is_apart = true;
-            continue;
-        }
-        let are_words = is_word(before) & is_word(c);
+    let mut given = Letters::new(text, before, true);
+    while let Some(next) = given.next() {
         letters.push(Letter {
-            letter: c,
-            is_apart,
-            are_words,
+            letter: next.letter,
+            is_apart: next.is_apart,
+            are_words: next.are_words,
             span,
         })?;
-        before = c;
-        is_apart = false;
     }
-    Ok(before)
+    Ok(given.last_letter())
 }
 
 /// How many letters are not blanks.

@@ -1,13 +1,11 @@
 //! What a scan reports of its matches: the tight ones, the outer ones among these, and what the variables stand for.
 #![tactic(auto)]
 
-mod choose;
-mod fill;
+mod branch;
 pub mod filters;
 pub mod laws;
 mod letters;
+mod search;
 mod steps;
-mod table;
 pub mod values;
 mod variable;
-mod wanted;

@@ -1,19 +1,15 @@
 //! What the variables of a template stand for in a match.
 
-ghost use Rattle.std.specs.Prelude.{◌≡◌, ◌==◌, false, IfOk, map, take, drop, slice_index_or, if◌then◌else◌};
+ghost use Rattle.std.specs.Prelude.{◌≡◌, ◌==◌, IfOk, map, take, drop, slice_index_or, if◌then◌else◌};
 ghost use Rattle.lic_find.specs.Matches.{IsMatch};
 ghost use Rattle.lic_vars.specs.Values.{AreValues, covered};
-ghost use Rattle.lic_vars.specs.Moves.{CanFinish, Least, NoBlanks};
-ghost use Rattle.lic_vars.specs.Cuts.{gapped_of, spans_of, moves_of, IsCompiled};
+ghost use Rattle.lic_vars.specs.Cuts.{spans_of, moves_of};
 ghost use Rattle.lic_vars.specs.Recorded.{recorded};
 ghost use Rattle.lic_vars.specs.Views.{value_of};
-ghost use Rattle.std.specs.List.{All};
 
-use crate::choose::choose;
-use crate::fill::make_rows;
 use crate::letters::{Letter, letter_count, letters_of};
+use crate::search::least_record;
 use crate::steps::{Step, steps_of};
-use crate::wanted::wanted_cuts;
 use lic_auto::set::Set;
 use lic_find::triple::Triple;
 use lic_norm::text::Text;
@@ -36,7 +32,7 @@ pub struct Value<'s> {
 ///
 /// # Errors
 ///
-/// Fails where a growth is refused.
+/// Fails if memory runs out.
 pub fn assign<'s>(
     alloc: Global,
     set: &'s Set,
@@ -50,18 +46,6 @@ pub fn assign<'s>(
     let steps = steps_of(alloc, set.template(triple.template).parts())?;
     let numbers = least_record(alloc, &steps, &letters)?;
     values_of(alloc, &steps, &letters, &numbers)
-}
-
-// The least record with which the steps can take all letters.
-fn least_record(alloc: Global, steps: &[Step], letters: &[Letter]) -> Result<Vec<usize>, AllocError>
-    requires compiled { All IsCompiled steps.now }
-    requires letters { NoBlanks (gapped_of letters.now) }
-    requires can { CanFinish (moves_of steps.now) (gapped_of letters.now) false }
-    ensures { IfOk result (λ found. Least (moves_of steps.now) (gapped_of letters.now) false found.items) }
-{
-    let wanted = wanted_cuts(alloc, steps, letters)?;
-    let rows = make_rows(alloc, &wanted, steps, letters)?;
-    choose(alloc, &rows, &wanted, steps, letters)
 }
 
 // The values that a record gives.

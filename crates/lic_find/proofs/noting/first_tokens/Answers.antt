@@ -144,3 +144,10 @@ returns-clause-most c =
     let part = letters_of-drop_le c.args.text.now.tokens c.loop-first.first in
     let most = c.loop-first.invariant.most in
     omega arith
+
+pub returns-clause-firsts : goal.returns-clause-firsts
+returns-clause-firsts c = λ others.
+    let low = c.loop-first.invariant.low in
+    let done = c.loop-first-test.false in
+    let same : c.loop-first.first ≡ c.args.from = omega arith in
+    subst (λ n. AreFirstsFrom c.args.set.now c.args.text.now.tokens c.args.kept.items n (starts_in c.loop-first.starts)) same (c.loop-first.invariant.firsts others)
