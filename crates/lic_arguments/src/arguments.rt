@@ -11,9 +11,12 @@ use lic_find::triple::Triple;
 use lic_report::ask::Ask;
 use std::alloc::{AllocError, Global};
 
-const ABOUT: &str = "Finds the ranges of texts that licence templates describe";
+/// The version of the program, for whoever names it in a bill of materials.
+pub const VERSION: &str = "0.1.0";
 
-const SCAN_ABOUT: &str = "Writes a line for each range of a file that a template describes";
+const ABOUT: &str = "Finds the ranges of texts that licence templates match";
+
+const SCAN_ABOUT: &str = "Prints each range of a file that a template matches";
 
 const SCAN_DETAILS: &str = "\
 Templates are the files of DIR whose names end in .template.txt; what stands
@@ -25,10 +28,10 @@ template. With --all every match is written.
 
 A match is a line of six fields with a tab between two: the file, the
 template's identifier, the numbers of the first and the last token, counted
-from 0, the byte at which the match starts, and the byte behind its end.
+from 0, the byte at which the match starts, and the byte just past its end.
 
 Without --all a line for each variable of the template follows: an empty field,
-the variable's name, the byte at which its value starts, the byte behind its
+the variable's name, the byte at which its value starts, the byte just past its
 end, and the value. Where a variable stands for nothing, a - follows its name.
 
 F:L:ID are the numbers of a first and a last token, and an identifier.
@@ -38,7 +41,7 @@ could not be read or written.
 
 Example: licscan scan --templates templates LICENSE README";
 
-const CHECK_ABOUT: &str = "Says of each template whether it describes its own original text";
+const CHECK_ABOUT: &str = "Checks that each template matches its own original text";
 
 const CHECK_DETAILS: &str = "\
 Templates are the files of DIR whose names end in .template.txt; what stands
@@ -53,11 +56,11 @@ read or written.
 
 Example: licscan check --templates templates";
 
-const TOKENS_ABOUT: &str = "Writes a line for each token of a file";
+const TOKENS_ABOUT: &str = "Prints each token of a file";
 
 const TOKENS_DETAILS: &str = "\
 A line has four fields with a tab between two: the file, the byte at which the
-token starts, the byte behind its end, and the token's text.
+token starts, the byte just past its end, and the token's text.
 
 Status: 0 if a line was written, 1 if none was, 2 if anything was refused or
 could not be read or written.
@@ -80,6 +83,15 @@ fn words_option<'a>(alloc: Global) -> Arg<'a> {
         .long("words")
         .value_name("FILE")
         .help("The list of words that count as the same")
+        .action(ArgAction::Set)
+}
+
+/// The file of the line rules.
+fn rules_option<'a>(alloc: Global) -> Arg<'a> {
+    Arg::new(alloc, "rules")
+        .long("rules")
+        .value_name("FILE")
+        .help("The line rules: comment marks and list items to ignore")
         .action(ArgAction::Set)
 }
 
@@ -114,6 +126,7 @@ fn scan_command<'a>(alloc: Global) -> Result<Command<'a>, AllocError> {
         .after_help(SCAN_DETAILS)
         .arg(templates_option(alloc))?
         .arg(words_option(alloc))?
+        .arg(rules_option(alloc))?
         .arg(all)?
         .arg(after)?
         .arg(limit)?
@@ -126,7 +139,8 @@ fn check_command<'a>(alloc: Global) -> Result<Command<'a>, AllocError> {
         .about(CHECK_ABOUT)
         .after_help(CHECK_DETAILS)
         .arg(templates_option(alloc))?
-        .arg(words_option(alloc))
+        .arg(words_option(alloc))?
+        .arg(rules_option(alloc))
 }
 
 /// The options and files of `tokens`.
@@ -135,12 +149,14 @@ fn tokens_command<'a>(alloc: Global) -> Result<Command<'a>, AllocError> {
         .about(TOKENS_ABOUT)
         .after_help(TOKENS_DETAILS)
         .arg(words_option(alloc))?
+        .arg(rules_option(alloc))?
         .arg(files_argument(alloc))
 }
 
 /// Reads the words after the program's name.
 pub fn parse<'a>(alloc: Global, words: &'a [&'a str]) -> Result<ArgMatches<'a>, Error> {
     Command::new(alloc, "licscan")
+        .version(VERSION)
         .about(ABOUT)
         .subcommand_required(true)
         .subcommand(scan_command(alloc)?)?
@@ -194,6 +210,8 @@ fn files_given<'a>(alloc: Global, found: &ArgMatches<'a>) -> Result<Vec<&'a str>
 pub struct TokensArguments<'a> {
     /// The file of the list of equivalent words.
     pub words: Option<&'a str>,
+    /// The file of the line rules.
+    pub rules: Option<&'a str>,
     /// Standard input alone where no file is given.
     pub files: Vec<&'a str>,
 }
@@ -206,6 +224,7 @@ impl<'a> TokensArguments<'a> {
     ) -> Result<TokensArguments<'a>, ArgumentFault> {
         Ok(TokensArguments {
             words: found.get_str("words"),
+            rules: found.get_str("rules"),
             files: files_given(alloc, found)?,
         })
     }
@@ -218,6 +237,8 @@ pub struct CheckArguments<'a> {
     pub folder: &'a str,
     /// The file of the list of equivalent words.
     pub words: Option<&'a str>,
+    /// The file of the line rules.
+    pub rules: Option<&'a str>,
 }
 
 impl<'a> CheckArguments<'a> {
@@ -226,6 +247,7 @@ impl<'a> CheckArguments<'a> {
         CheckArguments {
             folder: found.get_str("templates").unwrap_or(""),
             words: found.get_str("words"),
+            rules: found.get_str("rules"),
         }
     }
 }
@@ -237,6 +259,8 @@ pub struct ScanArguments<'a> {
     pub folder: &'a str,
     /// The file of the list of equivalent words.
     pub words: Option<&'a str>,
+    /// The file of the line rules.
+    pub rules: Option<&'a str>,
     /// All matches; without it the outer ones.
     pub all: bool,
     /// Only what comes after this triple; given with `all` alone.
@@ -282,6 +306,7 @@ impl<'a> ScanArguments<'a> {
         Ok(ScanArguments {
             folder: found.get_str("templates").unwrap_or(""),
             words: found.get_str("words"),
+            rules: found.get_str("rules"),
             all: found.get_flag("all"),
             after,
             limit: found.get_one::<u32>("limit").map(u64::from),

@@ -1,5 +1,5 @@
 -- Lemmas on refusals of what was read.
-use Rattle.std.proofs.Common.{◌≡◌, ℕ, ◌<◌, ◌≤◌, List, ◌++◌, length, Bool, true, false, cond, Option, None, Some, nat_lt, refl, ◌∙◌, sym, arith, length-append, true≢false}
+use Rattle.std.proofs.Common.{◌≡◌, ℕ, ◌<◌, ◌≤◌, List, ◌++◌, length, Bool, true, false, cond, Option, None, Some, nat_lt, refl, ◌∙◌, arith, length-append}
 use Rattle.std.proofs.lemmas.Bool.Decides.{nat_tests}
 use Rattle.lic_norm.specs.Refusal.{refusal_of}
 use Rattle.lic_norm.specs.declared.fault.TextFault.{TextFault}

@@ -1,7 +1,5 @@
 -- Lemmas on matches that are asked for, and on their lines.
-use Rattle.std.proofs.Common.{◌≡◌, ◌≢◌, ℕ, ◌+◌, ◌-◌, ◌<◌, ◌≤◌, List, [], ◌∷◌, ◌++◌, take, length, Option, None, Some, Bool, true, refl, sym, ◌∙◌, ap, arith, nat_lt, length-append, subst, zero, suc, Result, Ok, Err, IfOk, OnErr}
-use Rattle.std.specs.Prelude.{MatchOption}
-use Rattle.std.proofs.Math.Seq.{take-nil}
+use Rattle.std.proofs.Common.{◌≡◌, ℕ, ◌+◌, ◌<◌, ◌≤◌, List, [], ◌∷◌, ◌++◌, take, length, Option, Bool, true, refl, sym, ◌∙◌, ap, arith, nat_lt, length-append, subst, Result, Ok, Err, IfOk, OnErr}
 use Rattle.std.proofs.lemmas.Grind.{common_steps}
 use Rattle.std.proofs.lemmas.Bool.Decides.{nat_tests}
 use Rattle.std.proofs.lemmas.List.{take_more, take_all}

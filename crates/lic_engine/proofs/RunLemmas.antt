@@ -1,7 +1,7 @@
 -- From the clauses of a text and of a report to those of a run.
-use Rattle.std.proofs.Common.{◌≡◌, ℕ, ◌<◌, List, length, Bool, Option, None, Result, Ok, Err, IfOk, OnErr, IsErrOf, nat_lt, subst, sym}
-use Rattle.std.specs.Io.KnownBytes.{Consumes, Appends, IsAtEnd}
-use Rattle.lic_norm.specs.Refusal.{refusal_of}
+use Rattle.std.proofs.Common.{◌≡◌, ℕ, List, length, Bool, Option, Result, Ok, Err, IfOk, OnErr, IsErrOf, nat_lt, subst, sym}
+use Rattle.std.specs.Io.KnownBytes.{Appends}
+use Rattle.lic_kind.specs.LineRules.{LineRules}
 use Rattle.lic_norm.specs.Tokens.{TokenValue, tokens_of}
 use Rattle.lic_phrases.specs.Rewriting.{Phrase}
 use Rattle.lic_auto.specs.Sets.{Known}
@@ -9,56 +9,49 @@ use Rattle.lic_stream.specs.Stream.{BeginsWith}
 use Rattle.lic_report.specs.Report.{IsReport, IsReportOf, token_lines}
 use Rattle.lic_report.specs.declared.ask.Ask.{Ask}
 use Rattle.lic_engine.specs.Inputs.{IsAccepted}
-use Rattle.lic_engine.proofs.Refusals.{accepted_short}
 
 -- these bytes were read to the end, are accepted, and have these tokens
-pub record HasTokens (words : List Phrase) (a b : Option (List ℕ)) (source : List ℕ) (tokens : List TokenValue) (bytes : List ℕ) : Type 0 where
+pub record HasTokens (rules : LineRules) (words : List Phrase) (a b : Option (List ℕ)) (source : List ℕ) (tokens : List TokenValue) (bytes : List ℕ) : Type 0 where
   pub accepted : IsAccepted a b bytes
   pub bytes_same : source ≡ bytes
-  pub same : tokens ≡ tokens_of words bytes
+  pub same : tokens ≡ tokens_of rules words bytes
 
--- what is accepted was read to its end
-pub whole_text : (words : List Phrase) (source : List ℕ) (tokens : List TokenValue) (bytes : List ℕ) (a b : Option (List ℕ))
-    → Consumes a b bytes → (length bytes < 67108865 → IsAtEnd b) → refusal_of bytes ≡ None → source ≡ bytes → tokens ≡ tokens_of words bytes
-    → (bs : List ℕ) × IsAccepted a b bs × (source ≡ bs) × (tokens ≡ tokens_of words bs)
-whole_text words source tokens bytes a b p end accepted d e = (bytes, (p, end (accepted_short bytes accepted), accepted), d, e)
-
-module _ (name : List ℕ) (set : List Known) (words : List Phrase) (ask : Ask) where
+module _ (rules : LineRules) (name : List ℕ) (set : List Known) (words : List Phrase) (ask : Ask) where
   -- the report on the tokens of what was read is the report on what was read
-  read_report : (source : List ℕ) (tokens : List TokenValue) (bytes lines : List ℕ) → source ≡ bytes → tokens ≡ tokens_of words bytes
-      → IsReportOf name set ask source tokens lines → IsReport name set words ask bytes lines
+  read_report : (source : List ℕ) (tokens : List TokenValue) (bytes lines : List ℕ) → source ≡ bytes → tokens ≡ tokens_of rules words bytes
+      → IsReportOf name set ask source tokens lines → IsReport rules name set words ask bytes lines
   read_report source tokens bytes lines d e p =
       subst (λ ts. IsReportOf name set ask bytes ts lines) e (subst (λ s. IsReportOf name set ask s tokens lines) d p)
 
-  report_read : (source : List ℕ) (tokens : List TokenValue) (bytes lines : List ℕ) → source ≡ bytes → tokens ≡ tokens_of words bytes
-      → IsReport name set words ask bytes lines → IsReportOf name set ask source tokens lines
+  report_read : (source : List ℕ) (tokens : List TokenValue) (bytes lines : List ℕ) → source ≡ bytes → tokens ≡ tokens_of rules words bytes
+      → IsReport rules name set words ask bytes lines → IsReportOf name set ask source tokens lines
   report_read source tokens bytes lines d e p =
       subst (λ s. IsReportOf name set ask s tokens lines) (sym d) (subst (λ ts. IsReportOf name set ask bytes ts lines) (sym e) p)
 
   pub whole_report : {E : Type 0} (r : Result Bool E) (source : List ℕ) (tokens : List TokenValue) (bytes : List ℕ) (a b u v : Option (List ℕ))
-      → HasTokens words a b source tokens bytes
+      → HasTokens rules words a b source tokens bytes
       → IfOk r (λ some. (lines : List ℕ) × IsReportOf name set ask source tokens lines × Appends u v lines × (some ≡ nat_lt 0 (length lines)))
-      → IfOk r (λ some. (bs lines : List ℕ) × IsAccepted a b bs × IsReport name set words ask bs lines
+      → IfOk r (λ some. (bs lines : List ℕ) × IsAccepted a b bs × IsReport rules name set words ask bs lines
       × Appends u v lines × (some ≡ nat_lt 0 (length lines)))
   whole_report (Ok x) source tokens bytes a b u v h w =
       (bytes, w.0, h.accepted, read_report source tokens bytes w.0 h.bytes_same h.same w.1, w.2, w.3)
   whole_report (Err x) source tokens bytes a b u v h w = tt
 
   pub part_report : {E : Type 0} (r : Result Bool E) (fault : E) (source : List ℕ) (tokens : List TokenValue) (bytes : List ℕ) (a b u v : Option (List ℕ))
-      → HasTokens words a b source tokens bytes
+      → HasTokens rules words a b source tokens bytes
       → OnErr r ((lines : List ℕ) → IsReportOf name set ask source tokens lines → BeginsWith u v lines) → IsErrOf r fault
-      → (bs : List ℕ) × IsAccepted a b bs × ((lines : List ℕ) → IsReport name set words ask bs lines → BeginsWith u v lines)
+      → (bs : List ℕ) × IsAccepted a b bs × ((lines : List ℕ) → IsReport rules name set words ask bs lines → BeginsWith u v lines)
   part_report (Ok x) fault source tokens bytes a b u v h w is = absurd (cc)
   part_report (Err x) fault source tokens bytes a b u v h w is =
       (bytes, h.accepted, λ lines p. w lines (report_read source tokens bytes lines h.bytes_same h.same p))
 
-module _ (name : List ℕ) (words : List Phrase) where
+module _ (rules : LineRules) (name : List ℕ) (words : List Phrase) where
   -- the lines of the tokens of what was read are those of what was read
   pub whole_tokens : {E : Type 0} (r : Result Bool E) (source : List ℕ) (tokens : List TokenValue) (bytes : List ℕ) (a b u v : Option (List ℕ))
-      → HasTokens words a b source tokens bytes
+      → HasTokens rules words a b source tokens bytes
       → IfOk r (λ some. Appends u v (token_lines name tokens) × (some ≡ nat_lt 0 (length (token_lines name tokens))))
       → IfOk r (λ some. (bs : List ℕ) × IsAccepted a b bs
-      × Appends u v (token_lines name (tokens_of words bs)) × (some ≡ nat_lt 0 (length (token_lines name (tokens_of words bs)))))
+      × Appends u v (token_lines name (tokens_of rules words bs)) × (some ≡ nat_lt 0 (length (token_lines name (tokens_of rules words bs)))))
   whole_tokens (Ok x) source tokens bytes a b u v h w = (
     bytes,
     h.accepted,
@@ -68,9 +61,9 @@ module _ (name : List ℕ) (words : List Phrase) where
   whole_tokens (Err x) source tokens bytes a b u v h w = tt
 
   pub part_tokens : {E : Type 0} (r : Result Bool E) (fault : E) (source : List ℕ) (tokens : List TokenValue) (bytes : List ℕ) (a b u v : Option (List ℕ))
-      → HasTokens words a b source tokens bytes
+      → HasTokens rules words a b source tokens bytes
       → OnErr r (BeginsWith u v (token_lines name tokens)) → IsErrOf r fault
-      → (bs : List ℕ) × IsAccepted a b bs × BeginsWith u v (token_lines name (tokens_of words bs))
+      → (bs : List ℕ) × IsAccepted a b bs × BeginsWith u v (token_lines name (tokens_of rules words bs))
   part_tokens (Ok x) fault source tokens bytes a b u v h w is = absurd (cc)
   part_tokens (Err x) fault source tokens bytes a b u v h w is =
       (bytes, h.accepted, subst (λ ts. BeginsWith u v (token_lines name ts)) h.same w)

@@ -1,11 +1,8 @@
 -- What was read of an input.
-use Rattle.std.specs.Prelude.{◌≡◌, ◌≢◌, ℕ, List, ◌++◌, Option, Some, None, Result, IsErrOf}
+use Rattle.std.specs.Prelude.{◌≡◌, ℕ, List, ◌++◌, Option, Some, None}
 use Rattle.std.specs.Io.KnownBytes.{Consumes, IsAtEnd}
 use Rattle.lic_norm.specs.Refusal.{refusal_of}
-use Rattle.lic_norm.specs.declared.fault.TextFault as fault
 use Rattle.lic_norm.specs.declared.fault.TextFault.{TextFault}
-use Rattle.lic_engine.specs.declared.fault.RunFault.{RunFault}
-use Rattle.lic_engine.specs.declared.fault.RunFault.TheVariants.{Text}
 
 -- these bytes were read to the end, and are no refused input
 abbrev pub IsAccepted : Option (List ℕ) → Option (List ℕ) → List ℕ → Type 0

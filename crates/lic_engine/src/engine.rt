@@ -2,8 +2,8 @@
 
 ghost use Rattle.std.specs.Prelude.{◌≡◌, ◌≢◌, ◌⊎◌, ℕ, List, length, IfOk, OnErr, IsErrOf, nat_lt};
 ghost use Rattle.std.specs.Io.KnownBytes.{Appends};
+ghost use Rattle.lic_kind.specs.LineRules.{rules_of};
 ghost use Rattle.lic_norm.specs.Tokens.{tokens_of};
-ghost use Rattle.lic_norm.specs.Spans.{AreSpans};
 ghost use Rattle.lic_stream.specs.Stream.{BeginsWith, ReadsUpTo};
 ghost use Rattle.lic_report.specs.Report.{AreAllLines, IsReport, IsReportOf, token_lines};
 ghost use Rattle.lic_engine.specs.Failures.{CountsReads, CountsWrites, IsOfWriting, Keeps};
@@ -13,6 +13,7 @@ use crate::fault::RunFault;
 use crate::input::read_text;
 use crate::outer::report_outer;
 use lic_auto::set::Set;
+use lic_kind::Rules;
 use lic_norm::fault::TextFault;
 use lic_norm::text::Text;
 use lic_norm::words::Words;
@@ -62,7 +63,6 @@ fn report<W: Sink>(
     set: &Set,
     ask: &Ask,
 ) -> Result<bool, RunFault>
-    requires { AreSpans text.now.source text.now.tokens }
     ensures written { IfOk result (λ some. (lines : List ℕ)
         × IsReportOf name.now set.now ask.now text.now.source text.now.tokens lines
         × Appends (W.taken out.old) (W.taken out.new) lines
@@ -92,18 +92,19 @@ pub fn run<R: Source, W: Sink>(
     out: &mut W,
     set: &Set,
     words: &Words,
+    rules: &Rules,
     ask: &Ask,
 ) -> Result<bool, RunFault>
     // The whole report of what was read to the end.
     ensures report { IfOk result (λ some. (bytes lines : List ℕ)
         × IsAccepted (R.left input.old) (R.left input.new) bytes
-        × IsReport name.now set.now words.now ask.now bytes lines
+        × IsReport (rules_of rules.now) name.now set.now words.now ask.now bytes lines
         × Appends (W.taken out.old) (W.taken out.new) lines
         × (some ≡ nat_lt 0 (length lines))) }
     // A beginning of the report of what was read.
     ensures part { (fault : _) → IsErrOf result fault → ((fault ≡ RunFault.Write) ⊎ (fault ≡ RunFault.Memory)) → (bytes : List ℕ)
         × IsAccepted (R.left input.old) (R.left input.new) bytes
-        × ((lines : List ℕ) → IsReport name.now set.now words.now ask.now bytes lines → BeginsWith (W.taken out.old) (W.taken out.new) lines) }
+        × ((lines : List ℕ) → IsReport (rules_of rules.now) name.now set.now words.now ask.now bytes lines → BeginsWith (W.taken out.old) (W.taken out.new) lines) }
     // An input that is too long: it stays refused however it goes on.
     ensures refused { (fault : _) → IsErrOf result (RunFault.Text fault) → fault ≢ TextFault.Memory
         → IsRefused (R.left input.old) (R.left input.new) fault }
@@ -114,7 +115,7 @@ pub fn run<R: Source, W: Sink>(
     ensures writes { CountsWrites result (W.failed out.old) (W.failed out.new) }
     ensures most { ReadsUpTo (R.left input.old) (R.left input.new) 67108865 }
 {
-    let text = read_text(alloc, input, words)?;
+    let text = read_text(alloc, input, words, rules)?;
     report(alloc, name, &text, out, set, ask)
 }
 
@@ -152,16 +153,17 @@ pub fn run_tokens<R: Source, W: Sink>(
     input: &mut R,
     out: &mut W,
     words: &Words,
+    rules: &Rules,
 ) -> Result<bool, RunFault>
     // The lines of all tokens of what was read to the end.
     ensures report { IfOk result (λ some. (bytes : List ℕ)
         × IsAccepted (R.left input.old) (R.left input.new) bytes
-        × Appends (W.taken out.old) (W.taken out.new) (token_lines name.now (tokens_of words.now bytes))
-        × (some ≡ nat_lt 0 (length (token_lines name.now (tokens_of words.now bytes))))) }
+        × Appends (W.taken out.old) (W.taken out.new) (token_lines name.now (tokens_of (rules_of rules.now) words.now bytes))
+        × (some ≡ nat_lt 0 (length (token_lines name.now (tokens_of (rules_of rules.now) words.now bytes))))) }
     // A beginning of the lines of what was read.
     ensures part { (fault : _) → IsErrOf result fault → ((fault ≡ RunFault.Write) ⊎ (fault ≡ RunFault.Memory)) → (bytes : List ℕ)
         × IsAccepted (R.left input.old) (R.left input.new) bytes
-        × BeginsWith (W.taken out.old) (W.taken out.new) (token_lines name.now (tokens_of words.now bytes)) }
+        × BeginsWith (W.taken out.old) (W.taken out.new) (token_lines name.now (tokens_of (rules_of rules.now) words.now bytes)) }
     // An input that is too long: it stays refused however it goes on.
     ensures refused { (fault : _) → IsErrOf result (RunFault.Text fault) → fault ≢ TextFault.Memory
         → IsRefused (R.left input.old) (R.left input.new) fault }
@@ -172,6 +174,6 @@ pub fn run_tokens<R: Source, W: Sink>(
     ensures writes { CountsWrites result (W.failed out.old) (W.failed out.new) }
     ensures most { ReadsUpTo (R.left input.old) (R.left input.new) 67108865 }
 {
-    let text = read_text(alloc, input, words)?;
+    let text = read_text(alloc, input, words, rules)?;
     report_tokens(alloc, name, &text, out)
 }

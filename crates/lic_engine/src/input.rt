@@ -2,13 +2,14 @@
 
 ghost use Rattle.std.specs.Prelude.{◌≡◌, ◌≢◌, ℕ, [], List, IfOk, OnOk, IsErrOf, None};
 ghost use Rattle.std.specs.Io.KnownBytes.{Consumes, IsAtEnd};
-ghost use Rattle.lic_norm.specs.Spans.{AreSpans};
+ghost use Rattle.lic_kind.specs.LineRules.{rules_of};
 ghost use Rattle.lic_norm.specs.Tokens.{tokens_of};
 ghost use Rattle.lic_stream.specs.Stream.{ReadsUpTo};
 ghost use Rattle.lic_engine.specs.Failures.{CountsReads, IsOfReading};
 ghost use Rattle.lic_engine.specs.Inputs.{IsAccepted, IsRefused};
 
 use crate::fault::RunFault;
+use lic_kind::Rules;
 use lic_norm::fault::TextFault;
 use lic_norm::feeder::Feeder;
 use lic_norm::text::Text;
@@ -30,6 +31,7 @@ fn feed_all<R: Source>(input: &mut R, feeder: &mut Feeder<'_>) -> Result<(), Run
     ensures whole { OnOk result (IsAccepted (R.left input.old) (R.left input.new) feeder.new.bytes) }
     ensures open { OnOk result (feeder.new.refused ≡ None) }
     ensures words { feeder.new.words ≡ feeder.old.words }
+    ensures rules { feeder.new.rules ≡ feeder.old.rules }
     ensures refused { (fault : _) → IsErrOf result (RunFault.Text fault) → fault ≢ TextFault.Memory
         → IsRefused (R.left input.old) (R.left input.new) fault }
     ensures reads { CountsReads result (R.failed input.old) (R.failed input.new) }
@@ -56,19 +58,23 @@ fn feed_all<R: Source>(input: &mut R, feeder: &mut Feeder<'_>) -> Result<(), Run
 }
 
 /// Reads an input to its end, but no more than one byte more than an input may have, and makes tokens of it as it comes.
-pub fn read_text<R: Source>(alloc: Global, input: &mut R, words: &Words) -> Result<Text, RunFault>
+pub fn read_text<R: Source>(
+    alloc: Global,
+    input: &mut R,
+    words: &Words,
+    rules: &Rules,
+) -> Result<Text, RunFault>
     ensures whole { IfOk result (λ text. (bytes : List ℕ)
         × IsAccepted (R.left input.old) (R.left input.new) bytes
         × (text.source ≡ bytes)
-        × (text.tokens ≡ tokens_of words.now bytes)) }
-    ensures spans { IfOk result (λ text. AreSpans text.source text.tokens) }
+        × (text.tokens ≡ tokens_of (rules_of rules.now) words.now bytes)) }
     ensures refused { (fault : _) → IsErrOf result (RunFault.Text fault) → fault ≢ TextFault.Memory
         → IsRefused (R.left input.old) (R.left input.new) fault }
     ensures reads { CountsReads result (R.failed input.old) (R.failed input.new) }
     ensures faults { IsOfReading result }
     ensures most { ReadsUpTo (R.left input.old) (R.left input.new) 67108865 }
 {
-    let mut feeder = Feeder::new(alloc, words);
+    let mut feeder = Feeder::new(alloc, words, rules);
     feed_all(input, &mut feeder)?;
     match feeder.finish() {
         Ok(text) => Ok(text),

@@ -4,7 +4,6 @@ ghost use Rattle.std.specs.Prelude.{◌≡◌, ℕ, List, All, length, map, nat_
 ghost use Rattle.std.specs.Io.KnownBytes.{Appends};
 ghost use Rattle.std.specs.List.{flat_map};
 ghost use Rattle.lic_find.specs.Matches.{IsMatch};
-ghost use Rattle.lic_norm.specs.Spans.{AreSpans};
 ghost use Rattle.lic_report.specs.Report.{AreOuterLines, HasItsValues, Valued, triple_of, valued_lines};
 ghost use Rattle.lic_stream.specs.Stream.{BeginsWith};
 ghost use Rattle.lic_engine.specs.Failures.{CountsWrites, IsOfWriting};
@@ -28,8 +27,7 @@ fn put_valued<W: Sink>(
     set: &Set,
     triples: &[Triple],
 ) -> Result<(), RunFault>
-    requires spans { AreSpans text.now.source text.now.tokens }
-    requires found { All (IsMatch set.now text.now.tokens) triples.now }
+    requires { All (IsMatch set.now text.now.tokens) triples.now }
     ensures written { OnOk result ((outer : List Valued) × (map triple_of outer ≡ triples.now)
         × All (HasItsValues set.now text.now.tokens) outer
         × Appends (W.taken out.old) (W.taken out.new) (flat_map (valued_lines name.now set.now text.now.source text.now.tokens) outer)) }
@@ -57,7 +55,6 @@ pub fn report_outer<W: Sink>(
     out: &mut W,
     set: &Set,
 ) -> Result<bool, RunFault>
-    requires { AreSpans text.now.source text.now.tokens }
     ensures written { IfOk result (λ some. (lines : List ℕ)
         × AreOuterLines name.now set.now text.now.source text.now.tokens lines
         × Appends (W.taken out.old) (W.taken out.new) lines

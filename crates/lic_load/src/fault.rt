@@ -1,21 +1,24 @@
-//! Why the templates or the list of equivalent words cannot be loaded.
+//! Why the line rules, the list of equivalent words or the templates cannot be loaded.
 
 ghost use Rattle.std.specs.Prelude.{◌≡◌, ◌↔◌, IsTrue};
 ghost use Rattle.std.specs.IoError.{error_kind};
 ghost use Rattle.lic_load.specs.declared.fault.LoadFault.TheVariants.{Memory};
 
 use lic_auto::set::BuildFault;
+use lic_kind::RulesFault;
 use lic_norm::words::WordsFault;
 use lic_stream::stream::Sink;
 use lic_stream::transfer::put_all;
 use std::alloc::{AllocError, AllocFailed};
+use std::fmt::Display;
 use std::io;
 use std::io::ErrorKind;
 use thiserror::Error;
 
-/// Why a list of equivalent words is refused.
+/// Why a file that an option names is refused: a file of line rules, or a list of equivalent words.
 #[derive(Clone, Copy, Debug, PartialEq, Eq, Error)]
-pub enum ListFault {
+#[error_bound(F: Display)]
+pub enum FileFault<F> {
     /// The file cannot be opened or read, or has more than 67,108,864 bytes.
     #[error("cannot be read")]
     Unreadable,
@@ -23,14 +26,16 @@ pub enum ListFault {
     #[error("not UTF-8 at byte {at}")]
     NotUtf8 { at: usize },
     #[error("{0}")]
-    Refused(WordsFault),
+    Refused(F),
 }
 
 /// Why nothing can be scanned.
 #[derive(Debug, Drop, Error)]
 pub enum LoadFault {
+    #[error("rules: {0}")]
+    Rules(FileFault<RulesFault>),
     #[error("words: {0}")]
-    Words(ListFault),
+    Words(FileFault<WordsFault>),
     #[error("templates: cannot be listed")]
     Listing,
     #[error("templates: {0}")]

@@ -1,6 +1,8 @@
-//! What is loaded before any input is read: the folder of the templates, and the list of equivalent words.
+//! What is loaded before any input is read: the line rules, the list of equivalent words, and the folder of the templates.
 #![tactic(auto)]
 
 pub mod fault;
+mod file;
+pub mod rules;
 pub mod templates;
 pub mod word_list;

@@ -8,6 +8,7 @@ ghost use Rattle.lic_load.specs.Causes.{fault_of_read};
 
 use crate::fault::{LoadFault, tell, wants_memory};
 use lic_auto::set::Set;
+use lic_kind::Rules;
 use lic_markup::{MarkupCause, MarkupFault, Template, read_template};
 use lic_norm::words::Words;
 use lic_report::fields::Escaped;
@@ -145,6 +146,7 @@ fn load<Rt: Files + AllocGlobal>(
     folder: &str,
     id: &str,
     words: &Words,
+    rules: &Rules,
 ) -> Result<Template, TemplateFault> {
     let path = format!(in alloc; "{folder}/{id}{ENDING}")?;
     let bytes = read_file(rt, alloc, path.as_str())?;
@@ -155,7 +157,7 @@ fn load<Rt: Files + AllocGlobal>(
         }));
     }
     match simdutf8::compat::from_utf8(bytes.as_slice()) {
-        Ok(text) => read_template(alloc, text, words).map_err(TemplateFault::Markup),
+        Ok(text) => read_template(alloc, text, words, rules).map_err(TemplateFault::Markup),
         Err(e) => Err(TemplateFault::NotUtf8 {
             at: e.valid_up_to(),
         }),
@@ -175,6 +177,7 @@ pub fn load_all<Rt: Files + AllocGlobal + Clone + Drop, E: Sink>(
     alloc: Global,
     folder: &str,
     words: &Words,
+    rules: &Rules,
     err: &mut E,
 ) -> Result<Loaded, LoadFault> {
     let listing = list(rt, alloc, folder)?;
@@ -184,7 +187,7 @@ pub fn load_all<Rt: Files + AllocGlobal + Clone + Drop, E: Sink>(
     let mut is_refused = listing.unnamed > 0;
     let mut templates = Vec::new(alloc);
     for id in listing.ids {
-        match load(rt, alloc, folder, id.as_str(), words) {
+        match load(rt, alloc, folder, id.as_str(), words, rules) {
             Ok(template) => templates.push((id, template))?,
             Err(TemplateFault::Memory) => return Err(LoadFault::Memory),
             Err(fault) => {

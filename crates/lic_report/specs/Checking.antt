@@ -2,6 +2,7 @@
 use Rattle.std.specs.Prelude.{◌≡◌, ◌↔◌, ℕ, Bool, IsTrue, List, ◌++◌, All, map, decimal, codes, if◌then◌else◌}
 use Rattle.std.specs.List.{flat_map}
 use Rattle.std.specs.Str.{chars}
+use Rattle.lic_kind.specs.LineRules.{LineRules}
 use Rattle.lic_words.specs.Describing.{IsDescribed}
 use Rattle.lic_norm.specs.Tokens.{TokenValue, tokens_of}
 use Rattle.lic_phrases.specs.Rewriting.{Phrase}
@@ -13,8 +14,8 @@ abbrev pub all_letters : List TokenValue → List (List ℕ)
 all_letters tokens = map (λ t. chars t.text) tokens
 
 -- the template describes all tokens of its original text, and there is one
-abbrev pub DescribesItsOriginal : List Phrase → Known → Type 0
-DescribesItsOriginal words known = IsDescribed (words_of known) (all_letters (tokens_of words known.template.original))
+abbrev pub DescribesItsOriginal : LineRules → List Phrase → Known → Type 0
+DescribesItsOriginal rules words known = IsDescribed (words_of known) (all_letters (tokens_of rules words known.template.original))
 
 -- a template, and what is said of it
 pub record Checked : Type 0 where
@@ -28,8 +29,8 @@ abbrev pub says_yes : Checked → Bool
 says_yes c = c.yes
 
 -- yes is said of a template that describes its original text, and of no other
-abbrev pub IsVerdict : List Phrase → Checked → Type 0
-IsVerdict words c = IsTrue c.yes ↔ DescribesItsOriginal words c.known
+abbrev pub IsVerdict : LineRules → List Phrase → Checked → Type 0
+IsVerdict rules words c = IsTrue c.yes ↔ DescribesItsOriginal rules words c.known
 
 -- the line of a template: its identifier, its weight, and `yes` or `no`
 abbrev pub check_line : Checked → List ℕ
@@ -38,7 +39,7 @@ check_line c =
     ++ field (if c.yes then codes "yes" else codes "no") 0x0A)
 
 -- What is written is a line for each template of the set, in order, with the verdict on it.
-pub record IsCheckReport (set : List Known) (words : List Phrase) (checked : List Checked) (written : List ℕ) : Type 0 where
+pub record IsCheckReport (rules : LineRules) (set : List Known) (words : List Phrase) (checked : List Checked) (written : List ℕ) : Type 0 where
   pub templates : map known_of checked ≡ set
-  pub verdicts : All (IsVerdict words) checked
+  pub verdicts : All (IsVerdict rules words) checked
   pub lines : written ≡ flat_map check_line checked

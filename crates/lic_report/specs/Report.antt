@@ -1,6 +1,7 @@
 -- What is written about an input.
 use Rattle.std.specs.Prelude.{◌≡◌, ℕ, Bool, true, false, List, [], ◌++◌, All, map, decimal, codes, take, slice_range, Option, Some, None}
 use Rattle.std.specs.List.{flat_map, slice_index_or}
+use Rattle.lic_kind.specs.LineRules.{LineRules}
 use Rattle.lic_norm.specs.Tokens.{TokenValue, tokens_of}
 use Rattle.lic_norm.specs.declared.token.Span.{Span}
 use Rattle.lic_phrases.specs.Rewriting.{Phrase}
@@ -89,9 +90,9 @@ AreLines false name set ask source tokens written = AreOuterLines name set sourc
 abbrev pub IsReportOf : List ℕ → List Known → Ask → List ℕ → List TokenValue → List ℕ → Type 0
 IsReportOf name set ask source tokens written = AreLines ask.all name set ask source tokens written
 
--- what is written is the report on an input, by a list of equivalent words
-abbrev pub IsReport : List ℕ → List Known → List Phrase → Ask → List ℕ → List ℕ → Type 0
-IsReport name set words ask input written = IsReportOf name set ask input (tokens_of words input) written
+-- what is written is the report on an input, by line rules and a list of equivalent words
+abbrev pub IsReport : LineRules → List ℕ → List Known → List Phrase → Ask → List ℕ → List ℕ → Type 0
+IsReport rules name set words ask input written = IsReportOf name set ask input (tokens_of rules words input) written
 
 -- ---- tokens
 

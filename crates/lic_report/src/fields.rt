@@ -1,6 +1,6 @@
 //! Fields of a line.
 
-ghost use Rattle.std.specs.Prelude.{◌≡◌, ◌++◌, [], ◌∷◌, OnOk, MatchOption, decimal};
+ghost use Rattle.std.specs.Prelude.{◌≡◌, ◌++◌, [], ◌∷◌, false, OnOk, MatchOption, decimal};
 ghost use Rattle.lic_report.specs.Fields.{escaped_byte, escaped, field};
 
 use itoa::Buffer;
@@ -21,6 +21,26 @@ fn escape_of(byte: u8) -> Option<&'static str>
     }
 }
 
+/// Whether a byte has to be looked at one by one: a backslash, and the bytes up to a carriage return, of which a tab and a line
+/// feed are two. All others stand in a field as they are.
+#[inline(always)]
+fn may_be_escaped(byte: u8) -> bool
+    ensures { result ≡ false → escaped_byte byte ≡ byte ∷ [] }
+{
+    (byte <= b'\r') | (byte == b'\\')
+}
+
+/// Whether one of these bytes has to be looked at. Most texts have none, so all are tested without a branch.
+fn has_escaped(bytes: &[u8]) -> bool
+    ensures { result ≡ false → escaped bytes.now ≡ bytes.now }
+{
+    let mut found = false;
+    for byte in bytes {
+        found = found | may_be_escaped(*byte);
+    }
+    found
+}
+
 fn add_escaped_byte(line: &mut Vec<u8>, byte: u8) -> Result<(), AllocError>
     ensures { OnOk result (line.new.items ≡ line.old.items ++ escaped_byte byte) }
 {
@@ -31,6 +51,26 @@ fn add_escaped_byte(line: &mut Vec<u8>, byte: u8) -> Result<(), AllocError>
     Ok(())
 }
 
+/// Adds these bytes as they stand in a field, byte by byte.
+fn add_each_escaped(line: &mut Vec<u8>, bytes: &[u8]) -> Result<(), AllocError>
+    ensures { OnOk result (line.new.items ≡ line.old.items ++ escaped bytes.now) }
+{
+    for byte in bytes {
+        add_escaped_byte(line, *byte)?;
+    }
+    Ok(())
+}
+
+/// Adds these bytes as they stand in a field: mostly they stand as they are.
+fn add_escaped(line: &mut Vec<u8>, bytes: &[u8]) -> Result<(), AllocError>
+    ensures { OnOk result (line.new.items ≡ line.old.items ++ escaped bytes.now) }
+{
+    if has_escaped(bytes) {
+        return add_each_escaped(line, bytes);
+    }
+    line.extend_from_slice(bytes)
+}
+
 /// Adds a text as a field, and the tab or the line end behind it.
 ///
 /// A backslash is written `\\`, a line feed `\n`, a carriage return `\r` and a tab `\t`; all other bytes
@@ -38,9 +78,7 @@ fn add_escaped_byte(line: &mut Vec<u8>, byte: u8) -> Result<(), AllocError>
 pub fn add_text(line: &mut Vec<u8>, bytes: &[u8], mark: u8) -> Result<(), AllocError>
     ensures { OnOk result (line.new.items ≡ line.old.items ++ field (escaped bytes.now) mark) }
 {
-    for byte in bytes {
-        add_escaped_byte(line, *byte)?;
-    }
+    add_escaped(line, bytes)?;
     line.push(mark)?;
     Ok(())
 }

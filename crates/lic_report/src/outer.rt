@@ -3,7 +3,6 @@
 ghost use Rattle.std.specs.Prelude.{◌≡◌, ◌≤◌, ◌++◌, ℕ, List, All, length, map, IfOk, OnOk, Some, None};
 ghost use Rattle.std.specs.List.{flat_map};
 ghost use Rattle.lic_find.specs.Matches.{AreMatches, IsMatch};
-ghost use Rattle.lic_norm.specs.Spans.{AreSpans};
 ghost use Rattle.lic_norm.specs.declared.token.Span.{Span};
 ghost use Rattle.lic_vars.specs.Filters.{outer_of};
 ghost use Rattle.lic_vars.specs.Values.{Assigned, AreValues};
@@ -14,6 +13,7 @@ use crate::lines::{add_match, add_value};
 use lic_auto::set::Set;
 use lic_find::laws::matches_exist;
 use lic_find::triple::Triple;
+use lic_norm::laws::tokens_have_spans;
 use lic_norm::text::Text;
 use lic_tight::matches::tight_matches;
 use lic_vars::filters::outer;
@@ -54,13 +54,13 @@ pub fn add_valued(
     text: &Text,
     triple: Triple,
 ) -> Result<(), AllocError>
-    requires spans { AreSpans text.now.source text.now.tokens }
-    requires found { IsMatch set.now text.now.tokens triple }
+    requires { IsMatch set.now text.now.tokens triple }
     ensures { OnOk result ((values : List Assigned) × AreValues set.now text.now.tokens triple values
         × (lines.new.items ≡ lines.old.items ++ valued_lines name.now set.now text.now.source text.now.tokens (record { triple = triple; values = values }))) }
 {
     add_match(lines, name, set, text, triple)?;
     let values = assign(alloc, set, text, triple)?;
     values_run_over_tokens();
+    tokens_have_spans(text);
     add_values(lines, text, &values)
 }

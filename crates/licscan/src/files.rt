@@ -1,9 +1,11 @@
 //! The files that lines are written about.
 
 use crate::faults::Stop;
+use crate::progress::Progress;
 use lic_auto::set::Set;
 use lic_engine::engine::{run, run_tokens};
 use lic_engine::fault::RunFault;
+use lic_kind::Rules;
 use lic_load::fault::{tell, wants_memory};
 use lic_norm::words::Words;
 use lic_report::ask::Ask;
@@ -18,6 +20,7 @@ use std::rt::Files;
 pub struct Search<'a> {
     pub set: &'a Set,
     pub words: &'a Words,
+    pub rules: &'a Rules,
     pub ask: &'a Ask,
 }
 
@@ -26,8 +29,15 @@ pub struct Search<'a> {
 pub enum Work<'a> {
     /// The matches of a search.
     Scan(Search<'a>),
-    /// The tokens, by a list of equivalent words.
-    Tokens(&'a Words),
+    /// The tokens, by a list of equivalent words and line rules.
+    Tokens { words: &'a Words, rules: &'a Rules },
+}
+
+/// Files in the order in which they were given, and whether it is shown how many are done.
+#[derive(Clone, Copy)]
+pub struct FileList<'a> {
+    pub names: &'a [&'a str],
+    pub progress: Progress,
 }
 
 /// What came of the files.
@@ -46,8 +56,17 @@ fn write_lines<R: Source, W: Sink>(
     work: Work<'_>,
 ) -> Result<bool, RunFault> {
     match work {
-        Work::Scan(Search { set, words, ask }) => run(alloc, name, input, out, set, words, ask),
-        Work::Tokens(words) => run_tokens(alloc, name, input, out, words),
+        Work::Scan(search) => run(
+            alloc,
+            name,
+            input,
+            out,
+            search.set,
+            search.words,
+            search.rules,
+            search.ask,
+        ),
+        Work::Tokens { words, rules } => run_tokens(alloc, name, input, out, words, rules),
     }
 }
 
@@ -73,11 +92,11 @@ fn write_file<Rt: Files, R: Source, W: Sink>(
     }
 }
 
-/// Writes the lines about files in order. One that is refused or cannot be read is told, and the rest go on.
-pub fn write_files<Rt: Files, R: Source, W: Sink, E: Sink>(
+/// Writes the lines about files in order.
+fn write_each<Rt: Files, R: Source, W: Sink, E: Sink>(
     rt: &Rt,
     alloc: Global,
-    files: &[&str],
+    files: FileList<'_>,
     input: &mut R,
     out: &mut W,
     err: &mut E,
@@ -87,11 +106,14 @@ pub fn write_files<Rt: Files, R: Source, W: Sink, E: Sink>(
         has_line: false,
         is_refused: false,
     };
-    for name in files {
+    let all = files.names.len();
+    for (done, name) in files.names.iter().enumerate() {
+        files.progress.show(alloc, err, done, all);
         match write_file(rt, alloc, name, input, out, work)? {
             Ok(some) => written.has_line |= some,
             Err(RunFault::Write) => return Err(Stop::Write),
             Err(fault) => {
+                files.progress.clear(err, all);
                 let name = Escaped(name);
                 let line = format!(in alloc; "licscan: {name}: {fault}\n")?;
                 tell(err, line.as_str());
@@ -100,4 +122,19 @@ pub fn write_files<Rt: Files, R: Source, W: Sink, E: Sink>(
         }
     }
     Ok(written)
+}
+
+/// Writes the lines about files in order. One that is refused or cannot be read is reported, and the rest go on.
+pub fn write_files<Rt: Files, R: Source, W: Sink, E: Sink>(
+    rt: &Rt,
+    alloc: Global,
+    files: FileList<'_>,
+    input: &mut R,
+    out: &mut W,
+    err: &mut E,
+    work: Work<'_>,
+) -> Result<Written, Stop> {
+    let written = write_each(rt, alloc, files, input, out, err, work);
+    files.progress.clear(err, files.names.len());
+    written
 }

@@ -4,11 +4,14 @@
 pub mod faults;
 pub mod files;
 pub mod program;
+pub mod progress;
 #[cfg(test)]
 mod tests;
 
 use crate::faults::{Stop, tell_stop};
 pub use crate::program::command;
+use crate::program::command_with;
+use crate::progress::Progress;
 use lic_arguments::fault::ArgumentFault;
 pub use lic_engine::check::check;
 pub use lic_engine::engine::{run, run_tokens};
@@ -17,6 +20,7 @@ use lic_load::fault::wants_memory;
 pub use lic_report::ask::Ask;
 pub use lic_stream::stream::{Counted, Sink, Source};
 use std::env;
+use std::io::IsTerminal;
 use std::process::ExitCode;
 
 /// The words after the program's name.
@@ -25,6 +29,15 @@ fn words_given(rt: &HostRuntime) -> Result<Vec<String>, Stop> {
         Ok(words) => Ok(words.skip(1).collect(rt.alloc())?),
         Err(e) if wants_memory(&e) => Err(Stop::Memory),
         Err(_) => Err(Stop::Arguments(ArgumentFault::NotUtf8)),
+    }
+}
+
+/// Whether someone waits at a terminal to which no lines are written.
+fn progress_of(rt: &HostRuntime) -> Progress {
+    if rt.stderr().is_terminal() && !rt.stdout().is_terminal() {
+        Progress::Shown
+    } else {
+        Progress::Hidden
     }
 }
 
@@ -38,13 +51,14 @@ fn start(rt: &HostRuntime) -> Result<u8, Stop> {
     let mut input = Counted::new(rt.stdin());
     let mut out = Counted::new(rt.stdout());
     let mut err = Counted::new(rt.stderr());
-    let status = command(
+    let status = command_with(
         rt,
         rt.alloc(),
         args.as_slice(),
         &mut input,
         &mut out,
         &mut err,
+        progress_of(rt),
     );
     Ok(status)
 }

@@ -1,7 +1,8 @@
 //! The whole program.
 
 use crate::faults::{Stop, tell_stop};
-use crate::files::{Search, Work, Written, write_files};
+use crate::files::{FileList, Search, Work, Written, write_files};
+use crate::progress::Progress;
 use clap::error::ErrorKind;
 use clap::{ArgMatches, Error};
 use lic_arguments::arguments::{CheckArguments, ScanArguments, TokensArguments, ask_of, parse};
@@ -9,6 +10,7 @@ use lic_arguments::fault::ArgumentFault;
 use lic_engine::check::check;
 use lic_engine::fault::RunFault;
 use lic_load::fault::tell;
+use lic_load::rules::load_rules;
 use lic_load::templates::load_all;
 use lic_load::word_list::load_words;
 use lic_stream::stream::{Sink, Source};
@@ -38,7 +40,7 @@ fn status_of(written: Written) -> u8 {
     }
 }
 
-/// The command `scan`: the arguments, the word list, the templates by identifier, the files as given.
+/// The command `scan`: the arguments, the line rules, the word list, the templates by identifier, the files as given.
 fn scan<Rt: Files + AllocGlobal + Clone + Drop, R: Source, W: Sink, E: Sink>(
     rt: &Rt,
     alloc: Global,
@@ -46,23 +48,29 @@ fn scan<Rt: Files + AllocGlobal + Clone + Drop, R: Source, W: Sink, E: Sink>(
     input: &mut R,
     out: &mut W,
     err: &mut E,
+    progress: Progress,
 ) -> Result<u8, Stop> {
     let arguments = ScanArguments::read(alloc, found)?;
+    let rules = load_rules(rt, alloc, arguments.rules)?;
     let words = load_words(rt, alloc, arguments.words)?;
-    let loaded = load_all(rt, alloc, arguments.folder, &words, err)?;
+    let loaded = load_all(rt, alloc, arguments.folder, &words, &rules, err)?;
     let ask = ask_of(alloc, &arguments, &loaded.set)?;
     let search = Search {
         set: &loaded.set,
         words: &words,
+        rules: &rules,
         ask: &ask,
     };
-    let files = arguments.files.as_slice();
+    let files = FileList {
+        names: arguments.files.as_slice(),
+        progress,
+    };
     let mut written = write_files(rt, alloc, files, input, out, err, Work::Scan(search))?;
     written.is_refused |= loaded.is_refused;
     Ok(status_of(written))
 }
 
-/// The command `check`: the arguments, the word list, the templates by identifier.
+/// The command `check`: the arguments, the line rules, the word list, the templates by identifier.
 fn check_templates<Rt: Files + AllocGlobal + Clone + Drop, W: Sink, E: Sink>(
     rt: &Rt,
     alloc: Global,
@@ -71,9 +79,10 @@ fn check_templates<Rt: Files + AllocGlobal + Clone + Drop, W: Sink, E: Sink>(
     err: &mut E,
 ) -> Result<u8, Stop> {
     let arguments = CheckArguments::read(found);
+    let rules = load_rules(rt, alloc, arguments.rules)?;
     let words = load_words(rt, alloc, arguments.words)?;
-    let loaded = load_all(rt, alloc, arguments.folder, &words, err)?;
-    match check(alloc, &loaded.set, &words, out) {
+    let loaded = load_all(rt, alloc, arguments.folder, &words, &rules, err)?;
+    match check(alloc, &loaded.set, &words, out, &rules) {
         Ok(_) if loaded.is_refused => Ok(REFUSED),
         Ok(true) => Ok(ALL_DESCRIBED),
         Ok(false) => Ok(SOME_NOT_DESCRIBED),
@@ -82,7 +91,7 @@ fn check_templates<Rt: Files + AllocGlobal + Clone + Drop, W: Sink, E: Sink>(
     }
 }
 
-/// The command `tokens`: the arguments, the word list, the files as given.
+/// The command `tokens`: the arguments, the line rules, the word list, the files as given.
 fn tokens<Rt: Files + AllocGlobal, R: Source, W: Sink, E: Sink>(
     rt: &Rt,
     alloc: Global,
@@ -90,11 +99,20 @@ fn tokens<Rt: Files + AllocGlobal, R: Source, W: Sink, E: Sink>(
     input: &mut R,
     out: &mut W,
     err: &mut E,
+    progress: Progress,
 ) -> Result<u8, Stop> {
     let arguments = TokensArguments::read(alloc, found)?;
+    let rules = load_rules(rt, alloc, arguments.rules)?;
     let words = load_words(rt, alloc, arguments.words)?;
-    let files = arguments.files.as_slice();
-    let written = write_files(rt, alloc, files, input, out, err, Work::Tokens(&words))?;
+    let files = FileList {
+        names: arguments.files.as_slice(),
+        progress,
+    };
+    let work = Work::Tokens {
+        words: &words,
+        rules: &rules,
+    };
+    let written = write_files(rt, alloc, files, input, out, err, work)?;
     Ok(status_of(written))
 }
 
@@ -127,6 +145,7 @@ fn try_command<Rt: Files + AllocGlobal + Clone + Drop, R: Source, W: Sink, E: Si
     input: &mut R,
     out: &mut W,
     err: &mut E,
+    progress: Progress,
 ) -> Result<u8, Stop> {
     let mut words = Vec::new(alloc);
     words.push("licscan")?;
@@ -134,11 +153,11 @@ fn try_command<Rt: Files + AllocGlobal + Clone + Drop, R: Source, W: Sink, E: Si
     match parse(alloc, words.as_slice()) {
         Ok(matches) => {
             if let Some(found) = matches.subcommand_matches("scan") {
-                scan(rt, alloc, found, input, out, err)
+                scan(rt, alloc, found, input, out, err, progress)
             } else if let Some(found) = matches.subcommand_matches("check") {
                 check_templates(rt, alloc, found, out, err)
             } else if let Some(found) = matches.subcommand_matches("tokens") {
-                tokens(rt, alloc, found, input, out, err)
+                tokens(rt, alloc, found, input, out, err, progress)
             } else {
                 Err(Stop::Arguments(ArgumentFault::NoCommand))
             }
@@ -150,7 +169,7 @@ fn try_command<Rt: Files + AllocGlobal + Clone + Drop, R: Source, W: Sink, E: Si
 /// The whole program, over the words after its name. The answer is its status. `scan` and `tokens`: 0 if a line was
 /// written, 1 if none was. `check`: 1 if a line says `no`, else 0. All: 2 if anything was refused or failed.
 ///
-/// It opens the files and the folder itself. What is refused is told on `err`, a line each.
+/// It opens the files and the folder itself. What is refused is reported on `err`, a line each.
 pub fn command<Rt: Files + AllocGlobal + Clone + Drop, R: Source, W: Sink, E: Sink>(
     rt: &Rt,
     alloc: Global,
@@ -159,7 +178,20 @@ pub fn command<Rt: Files + AllocGlobal + Clone + Drop, R: Source, W: Sink, E: Si
     out: &mut W,
     err: &mut E,
 ) -> u8 {
-    match try_command(rt, alloc, args, input, out, err) {
+    command_with(rt, alloc, args, input, out, err, Progress::Hidden)
+}
+
+/// The whole program, as `command` is, which may show how far it is on `err`.
+pub fn command_with<Rt: Files + AllocGlobal + Clone + Drop, R: Source, W: Sink, E: Sink>(
+    rt: &Rt,
+    alloc: Global,
+    args: &[&str],
+    input: &mut R,
+    out: &mut W,
+    err: &mut E,
+    progress: Progress,
+) -> u8 {
+    match try_command(rt, alloc, args, input, out, err, progress) {
         Ok(status) => status,
         Err(stop) => {
             tell_stop(alloc, err, &stop);

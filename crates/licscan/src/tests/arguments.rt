@@ -1,4 +1,4 @@
-//! What is told of the arguments.
+//! What is reported for the arguments.
 
 use crate::tests::cases::{Case, expect, make_folder};
 use std::fs;

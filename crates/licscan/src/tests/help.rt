@@ -3,22 +3,23 @@
 use crate::tests::cases::{Case, expect};
 
 const HELP: &str = "\
-Finds the ranges of texts that licence templates describe
+Finds the ranges of texts that licence templates match
 
 Usage: licscan <COMMAND>
 
 Commands:
-  scan    Writes a line for each range of a file that a template describes
-  check   Says of each template whether it describes its own original text
-  tokens  Writes a line for each token of a file
+  scan    Prints each range of a file that a template matches
+  check   Checks that each template matches its own original text
+  tokens  Prints each token of a file
   help    Print this message or the help of the given subcommand(s)
 
 Options:
-  -h, --help  Print help
+  -h, --help     Print help
+  -V, --version  Print version
 ";
 
 const SCAN_HELP: &str = "\
-Writes a line for each range of a file that a template describes
+Prints each range of a file that a template matches
 
 Usage: licscan scan [OPTIONS] --templates <DIR> [FILES]...
 
@@ -28,6 +29,7 @@ Arguments:
 Options:
       --templates <DIR>  The folder of the templates
       --words <FILE>     The list of words that count as the same
+      --rules <FILE>     The line rules: comment marks and list items to ignore
       --all              Write every match, and no variables
       --after <F:L:ID>   With --all: only what comes after this match
       --limit <N>        With --all: at most N lines for each file
@@ -42,10 +44,10 @@ template. With --all every match is written.
 
 A match is a line of six fields with a tab between two: the file, the
 template's identifier, the numbers of the first and the last token, counted
-from 0, the byte at which the match starts, and the byte behind its end.
+from 0, the byte at which the match starts, and the byte just past its end.
 
 Without --all a line for each variable of the template follows: an empty field,
-the variable's name, the byte at which its value starts, the byte behind its
+the variable's name, the byte at which its value starts, the byte just past its
 end, and the value. Where a variable stands for nothing, a - follows its name.
 
 F:L:ID are the numbers of a first and a last token, and an identifier.
@@ -57,13 +59,14 @@ Example: licscan scan --templates templates LICENSE README
 ";
 
 const CHECK_HELP: &str = "\
-Says of each template whether it describes its own original text
+Checks that each template matches its own original text
 
 Usage: licscan check [OPTIONS] --templates <DIR>
 
 Options:
       --templates <DIR>  The folder of the templates
       --words <FILE>     The list of words that count as the same
+      --rules <FILE>     The line rules: comment marks and list items to ignore
   -h, --help             Print help
 
 Templates are the files of DIR whose names end in .template.txt; what stands
@@ -80,7 +83,7 @@ Example: licscan check --templates templates
 ";
 
 const TOKENS_HELP: &str = "\
-Writes a line for each token of a file
+Prints each token of a file
 
 Usage: licscan tokens [OPTIONS] [FILES]...
 
@@ -89,10 +92,11 @@ Arguments:
 
 Options:
       --words <FILE>  The list of words that count as the same
+      --rules <FILE>  The line rules: comment marks and list items to ignore
   -h, --help          Print help
 
 A line has four fields with a tab between two: the file, the byte at which the
-token starts, the byte behind its end, and the token's text.
+token starts, the byte just past its end, and the token's text.
 
 Status: 0 if a line was written, 1 if none was, 2 if anything was refused or
 could not be read or written.
@@ -135,6 +139,13 @@ fn help_and_usage_are_shown(rt: HostRuntime) {
                 input: "",
                 status: 0,
                 out: HELP,
+                err: "",
+            },
+            Case {
+                args: &["--version"],
+                input: "",
+                status: 0,
+                out: "licscan 0.1.0\n",
                 err: "",
             },
             Case {

@@ -1,4 +1,4 @@
-//! What is told of what is refused.
+//! What is reported for what is refused.
 
 use crate::tests::cases::{Case, expect, make_folder};
 use std::fs;

@@ -5,6 +5,7 @@ use lic_auto::set::Set;
 use lic_engine::check::check;
 use lic_engine::engine::run;
 use lic_engine::fault::RunFault;
+use lic_kind::Rules;
 use lic_markup::read_template;
 use lic_norm::words::Words;
 use lic_report::ask::Ask;
@@ -93,12 +94,27 @@ const INPUT: &[u8] = b"foo bar foo bar";
 
 const REPORT: &[u8] = b"-\tA\t0\t1\t0\t7\n-\tA\t2\t3\t8\t15\n";
 
-/// The set with this one template, of the identifier `A`.
+/// The set with this one template, of the identifier `A`, by the rules of the profile.
 fn set_of(alloc: Global, text: &str, words: &Words) -> Result<Set, Fail> {
-    let template = read_template(alloc, text, words)?;
+    let rules = Rules::profile(alloc);
+    let template = read_template(alloc, text, words, &rules)?;
     let mut templates = Vec::new(alloc);
     templates.push(("A".to_string(alloc)?, template))?;
     Ok(Set::build(alloc, templates)?)
+}
+
+/// What `run` answers by the rules of the profile. It is generic, since the borrow checker does not cover a reader of two lifetimes beside
+/// the rules.
+fn run_by_profile<R: Source, W: Sink>(
+    alloc: Global,
+    input: &mut R,
+    out: &mut W,
+    set: &Set,
+    words: &Words,
+    ask: &Ask,
+) -> Result<bool, RunFault> {
+    let rules = Rules::profile(alloc);
+    run(alloc, "-", input, out, set, words, &rules, ask)
 }
 
 #[test]
@@ -117,7 +133,7 @@ fn a_failed_read_writes_nothing(rt: HostRuntime) -> Result<(), Fail> {
             room: 100,
             failed: 0,
         };
-        let result = run(rt.alloc(), "-", &mut input, &mut out, &set, &words, &ASK);
+        let result = run_by_profile(rt.alloc(), &mut input, &mut out, &set, &words, &ASK);
         if k < 17 {
             assert_eq!(rt; result, Err(RunFault::Read), "at call {k}");
             assert_eq!(rt; out.bytes.len(), 0, "at call {k}");
@@ -141,7 +157,7 @@ fn a_failed_write_keeps_a_beginning(rt: HostRuntime) -> Result<(), Fail> {
             room: k,
             failed: 0,
         };
-        let result = run(rt.alloc(), "-", &mut input, &mut out, &set, &words, &ASK);
+        let result = run_by_profile(rt.alloc(), &mut input, &mut out, &set, &words, &ASK);
         if k < REPORT.len() {
             assert_eq!(rt; result, Err(RunFault::Write), "with room for {k}");
         } else {
@@ -172,7 +188,7 @@ fn a_failed_write_keeps_a_beginning_of_outer_matches(rt: HostRuntime) -> Result<
             room: k,
             failed: 0,
         };
-        let result = run(rt.alloc(), "-", &mut input, &mut out, &set, &words, &OUTER);
+        let result = run_by_profile(rt.alloc(), &mut input, &mut out, &set, &words, &OUTER);
         if k < report.len() {
             assert_eq!(rt; result, Err(RunFault::Write), "with room for {k}");
         } else {
@@ -186,6 +202,7 @@ fn a_failed_write_keeps_a_beginning_of_outer_matches(rt: HostRuntime) -> Result<
 #[test]
 fn a_failed_write_keeps_a_beginning_of_a_check(rt: HostRuntime) -> Result<(), Fail> {
     let words = Words::none(rt.alloc());
+    let rules = Rules::profile(rt.alloc());
     let set = set_of(rt.alloc(), "foo bar", &words)?;
     let report = b"A\t7\tyes\n".as_slice();
     for k in 0..report.len() + 1 {
@@ -194,7 +211,7 @@ fn a_failed_write_keeps_a_beginning_of_a_check(rt: HostRuntime) -> Result<(), Fa
             room: k,
             failed: 0,
         };
-        let result = check(rt.alloc(), &set, &words, &mut out);
+        let result = check(rt.alloc(), &set, &words, &mut out, &rules);
         if k < report.len() {
             assert_eq!(rt; result, Err(RunFault::Write), "with room for {k}");
         } else {

@@ -17,6 +17,7 @@ loop-count-init g c =
       accepted = accepted c.args.feeder.now.bytes (omega (arith, ap length c.requires.empty));
       unrefused = c.requires.open;
       words = refl;
+      rules = refl;
     }
 
 pub returns-in-Err-feed-clause-refused : goal.returns-in-Err-feed-clause-refused

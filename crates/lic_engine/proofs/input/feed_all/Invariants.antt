@@ -1,4 +1,4 @@
-use Rattle.std.proofs.Common.{◌≡◌, ◌≤◌, ◌-◌, None, length}
+use Rattle.std.proofs.Common.{◌≡◌, ◌-◌, None, length}
 use Rattle.std.specs.Io.KnownBytes.{Consumes}
 use Rattle.lic_norm.specs.Refusal.{refusal_of}
 use Rattle.lic_engine.proofs.input.feed_all.Given as goal
@@ -12,6 +12,7 @@ invariant-loop-count g l = record {
   accepted : refusal_of l.feeder.bytes ≡ None;
   unrefused : l.feeder.refused ≡ None;
   words : l.feeder.words ≡ l.initial.feeder.words;
+  rules : l.feeder.rules ≡ l.initial.feeder.rules;
 }
 
 abbrev pub decreases-loop-count : goal.decreases-loop-count

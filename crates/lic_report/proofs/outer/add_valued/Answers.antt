@@ -9,7 +9,7 @@ add_values-requires c =
     let here : c.deref.result.now ≡ c.in_ok-values.values.items = search rules in
     subst (λ l. All (λ value. (s : Span) → value.span ≡ Some s → Fits c.args.text.now.source s) l) (sym here)
     (values_fit c.args.text.now.source c.args.set.now c.args.text.now.tokens c.args.triple c.in_ok-values.values.items c.values_run_over_tokens.ensures
-    c.requires.spans c.requires.found.within c.in_ok-values.ensures)
+    c.tokens_have_spans.ensures c.requires.within c.in_ok-values.ensures)
 
 pub returns : goal.returns
 returns c =

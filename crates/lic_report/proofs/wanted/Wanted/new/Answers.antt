@@ -1,4 +1,4 @@
-use Rattle.std.proofs.Common.{rules, ◌≡◌, refl}
+use Rattle.std.proofs.Common.{rules, refl}
 use Rattle.lic_find.specs.Matches.{AreMatches}
 use Rattle.lic_find.specs.Rest.{rest_of}
 use Rattle.lic_report.proofs.wanted.Wanted.new.Goals as goal
