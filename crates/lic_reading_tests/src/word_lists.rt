@@ -1,5 +1,6 @@
 //! Lists of equivalent words: what is read and what is refused, and the texts of the faults.
 
+use lic_kind::Rules;
 use lic_norm::text::Text;
 use lic_phrases::{Words, WordsCause, WordsFault};
 use std::alloc::{AllocError, Global};
@@ -8,7 +9,13 @@ use std::test::Fail;
 /// The texts of a text's tokens by a list of equivalent words, a `|` after each.
 fn tokens_by(alloc: Global, list: &str, text: &str) -> Result<String, Fail> {
     let words = Words::read(alloc, list)?;
-    let text = Text::read(alloc, Vec::from_slice(alloc, text.as_bytes())?, &words)?;
+    let rules = Rules::profile(alloc);
+    let text = Text::read(
+        alloc,
+        Vec::from_slice(alloc, text.as_bytes())?,
+        &words,
+        &rules,
+    )?;
     let mut shown = String::new(alloc);
     for number in 0..text.len() {
         shown.push_str(text.token(number).text)?;

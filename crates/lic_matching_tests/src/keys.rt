@@ -2,6 +2,7 @@
 
 use lic_keys::keys::Keys;
 use lic_keys::look::Look;
+use lic_kind::Rules;
 use lic_markup::read_template;
 use lic_norm::words::Words;
 use std::alloc::Global;
@@ -11,9 +12,10 @@ use std::test::Fail;
 /// The numbers of the templates that are kept for these tokens.
 fn kept(alloc: Global, templates: &[&str], tokens: &[&str]) -> Result<String, Fail> {
     let words = Words::none(alloc);
+    let rules = Rules::profile(alloc);
     let mut read = Vec::new(alloc);
     for template in templates {
-        read.push(read_template(alloc, template, &words)?)?;
+        read.push(read_template(alloc, template, &words, &rules)?)?;
     }
     let mut all = Vec::new(alloc);
     for template in &read {

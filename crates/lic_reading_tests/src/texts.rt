@@ -1,5 +1,6 @@
 //! Tokens of texts, and letters of pieces of templates.
 
+use lic_kind::Rules;
 use lic_norm::fault::TextFault;
 use lic_norm::pieces::{Next, piece};
 use lic_norm::refusal::MOST_BYTES;
@@ -62,12 +63,38 @@ fn tokens_have_letters_and_bytes(rt: HostRuntime) -> Result<(), Fail> {
         ),
     ];
     let words = Words::none(rt.alloc());
+    let rules = Rules::profile(rt.alloc());
     for (source, wanted) in table {
-        let text = Text::read(rt.alloc(), source.as_bytes().to_vec(rt.alloc())?, &words)?;
+        let text = Text::read(
+            rt.alloc(),
+            source.as_bytes().to_vec(rt.alloc())?,
+            &words,
+            &rules,
+        )?;
         let shown = show_tokens(rt.alloc(), &text)?;
         assert_eq!(rt; shown.as_str(), wanted);
         assert_eq!(rt; text.source(), source.as_bytes());
     }
+    Ok(())
+}
+
+#[test]
+fn other_line_rules_are_heeded(rt: HostRuntime) -> Result<(), Fail> {
+    let words = Words::none(rt.alloc());
+    let rules = Rules::read(rt.alloc(), "lead @@\nitems off\nseparators off")?;
+    let source = "@@ 1. Foo\n// ab---cd */";
+    let text = Text::read(
+        rt.alloc(),
+        source.as_bytes().to_vec(rt.alloc())?,
+        &words,
+        &rules,
+    )?;
+    assert_eq!(rt;
+        show_tokens(rt.alloc(), &text)?.as_str(),
+        "1 3-4, . 4-5, foo 6-9, / 10-11, / 11-12, ab 13-15, - 15-18, cd 18-20, * 21-22, / 22-23, "
+    );
+    let letters = piece(rt.alloc(), source, true, Next::LineEnd, &words, &rules)?;
+    assert_eq!(rt; letters.as_str(), " 1.foo//ab-cd*/");
     Ok(())
 }
 
@@ -77,8 +104,14 @@ fn equivalent_words_are_one_token(rt: HostRuntime) -> Result<(), Fail> {
         rt.alloc(),
         "sub-license,sublicense\nsub license,sublicense\n",
     )?;
+    let rules = Rules::profile(rt.alloc());
     let source = "sub-license sublicense Sub License";
-    let text = Text::read(rt.alloc(), source.as_bytes().to_vec(rt.alloc())?, &words)?;
+    let text = Text::read(
+        rt.alloc(),
+        source.as_bytes().to_vec(rt.alloc())?,
+        &words,
+        &rules,
+    )?;
     let shown = show_tokens(rt.alloc(), &text)?;
     assert_eq!(rt;
         shown.as_str(),
@@ -114,8 +147,9 @@ fn pieces_have_letters(rt: HostRuntime) -> Result<(), Fail> {
         ("a Sub License ", false, Next::Var, "a sub-license "),
     ];
     let words = Words::read(rt.alloc(), "sub-license,sub license\n")?;
+    let rules = Rules::profile(rt.alloc());
     for (source, at_line_start, before, wanted) in table {
-        let letters = piece(rt.alloc(), source, at_line_start, before, &words)?;
+        let letters = piece(rt.alloc(), source, at_line_start, before, &words, &rules)?;
         assert_eq!(rt; letters.as_str(), wanted, "in {source:?}");
     }
     Ok(())
@@ -124,7 +158,13 @@ fn pieces_have_letters(rt: HostRuntime) -> Result<(), Fail> {
 #[test]
 fn a_span_has_its_bytes(rt: HostRuntime) -> Result<(), Fail> {
     let words = Words::none(rt.alloc());
-    let text = Text::read(rt.alloc(), "a Bé".as_bytes().to_vec(rt.alloc())?, &words)?;
+    let rules = Rules::profile(rt.alloc());
+    let text = Text::read(
+        rt.alloc(),
+        "a Bé".as_bytes().to_vec(rt.alloc())?,
+        &words,
+        &rules,
+    )?;
     assert_eq!(rt; text.len(), 2);
     assert_eq!(rt; text.slice(text.token(1).span), "Bé".as_bytes());
     Ok(())
@@ -153,8 +193,9 @@ fn any_byte_is_read(rt: HostRuntime) -> Result<(), Fail> {
         (&[b'#', b' ', 0x80, b'#', b'\n'], "\u{FFFD} 2-3, # 3-4, "),
     ];
     let words = Words::none(rt.alloc());
+    let rules = Rules::profile(rt.alloc());
     for (source, wanted) in table {
-        let text = Text::read(rt.alloc(), source.to_vec(rt.alloc())?, &words)?;
+        let text = Text::read(rt.alloc(), source.to_vec(rt.alloc())?, &words, &rules)?;
         assert_eq!(rt;
             show_tokens(rt.alloc(), &text)?.as_str(),
             wanted,
@@ -181,11 +222,12 @@ fn refusals_have_texts(rt: HostRuntime) -> Result<(), Fail> {
 fn long_inputs_are_refused(rt: HostRuntime) -> Result<(), Fail> {
     let table = [(0, b'a'), (MOST_BYTES, 0xFF), (5, 0xFF)];
     let words = Words::none(rt.alloc());
+    let rules = Rules::profile(rt.alloc());
     for (place, byte) in table {
         let mut source = vec![in rt.alloc(); b'a'; MOST_BYTES + 1]?;
         assert!(rt; place < source.len());
         source[place] = byte;
-        let fault = Text::read(rt.alloc(), source, &words)
+        let fault = Text::read(rt.alloc(), source, &words, &rules)
             .err()
             .ok_or("accepted")?;
         assert_eq!(rt; fault, TextFault::TooLong);

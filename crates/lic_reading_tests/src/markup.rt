@@ -1,5 +1,6 @@
 //! Templates, the faults that decide, and their texts.
 
+use lic_kind::Rules;
 use lic_markup::{MarkupCause, MarkupFault, Part, Template, read_template};
 use lic_norm::words::Words;
 use std::alloc::Global;
@@ -74,8 +75,9 @@ fn the_fault_that_decides_is_told(rt: HostRuntime) -> Result<(), Fail> {
         ),
     ];
     let words = Words::none(rt.alloc());
+    let rules = Rules::profile(rt.alloc());
     for (text, expected) in table {
-        let told = match read_template(rt.alloc(), text, &words) {
+        let told = match read_template(rt.alloc(), text, &words, &rules) {
             Ok(_) => String::new(rt.alloc()),
             Err(fault) => format!(in rt.alloc(); "{fault}")?,
         };
@@ -112,8 +114,9 @@ fn originals_and_weights(rt: HostRuntime) -> Result<(), Fail> {
         ),
     ];
     let words = Words::none(rt.alloc());
+    let rules = Rules::profile(rt.alloc());
     for (text, original, weight) in table {
-        let template = read_template(rt.alloc(), text, &words)?;
+        let template = read_template(rt.alloc(), text, &words, &rules)?;
         assert_eq!(&rt; template.original(), *original, "{text:?}");
         assert_eq!(&rt; template.weight(), *weight, "{text:?}");
     }
@@ -132,17 +135,28 @@ fn texts_are_normalised(rt: HostRuntime) -> Result<(), Fail> {
         ),
     ];
     let words = Words::none(rt.alloc());
+    let rules = Rules::profile(rt.alloc());
     for (text, original, weight) in table {
-        let template = read_template(rt.alloc(), text, &words)?;
+        let template = read_template(rt.alloc(), text, &words, &rules)?;
         assert_eq!(&rt; template.original(), *original);
         assert_eq!(&rt; template.weight(), *weight, "{text:?}");
     }
     Ok(())
 }
 
+#[test]
+fn texts_are_read_by_the_rules_that_are_handed_in(rt: HostRuntime) -> Result<(), Fail> {
+    let words = Words::none(rt.alloc());
+    let rules = Rules::read(rt.alloc(), "lead @@\nitems off")?;
+    let template = read_template(rt.alloc(), "@@ 1. Foo", &words, &rules)?;
+    let told = format!(in rt.alloc(); "{:?}", template.parts())?;
+    assert_eq!(&rt; told.as_str(), r#"[Text(" 1.foo")]"#);
+    Ok(())
+}
+
 /// The parts of a template, as they are printed.
 fn parts_of(alloc: Global, text: &str, words: &Words) -> Result<String, Fail> {
-    let template = read_template(alloc, text, words)?;
+    let template = read_template(alloc, text, words, &Rules::profile(alloc))?;
     Ok(format!(in alloc; "{:?}", template.parts())?)
 }
 
@@ -257,12 +271,19 @@ fn texts_are_spelled_by_the_words(rt: HostRuntime) -> Result<(), Fail> {
 #[test]
 fn great_repetitions_are_weighed_at_once(rt: HostRuntime) -> Result<(), Fail> {
     let words = Words::none(rt.alloc());
+    let rules = Rules::profile(rt.alloc());
     let text = "x<<var;name=n;original=o;match=(((){65535}){65535}){65535}>>";
-    assert_eq!(&rt; read_template(rt.alloc(), text, &words)?.weight(), 1);
+    assert_eq!(&rt;
+        read_template(rt.alloc(), text, &words, &rules)?.weight(),
+        1
+    );
     let text = "x<<var;name=n;original=o;match=((a{65535}){65535}){0}>>";
-    assert_eq!(&rt; read_template(rt.alloc(), text, &words)?.weight(), 1);
+    assert_eq!(&rt;
+        read_template(rt.alloc(), text, &words, &rules)?.weight(),
+        1
+    );
     let text = "x<<var;name=n;original=o;match=((a{65535}){65535}){65535}>>";
-    let fault = read_template(rt.alloc(), text, &words).err();
+    let fault = read_template(rt.alloc(), text, &words, &rules).err();
     assert_eq!(&rt; fault.map(|fault| fault.cause), Some(MarkupCause::TooHeavy));
     Ok(())
 }
@@ -270,10 +291,11 @@ fn great_repetitions_are_weighed_at_once(rt: HostRuntime) -> Result<(), Fail> {
 #[test]
 fn fronts_of_a_template(rt: HostRuntime) -> Result<(), Fail> {
     let words = Words::none(rt.alloc());
+    let rules = Rules::profile(rt.alloc());
     let text = r#"name of <<var;name="n";original="x";match=".+">> nor"#;
     for end in 0..=text.len() {
         let front = text.get(..end).expect(&rt, "all its characters are ASCII");
-        let code = match read_template(rt.alloc(), front, &words) {
+        let code = match read_template(rt.alloc(), front, &words, &rules) {
             Ok(_) => "",
             Err(fault) => fault.cause.code(),
         };
@@ -290,6 +312,7 @@ fn fronts_of_a_template(rt: HostRuntime) -> Result<(), Fail> {
 #[test]
 fn groups_in_a_pattern(rt: HostRuntime) -> Result<(), Fail> {
     let words = Words::none(rt.alloc());
+    let rules = Rules::profile(rt.alloc());
     for (depth, expected) in [(64, ""), (65, "M7 at 37: E11 at 64: deeper than 64")] {
         let mut text = String::new(rt.alloc());
         text.push_str(r#"x <<var;name="n";original="o";match=""#)?;
@@ -297,7 +320,7 @@ fn groups_in_a_pattern(rt: HostRuntime) -> Result<(), Fail> {
         text.push('a')?;
         text.push_str(&")".repeat(rt.alloc(), depth)?)?;
         text.push_str(r#"">>"#)?;
-        let told = match read_template(rt.alloc(), &text, &words) {
+        let told = match read_template(rt.alloc(), &text, &words, &rules) {
             Ok(_) => String::new(rt.alloc()),
             Err(fault) => format!(in rt.alloc(); "{fault}")?,
         };
@@ -309,6 +332,7 @@ fn groups_in_a_pattern(rt: HostRuntime) -> Result<(), Fail> {
 #[test]
 fn depth_and_length(rt: HostRuntime) -> Result<(), Fail> {
     let words = Words::none(rt.alloc());
+    let rules = Rules::profile(rt.alloc());
     for (begins, ends, expected) in [
         (64, 64, ""),
         (65, 65, "M8 at 1088: deeper than 64"),
@@ -317,7 +341,7 @@ fn depth_and_length(rt: HostRuntime) -> Result<(), Fail> {
         let mut text = "<<beginOptional>>".repeat(rt.alloc(), begins)?;
         text.push('a')?;
         text.push_str(&"<<endOptional>>".repeat(rt.alloc(), ends)?)?;
-        let told = match read_template(rt.alloc(), &text, &words) {
+        let told = match read_template(rt.alloc(), &text, &words, &rules) {
             Ok(_) => String::new(rt.alloc()),
             Err(fault) => format!(in rt.alloc(); "{fault}")?,
         };
@@ -326,14 +350,14 @@ fn depth_and_length(rt: HostRuntime) -> Result<(), Fail> {
     let mut text = "<<var".repeat(rt.alloc(), 209_715)?;
     assert_eq!(&rt; code(rt.alloc(), &text, &words), "M1");
     text.push_str("<<")?;
-    let fault = read_template(rt.alloc(), &text, &words).err();
+    let fault = read_template(rt.alloc(), &text, &words, &rules).err();
     let told = format!(in rt.alloc(); "{}", fault.expect(&rt, "a template that is too long"))?;
     assert_eq!(&rt; told.as_str(), "M11 at 0: more than 1048576 bytes");
     Ok(())
 }
 
 fn code(alloc: Global, text: &str, words: &Words) -> &'static str {
-    match read_template(alloc, text, words) {
+    match read_template(alloc, text, words, &Rules::profile(alloc)) {
         Ok(_) => "",
         Err(fault) => fault.cause.code(),
     }

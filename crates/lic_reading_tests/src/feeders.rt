@@ -2,6 +2,7 @@
 ghost use Rattle.std.specs.Prelude.{◌<◌};
 
 use crate::texts::show_tokens;
+use lic_kind::Rules;
 use lic_norm::fault::TextFault;
 use lic_norm::feeder::Feeder;
 use lic_norm::refusal::MOST_BYTES;
@@ -17,11 +18,12 @@ fn read_in_pieces(
     front: usize,
     size: usize,
     words: &Words,
+    rules: &Rules,
 ) -> Result<Text, TextFault>
     requires { 0 < size }
 {
     let (first, rest) = input.split_at(front.min(input.len()));
-    let mut feeder = Feeder::new(alloc, words);
+    let mut feeder = Feeder::new(alloc, words, rules);
     feeder.feed(first)?;
     for piece in rest.chunks(size) {
         feeder.feed(piece)?;
@@ -43,15 +45,19 @@ const INPUTS: [&[u8]; 8] = [
 #[test]
 fn pieces_are_read_as_the_whole(rt: HostRuntime) -> Result<(), Fail> {
     let words = Words::read(rt.alloc(), "sub-license,sub license\n")?;
-    for input in INPUTS {
-        let whole = Text::read(rt.alloc(), input.to_vec(rt.alloc())?, &words)?;
-        let wanted = show_tokens(rt.alloc(), &whole)?;
-        for cut in 0..input.len() {
-            for size in [1, MOST_BYTES] {
-                let text = read_in_pieces(rt.alloc(), input, cut, size, &words)?;
-                let shown = show_tokens(rt.alloc(), &text)?;
-                assert_eq!(rt; shown.as_str(), wanted.as_str(), "{input:?} cut at {cut}");
-                assert_eq!(rt; text.source(), input);
+    let profile = Rules::profile(rt.alloc());
+    let others = Rules::read(rt.alloc(), "lead foo\nitems off\nseparators off")?;
+    for rules in [&profile, &others] {
+        for input in INPUTS {
+            let whole = Text::read(rt.alloc(), input.to_vec(rt.alloc())?, &words, rules)?;
+            let wanted = show_tokens(rt.alloc(), &whole)?;
+            for cut in 0..input.len() {
+                for size in [1, MOST_BYTES] {
+                    let text = read_in_pieces(rt.alloc(), input, cut, size, &words, rules)?;
+                    let shown = show_tokens(rt.alloc(), &text)?;
+                    assert_eq!(rt; shown.as_str(), wanted.as_str(), "{input:?} cut at {cut}");
+                    assert_eq!(rt; text.source(), input);
+                }
             }
         }
     }
@@ -61,6 +67,7 @@ fn pieces_are_read_as_the_whole(rt: HostRuntime) -> Result<(), Fail> {
 #[test]
 fn random_pieces_are_read_as_the_whole(rt: HostRuntime) -> Result<(), Fail> {
     let words = Words::none(rt.alloc());
+    let rules = Rules::profile(rt.alloc());
     let signs = b"ab (c)=-\n\n#*/.\xC2\xA9\xE2\x80\x9C\xFF\xF0\xEF\xBF\xBD";
     let mut state = 1u64;
     for _ in 0..4000u32 {
@@ -74,9 +81,9 @@ fn random_pieces_are_read_as_the_whole(rt: HostRuntime) -> Result<(), Fail> {
         }
         let front = (state >> 40) as usize % 24;
         let size = (state >> 50) as usize % 7 + 1;
-        let text = read_in_pieces(rt.alloc(), input.as_slice(), front, size, &words)?;
+        let text = read_in_pieces(rt.alloc(), input.as_slice(), front, size, &words, &rules)?;
         let shown = show_tokens(rt.alloc(), &text)?;
-        let whole = Text::read(rt.alloc(), input, &words)?;
+        let whole = Text::read(rt.alloc(), input, &words, &rules)?;
         let wanted = show_tokens(rt.alloc(), &whole)?;
         assert_eq!(rt; shown.as_str(), wanted.as_str(), "{:?}", whole.source());
     }
@@ -86,7 +93,8 @@ fn random_pieces_are_read_as_the_whole(rt: HostRuntime) -> Result<(), Fail> {
 #[test]
 fn tokens_are_ready_as_lines_come(rt: HostRuntime) -> Result<(), Fail> {
     let words = Words::none(rt.alloc());
-    let mut feeder = Feeder::new(rt.alloc(), &words);
+    let rules = Rules::profile(rt.alloc());
+    let mut feeder = Feeder::new(rt.alloc(), &words, &rules);
     for k in 1..41usize {
         feeder.feed(b"a\n")?;
         assert!(rt; feeder.ready().saturating_add(12) >= k && feeder.ready() <= k);
@@ -101,7 +109,8 @@ fn tokens_are_ready_as_lines_come(rt: HostRuntime) -> Result<(), Fail> {
 #[test]
 fn a_refusal_stays(rt: HostRuntime) -> Result<(), Fail> {
     let words = Words::none(rt.alloc());
-    let mut feeder = Feeder::new(rt.alloc(), &words);
+    let rules = Rules::profile(rt.alloc());
+    let mut feeder = Feeder::new(rt.alloc(), &words, &rules);
     feeder.feed(b"a\n")?;
     let long = vec![in rt.alloc(); b'a'; MOST_BYTES]?;
     for _ in 0..4u32 {

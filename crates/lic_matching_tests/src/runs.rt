@@ -4,6 +4,7 @@ ghost use Rattle.lic_phrases.specs.TokenTexts.{IsTokenText};
 
 use lic_auto::run::Run;
 use lic_auto::set::Set;
+use lic_kind::Rules;
 use lic_markup::{Template, read_template};
 use lic_phrases::Words;
 use std::alloc::{AllocError, Global};
@@ -31,10 +32,11 @@ fn push_all(rt: &impl Abort, run: &mut Run<'_>, tokens: &[&str]) {
 
 fn templates_of(alloc: Global, table: &[(&str, &str)]) -> Result<Vec<(String, Template)>, Fail> {
     let words = Words::none(alloc);
+    let rules = Rules::profile(alloc);
     let mut templates = Vec::new(alloc);
     for (id, text) in table {
         let id = String::from_str(alloc, id)?;
-        let template = read_template(alloc, text, &words)?;
+        let template = read_template(alloc, text, &words, &rules)?;
         templates.push((id, template)).map_err(AllocError::from)?;
     }
     Ok(templates)

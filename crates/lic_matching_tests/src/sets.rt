@@ -1,6 +1,7 @@
 //! Sets of templates, and why one is refused.
 
 use lic_auto::set::{BuildFault, Set};
+use lic_kind::Rules;
 use lic_markup::{Template, read_template};
 use lic_norm::words::Words;
 use std::alloc::{AllocError, Global};
@@ -9,14 +10,15 @@ use std::test::Fail;
 /// Templates of one word each, under the identifiers `0`, `1` and so on, and then under these words.
 fn templates(alloc: Global, count: usize, ids: &str) -> Result<Vec<(String, Template)>, Fail> {
     let words = Words::none(alloc);
+    let rules = Rules::profile(alloc);
     let mut all = Vec::new(alloc);
     for number in 0..count {
         let id = format!(in alloc; "{number}")?;
-        let template = read_template(alloc, id.as_str(), &words)?;
+        let template = read_template(alloc, id.as_str(), &words, &rules)?;
         all.push((id, template))?;
     }
     for id in ids.split_whitespace() {
-        let template = read_template(alloc, id, &words)?;
+        let template = read_template(alloc, id, &words, &rules)?;
         all.push((id.to_string(alloc)?, template))?;
     }
     Ok(all)

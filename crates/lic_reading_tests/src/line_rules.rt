@@ -223,7 +223,7 @@ fn texts(alloc: Global, count: usize, last: &str) -> Result<String, AllocError> 
     Ok(file)
 }
 
-/// The fault of a file, as it is told.
+/// The fault of a file, as it is reported.
 fn fault(alloc: Global, file: &str) -> Result<String, AllocError> {
     match Rules::read(alloc, file) {
         Ok(rules) => shown(alloc, &rules),

@@ -3,6 +3,7 @@
 use lic_auto::set::Set;
 use lic_find::matches::is_match;
 use lic_find::triple::Triple;
+use lic_kind::Rules;
 use lic_markup::read_template;
 use lic_norm::text::Text;
 use lic_norm::words::Words;
@@ -14,16 +15,23 @@ use std::test::Fail;
 // A set of the one template, under the identifier T.
 fn set_of(alloc: Global, template: &str) -> Result<Set, Fail> {
     let words = Words::none(alloc);
+    let rules = Rules::profile(alloc);
     let mut templates = Vec::new(alloc);
     let mut id = String::new(alloc);
     id.push('T')?;
-    templates.push((id, read_template(alloc, template, &words)?))?;
+    templates.push((id, read_template(alloc, template, &words, &rules)?))?;
     Ok(Set::build(alloc, templates)?)
 }
 
 fn text_of(alloc: Global, text: &str) -> Result<Text, Fail> {
     let words = Words::none(alloc);
-    Ok(Text::read(alloc, Vec::from_slice(alloc, text.as_bytes())?, &words)?)
+    let rules = Rules::profile(alloc);
+    Ok(Text::read(
+        alloc,
+        Vec::from_slice(alloc, text.as_bytes())?,
+        &words,
+        &rules,
+    )?)
 }
 
 // The values of a match, each as `name start end`, or `name -`.

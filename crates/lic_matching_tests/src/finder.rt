@@ -4,6 +4,7 @@ use lic_auto::set::Set;
 use lic_find::finder::Finder;
 use lic_find::matches::is_match;
 use lic_find::triple::Triple;
+use lic_kind::Rules;
 use lic_markup::read_template;
 use lic_norm::text::Text;
 use lic_norm::words::Words;
@@ -17,9 +18,10 @@ const OF: &str =
 /// A set of templates, which are numbered as they stand here.
 fn set_of(alloc: Global, templates: &[&str]) -> Result<Set, Fail> {
     let words = Words::none(alloc);
+    let rules = Rules::profile(alloc);
     let mut all = Vec::new(alloc);
     for (k, template) in templates.iter().enumerate() {
-        let template = read_template(alloc, template, &words)?;
+        let template = read_template(alloc, template, &words, &rules)?;
         all.push((format!(in alloc; "{k}")?, template))?;
     }
     Ok(Set::build(alloc, all)?)
@@ -27,7 +29,8 @@ fn set_of(alloc: Global, templates: &[&str]) -> Result<Set, Fail> {
 
 fn text_of(alloc: Global, source: &str) -> Result<Text, Fail> {
     let words = Words::none(alloc);
-    Ok(Text::read(alloc, source.as_bytes().to_vec(alloc)?, &words)?)
+    let rules = Rules::profile(alloc);
+    Ok(Text::read(alloc, source.as_bytes().to_vec(alloc)?, &words, &rules)?)
 }
 
 /// What a finder gives, each as first token, last token and template.
@@ -204,5 +207,70 @@ fn enters_more_templates_than_are_noted_with_a_token(rt: HostRuntime) -> Result<
         shown.as_str(),
         "0-0-0 0-0-3 0-0-6 0-1-1 0-1-3 0-2-2 0-2-3 0-3-3 0-3-4 1-1-5 "
     );
+    Ok(())
+}
+
+/// What is worked out by hand of a finder's steps, each as the least and the most, for a template and a text.
+#[derive(Drop)]
+struct Worked {
+    template: &'static str,
+    source: &'static str,
+    new: (u64, u64),
+    most_of_next: u64,
+    end: (u64, u64),
+}
+
+#[test]
+fn counts_the_steps_of_worked_texts(rt: HostRuntime) -> Result<(), Fail> {
+    let table = [
+        Worked {
+            template: "foo bar",
+            source: "",
+            new: (0, 2),
+            most_of_next: 2,
+            end: (0, 2),
+        },
+        // Twelve letters, and each of two first tokens begins a match of six.
+        Worked {
+            template: "foo bar",
+            source: "Foo   bar foo bar",
+            new: (12, 26),
+            most_of_next: 52,
+            end: (24, 78),
+        },
+        // Seven letters; matches begin with three tokens, and go on for seven, six and four letters.
+        Worked {
+            template: OF,
+            source: "x of y of z",
+            new: (7, 16),
+            most_of_next: 32,
+            end: (24, 64),
+        },
+    ];
+    for worked in &table {
+        let set = set_of(rt.alloc(), &[worked.template])?;
+        let text = text_of(rt.alloc(), worked.source)?;
+        let mut finder = Finder::new(rt.alloc(), &set, &text)?;
+        let mut before = finder.steps();
+        assert!(rt; before >= worked.new.0 && before <= worked.new.1);
+        while finder.next().is_some() {
+            assert!(rt; finder.steps() <= before.saturating_add(worked.most_of_next));
+            before = finder.steps();
+        }
+        assert!(rt; finder.steps() <= before.saturating_add(worked.most_of_next));
+        assert!(rt; finder.steps() >= worked.end.0 && finder.steps() <= worked.end.1);
+    }
+    Ok(())
+}
+
+#[test]
+fn walks_once_over_a_text_that_only_begins_a_template(rt: HostRuntime) -> Result<(), Fail> {
+    let mut source = String::new(rt.alloc());
+    for _ in 0..1_000 {
+        source.push_str("foo ")?;
+    }
+    let (noting, all) = steps(rt.alloc(), &["foo bar"], &source)?;
+    assert!(rt; noting >= 3_000 && noting <= 6_002);
+    assert_eq!(rt; all, noting);
     Ok(())
 }

@@ -1,10 +1,12 @@
+//! Runs of one compiled expression, and seekers.
+
 ghost use Rattle.std.specs.Prelude.{IsTrue, IfSome};
 ghost use Rattle.std.specs.List.{list_all};
 ghost use Rattle.lic_marks.specs.Nodes.{is_measured};
 
 use lic_ere::Ere;
 use lic_marks::build;
-use lic_marks::node::Node;
+use lic_marks::node::{Node, Times};
 use lic_marks::run::Run;
 use lic_marks::test::Test;
 use std::alloc::{AllocError, Global};
@@ -36,7 +38,10 @@ fn holder(alloc: Global) -> Option<Node>
 fn two_and_end(alloc: Global) -> Option<Node>
     ensures { IfSome result (λ node. IsTrue (is_measured node)) }
 {
-    let any = build::front(pair(alloc, build::one(Test::Any), build::one(Test::Any))?)?;
+    let any = build::repeat(
+        Box::new(alloc, build::one(Test::Any)).ok()?,
+        Times::Bounded { needed: 0, more: 2 },
+    )?;
     let variable = build::tidy(Box::new(alloc, any).ok()?);
     build::cat(pair(alloc, variable, letters(alloc, " end")?)?)
 }
@@ -78,6 +83,13 @@ fn row_of_two(alloc: Global) -> Option<Node>
 {
     let either = build::alt(pair(alloc, letters(alloc, "abc def")?, letters(alloc, "x")?)?)?;
     Some(build::plus(Box::new(alloc, either).ok()?))
+}
+
+// `ab`, so many times
+fn repeated(alloc: Global, times: Times) -> Option<Node>
+    ensures { IfSome result (λ node. IsTrue (is_measured node)) }
+{
+    build::repeat(Box::new(alloc, letters(alloc, "ab")?).ok()?, times)
 }
 
 // The tokens, whether the expression describes them, and whether the run is dead then.
@@ -204,24 +216,51 @@ fn marks_go_back_to_the_first_place(rt: HostRuntime) -> Result<(), AllocError> {
 }
 
 #[test]
-fn a_copy_is_as_the_first_one(rt: HostRuntime) -> Result<(), AllocError> {
-    let first = row_of_two(rt.alloc()).expect(&rt, "memory");
-    let copy = first.copy(rt.alloc())?;
+fn words_stand_in_a_row_as_often_as_they_may(rt: HostRuntime) -> Result<(), AllocError> {
+    let times = Times::Bounded { needed: 2, more: 2 };
+    let tree = repeated(rt.alloc(), times).expect(&rt, "memory");
+    assert_eq!(rt; tree.weight(), 8);
     assert_run(
         &rt,
         rt.alloc(),
-        &copy,
+        &tree,
         &[
-            (&["xabc", "def"], true, false),
-            (&["abc", "x"], false, true),
+            (&["ab"], false, false),
+            (&["abab"], true, false),
+            (&["ababa"], false, false),
+            (&["ababab"], true, false),
+            (&["abababab"], true, false),
+            (&["ababababa"], false, true),
+            (&["abb"], false, true),
         ],
-    )?;
-    let counted = counted(rt.alloc()).expect(&rt, "memory");
-    let copy = counted.copy(rt.alloc())?;
+    )
+}
+
+#[test]
+fn words_stand_in_a_row_so_often_or_more(rt: HostRuntime) -> Result<(), AllocError> {
+    let times = Times::Unbounded { before: 2 };
+    let tree = repeated(rt.alloc(), times).expect(&rt, "memory");
+    assert_eq!(rt; tree.weight(), 6);
     assert_run(
         &rt,
         rt.alloc(),
-        &copy,
-        &[(&["abc"], true, false), (&["ac"], false, true)],
+        &tree,
+        &[
+            (&["abab"], false, false),
+            (&["ababab"], true, false),
+            (&["abababababababab"], true, false),
+            (&["abababa"], false, false),
+            (&["ababb"], false, true),
+        ],
     )
+}
+
+#[test]
+fn a_row_that_is_too_heavy_is_none(rt: HostRuntime) -> Result<(), AllocError> {
+    let times = Times::Bounded {
+        needed: usize::MAX / 2,
+        more: 1,
+    };
+    assert!(rt; repeated(rt.alloc(), times).is_none());
+    Ok(())
 }

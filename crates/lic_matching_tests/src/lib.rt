@@ -1,0 +1,23 @@
+//! Tests of the libraries that match, by their public calls: worked examples, and that a call succeeds where there is memory.
+//!
+//! They stand in one crate, since a crate with tests is proved twice.
+#![tactic(auto)]
+
+#[cfg(test)]
+mod filters;
+#[cfg(test)]
+mod finder;
+#[cfg(test)]
+mod keys;
+#[cfg(test)]
+mod marks;
+#[cfg(test)]
+mod rows;
+#[cfg(test)]
+mod runs;
+#[cfg(test)]
+mod sets;
+#[cfg(test)]
+mod trees;
+#[cfg(test)]
+mod values;
