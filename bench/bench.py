@@ -9,6 +9,7 @@ parts, all of them where none is named:
              files, a megabyte of licence texts; the start alone, and the memory
   shapes     templates that begin or end with wide variables, `foo .+ bar` on `foo ` repeated: twice the text against the text
   report     the report of outer matches on a megabyte, against the list of all matches
+  rules      `tokens` of 10 MB by the profile's line rules and 256 texts, against the profile alone: texts that begin with a sign, and with a letter
 Each figure is the quickest of three runs, but for those of more than ten seconds, which are run once.
 """
 import glob, os, random, resource, subprocess, sys, tempfile, time
@@ -183,7 +184,24 @@ def report(program, at, sources):
     line('examples: scan', seconds, every, 'scan --all', memory)
 
 
-PARTS = {part.__name__: part for part in (reading, sets, published, shapes, report)}
+def rules(program, at, sources):
+    write_input(at('rules.txt'), sources, 10_000_000)
+    profile = os.path.join(os.path.dirname(os.path.abspath(__file__)), '..', 'examples', 'rules', 'profile.rules')
+    with open(profile) as file:
+        lines = file.read().splitlines()
+    count = 256 - sum(line.startswith(('lead', 'tail')) for line in lines)
+    base, memory = quickest([program, 'tokens', at('rules.txt')])
+    line('the profile', base, base, 'itself', memory)
+    for name, letters in [('a sign', '~^@$&'), ('a letter', 'abcdefghijklmnopqrstuvwxyz')]:
+        path = at(f'{len(letters)}.rules')
+        with open(path, 'w') as out:
+            more = [f'{("lead", "tail")[i % 2]} {letters[i % len(letters)]}{i:03}q{letters[i % len(letters)]}' for i in range(count)]
+            out.write('\n'.join(lines + more) + '\n')
+        seconds, memory = quickest([program, 'tokens', '--rules', path, at('rules.txt')])
+        line(f'256 texts, those not in the profile begin with {name}', seconds, base, 'the profile', memory)
+
+
+PARTS = {part.__name__: part for part in (reading, sets, published, shapes, report, rules)}
 
 
 def main():

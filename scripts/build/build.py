@@ -1,46 +1,25 @@
 #!/usr/bin/env python3
 """Proves and builds the program crates/licscan, with each crate that it stands on.
 
-Crates are checked one after another, each on as many cores as rt takes: a check holds the crates below it, so two that share one
-cannot run side by side. A line on standard error says when each is proved. Work that earlier checks kept is used.
+Crates are checked side by side where they do not stand on each other, each on one core. A line on standard error says when each is
+proved. Work that earlier checks kept is used.
 Usage: build.py TOP, where TOP is the repository's top."""
 import fcntl
 import os
+import re
 import shutil
 import subprocess
 import sys
 import time
+
+sys.path.insert(0, os.path.join(os.path.dirname(os.path.realpath(__file__)), "..", "crates"))
+from listed import from_the_ground, read_crates
 
 PROGRAM = "licscan"
 
 
 def say(text):
     print(f"licscan: {text}", file=sys.stderr, flush=True)
-
-
-def read_crates(top):
-    """The crates of crates.txt, each with those of them that it stands on."""
-    listed = {}
-    with open(f"{top}/crates.txt", encoding="utf-8") as file:
-        for line in file:
-            name, _, below = line.split("#")[0].partition(":")
-            if name.strip():
-                listed[name.split()[0]] = below.split()
-    return {name: [it for it in below if it in listed] for name, below in listed.items()}
-
-
-def needed_by(crates, name):
-    """The crate and all that it stands on, each behind those below it."""
-    order = []
-
-    def visit(it):
-        for below in crates[it]:
-            if below not in order:
-                visit(below)
-        order.append(it)
-
-    visit(name)
-    return order
 
 
 def run(folder, log, *words):
@@ -50,14 +29,32 @@ def run(folder, log, *words):
         return subprocess.run(["rt", *words], cwd=folder, stdin=subprocess.DEVNULL, stdout=file, stderr=file).returncode
 
 
-def prove(top, crates):
-    """Proves the crates, and returns the name of one that could not be proved, if there is one."""
-    for number, name in enumerate(crates, 1):
-        start = time.monotonic()
-        if run(f"{top}/crates/{name}", "check.log", "check"):
-            return name
-        say(f"{number} of {len(crates)} crates proved ({name}, {time.monotonic() - start:.0f} s)")
-    return None
+def jobs():
+    """How many crates are checked at a time: one for each core, and for each 4 GB of memory."""
+    memory = os.sysconf("SC_PAGE_SIZE") * os.sysconf("SC_PHYS_PAGES")
+    return max(1, min(os.cpu_count() or 1, memory // 4_000_000_000))
+
+
+def prove(top, crates, log):
+    """Proves the crates, and says whether all are proved. What rt says of a crate comes when the crate is done."""
+    start = time.monotonic()
+    words = ["rt", "all", "check", "--jobs", str(jobs())]
+    name, proved = None, 0
+    with subprocess.Popen(words, cwd=f"{top}/crates", stdin=subprocess.DEVNULL, stdout=subprocess.PIPE, stderr=subprocess.STDOUT) as ran:
+        # as bytes, so that no line can stop it
+        for line in ran.stdout:
+            log.write(line)
+            log.flush()
+            text = line.decode("utf-8", "replace").rstrip("\n")
+            begun = re.match(r"== (\w+)$", text)
+            functions = re.match(r"logic=proved functions=(\d+)", text)
+            if begun:
+                name = begun[1]
+            elif functions and name in crates:
+                proved += 1
+                minutes = (time.monotonic() - start) / 60
+                say(f"{proved} of {len(crates)} crates proved ({name}, {functions[1]} functions; {minutes:.0f} minutes)")
+    return ran.returncode == 0
 
 
 def is_current(top):
@@ -76,12 +73,13 @@ def is_current(top):
 def build(top):
     """Proves all, links the program, and returns the exit status."""
     start = time.monotonic()
-    crates = needed_by(read_crates(top), PROGRAM)
-    say(f"proving {len(crates)} crates, then building the program: once, and up to half an hour on four cores")
-    failed = prove(top, crates)
-    if failed:
-        say(f"{failed} could not be proved (log: crates/{failed}/out/check.log)")
-        return 2
+    crates = from_the_ground(read_crates(top), [PROGRAM])
+    say(f"proving {len(crates)} crates, then building the program: once, and some 20 minutes on four cores")
+    log = f"{top}/crates/{PROGRAM}/out/build.log"
+    with open(log, "wb") as file:
+        if not prove(top, crates, file):
+            say(f"a crate could not be proved (log: {os.path.relpath(log, top)})")
+            return 2
     # the status of this is that of the program's own --help, and says nothing of the build
     run(f"{top}/crates/{PROGRAM}", "link.log", "run", "--", "--help")
     program = f"{top}/crates/{PROGRAM}/out/{PROGRAM}"

@@ -77,7 +77,8 @@ def make_folder(folder, program):
     open(os.path.join(folder, 'templates', 'Unlike.template.txt'), 'w').write('a <<var;name="n";original="1";match="[a-z]+">>')
     os.makedirs(os.path.join(folder, 'bin'))
     os.symlink(program, os.path.join(folder, 'bin', 'licscan'))
-    os.symlink(os.path.join(TOP, 'scripts'), os.path.join(folder, 'scripts'))
+    for name in ['scripts', 'examples']:
+        os.symlink(os.path.join(TOP, name), os.path.join(folder, name))
     subprocess.run(['git', 'init', '-q'], cwd=folder, check=True)
     subprocess.run(['git', 'add', 'FILE', 'LICENSE', 'debian', 'logo.png', 'src'], cwd=folder, check=True)
 

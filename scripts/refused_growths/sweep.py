@@ -4,7 +4,8 @@
   sweep.py PROGRAM
 
 A run in which a request was refused must either say and write what the whole run does, or end with
-status 2, tell a want of memory, and write and tell nothing else that the whole run does not. Needs a C
+status 2, report that memory ran out, and write and tell nothing else that the whole run does not. And two thousand matches must
+take no more requests than one match, but for the growth of the report: giving a match takes no memory. Needs a C
 compiler. Prints each run that breaks this; the last line is 'N runs, M bad', and the status is 1 if M is not 0.
 """
 import os, subprocess, sys, tempfile
@@ -23,10 +24,10 @@ CASES = [
     (['scan', '--templates', 'T'], FOUND),
     (['scan', '--templates', 'V', '--words', 'list'], b'x of colour of z; q'),
     (['scan', '--templates', 'T', '--limit', '1'], FOUND),
-    (['check', '--templates', 'V', '--words', 'list'], b''),
+    (['check', '--templates', 'V', '--words', 'list', '--rules', 'rules'], b''),
     (['check', '--templates', 'T'], b''),
     (['check', '--templates', 'none'], b''),
-    (['tokens', '--words', 'list', 'good.txt', '-'], b'The Colour'),
+    (['tokens', '--words', 'list', '--rules', 'rules', 'good.txt', '-'], b'The Colour'),
     (['scan', '--all', '--templates', 'none'], FOUND),
     (['scan', '--all'], b''),
     (['scan', '--help'], b''),
@@ -41,9 +42,13 @@ FILES = {
     'V/V.template.txt': b'<<var;name="a";original="p";match=".+">> of <<var;name="b";original="q";match=".+">>',
     'V/O.template.txt': b'q<<beginOptional>> <<var;name="o";original="p";match="[a-z]{2}">><<endOptional>>',
     'list': b'color, colour\n',
+    'rules': b'lead //\ntail-repeat */\nitems off\n',
     'good.txt': b'foo bar',
     'bad.txt': b'foo bar \xff',
 }
+# a text with more than two thousand matches, and the most requests by which the report of them all grows
+MANY = b'x of y of z ' * 60
+GROWTH = 20
 # what follows from a template that wants memory
 FOLLOWS = b'licscan: --after: no template A'
 
@@ -52,6 +57,16 @@ def run(program, folder, library, words, given, n):
     place = dict(os.environ, LD_PRELOAD=library, FAIL_NTH=str(n))
     ran = subprocess.run([program] + words, input=given, capture_output=True, env=place, cwd=folder)
     return ran.returncode, ran.stdout, ran.stderr
+
+
+def requests(program, folder, library, limit):
+    """How many matches a run of at most so many writes, and how many requests for memory it makes."""
+    count = os.path.join(folder, 'count')
+    place = dict(os.environ, LD_PRELOAD=library, COUNT_IN=count)
+    words = ['scan', '--all', '--templates', 'V', '--limit', str(limit)]
+    ran = subprocess.run([program] + words, input=MANY, capture_output=True, env=place, cwd=folder)
+    with open(count) as it:
+        return len(ran.stdout.splitlines()), int(it.read())
 
 
 def is_right(ran, whole):
@@ -90,6 +105,11 @@ def main():
                     bad += 1
                     print(words, 'request', n, ran)
             runs += n
+        (one, few), (all_of_them, many) = [requests(program, folder, library, limit) for limit in (1, 2000)]
+        runs += 2
+        if (one, all_of_them) != (1, 2000) or many - few > GROWTH:
+            bad += 1
+            print('requests', few, 'for', one, 'match', many, 'for', all_of_them)
     print(f'{runs} runs, {bad} bad')
     return 1 if bad else 0
 
