@@ -53,7 +53,7 @@ def prove(top, crates, log):
             elif functions and name in crates:
                 proved += 1
                 minutes = (time.monotonic() - start) / 60
-                say(f"{proved} of {len(crates)} crates proved ({name}, {functions[1]} functions; {minutes:.0f} minutes)")
+                say(f"{proved} proved of {len(crates)} crates at most ({name}, {functions[1]} functions; {minutes:.0f} minutes)")
     return ran.returncode == 0
 
 
@@ -74,7 +74,7 @@ def build(top):
     """Proves all, links the program, and returns the exit status."""
     start = time.monotonic()
     crates = from_the_ground(read_crates(top), [PROGRAM])
-    say(f"proving {len(crates)} crates, then building the program: once, and some 20 minutes on four cores")
+    say(f"proving what is new of {len(crates)} crates, then building the program: all of them take some 20 minutes on four cores")
     log = f"{top}/crates/{PROGRAM}/out/build.log"
     with open(log, "wb") as file:
         if not prove(top, crates, file):
