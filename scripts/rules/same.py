@@ -10,7 +10,7 @@ def text_of(*path):
 
 
 def main():
-    tests = text_of('crates', 'lic_reading_tests', 'src', 'line_rules.rt')
+    tests = text_of('crates', 'lic_letters_tests', 'src', 'line_rules.rt')
     proof = text_of('crates', 'lic_kind', 'proofs', 'examples', 'RuleExamples.antt')
     wrong = []
     for name, file in [('PROFILE', 'profile'), ('DEBIAN', 'debian-copyright'), ('MORE', 'more-comments')]:

@@ -263,14 +263,53 @@ fn counts_the_steps_of_worked_texts(rt: HostRuntime) -> Result<(), Fail> {
     Ok(())
 }
 
+/// A template, and a text that begins it over and over and never ends it: its front, what stands so often behind that, and its end.
+#[derive(Clone, Copy)]
+struct Begun {
+    template: &'static str,
+    front: &'static str,
+    body: &'static str,
+    times: usize,
+    end: &'static str,
+    steps: (u64, u64),
+}
+
+const BEGUN: [Begun; 2] = [
+    Begun {
+        template: "foo bar",
+        front: "",
+        body: "foo ",
+        times: 1_000,
+        end: "",
+        steps: (3_000, 6_002),
+    },
+    // Repetitions nested in one another could be read in very many ways.
+    Begun {
+        template: r#"x <<var;name="v";original="";match="((a*)*)*">> y"#,
+        front: "x ",
+        body: "a",
+        times: 10_000,
+        end: " z",
+        steps: (10_002, 20_006),
+    },
+];
+
 #[test]
 fn walks_once_over_a_text_that_only_begins_a_template(rt: HostRuntime) -> Result<(), Fail> {
-    let mut source = String::new(rt.alloc());
-    for _ in 0..1_000 {
-        source.push_str("foo ")?;
+    for begun in BEGUN {
+        let mut source = String::new(rt.alloc());
+        source.push_str(begun.front)?;
+        for _ in 0..begun.times {
+            source.push_str(begun.body)?;
+        }
+        source.push_str(begun.end)?;
+        let (noting, all) = steps(rt.alloc(), &[begun.template], &source)?;
+        assert!(rt;
+            noting >= begun.steps.0 && noting <= begun.steps.1,
+            "{}",
+            begun.template
+        );
+        assert_eq!(rt; all, noting, "{}", begun.template);
     }
-    let (noting, all) = steps(rt.alloc(), &["foo bar"], &source)?;
-    assert!(rt; noting >= 3_000 && noting <= 6_002);
-    assert_eq!(rt; all, noting);
     Ok(())
 }

@@ -1,6 +1,4 @@
 //! Tests of the libraries that match, by their public calls: worked examples, and that a call succeeds where there is memory.
-//!
-//! They stand in one crate, since a crate with tests is proved twice.
 #![tactic(auto)]
 
 #[cfg(test)]
@@ -9,10 +7,6 @@ mod filters;
 mod finder;
 #[cfg(test)]
 mod keys;
-#[cfg(test)]
-mod marks;
-#[cfg(test)]
-mod rows;
 #[cfg(test)]
 mod runs;
 #[cfg(test)]

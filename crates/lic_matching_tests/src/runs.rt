@@ -1,7 +1,8 @@
-//! Which templates describe the tokens so far.
+//! Which templates describe the tokens so far, or a beginning of them.
 ghost use Rattle.std.specs.Prelude.{IsTrue};
 ghost use Rattle.lic_phrases.specs.TokenTexts.{IsTokenText};
 
+use lic_auto::back::Back;
 use lic_auto::run::Run;
 use lic_auto::set::Set;
 use lic_kind::Rules;
@@ -123,5 +124,29 @@ fn templates_are_entered_by_their_heads(rt: HostRuntime) -> Result<(), Fail> {
         }
         assert_eq!(&rt; run.accepted(0), number, "{tokens}");
     }
+    Ok(())
+}
+
+#[test]
+fn a_run_from_the_end_tells_what_begins_here(rt: HostRuntime) -> Result<(), Fail> {
+    let set = Set::build(rt.alloc(), templates_of(rt.alloc(), &TWO)?)?;
+    let mut back = Back::new(rt.alloc(), &set)?;
+    let both: &[usize] = &[0, 1];
+    let second: &[usize] = &[1];
+    let none: &[usize] = &[];
+    for (token, begun) in [
+        ("x", none),
+        ("bar", none),
+        ("foo", both),
+        ("foo", second),
+        ("!", none),
+    ] {
+        assert!(&rt; is_plain(token), "{token:?}");
+        back.push_front(token);
+        assert_eq!(&rt; back.live_numbers(), begun, "{token}");
+        assert_eq!(&rt; back.live(), !begun.is_empty(), "{token}");
+    }
+    back.reset();
+    assert!(&rt; !back.live());
     Ok(())
 }

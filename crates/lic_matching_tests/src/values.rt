@@ -167,3 +167,16 @@ fn plain_text_of_30000_letters_has_no_value(rt: HostRuntime) -> Result<(), Fail>
     assert_eq!(&rt; shown.as_str(), "");
     Ok(())
 }
+
+#[test]
+fn nested_repetitions_take_200_letters(rt: HostRuntime) -> Result<(), Fail> {
+    let alloc = rt.alloc();
+    let mut source = String::new(alloc);
+    source.push_str("x ")?;
+    push_times(&mut source, "a", 200)?;
+    source.push_str(" y")?;
+    let template = r#"x <<var;name="v";original="";match="((a*)*)*">> y"#;
+    let shown = shown_whole(alloc, template, source.as_str())?;
+    assert_eq!(&rt; shown.as_str(), "v 2 202;");
+    Ok(())
+}

@@ -5,7 +5,7 @@ use crate::texts::show_tokens;
 use lic_kind::Rules;
 use lic_norm::fault::TextFault;
 use lic_norm::feeder::Feeder;
-use lic_norm::refusal::MOST_BYTES;
+use lic_norm::refusal::MAX_BYTES;
 use lic_norm::text::Text;
 use lic_norm::words::Words;
 use std::alloc::Global;
@@ -52,7 +52,7 @@ fn pieces_are_read_as_the_whole(rt: HostRuntime) -> Result<(), Fail> {
             let whole = Text::read(rt.alloc(), input.to_vec(rt.alloc())?, &words, rules)?;
             let wanted = show_tokens(rt.alloc(), &whole)?;
             for cut in 0..input.len() {
-                for size in [1, MOST_BYTES] {
+                for size in [1, MAX_BYTES] {
                     let text = read_in_pieces(rt.alloc(), input, cut, size, &words, rules)?;
                     let shown = show_tokens(rt.alloc(), &text)?;
                     assert_eq!(rt; shown.as_str(), wanted.as_str(), "{input:?} cut at {cut}");
@@ -112,7 +112,7 @@ fn a_refusal_stays(rt: HostRuntime) -> Result<(), Fail> {
     let rules = Rules::profile(rt.alloc());
     let mut feeder = Feeder::new(rt.alloc(), &words, &rules);
     feeder.feed(b"a\n")?;
-    let long = vec![in rt.alloc(); b'a'; MOST_BYTES]?;
+    let long = vec![in rt.alloc(); b'a'; MAX_BYTES]?;
     for _ in 0..4u32 {
         assert_eq!(rt; feeder.feed(long.as_slice()), Err(TextFault::TooLong));
         assert_eq!(rt; feeder.ready(), 0);

@@ -3,7 +3,7 @@
 use lic_kind::Rules;
 use lic_norm::fault::TextFault;
 use lic_norm::pieces::{Next, piece};
-use lic_norm::refusal::MOST_BYTES;
+use lic_norm::refusal::MAX_BYTES;
 use lic_norm::text::Text;
 use lic_norm::words::Words;
 use std::alloc::Global;
@@ -220,11 +220,11 @@ fn refusals_have_texts(rt: HostRuntime) -> Result<(), Fail> {
 
 #[test]
 fn long_inputs_are_refused(rt: HostRuntime) -> Result<(), Fail> {
-    let table = [(0, b'a'), (MOST_BYTES, 0xFF), (5, 0xFF)];
+    let table = [(0, b'a'), (MAX_BYTES, 0xFF), (5, 0xFF)];
     let words = Words::none(rt.alloc());
     let rules = Rules::profile(rt.alloc());
     for (place, byte) in table {
-        let mut source = vec![in rt.alloc(); b'a'; MOST_BYTES + 1]?;
+        let mut source = vec![in rt.alloc(); b'a'; MAX_BYTES + 1]?;
         assert!(rt; place < source.len());
         source[place] = byte;
         let fault = Text::read(rt.alloc(), source, &words, &rules)

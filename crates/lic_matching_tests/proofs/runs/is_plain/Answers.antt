@@ -14,5 +14,6 @@ returns c = λ h.
       blanks = λ front rest is.
           let there : length text ≡ length front + (length rest + 1) = omega (arith, ap length is, length-append front (0x20 ∷ rest)) in
           let at : get_or text (length front) 0 ≡ 0x20 = ap (λ xs. get_or xs (length front) 0) is ∙ get_or-append_seam front 0x20 rest 0 in
-          absurd (c.loop-byte.invariant (length front) (omega (arith, there, ap length bytes, c.loop-byte-test.false)) (ap (λ xs. get_or xs (length front) 0) bytes ∙ at));
+          absurd (c.loop-byte.invariant (length front) (omega (arith, there, ap length bytes, c.loop-byte-test.false))
+          (ap (λ xs. get_or xs (length front) 0) bytes ∙ at));
     }

@@ -8,7 +8,7 @@ use std::test::Fail;
 const LETTERS: &str = "abcxz-]' [:/A";
 
 /// Patterns, and the tree or the fault of each.
-const PATTERNS: [(&str, &str); 61] = [
+const PATTERNS: [(&str, &str); 69] = [
     ("", "empty"),
     ("a{0,2}", "repeat<a,0,2>"),
     ("[]x]", "{x]}"),
@@ -33,6 +33,14 @@ const PATTERNS: [(&str, &str); 61] = [
     ("a{65536}", "E3 at 1: bad bound"),
     ("a{65535}", "repeat<a,65535,65535>"),
     ("[[:alpha:]]", "E5 at 1: bracket extension"),
+    ("[[=a=]]", "E5 at 1: bracket extension"),
+    ("[[.a.]]", "E5 at 1: bracket extension"),
+    ("[a[=b]", "E5 at 2: bracket extension"),
+    ("[a[.b]", "E5 at 2: bracket extension"),
+    ("[A-[=x]", "E5 at 3: bracket extension"),
+    ("[A-[.x]", "E5 at 3: bracket extension"),
+    ("[=a]", "{a}"),
+    ("[.a]", "{a}"),
     ("a**", "E2 at 2: two repetition signs"),
     ("ß", "cat<s,s>"),
     ("aß", "cat<a,cat<s,s>>"),
