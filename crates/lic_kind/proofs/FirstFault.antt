@@ -11,7 +11,8 @@ use Rattle.lic_kind.specs.declared.rules_fault.RulesCause.TheVariants.{UnknownRu
 use Rattle.lic_kind.proofs.RulesRead.{rules_more, texts_more}
 
 -- a line of the file
-pub line_at : (file : List ℕ) (n : ℕ) (line : List ℕ) → (n < length (slice_split (λ b. b == 0x0A) file)) × (line ≡ get_or (slice_split (λ b. b == 0x0A) file) n line)
+pub line_at : (file : List ℕ) (n : ℕ) (line : List ℕ)
+    → (n < length (slice_split (λ b. b == 0x0A) file)) × (line ≡ get_or (slice_split (λ b. b == 0x0A) file) n line)
     → (n < length (lines_of file)) × (line_of line ≡ get_or (lines_of file) n comment)
 line_at file n line here =
     let lines = slice_split (λ b. b == 0x0A) file in
@@ -33,7 +34,8 @@ next_count lines n line count count' within is before more =
     let same = ap texts_before (next_line lines n line within is) in
     omega (arith, before, more, all, same)
 
-pub cause_here : (lines : List Line) (n : ℕ) (line : Line) (count : ℕ) → line ≡ get_or lines n comment → count ≡ texts_before (take n lines) → cause_at lines n ≡ cause_of count line
+pub cause_here : (lines : List Line) (n : ℕ) (line : Line) (count : ℕ) → line ≡ get_or lines n comment
+    → count ≡ texts_before (take n lines) → cause_at lines n ≡ cause_of count line
 cause_here lines n line count is before = ap (λ l. cause_of (texts_before (take n lines)) l) (sym is) ∙ ap (λ k. cause_of k line) (sym before)
 
 pub sound_more : (lines : List Line) (n : ℕ) → AreSound lines n → cause_at lines n ≡ None → AreSound lines (n + 1)

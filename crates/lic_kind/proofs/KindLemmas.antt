@@ -212,17 +212,24 @@ implied false b e h = cc
 pub kind_of-alphanumeric : (c : ℕ) → c < 128 → is_ascii_alphanumeric c ≡ true → kind_of c ≡ Word
 unfolding kind_of
 kind_of-alphanumeric c ascii is =
-    is_word_kind-true (kind_of c) (implied (is_ascii_alphanumeric c) _ (ascii_each (λ d. not (is_ascii_alphanumeric d) || is_word_kind (kind_of d)) c refl ascii) is)
+    is_word_kind-true (kind_of c)
+    (implied (is_ascii_alphanumeric c) _
+    (ascii_each (λ d. not (is_ascii_alphanumeric d) || is_word_kind (kind_of d)) c refl ascii) is)
 
 pub kind_of-punctuation : (c : ℕ) → c < 128 → is_ascii_punctuation c ≡ true → kind_of c ≡ Mark
 unfolding kind_of
 kind_of-punctuation c ascii is =
-    is_mark_kind-true (kind_of c) (implied (is_ascii_punctuation c) _ (ascii_each (λ d. not (is_ascii_punctuation d) || is_mark_kind (kind_of d)) c refl ascii) is)
+    is_mark_kind-true (kind_of c)
+    (implied (is_ascii_punctuation c) _
+    (ascii_each (λ d. not (is_ascii_punctuation d) || is_mark_kind (kind_of d)) c refl ascii) is)
 
 pub kind_of-ascii_other : (c : ℕ) → c < 128 → is_ascii_punctuation c ≡ false → is_whitespace c ≡ false → kind_of c ≡ Word
 unfolding kind_of
 kind_of-ascii_other c ascii no_mark dark =
-    is_word_kind-true (kind_of c) (neither (is_ascii_punctuation c) (is_whitespace c) (is_word_kind (kind_of c)) (ascii_each (λ d. is_ascii_punctuation d || is_whitespace d || is_word_kind (kind_of d)) c refl ascii) no_mark dark)
+    is_word_kind-true (kind_of c)
+    (neither (is_ascii_punctuation c) (is_whitespace c) (is_word_kind (kind_of c))
+    (ascii_each (λ d. is_ascii_punctuation d || is_whitespace d
+    || is_word_kind (kind_of d)) c refl ascii) no_mark dark)
   where
     neither : (a b w : Bool) → (a || b || w) ≡ true → a ≡ false → b ≡ false → w ≡ true
     neither false false w e ha hb = e

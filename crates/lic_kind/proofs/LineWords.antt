@@ -73,7 +73,8 @@ last_true false b e = absurd (let h : false ≡ true = e in cc)
 
 scalars_front : (cs ds : List ℕ) → all_scalars (cs ++ ds) ≡ true → all_scalars cs ≡ true
 scalars_front [] ds e = refl
-scalars_front (c ∷ cs) ds e = then_true _ (all_scalars cs) (first_true _ (all_scalars (cs ++ ds)) e) (scalars_front cs ds (last_true _ (all_scalars (cs ++ ds)) e))
+scalars_front (c ∷ cs) ds e = then_true _ (all_scalars cs) (first_true _ (all_scalars (cs ++ ds)) e)
+    (scalars_front cs ds (last_true _ (all_scalars (cs ++ ds)) e))
 
 -- a text that is empty or begins in white space: its first part is empty
 white_behind : (text more : List ℕ) → IsUtf8 text → EmptyOrStartsWithPassing is_whitespace text more
@@ -91,7 +92,8 @@ some_chars (c ∷ cs) some = omega arith
 
 -- a word that stands behind white space, and before white space or the end
 pub next_word : (text word rest : List ℕ) → IsUtf8 text
-    → ((gap : List ℕ) × (text ≡ gap ++ (word ++ rest)) × (0 < length word) × NoCharPasses is_not_whitespace gap × NoCharPasses is_whitespace word × ((more : List ℕ) × EmptyOrStartsWithPassing is_whitespace rest more))
+    → ((gap : List ℕ) × (text ≡ gap ++ (word ++ rest)) × (0 < length word) × NoCharPasses is_not_whitespace gap
+    × NoCharPasses is_whitespace word × ((more : List ℕ) × EmptyOrStartsWithPassing is_whitespace rest more))
     → (words_of (chars text) ≡ chars word ∷ words_of (chars rest)) × IsUtf8 rest
 next_word text word rest utf8 (gap, is, some, white, dark, (more, starts)) =
     let before = front white.0 (word ++ rest) text utf8 (is ∙ ap (λ l. l ++ (word ++ rest)) (sym white.1)) in

@@ -13,5 +13,6 @@ pub none_opens : (o : Openers) (g : List ℕ → List ℕ) (c : ℕ) (texts : Li
 none_opens o g c [] known closed = refl
 none_opens o g c (t ∷ texts) known closed = elim (cases_Bool (opens_in c (g t))) [
   | inl yes' ↦ absurd (true≢false (sym (known 0 t (omega arith) c yes') ∙ closed))
-  | inr none ↦ ap (λ b. b || list_any (λ u. opens_in c (g u)) texts) none ∙ none_opens o g c texts (λ k d within. known (suc k) d (omega (arith, within))) closed
+  | inr none ↦ ap (λ b. b || list_any (λ u. opens_in c (g u)) texts) none
+      ∙ none_opens o g c texts (λ k d within. known (suc k) d (omega (arith, within))) closed
 ]

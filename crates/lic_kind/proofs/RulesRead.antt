@@ -57,7 +57,16 @@ rules_more lines line =
     let tail_repeat = one_more (text_in TailRepeat) lines line in
     let on = ap (last_or true) (one_more items_in lines line) ∙ last_more true (flat_map items_in lines) (items_in line) in
     let off = ap (last_or true) (one_more separators_in lines line) ∙ last_more true (flat_map separators_in lines) (separators_in line) in
-    λ i. record { lead = lead i; lead_space = lead_space i; tail = tail i; tail_space = tail_space i; tail_repeat = tail_repeat i; items = on i; separators = off i }
+    λ i. record {
+      lead = lead i;
+      lead_space = lead_space i;
+      tail = tail i;
+      tail_space = tail_space i;
+      tail_repeat =
+          tail_repeat i;
+      items = on i;
+      separators = off i;
+    }
 
 pub texts_more : (lines : List Line) (line : Line) → texts_before (lines ++ line ∷ []) ≡ texts_before lines + text_count line
 texts_more [] line = omega arith

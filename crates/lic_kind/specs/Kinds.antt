@@ -44,7 +44,8 @@ quotes =
 -- the bullets of lists
 abbrev pub bullets : List Entry
 bullets =
-    one 0xB7 ∷ one 0x2022 ∷ one 0x2023 ∷ one 0x2043 ∷ one 0x25AA ∷ one 0x25AB ∷ one 0x25CB ∷ one 0x25CF ∷ one 0x25E6 ∷ []
+    one 0xB7 ∷ one 0x2022 ∷ one 0x2023 ∷ one 0x2043 ∷ one 0x25AA ∷ one 0x25AB ∷ one 0x25CB ∷ one 0x25CF ∷ one 0x25E6
+    ∷ []
 
 -- box drawing
 abbrev pub box_drawing : List Entry

@@ -98,7 +98,8 @@ texts_before (line ∷ lines) = text_count line + texts_before lines
 -- what is wrong with a text of which so many stand before it
 abbrev pub cause_of_text : ℕ → Option (List ℕ) → Option RulesCause
 cause_of_text before None = if nat_le 256 before then Some TooManyTexts else Some BadText
-cause_of_text before (Some cs) = if nat_le 256 before then Some TooManyTexts else (if is_text cs then None else Some BadText)
+cause_of_text before (Some cs) =
+    if nat_le 256 before then Some TooManyTexts else (if is_text cs then None else Some BadText)
 
 -- what is wrong with a line, where so many texts stand before it
 abbrev pub cause_of : ℕ → Line → Option RulesCause

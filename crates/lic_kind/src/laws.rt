@@ -56,7 +56,8 @@ pub fn letters_keep_the_kind()
 /// a character of another kind, so the exception that the definition makes is of no character.
 pub fn words_are_folded()
     ensures folding { (c : ℕ) → kind_of c ≡ Kind.Word → spell c ≡ default_case_fold (c ∷ []) }
-    ensures ascii { (c : ℕ) → kind_of c ≡ Kind.Word → c < 128 → spell c ≡ to_ascii_lowercase c ∷ [] }
+    ensures ascii { (c : ℕ) → kind_of c ≡ Kind.Word → c < 128
+        → spell c ≡ to_ascii_lowercase c ∷ [] }
 {}
 
 /// A word character has a letter, since the folding of a character is not empty.

@@ -15,10 +15,10 @@ use crate::tables::is_dropped;
 use std::alloc::Global;
 
 /// The most texts of a file, repeats counted.
-const MOST_TEXTS: usize = 256;
+const MAX_TEXTS: usize = 256;
 
 /// The most characters of a text.
-const MOST_CHARACTERS: usize = 16;
+const MAX_CHARACTERS: usize = 16;
 
 /// How many characters a word has.
 fn character_count(word: &str) -> usize
@@ -38,7 +38,7 @@ fn is_whole(word: &str) -> bool
 fn is_text(word: &str) -> bool
     ensures { result ≡ is_text (chars word.now) }
 {
-    character_count(word) <= MOST_CHARACTERS && is_whole(word)
+    character_count(word) <= MAX_CHARACTERS && is_whole(word)
 }
 
 /// What is read of a file so far.
@@ -74,7 +74,8 @@ impl Reader {
 
     /// Adds a text.
     fn add(&mut self, kind: RuleKind, text: RuleText) -> Result<(), RulesCause>
-        ensures rules { OnOk result (rules_read self.new ≡ with_text kind text.characters.items (rules_read self.old)) }
+        ensures rules { OnOk result
+            (rules_read self.new ≡ with_text kind text.characters.items (rules_read self.old)) }
         ensures count { self.new.count ≡ self.old.count }
         ensures fault { IfErr result (λ cause. cause ≡ RulesCause.OutOfMemory) }
     {
@@ -95,13 +96,16 @@ impl Reader {
         kind: RuleKind,
         behind: Option<&str>,
     ) -> Result<(), RulesCause>
-        ensures rules { OnOk result (rules_read self.new ≡ with_line (text kind (read behind.entry)) (rules_read self.old)) }
+        ensures rules { OnOk result
+            (rules_read self.new ≡ with_line (text kind (read behind.entry))
+            (rules_read self.old)) }
         ensures count { OnOk result (self.new.count ≡ self.old.count + 1) }
         ensures sound { OnOk result (cause_of_text self.old.count (read behind.entry) ≡ None) }
-        ensures fault { IfErr result (λ cause. (cause_of_text self.old.count (read behind.entry) ≡ Some cause)
+        ensures fault { IfErr result (λ cause.
+            (cause_of_text self.old.count (read behind.entry) ≡ Some cause)
             ⊎ (cause ≡ RulesCause.OutOfMemory)) }
     {
-        if self.count >= MOST_TEXTS {
+        if self.count >= MAX_TEXTS {
             return Err(RulesCause::TooManyTexts);
         }
         let Some(word) = behind else {
@@ -118,10 +122,13 @@ impl Reader {
 
     /// Reads a line.
     pub(crate) fn read_line(&mut self, alloc: Global, line: &str) -> Result<(), RulesCause>
-        ensures rules { OnOk result (rules_read self.new ≡ with_line (line_of line.now) (rules_read self.old)) }
-        ensures count { OnOk result (self.new.count ≡ self.old.count + text_count (line_of line.now)) }
+        ensures rules { OnOk result
+            (rules_read self.new ≡ with_line (line_of line.now) (rules_read self.old)) }
+        ensures count { OnOk result
+            (self.new.count ≡ self.old.count + text_count (line_of line.now)) }
         ensures sound { OnOk result (cause_of self.old.count (line_of line.now) ≡ None) }
-        ensures fault { IfErr result (λ cause. (cause_of self.old.count (line_of line.now) ≡ Some cause)
+        ensures fault { IfErr result (λ cause.
+            (cause_of self.old.count (line_of line.now) ≡ Some cause)
             ⊎ (cause ≡ RulesCause.OutOfMemory)) }
     {
         match read_line(line) {

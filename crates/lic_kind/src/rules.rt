@@ -142,7 +142,8 @@ impl Rules {
     pub fn read(alloc: Global, text: &str) -> Result<Rules, RulesFault>
         ensures accepted { OnOk result (AreSound (lines_of text.now) (length (lines_of text.now))) }
         ensures rules { IfOk result (λ rules. rules_of rules ≡ rules_in (lines_of text.now)) }
-        ensures refused { IfErr result (λ fault. IsFirstFault (lines_of text.now) fault ⊎ (fault ≡ out_of_memory)) }
+        ensures refused { IfErr result (λ fault. IsFirstFault (lines_of text.now) fault
+            ⊎ (fault ≡ out_of_memory)) }
     {
         let mut reader = Reader::new(alloc);
         let mut number: usize = 0;
@@ -209,7 +210,8 @@ impl Rules {
     #[inline(always)]
     pub fn may_open_lead(&self, c: char) -> bool
         ensures lead { result ≡ false → list_any (opens_in c) (rules_of self.now).lead ≡ false }
-        ensures lead_space { result ≡ false → list_any (opens_in c) (rules_of self.now).lead_space ≡ false }
+        ensures lead_space { result ≡ false
+            → list_any (opens_in c) (rules_of self.now).lead_space ≡ false }
     {
         self.front.may_open(c)
     }
@@ -218,7 +220,8 @@ impl Rules {
     /// in this character.
     #[inline(always)]
     pub fn may_open_tail(&self, c: char) -> bool
-        ensures tail { result ≡ false → list_any (λ text. opens_in c (reverse text)) (rules_of self.now).tail ≡ false }
+        ensures tail { result ≡ false
+            → list_any (λ text. opens_in c (reverse text)) (rules_of self.now).tail ≡ false }
         ensures tail_space { result ≡ false
             → list_any (λ text. opens_in c (reverse text)) (rules_of self.now).tail_space ≡ false }
         ensures tail_repeat { result ≡ false

@@ -10,7 +10,8 @@ use Rattle.lic_lines.proofs.TextLemmas.{same_truth}
 use Rattle.lic_lines.proofs.PieceEnds.{ends-true, ends-from}
 
 -- whether a front is a row is what the test of its last piece says
-pub row_value : (p : List ℕ → Bool) (flags : List Bool) (line : List ℕ) (n : ℕ) → AreRows p flags line → 0 < n → n ≤ length flags → n ≤ length line → ends_piece p flags line n ≡ is_row p (take n line)
+pub row_value : (p : List ℕ → Bool) (flags : List Bool) (line : List ℕ) (n : ℕ) → AreRows p flags line → 0 < n
+    → n ≤ length flags → n ≤ length line → ends_piece p flags line n ≡ is_row p (take n line)
 row_value p flags line n rows some flagged within = same_truth _ _
     (λ h.
     let e = ends-true flags line n p h in
@@ -21,7 +22,8 @@ row_value p flags line n rows some flagged within = same_truth _ _
     let below : e.0 < n = e.1 in
     ends-from flags line n p (record { from = e.0; below = e.1; flagged = rows.each e.0 (omega arith) ∙ e.2; piece = e.3 }))
 
-pub rows_push : (p : List ℕ → Bool) (flags : List Bool) (line : List ℕ) (n : ℕ) (b : Bool) → AreRows p flags line → 0 < n → length flags ≡ n → n ≤ length line → b ≡ ends_piece p flags line n → AreRows p (flags ++ b ∷ []) line
+pub rows_push : (p : List ℕ → Bool) (flags : List Bool) (line : List ℕ) (n : ℕ) (b : Bool) → AreRows p flags line
+    → 0 < n → length flags ≡ n → n ≤ length line → b ≡ ends_piece p flags line n → AreRows p (flags ++ b ∷ []) line
 rows_push p flags line n b rows some flagged within value = record {
   each = λ i lt.
       let long = length_push flags b in
@@ -33,7 +35,8 @@ rows_push p flags line n b rows some flagged within value = record {
       (cases_lt i (length flags));
 }
 
-pub front_push : (flags : List Bool) (line : List ℕ) (n first : ℕ) (b : Bool) → n ≤ length flags → IsRunFront flags line n first → IsRunFront (flags ++ b ∷ []) line n first
+pub front_push : (flags : List Bool) (line : List ℕ) (n first : ℕ) (b : Bool) → n ≤ length flags
+    → IsRunFront flags line n first → IsRunFront (flags ++ b ∷ []) line n first
 front_push flags line n first b within front = record {
   within = front.within;
   same = front.same;
@@ -46,7 +49,10 @@ greatest_more test k = ap (greatest test) (add-one k) ∙ ap (λ n. cond (test n
 
 -- before the first place
 pub rows_start : (p : List ℕ → Bool) (line : List ℕ) → AreRows p (true ∷ []) line
-rows_start p line = record { each = λ k lt. let first : 0 ≡ k = omega arith in subst (λ n. slice_index_or (true ∷ []) n false ≡ is_row p (take n line)) first refl }
+rows_start p line = record {
+  each = λ k lt. let first : 0 ≡ k = omega arith in
+      subst (λ n. slice_index_or (true ∷ []) n false ≡ is_row p (take n line)) first refl;
+}
 
 pub front_start : (flags : List Bool) (line : List ℕ) → IsRunFront flags line 0 0
 front_start flags line = record {

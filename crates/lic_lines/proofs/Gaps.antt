@@ -54,7 +54,8 @@ joined-one (Mark s) = refl
 joined-one (Word s) = refl
 
 -- what is no mark is in no run, and cuts the list
-pub without_separators-at : (xs : List Cell) (x : Cell) (ys : List Cell) → is_mark x ≡ false → without_separators (xs ++ x ∷ ys) ≡ without_separators xs ++ x ∷ without_separators ys
+pub without_separators-at : (xs : List Cell) (x : Cell) (ys : List Cell) → is_mark x ≡ false
+    → without_separators (xs ++ x ∷ ys) ≡ without_separators xs ++ x ∷ without_separators ys
 without_separators-at xs x ys no_mark =
     ap (flat_map without_separator) (groups_alone same_mark xs x ys (λ y. no_mark_after x y no_mark) (λ y. no_mark_before x y no_mark))
     ∙ flat_map-append without_separator (groups same_mark xs) ((x ∷ []) ∷ groups same_mark ys)
@@ -66,10 +67,12 @@ with_joined-at xs x ys no_mark =
     ∙ flat_map-append joined (groups same_family xs) ((x ∷ []) ∷ groups same_family ys)
     ∙ ap (λ l. with_joined xs ++ (l ++ with_joined ys)) (joined-one x)
 
-pub runs_joined-at : (rules : LineRules) (xs : List Cell) (x : Cell) (ys : List Cell) → is_mark x ≡ false → runs_joined rules (xs ++ x ∷ ys) ≡ runs_joined rules xs ++ x ∷ runs_joined rules ys
+pub runs_joined-at : (rules : LineRules) (xs : List Cell) (x : Cell) (ys : List Cell) → is_mark x ≡ false
+    → runs_joined rules (xs ++ x ∷ ys) ≡ runs_joined rules xs ++ x ∷ runs_joined rules ys
 runs_joined-at rules xs x ys no_mark = at rules.separators
   where
-    at : (b : Bool) → with_joined (cond b (without_separators (xs ++ x ∷ ys)) (xs ++ x ∷ ys)) ≡ with_joined (cond b (without_separators xs) xs) ++ x ∷ with_joined (cond b (without_separators ys) ys)
+    at : (b : Bool) → with_joined (cond b (without_separators (xs ++ x ∷ ys)) (xs ++ x ∷ ys))
+        ≡ with_joined (cond b (without_separators xs) xs) ++ x ∷ with_joined (cond b (without_separators ys) ys)
     at true = ap with_joined (without_separators-at xs x ys no_mark) ∙ with_joined-at (without_separators xs) x (without_separators ys) no_mark
     at false = with_joined-at xs x ys no_mark
 
@@ -81,7 +84,8 @@ no_letter_before Blank = refl
 no_letter_before (Mark s) = refl
 no_letter_before (Word s) = refl
 
-tokens_from-gap : (after_blank : Bool) (gs hs : List (List Cell)) → tokens_from after_blank (gs ++ (Blank ∷ []) ∷ hs) ≡ tokens_from after_blank gs ++ tokens_from true hs
+tokens_from-gap : (after_blank : Bool) (gs hs : List (List Cell))
+    → tokens_from after_blank (gs ++ (Blank ∷ []) ∷ hs) ≡ tokens_from after_blank gs ++ tokens_from true hs
 tokens_from-gap after_blank [] hs = refl
 tokens_from-gap after_blank ([] ∷ gs) hs = tokens_from-gap after_blank gs hs
 tokens_from-gap after_blank ((Blank ∷ cells) ∷ gs) hs = tokens_from-gap true gs hs

@@ -52,7 +52,8 @@ module _ {A : Type 0} (t : A → A → Bool) where
       ∙ ap (λ l. join_group t z l ++ (x ∷ []) ∷ []) (sym some.2)
 
   -- an element that belongs to no other is a group, and cuts the list
-  pub groups_alone : (xs : List A) (x : A) (ys : List A) → ((y : A) → t x y ≡ false) → ((y : A) → t y x ≡ false) → groups t (xs ++ x ∷ ys) ≡ groups t xs ++ (x ∷ []) ∷ groups t ys
+  pub groups_alone : (xs : List A) (x : A) (ys : List A) → ((y : A) → t x y ≡ false) → ((y : A) → t y x ≡ false)
+      → groups t (xs ++ x ∷ ys) ≡ groups t xs ++ (x ∷ []) ∷ groups t ys
   groups_alone xs x ys after before =
       groups_cut xs x ys after ∙ ap (λ l. l ++ groups t ys) (groups_last xs x before) ∙ append_assoc (groups t xs) ((x ∷ []) ∷ []) (groups t ys)
 
@@ -96,6 +97,7 @@ module _ {A : Type 0} (t : A → A → Bool) where
       let long = length-drop from xs in
       let at = λ (i : ℕ). get_or-drop from xs i d in
       first_group (drop from xs) n d (omega arith)
-      (λ i lt. let next : from + suc i ≡ from + i + 1 = omega arith in ap₂ t (at i) (at (suc i) ∙ ap (λ k. get_or xs k d) next) ∙ each (from + i) (omega arith) (omega arith))
+      (λ i lt. let next : from + suc i ≡ from + i + 1 = omega arith in
+      ap₂ t (at i) (at (suc i) ∙ ap (λ k. get_or xs k d) next) ∙ each (from + i) (omega arith) (omega arith))
       (λ lt. ap₂ t (at n ∙ ap (λ k. get_or xs k d) last) (at (suc n) ∙ ap (λ k. get_or xs k d) place) ∙ stop (omega arith))
       ∙ ap₂ (λ a b. a ∷ groups t b) (ap (λ k. take k (drop from xs)) size) (drop-drop (suc n) from xs ∙ ap (λ k. drop k xs) place)

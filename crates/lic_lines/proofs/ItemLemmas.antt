@@ -26,17 +26,21 @@ pub in_range : (low high n : ℕ) → low ≤ n → n ≤ high → is_in_range l
 in_range low high n from to = and_from (nat_le low n) (nat_le n high) (le-leb low n from) (le-leb n high to)
 
 -- a number of characters and what all of them are
-pub all_in_range : (low high : ℕ) (p : ℕ → Bool) (text : List SourceChar) (b : Bool) → low ≤ length text → length text ≤ high → b ≡ list_all (λ s. p s.char) text → b ≡ (is_in_range low high (length (chars_of text)) && list_all p (chars_of text))
+pub all_in_range : (low high : ℕ) (p : ℕ → Bool) (text : List SourceChar) (b : Bool) → low ≤ length text
+    → length text ≤ high → b ≡ list_all (λ s. p s.char) text
+    → b ≡ (is_in_range low high (length (chars_of text)) && list_all p (chars_of text))
 all_in_range low high p text b from to value =
     value ∙ sym (list_all-map p char_of text)
     ∙ ap (λ r. r && list_all p (chars_of text)) (sym (ap (is_in_range low high) (length-map text char_of) ∙ in_range low high (length text) from to))
 
 -- one character
-pub all_of_one : (p : ℕ → Bool) (text : List SourceChar) (b : Bool) → length text ≡ 1 → b ≡ list_all (λ s. p s.char) text → b ≡ ((length (chars_of text) == 1) && list_all p (chars_of text))
+pub all_of_one : (p : ℕ → Bool) (text : List SourceChar) (b : Bool) → length text ≡ 1
+    → b ≡ list_all (λ s. p s.char) text → b ≡ ((length (chars_of text) == 1) && list_all p (chars_of text))
 all_of_one p text b one value =
     value ∙ sym (list_all-map p char_of text) ∙ ap (λ n. (n == 1) && list_all p (chars_of text)) (sym (length-map text char_of ∙ one))
 
-pub test_of_one : (p : ℕ → Bool) (text : List SourceChar) (b : Bool) → length text ≡ 1 → b ≡ p (get_or text 0 none).char → b ≡ ((length (chars_of text) == 1) && list_all p (chars_of text))
+pub test_of_one : (p : ℕ → Bool) (text : List SourceChar) (b : Bool) → length text ≡ 1
+    → b ≡ p (get_or text 0 none).char → b ≡ ((length (chars_of text) == 1) && list_all p (chars_of text))
 test_of_one p [] b one value = absurd (omega arith)
 test_of_one p (s ∷ []) b one value = value ∙ at (p s.char)
   where
@@ -46,11 +50,15 @@ test_of_one p (s ∷ []) b one value = value ∙ at (p s.char)
 test_of_one p (s ∷ t ∷ text) b one value = absurd (omega arith)
 
 -- the last character, and those before it
-pub ends_in_chars : (last : ℕ → Bool) (before : List ℕ → Bool) (text : List SourceChar) → 0 < length text → ends_in last before (chars_of text) ≡ (last (get_or text (length text - 1) none).char && before (chars_of (take (length text - 1) text)))
+pub ends_in_chars : (last : ℕ → Bool) (before : List ℕ → Bool) (text : List SourceChar) → 0 < length text
+    → ends_in last before (chars_of text)
+    ≡ (last (get_or text (length text - 1) none).char && before (chars_of (take (length text - 1) text)))
 ends_in_chars last before text some =
     let n = length text - 1 in
     let all : n + 1 ≡ length text = omega arith in
-    let split : text ≡ take n text ++ get_or text n none ∷ [] = sym (ap (λ m. take m text) all ∙ take_all (length text) text (omega arith)) ∙ take_more text n none (omega arith) in
+    let split : text ≡ take n text ++ get_or text n none ∷ [] =
+    sym (ap (λ m. take m text) all ∙ take_all (length text) text (omega arith))
+    ∙ take_more text n none (omega arith) in
     ap (λ l. ends_in last before (map char_of l)) split
     ∙ ap (ends_in last before) (map-append char_of (take n text) (get_or text n none ∷ []))
     ∙ ends_in-snoc last before (chars_of (take n text)) (get_or text n none).char
@@ -73,7 +81,13 @@ split_some : (cs : List ℕ) → 0 < length (slice_split (λ d. d == 0x2E) cs)
 split_some [] = omega arith
 split_some (d ∷ cs) = ⊎_elim
     (λ stop. omega (arith, ap length (cond-true (d == 0x2E) ([] ∷ slice_split (λ e. e == 0x2E) cs) (onto_first d (slice_split (λ e. e == 0x2E) cs)) stop)))
-    (λ other. omega (arith, ap length (cond-false (d == 0x2E) ([] ∷ slice_split (λ e. e == 0x2E) cs) (onto_first d (slice_split (λ e. e == 0x2E) cs)) other), onto_some d (slice_split (λ e. e == 0x2E) cs)))
+    (λ other. omega (
+      arith,
+      ap length
+          (cond-false (d == 0x2E) ([] ∷ slice_split (λ e. e == 0x2E) cs)
+          (onto_first d (slice_split (λ e. e == 0x2E) cs)) other),
+      onto_some d (slice_split (λ e. e == 0x2E) cs),
+    ))
     (cases_Bool (d == 0x2E))
   where
     onto_some : (d : ℕ) (parts : List (List ℕ)) → 0 < length (onto_first d parts)
@@ -82,7 +96,8 @@ split_some (d ∷ cs) = ⊎_elim
 
 no_digits : (parts : List (List ℕ)) → 0 < length parts → with_digits 0 parts ≡ list_all is_number parts
 no_digits [] some = absurd (omega arith)
-no_digits (part ∷ parts) some = let same : 0 + length part ≡ length part = omega arith in ap (λ m. (is_in_range 1 3 m && list_all is_ascii_digit part) && list_all is_number parts) same
+no_digits (part ∷ parts) some = let same : 0 + length part ≡ length part = omega arith in
+    ap (λ m. (is_in_range 1 3 m && list_all is_ascii_digit part) && list_all is_number parts) same
 
 one_digit : (n c : ℕ) (parts : List (List ℕ)) → 0 < length parts → (is_ascii_digit c && with_digits (n + 1) parts) ≡ with_digits n (onto_first c parts)
 one_digit n c [] some = absurd (omega arith)
@@ -97,7 +112,8 @@ one_digit n c (part ∷ parts) some =
     swap false false b e = refl
 
 numbers_after_is : (n : ℕ) (cs : List ℕ) → numbers_after n cs ≡ with_digits n (slice_split (λ c. c == 0x2E) cs)
-numbers_after_is n [] = let same : n ≡ n + 0 = omega arith in ap (is_in_range 1 3) same ∙ and_true (is_in_range 1 3 (n + 0)) ∙ and_true (is_in_range 1 3 (n + 0) && true)
+numbers_after_is n [] = let same : n ≡ n + 0 = omega arith in
+    ap (is_in_range 1 3) same ∙ and_true (is_in_range 1 3 (n + 0)) ∙ and_true (is_in_range 1 3 (n + 0) && true)
 numbers_after_is n (c ∷ cs) =
     let parts = slice_split (λ d. d == 0x2E) cs in
     let same : n ≡ n + 0 = omega arith in
@@ -118,7 +134,9 @@ pub numbers_is : (cs : List ℕ) → numbers_after 0 cs ≡ list_all is_number (
 numbers_is cs = numbers_after_is 0 cs ∙ no_digits (slice_split (λ c. c == 0x2E) cs) (split_some cs)
 
 -- a step of that
-pub numbers_step : (n : ℕ) (text : List SourceChar) (i : ℕ) → i < length text → numbers_after n (chars_of (drop i text)) ≡ numbers_after n ((get_or text i none).char ∷ chars_of (drop (i + 1) text))
+pub numbers_step : (n : ℕ) (text : List SourceChar) (i : ℕ) → i < length text
+    → numbers_after n (chars_of (drop i text))
+    ≡ numbers_after n ((get_or text i none).char ∷ chars_of (drop (i + 1) text))
 numbers_step n text i lt = ap (λ l. numbers_after n (chars_of l)) (rest text i lt)
   where
     rest : (xs : List SourceChar) (i : ℕ) → i < length xs → drop i xs ≡ get_or xs i none ∷ drop (i + 1) xs
@@ -141,7 +159,12 @@ prefix_all : (p : ℕ → Bool) (xs ys : List ℕ) → length xs ≤ prefix_len 
 prefix_all p [] ys all = omega arith
 prefix_all p (x ∷ xs) ys all =
     ⊎_elim
-    (λ yes. omega (arith, cond-true (p x) (1 + prefix_len p (xs ++ ys)) 0 yes, cond-true (p x) (1 + prefix_len p xs) 0 yes, prefix_all p xs ys (omega (arith, cond-true (p x) (1 + prefix_len p xs) 0 yes))))
+    (λ yes. omega (
+      arith,
+      cond-true (p x) (1 + prefix_len p (xs ++ ys)) 0 yes,
+      cond-true (p x) (1 + prefix_len p xs) 0 yes,
+      prefix_all p xs ys (omega (arith, cond-true (p x) (1 + prefix_len p xs) 0 yes)),
+    ))
     (λ no'. absurd (omega (arith, cond-false (p x) (1 + prefix_len p xs) 0 no')))
     (cases_Bool (p x))
 
@@ -153,21 +176,29 @@ pub item_behind : (rules : LineRules) (line behind : List ℕ) (end : ℕ) → e
     → item_length rules (line ++ behind) ≡ cond (rules.items && is_item_form (take end line) && lets (take end line) (drop (end + 1) line ++ behind)) end 0
 item_behind rules line behind end is within =
     let text = line ++ behind in
-    let place : position_or_len is_whitespace text ≡ end = prefix_append (λ c. not (is_whitespace c)) line behind (subst (λ n. n < length line) is within) ∙ sym is in
+    let place : position_or_len is_whitespace text ≡ end =
+    prefix_append (λ c. not (is_whitespace c)) line behind (subst (λ n. n < length line) is within) ∙ sym is in
     let form : before_first is_whitespace text ≡ take end line = ap (λ n. take n text) place ∙ take-append-le end line behind (omega arith) in
     let long : length (take end line) ≡ end = length-take-le end line (omega arith) in
     let c = get_or line end 0 in
-    let white : is_whitespace c ≡ true = ap (λ n. is_whitespace (get_or line n 0)) is ∙ passes_at_first is_whitespace line 0 (subst (λ n. n < length line) is within) in
+    let white : is_whitespace c ≡ true =
+    ap (λ n. is_whitespace (get_or line n 0)) is
+    ∙ passes_at_first is_whitespace line 0 (subst (λ n. n < length line) is within) in
     let next : drop end line ≡ c ∷ drop (end + 1) line = rw (add-one, drop-cons line end 0) refl in
     let rest : drop end text ≡ c ∷ (drop (end + 1) line ++ behind) = drop-append-le end line behind (omega arith) ∙ ap (λ l. l ++ behind) next in
     let allowed : lets_item (take end line) (drop (length (take end line)) text) ≡ lets (take end line) (drop (end + 1) line ++ behind) =
-    ap (λ n. lets_item (take end line) (drop n text)) long ∙ ap (lets_item (take end line)) rest ∙ ap (λ b. b && lets (take end line) (drop (end + 1) line ++ behind)) white in
+    ap (λ n. lets_item (take end line) (drop n text)) long ∙ ap (lets_item (take end line)) rest
+    ∙ ap (λ b. b && lets (take end line) (drop (end + 1) line ++ behind)) white in
     ap (λ f. cond (rules.items && is_item_form f && lets_item f (drop (length f) text)) (length f) 0) form
     ∙ ap₂ (λ b n. cond (rules.items && is_item_form (take end line) && b) n 0) allowed long
 
 -- the same, over source characters
-pub item_value : (rules : LineRules) (line : List SourceChar) (behind : List ℕ) (end : ℕ) → end ≡ position_or_len is_whitespace (chars_of line) → end < length line
-    → item_length rules (chars_of line ++ behind) ≡ cond (rules.items && is_item_form (chars_of (take end line)) && lets (chars_of (take end line)) (chars_of (take (length line - (end + 1)) (drop (end + 1) line)) ++ behind)) end 0
+pub item_value : (rules : LineRules) (line : List SourceChar) (behind : List ℕ) (end : ℕ)
+    → end ≡ position_or_len is_whitespace (chars_of line) → end < length line
+    → item_length rules (chars_of line ++ behind)
+    ≡ cond (rules.items && is_item_form (chars_of (take end line))
+    && lets (chars_of (take end line))
+    (chars_of (take (length line - (end + 1)) (drop (end + 1) line)) ++ behind)) end 0
 item_value rules line behind end is within =
     let many : length (chars_of line) ≡ length line = length-map line char_of in
     let front : take end (chars_of line) ≡ chars_of (take end line) = take-map char_of end line in
@@ -198,7 +229,8 @@ lets_short form (c ∷ []) h = never (is_whitespace c)
 lets_short form (c ∷ d ∷ text) h = absurd (omega arith)
 
 -- no item where no white space follows in the line
-pub item_none : (rules : LineRules) (line behind : List ℕ) → length line ≤ position_or_len is_whitespace line → length behind ≤ 1 → item_length rules (line ++ behind) ≡ 0
+pub item_none : (rules : LineRules) (line behind : List ℕ) → length line ≤ position_or_len is_whitespace line
+    → length behind ≤ 1 → item_length rules (line ++ behind) ≡ 0
 item_none rules line behind all few =
     let text = line ++ behind in
     let m = position_or_len is_whitespace text in
@@ -244,14 +276,16 @@ not_many n out = same_truth (is_in_range 1 3 n) false
     absurd (⊎_elim {C = ⊥} (λ few. omega arith) (λ many. let more : 3 < n = many.1 in omega arith) out))
     (λ h. absurd (false≢true h))
 
-pub numbers_stop : (n : ℕ) (text : List SourceChar) (i : ℕ) → i < length text → (get_or text i none).char ≡ 0x2E → is_in_range 1 3 n ≡ false → numbers_after n (chars_of (drop i text)) ≡ false
+pub numbers_stop : (n : ℕ) (text : List SourceChar) (i : ℕ) → i < length text → (get_or text i none).char ≡ 0x2E
+    → is_in_range 1 3 n ≡ false → numbers_after n (chars_of (drop i text)) ≡ false
 numbers_stop n text i lt stop out =
     let c = (get_or text i none).char in
     numbers_step n text i lt
     ∙ cond-true (c == 0x2E) _ _ (eq-eqb c 0x2E stop)
     ∙ ap (λ b. b && numbers_after 0 (chars_of (drop (i + 1) text))) out
 
-pub numbers_other : (n : ℕ) (text : List SourceChar) (i : ℕ) → i < length text → ((get_or text i none).char ≡ 0x2E → ⊥) → is_ascii_digit (get_or text i none).char ≡ false → numbers_after n (chars_of (drop i text)) ≡ false
+pub numbers_other : (n : ℕ) (text : List SourceChar) (i : ℕ) → i < length text → ((get_or text i none).char ≡ 0x2E → ⊥)
+    → is_ascii_digit (get_or text i none).char ≡ false → numbers_after n (chars_of (drop i text)) ≡ false
 numbers_other n text i lt other out =
     let c = (get_or text i none).char in
     numbers_step n text i lt

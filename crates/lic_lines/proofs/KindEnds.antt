@@ -38,27 +38,46 @@ module _ (flags : List Bool) (line : List ℕ) (end before : ℕ) (last : end �
       let below : e.from < end = e.below in
       let long : 1 ≡ end - e.from = sym (ap length parts.1) ∙ length_part flags line end e.from within in
       let place : e.from ≡ before = omega arith in
-      let c : parts.0 ≡ slice_index line before = sym (ap (λ l. get_or l 0 0) parts.1) ∙ ap (λ j. get_or (slice_range line j end) 0 0) place ∙ ap (λ l. get_or l 0 0) one in
+      let c : parts.0 ≡ slice_index line before =
+      sym (ap (λ l. get_or l 0 0) parts.1) ∙ ap (λ j. get_or (slice_range line j end) 0 0) place
+      ∙ ap (λ l. get_or l 0 0) one in
       and_from _ _ (subst (λ i. slice_index_or flags i false ≡ true) place e.flagged) (subst (λ d. is_whitespace d ≡ true) c parts.2))
       (λ h.
       let parts = and_parts (slice_index_or flags before false) (is_whitespace (slice_index line before)) h in
-      ends-from flags line end is_space (record { from = before; below = omega arith; flagged = parts.0; piece = subst (λ l. is_space l ≡ true) (sym one) parts.1 }))
+      ends-from flags line end is_space
+      (record {
+        from = before;
+        below = omega arith;
+        flagged = parts.0;
+        piece =
+            subst (λ l. is_space l ≡ true) (sym one) parts.1;
+      }))
 
-  pub spaced_from : (t : List ℕ) → is_whitespace (slice_index line before) ≡ true → length t ≤ before → slice_index_or flags (before - length t) false ≡ true → slice_range line (before - length t) before ≡ t → ends_piece (ends_in is_whitespace (bytes_eq t)) flags line end ≡ true
+  pub spaced_from : (t : List ℕ) → is_whitespace (slice_index line before) ≡ true → length t ≤ before
+      → slice_index_or flags (before - length t) false ≡ true → slice_range line (before - length t) before ≡ t
+      → ends_piece (ends_in is_whitespace (bytes_eq t)) flags line end ≡ true
   spaced_from t white fits flag text =
       ends-from flags line end (ends_in is_whitespace (bytes_eq t)) (record {
         from = before - length t;
         below = omega arith;
         flagged = flag;
         piece = subst (λ l. ends_in is_whitespace (bytes_eq t) l ≡ true) (sym (more (before - length t) (omega arith)))
-            (ends_in-snoc is_whitespace (bytes_eq t) (slice_range line (before - length t) before) (slice_index line before) ∙ and_from (is_whitespace (slice_index line before)) (bytes_eq t (slice_range line (before - length t) before)) white ((bytes_eq-Decides t _).1 (sym text)));
+            (ends_in-snoc is_whitespace (bytes_eq t) (slice_range line (before - length t) before)
+            (slice_index line before)
+            ∙ and_from (is_whitespace (slice_index line before))
+            (bytes_eq t (slice_range line (before - length t) before)) white
+            ((bytes_eq-Decides t _).1 (sym text)));
       })
 
-  pub spaced_only : (t : List ℕ) → ends_piece (ends_in is_whitespace (bytes_eq t)) flags line end ≡ true → (is_whitespace (slice_index line before) ≡ true) × (length t ≤ before) × (slice_index_or flags (before - length t) false ≡ true) × (slice_range line (before - length t) before ≡ t)
+  pub spaced_only : (t : List ℕ) → ends_piece (ends_in is_whitespace (bytes_eq t)) flags line end ≡ true
+      → (is_whitespace (slice_index line before) ≡ true) × (length t ≤ before)
+      × (slice_index_or flags (before - length t) false ≡ true) × (slice_range line (before - length t) before ≡ t)
   spaced_only t h =
       let e = ends-true flags line end (ends_in is_whitespace (bytes_eq t)) h in
       let below : e.from < end = e.below in
-      let piece = sym (ends_in-snoc is_whitespace (bytes_eq t) (slice_range line e.from before) (slice_index line before)) ∙ subst (λ l. ends_in is_whitespace (bytes_eq t) l ≡ true) (more e.from (omega arith)) e.piece in
+      let piece = sym (ends_in-snoc is_whitespace (bytes_eq t) (slice_range line e.from before)
+      (slice_index line before))
+      ∙ subst (λ l. ends_in is_whitespace (bytes_eq t) l ≡ true) (more e.from (omega arith)) e.piece in
       let parts = and_parts (is_whitespace (slice_index line before)) (bytes_eq t (slice_range line e.from before)) piece in
       let text : t ≡ slice_range line e.from before = (bytes_eq-Decides t _).0 parts.1 in
       let long : length t ≡ before - e.from = ap length text ∙ length_part flags line before e.from (omega arith) in
@@ -69,7 +88,9 @@ module _ (flags : List Bool) (line : List ℕ) (end before : ℕ) (last : end �
         ap (λ i. slice_range line i before) (sym place) ∙ sym text,
       )
 
-  pub separator_ends : (first : ℕ) → IsRunFront flags line end first → ends_piece is_separator flags line end ≡ (is_mark_kind (kind_of (slice_index line (end - 1))) && nat_le 3 (end - first))
+  pub separator_ends : (first : ℕ) → IsRunFront flags line end first
+      → ends_piece is_separator flags line end
+      ≡ (is_mark_kind (kind_of (slice_index line (end - 1))) && nat_le 3 (end - first))
   separator_ends first front = same_truth _ _
       (λ h.
       let e = ends-true flags line end is_separator h in
@@ -79,7 +100,8 @@ module _ (flags : List Bool) (line : List ℕ) (end before : ℕ) (last : end �
       let each = λ (i : ℕ) (low : e.from ≤ i) (high : i < end).
       let off : e.from + (i - e.from) ≡ i = omega arith in
       sym (slice_at line e.from end (i - e.from) (omega arith) ∙ ap (slice_index line) off) ∙ parts.3 (i - e.from) (omega arith) in
-      let mark : is_mark_kind (kind_of (slice_index line (end - 1))) ≡ true = subst (λ d. is_mark_kind (kind_of d) ≡ true) (sym (each (end - 1) (omega arith) (omega arith))) parts.2 in
+      let mark : is_mark_kind (kind_of (slice_index line (end - 1))) ≡ true =
+      subst (λ d. is_mark_kind (kind_of d) ≡ true) (sym (each (end - 1) (omega arith) (omega arith))) parts.2 in
       let some : 3 ≤ end - e.from = omega arith in
       ⊎_elim
       (λ low.
@@ -95,14 +117,22 @@ module _ (flags : List Bool) (line : List ℕ) (end before : ℕ) (last : end �
         from = first;
         below = omega arith;
         flagged = front.flagged (omega arith);
-        piece = separator_from (slice_range line first end) (slice_index line (end - 1)) parts.0 (omega arith) (λ i lt. slice_at line first end i (omega arith) ∙ front.same (first + i) (omega arith) (omega arith));
+        piece = separator_from (slice_range line first end) (slice_index line (end - 1)) parts.0
+            (omega arith) (λ i lt. slice_at line first end i (omega arith)
+            ∙ front.same (first + i) (omega arith) (omega arith));
       }))
 
   -- what the test of the one place says
-  pub spaced_none : (t : List ℕ) → (is_whitespace (slice_index line before) ≡ true → length t ≤ before → slice_index_or flags (before - length t) false ≡ true → ⊥) → false ≡ ends_piece (ends_in is_whitespace (bytes_eq t)) flags line end
+  pub spaced_none : (t : List ℕ)
+      → (is_whitespace (slice_index line before) ≡ true → length t ≤ before
+      → slice_index_or flags (before - length t) false ≡ true → ⊥)
+      → false ≡ ends_piece (ends_in is_whitespace (bytes_eq t)) flags line end
   spaced_none t never = same_truth _ _ (λ h. absurd (false≢true h)) (λ h. let e = spaced_only t h in absurd (never e.0 e.1 e.2))
 
-  pub spaced_value : (t : List ℕ) (b : Bool) → is_whitespace (slice_index line before) ≡ true → length t ≤ before → slice_index_or flags (before - length t) false ≡ true → b ≡ bytes_eq (slice_range line (before - length t) before) t → b ≡ ends_piece (ends_in is_whitespace (bytes_eq t)) flags line end
+  pub spaced_value : (t : List ℕ) (b : Bool) → is_whitespace (slice_index line before) ≡ true → length t ≤ before
+      → slice_index_or flags (before - length t) false ≡ true
+      → b ≡ bytes_eq (slice_range line (before - length t) before) t
+      → b ≡ ends_piece (ends_in is_whitespace (bytes_eq t)) flags line end
   spaced_value t b white fits flag e = same_truth _ _
       (λ h. spaced_from t white fits flag ((bytes_eq-Decides _ t).0 (sym e ∙ h)))
       (λ h. e ∙ (bytes_eq-Decides _ t).1 (spaced_only t h).3)

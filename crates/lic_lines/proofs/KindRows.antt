@@ -27,7 +27,7 @@ NoneFirst test (cell ∷ cells) = test cell ≡ false
 cell_of-Word : (s : SourceChar) → kind_of s.char ≡ kind.Word → cell_of s ≡ Word s
 cell_of-Word s is = ap (λ k. cond (is_word_kind k) (Word s) (cond (is_mark_kind k) (Mark s) Blank)) is
 
-cell_of-Mark : (s : SourceChar) → kind_of s.char ≡ kind.Mark → cell_of s ≡ Mark s
+pub cell_of-Mark : (s : SourceChar) → kind_of s.char ≡ kind.Mark → cell_of s ≡ Mark s
 cell_of-Mark s is = ap (λ k. cond (is_word_kind k) (Word s) (cond (is_mark_kind k) (Mark s) Blank)) is
 
 cell_of-no_word : (s : SourceChar) → kind_of s.char ≢ kind.Word → is_word (cell_of s) ≡ false
@@ -58,9 +58,13 @@ no_words cells = list_all (λ c. not (is_word c)) cells
 cells_of_marks : (ms : List SourceChar) → All (λ s. kind_of s.char ≡ kind.Mark) ms → no_words (map cell_of ms) ≡ true
 cells_of_marks [] all = refl
 cells_of_marks (m ∷ ms) all =
-    and_from (not (is_word (cell_of m))) (no_words (map cell_of ms)) (ap (λ c. not (is_word c)) (cell_of-Mark m (all 0 m (omega arith)))) (cells_of_marks ms (λ k d lt. all (suc k) d (omega arith)))
+    and_from (not (is_word (cell_of m))) (no_words (map cell_of ms))
+    (ap (λ c. not (is_word c)) (cell_of-Mark m (all 0 m (omega arith))))
+    (cells_of_marks ms (λ k d lt. all (suc k) d (omega arith)))
 
-none_first : (test : Cell → Bool) (text : List SourceChar) (n : ℕ) → ((d : SourceChar) → n < length text → test (cell_of (get_or text n d)) ≡ false) → NoneFirst test (map cell_of (drop n text))
+none_first : (test : Cell → Bool) (text : List SourceChar) (n : ℕ)
+    → ((d : SourceChar) → n < length text → test (cell_of (get_or text n d)) ≡ false)
+    → NoneFirst test (map cell_of (drop n text))
 none_first test text n stop =
     ⊎_elim
     (λ inside. subst (λ l. NoneFirst test (map cell_of l)) (sym (drop_more text n none inside)) (stop none inside))
@@ -68,21 +72,27 @@ none_first test text n stop =
     (cases_lt n (length text))
 
 -- where the first character is of a kind, a row of it is not empty
-pub some_front : (k : Kind) (text : List SourceChar) (n : ℕ) → 0 < length text → kind_of (get_or text 0 none).char ≡ k → ((d : SourceChar) → n < length text → kind_of (get_or text n d).char ≢ k) → 0 < n
+pub some_front : (k : Kind) (text : List SourceChar) (n : ℕ) → 0 < length text → kind_of (get_or text 0 none).char ≡ k
+    → ((d : SourceChar) → n < length text → kind_of (get_or text n d).char ≢ k) → 0 < n
 some_front k text zero some is stop = absurd (stop none some is)
 some_front k text (suc n) some is stop = omega arith
 
 -- ---- runs
 
-runs_joined-parted : (rules : LineRules) (xs ys : List Cell) → NoneFirst is_mark ys → runs_joined rules (xs ++ ys) ≡ runs_joined rules xs ++ runs_joined rules ys
-runs_joined-parted rules xs [] h = ap (runs_joined rules) (append-nil xs) ∙ sym (ap (λ l. runs_joined rules xs ++ l) (no_runs rules) ∙ append-nil (runs_joined rules xs))
+runs_joined-parted : (rules : LineRules) (xs ys : List Cell) → NoneFirst is_mark ys
+    → runs_joined rules (xs ++ ys) ≡ runs_joined rules xs ++ runs_joined rules ys
+runs_joined-parted rules xs [] h =
+    ap (runs_joined rules) (append-nil xs)
+    ∙ sym (ap (λ l. runs_joined rules xs ++ l) (no_runs rules) ∙ append-nil (runs_joined rules xs))
 runs_joined-parted rules xs (y ∷ ys) h =
     runs_joined-at rules xs y ys h
     ∙ ap (λ l. runs_joined rules xs ++ l) (sym (runs_joined-at rules [] y ys h ∙ ap (λ l. l ++ y ∷ runs_joined rules ys) (no_runs rules)))
 
 runs_joined-words : (rules : LineRules) (ws : List SourceChar) (ys : List Cell) → runs_joined rules (map Word ws ++ ys) ≡ map Word ws ++ runs_joined rules ys
 runs_joined-words rules [] ys = refl
-runs_joined-words rules (w ∷ ws) ys = runs_joined-at rules [] (Word w) (map Word ws ++ ys) refl ∙ ap₂ (λ a b. a ++ Word w ∷ b) (no_runs rules) (runs_joined-words rules ws ys)
+runs_joined-words rules (w ∷ ws) ys =
+    runs_joined-at rules [] (Word w) (map Word ws ++ ys) refl
+    ∙ ap₂ (λ a b. a ++ Word w ∷ b) (no_runs rules) (runs_joined-words rules ws ys)
 
 no_word_first-separators : (ys : List Cell) → NoneFirst is_word ys → NoneFirst is_word (without_separators ys)
 no_word_first-separators [] h = tt
@@ -120,7 +130,8 @@ no_words-append (x ∷ xs) ys hx hy =
     and_from (not (is_word x)) (no_words (xs ++ ys)) parts.0 (no_words-append xs ys parts.1 hy)
 
 module _ (together : Cell → Cell → Bool) where
-  no_words-join : (x : Cell) (gs : List (List Cell)) → not (is_word x) ≡ true → list_all no_words gs ≡ true → list_all no_words (join_group together x gs) ≡ true
+  no_words-join : (x : Cell) (gs : List (List Cell)) → not (is_word x) ≡ true → list_all no_words gs ≡ true
+      → list_all no_words (join_group together x gs) ≡ true
   no_words-join x [] hx h = and_from (no_words (x ∷ [])) true (and_from (not (is_word x)) true hx refl) refl
   no_words-join x ([] ∷ gs) hx h = and_from (no_words (x ∷ [])) (list_all no_words ([] ∷ gs)) (and_from (not (is_word x)) true hx refl) h
   no_words-join x ((y ∷ g) ∷ gs) hx h =
@@ -140,7 +151,9 @@ module _ (together : Cell → Cell → Bool) where
       let parts = and_parts (not (is_word x)) (no_words xs) h in
       no_words-join x (groups together xs) parts.0 (no_words-groups xs parts.1)
 
-no_words-flat : (f : List Cell → List Cell) (gs : List (List Cell)) → ((g : List Cell) → no_words g ≡ true → no_words (f g) ≡ true) → list_all no_words gs ≡ true → no_words (flat_map f gs) ≡ true
+no_words-flat : (f : List Cell → List Cell) (gs : List (List Cell))
+    → ((g : List Cell) → no_words g ≡ true → no_words (f g) ≡ true) → list_all no_words gs ≡ true
+    → no_words (flat_map f gs) ≡ true
 no_words-flat f [] each h = refl
 no_words-flat f (g ∷ gs) each h =
     let parts = and_parts (no_words g) (list_all no_words gs) h in
@@ -192,14 +205,16 @@ groups_no_words (x ∷ xs) ys h =
     ∙ ap (λ l. (x ∷ []) ∷ l) (groups_no_words xs ys parts.1)
     ∙ ap (λ l. l ++ groups both_words ys) (sym (join_alone both_words x (groups both_words xs) (λ y. alone x y parts.0)))
 
-groups_words : (w : SourceChar) (ws : List SourceChar) (zs : List Cell) → NoneFirst is_word zs → groups both_words (map Word (w ∷ ws) ++ zs) ≡ map Word (w ∷ ws) ∷ groups both_words zs
+groups_words : (w : SourceChar) (ws : List SourceChar) (zs : List Cell) → NoneFirst is_word zs
+    → groups both_words (map Word (w ∷ ws) ++ zs) ≡ map Word (w ∷ ws) ∷ groups both_words zs
 groups_words w [] [] h = refl
 groups_words w [] (z ∷ zs) h =
     let some = groups_head both_words z zs in
     ap (join_group both_words (Word w)) some.2 ∙ cond-false (both_words (Word w) z) _ _ (ends_word w z h) ∙ ap (λ l. (Word w ∷ []) ∷ l) (sym some.2)
 groups_words w (v ∷ ws) zs h = ap (join_group both_words (Word w)) (groups_words v ws zs h)
 
-tokens_from-append : (after_blank : Bool) (gs hs : List (List Cell)) → tokens_from after_blank (gs ++ hs) ≡ tokens_from after_blank gs ++ tokens_from (blank_behind after_blank gs) hs
+tokens_from-append : (after_blank : Bool) (gs hs : List (List Cell))
+    → tokens_from after_blank (gs ++ hs) ≡ tokens_from after_blank gs ++ tokens_from (blank_behind after_blank gs) hs
 tokens_from-append after_blank [] hs = refl
 tokens_from-append after_blank ([] ∷ gs) hs = tokens_from-append after_blank gs hs
 tokens_from-append after_blank ((Blank ∷ cells) ∷ gs) hs = tokens_from-append true gs hs
@@ -207,7 +222,8 @@ tokens_from-append after_blank ((Mark s ∷ cells) ∷ gs) hs = ap (λ l. token_
 tokens_from-append after_blank ((Word s ∷ cells) ∷ gs) hs = ap (λ l. token_of after_blank s (Word s ∷ cells) ∷ l) (tokens_from-append false gs hs)
 
 words_front : (rules : LineRules) (after_blank : Bool) (ws : List SourceChar) (ys : List Cell) → 0 < length ws → NoneFirst is_word ys
-    → tokens_from after_blank (groups both_words (runs_joined rules (map Word ws ++ ys))) ≡ tokens_from after_blank (map Word ws ∷ []) ++ tokens_from false (groups both_words (runs_joined rules ys))
+    → tokens_from after_blank (groups both_words (runs_joined rules (map Word ws ++ ys)))
+    ≡ tokens_from after_blank (map Word ws ∷ []) ++ tokens_from false (groups both_words (runs_joined rules ys))
 words_front rules after_blank [] ys some h = absurd (omega arith)
 words_front rules after_blank (w ∷ ws) ys some h =
     ap (λ l. tokens_from after_blank (groups both_words l)) (runs_joined-words rules (w ∷ ws) ys)
@@ -223,17 +239,31 @@ module _ (rules : LineRules) (after_blank : Bool) (text : List SourceChar) (n : 
   all_taken : (k : Kind) → ((i : ℕ) (d : SourceChar) → i < n → kind_of (get_or text i d).char ≡ k) → All (λ s. kind_of s.char ≡ k) (take n text)
   all_taken k all = λ i d lt. let inside : i < n = omega (arith, long) in ap (λ s. kind_of s.char) (get_or-take n text i d inside) ∙ all i d inside
 
-  pub words_row : 0 < n → ((i : ℕ) (d : SourceChar) → i < n → kind_of (get_or text i d).char ≡ kind.Word) → ((d : SourceChar) → n < length text → kind_of (get_or text n d).char ≢ kind.Word)
+  pub words_row : 0 < n → ((i : ℕ) (d : SourceChar) → i < n → kind_of (get_or text i d).char ≡ kind.Word)
+      → ((d : SourceChar) → n < length text → kind_of (get_or text n d).char ≢ kind.Word)
       → tokens_from after_blank (map Word (take n text) ∷ []) ++ tokens_after rules false (drop n text) ≡ tokens_after rules after_blank text
   words_row some all stop =
-      sym (ap (λ l. tokens_from after_blank (groups both_words (runs_joined rules l))) (split ∙ ap (λ l. l ++ map cell_of (drop n text)) (cells_of_words (take n text) (all_taken kind.Word all)))
-      ∙ words_front rules after_blank (take n text) (map cell_of (drop n text)) (omega (arith, long)) (none_first is_word text n (λ d lt. cell_of-no_word (get_or text n d) (stop d lt))))
+      sym (ap (λ l. tokens_from after_blank (groups both_words (runs_joined rules l)))
+      (split ∙ ap (λ l. l ++ map cell_of (drop n text))
+      (cells_of_words (take n text) (all_taken kind.Word all)))
+      ∙ words_front rules after_blank (take n text) (map cell_of (drop n text)) (omega (arith, long))
+      (none_first is_word text n (λ d lt. cell_of-no_word (get_or text n d) (stop d lt))))
 
-  pub marks_row : ((i : ℕ) (d : SourceChar) → i < n → kind_of (get_or text i d).char ≡ kind.Mark) → ((d : SourceChar) → n < length text → kind_of (get_or text n d).char ≢ kind.Mark)
-      → tokens_from after_blank (groups both_words (runs_joined rules (map cell_of (take n text)))) ++ tokens_after rules (blank_behind after_blank (groups both_words (runs_joined rules (map cell_of (take n text))))) (drop n text) ≡ tokens_after rules after_blank text
+  pub marks_row : ((i : ℕ) (d : SourceChar) → i < n → kind_of (get_or text i d).char ≡ kind.Mark)
+      → ((d : SourceChar) → n < length text → kind_of (get_or text n d).char ≢ kind.Mark)
+      → tokens_from after_blank (groups both_words (runs_joined rules (map cell_of (take n text))))
+      ++ tokens_after rules (blank_behind after_blank
+      (groups both_words (runs_joined rules (map cell_of (take n text))))) (drop n text)
+      ≡ tokens_after rules after_blank text
   marks_row all stop =
       let marks = runs_joined rules (map cell_of (take n text)) in
       let rest = runs_joined rules (map cell_of (drop n text)) in
-      sym (ap (λ l. tokens_from after_blank (groups both_words l)) (ap (runs_joined rules) split ∙ runs_joined-parted rules (map cell_of (take n text)) (map cell_of (drop n text)) (none_first is_mark text n (λ d lt. cell_of-no_mark (get_or text n d) (stop d lt))))
-      ∙ ap (tokens_from after_blank) (groups_no_words marks rest (no_words-runs rules (map cell_of (take n text)) (cells_of_marks (take n text) (all_taken kind.Mark all))))
+      sym (ap (λ l. tokens_from after_blank (groups both_words l))
+      (ap (runs_joined rules) split
+      ∙ runs_joined-parted rules (map cell_of (take n text)) (map cell_of (drop n text))
+      (none_first is_mark text n (λ d lt. cell_of-no_mark (get_or text n d) (stop d lt))))
+      ∙ ap (tokens_from after_blank)
+      (groups_no_words marks rest
+      (no_words-runs rules (map cell_of (take n text))
+      (cells_of_marks (take n text) (all_taken kind.Mark all))))
       ∙ tokens_from-append after_blank (groups both_words marks) (groups both_words rest))

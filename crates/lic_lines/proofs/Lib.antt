@@ -11,6 +11,7 @@ pub mod SideEnds
 pub mod TailRows
 pub mod Stops
 pub mod SpaceRows
+pub mod StandingTexts
 pub mod ItemLemmas
 pub mod NoItems
 pub mod Gaps
@@ -19,5 +20,6 @@ pub mod CutLemmas
 pub mod TokenLemmas
 pub mod AsciiLemmas
 pub mod PlainSigns
+pub mod AsciiFronts
 pub mod LineByLine
 mod examples

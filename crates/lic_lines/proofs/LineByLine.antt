@@ -36,14 +36,21 @@ module _ {A : Type 0} (ends : A → Bool) where
       let rest = cut_after-end xs x ys e in
       let some = cut_some xs x e in
       ⊎_elim
-      (λ yes. cond-true (ends z) _ _ yes ∙ ap (λ l. (z ∷ []) ∷ l) rest ∙ ap (λ l. l ++ cut_after ends ys) (sym (cond-true (ends z) ((z ∷ []) ∷ cut_after ends (xs ++ x ∷ [])) (onto_first z (cut_after ends (xs ++ x ∷ []))) yes)))
+      (λ yes. cond-true (ends z) _ _ yes ∙ ap (λ l. (z ∷ []) ∷ l) rest
+      ∙ ap (λ l. l ++ cut_after ends ys)
+      (sym (cond-true (ends z) ((z ∷ []) ∷ cut_after ends (xs ++ x ∷ []))
+      (onto_first z (cut_after ends (xs ++ x ∷ []))) yes)))
       (λ none.
       cond-false (ends z) _ _ none ∙ ap (onto_first z) (rest ∙ ap (λ l. l ++ cut_after ends ys) some.2)
-      ∙ ap (λ l. l ++ cut_after ends ys) (ap (onto_first z) (sym some.2) ∙ sym (cond-false (ends z) ((z ∷ []) ∷ cut_after ends (xs ++ x ∷ [])) (onto_first z (cut_after ends (xs ++ x ∷ []))) none)))
+      ∙ ap (λ l. l ++ cut_after ends ys)
+      (ap (onto_first z) (sym some.2)
+      ∙ sym (cond-false (ends z) ((z ∷ []) ∷ cut_after ends (xs ++ x ∷ []))
+      (onto_first z (cut_after ends (xs ++ x ∷ []))) none)))
       (cases_Bool (ends z))
 
   -- the last part ends in what ended it
-  pub cut_last : (xs : List A) (x : A) → ends x ≡ true → (parts : List (List A)) × (part : List A) × (cut_after ends (xs ++ x ∷ []) ≡ parts ++ (part ++ x ∷ []) ∷ [])
+  pub cut_last : (xs : List A) (x : A) → ends x ≡ true
+      → (parts : List (List A)) × (part : List A) × (cut_after ends (xs ++ x ∷ []) ≡ parts ++ (part ++ x ∷ []) ∷ [])
   cut_last [] x e = ([], [], cond-true (ends x) _ _ e)
   cut_last (z ∷ xs) x e =
       let known = cut_last xs x e in
@@ -52,7 +59,9 @@ module _ {A : Type 0} (ends : A → Bool) where
       (λ none. onto known.0 known.1 (cond-false (ends z) _ _ none ∙ ap (onto_first z) known.2))
       (cases_Bool (ends z))
     where
-      onto : {parts' : List (List A)} (parts : List (List A)) (part : List A) → parts' ≡ onto_first z (parts ++ (part ++ x ∷ []) ∷ []) → (qs : List (List A)) × (q : List A) × (parts' ≡ qs ++ (q ++ x ∷ []) ∷ [])
+      onto : {parts' : List (List A)} (parts : List (List A)) (part : List A)
+          → parts' ≡ onto_first z (parts ++ (part ++ x ∷ []) ∷ [])
+          → (qs : List (List A)) × (q : List A) × (parts' ≡ qs ++ (q ++ x ∷ []) ∷ [])
       onto [] part e = ([], z ∷ part, e)
       onto (q ∷ qs) part e = ((z ∷ q) ∷ qs, part, e)
 
@@ -60,14 +69,20 @@ module _ {A : Type 0} (ends : A → Bool) where
 abbrev pub AllButLastEnd : {A : Type 0} → (A → Bool) → List (List A) → Type 0
 AllButLastEnd ends [] = Unit {0}
 AllButLastEnd ends (part ∷ []) = Unit {0}
-AllButLastEnd {A} ends (part ∷ next ∷ parts) = ((front : List A) × (last : A) × (part ≡ front ++ last ∷ []) × (ends last ≡ true)) × AllButLastEnd ends (next ∷ parts)
+AllButLastEnd {A} ends (part ∷ next ∷ parts) =
+    ((front : List A) × (last : A) × (part ≡ front ++ last ∷ []) × (ends last ≡ true))
+    × AllButLastEnd ends (next ∷ parts)
 
 cut_after-ends : {A : Type 0} (ends : A → Bool) (xs : List A) → AllButLastEnd ends (cut_after ends xs)
 cut_after-ends ends [] = tt
 cut_after-ends {A} ends (x ∷ xs) =
     ⊎_elim
-    (λ yes. subst (AllButLastEnd ends) (sym (cond-true (ends x) ((x ∷ []) ∷ cut_after ends xs) (onto_first x (cut_after ends xs)) yes)) (alone (cut_after ends xs) yes (cut_after-ends ends xs)))
-    (λ none. subst (AllButLastEnd ends) (sym (cond-false (ends x) ((x ∷ []) ∷ cut_after ends xs) (onto_first x (cut_after ends xs)) none)) (onto (cut_after ends xs) (cut_after-ends ends xs)))
+    (λ yes. subst (AllButLastEnd ends)
+    (sym (cond-true (ends x) ((x ∷ []) ∷ cut_after ends xs) (onto_first x (cut_after ends xs)) yes))
+    (alone (cut_after ends xs) yes (cut_after-ends ends xs)))
+    (λ none. subst (AllButLastEnd ends)
+    (sym (cond-false (ends x) ((x ∷ []) ∷ cut_after ends xs) (onto_first x (cut_after ends xs)) none))
+    (onto (cut_after ends xs) (cut_after-ends ends xs)))
     (cases_Bool (ends x))
   where
     alone : (parts : List (List A)) → ends x ≡ true → AllButLastEnd ends parts → AllButLastEnd ends ((x ∷ []) ∷ parts)
@@ -119,7 +134,8 @@ take_none zero = refl
 take_none (suc n) = refl
 
 -- a cut that takes the whole line as its lead
-all_lead : (line : List SourceChar) (lead item tail : ℕ) → 0 < length line → length line ≤ lead → item ≡ 0 → tail ≡ 0 → cells_of_cut (record { lead = lead; item = item; tail = tail }) line ≡ Blank ∷ []
+all_lead : (line : List SourceChar) (lead item tail : ℕ) → 0 < length line → length line ≤ lead → item ≡ 0 → tail ≡ 0
+    → cells_of_cut (record { lead = lead; item = item; tail = tail }) line ≡ Blank ∷ []
 all_lead line lead item tail some all no_item no_tail =
     let none : drop (lead + item) line ≡ [] = drop_all (lead + item) line (omega arith) in
     (λ i. blank_some lead (omega arith) i ++ blank_for (no_item i) ++ map cell_of (take (length (none i) - tail) (none i)) ++ blank_for (no_tail i))
@@ -130,13 +146,19 @@ module _ (rules : LineRules) (part : LinePart) where
   item_room xs c white =
       let behind = option_to_list part.behind in
       ⊎_elim
-      (λ on. omega (arith, cond-true part.has_front (item_length rules ((xs ++ c ∷ []) ++ behind)) 0 on, ap (item_length rules) (append_assoc xs (c ∷ []) behind), item_within rules xs c behind white))
+      (λ on. omega (
+        arith,
+        cond-true part.has_front (item_length rules ((xs ++ c ∷ []) ++ behind)) 0 on,
+        ap (item_length rules) (append_assoc xs (c ∷ []) behind),
+        item_within rules xs c behind white,
+      ))
       (λ off. omega (arith, cond-false part.has_front (item_length rules ((xs ++ c ∷ []) ++ behind)) 0 off))
       (cases_Bool part.has_front)
 
   no_item : item_after_lead rules part [] ≡ 0
   no_item = ⊎_elim
-      (λ on. cond-true part.has_front (item_length rules ([] ++ option_to_list part.behind)) 0 on ∙ item_none rules [] (option_to_list part.behind) (omega arith) (few_behind part.behind))
+      (λ on. cond-true part.has_front (item_length rules ([] ++ option_to_list part.behind)) 0 on
+      ∙ item_none rules [] (option_to_list part.behind) (omega arith) (few_behind part.behind))
       (λ off. cond-false part.has_front (item_length rules ([] ++ option_to_list part.behind)) 0 off)
       (cases_Bool part.has_front)
 
@@ -144,7 +166,8 @@ module _ (rules : LineRules) (part : LinePart) where
   no_tail = ⊎_elim (λ on. cond-true part.has_end 0 0 on) (λ off. cond-false part.has_end 0 0 off) (cases_Bool part.has_end)
 
   -- a line that ends in white space, and has its end, leaves a blank last
-  pub line_ends : (front : List SourceChar) (nl : SourceChar) → is_whitespace nl.char ≡ true → part.has_end ≡ true → (cells : List Cell) × (line_cells rules part (front ++ nl ∷ []) ≡ cells ++ Blank ∷ [])
+  pub line_ends : (front : List SourceChar) (nl : SourceChar) → is_whitespace nl.char ≡ true → part.has_end ≡ true
+      → (cells : List Cell) × (line_cells rules part (front ++ nl ∷ []) ≡ cells ++ Blank ∷ [])
   line_ends front nl white has_end =
       let line = front ++ nl ∷ [] in
       let text = chars_of line in
@@ -159,10 +182,21 @@ module _ (rules : LineRules) (part : LinePart) where
       (λ less.
       let less_is : lead < length text = less in
       let rest : drop lead text ≡ drop lead before ++ nl.char ∷ [] = ap (drop lead) split ∙ drop-append-le lead before (nl.char ∷ []) (omega arith) in
-      let room : item ≤ length (drop lead before) = subst (λ l. item_after_lead rules part l ≤ length (drop lead before)) (sym rest) (item_room (drop lead before) nl.char white) in
-      let left : drop item (drop lead text) ≡ drop item (drop lead before) ++ nl.char ∷ [] = ap (drop item) rest ∙ drop-append-le item (drop lead before) (nl.char ∷ []) room in
-      let end : 0 < tail = subst (λ n. 0 < n) (sym (cond-true part.has_end (longest_end (is_row (is_tail_piece rules)) (drop item (drop lead text))) 0 has_end)) (subst (λ l. 0 < longest_end (is_row (is_tail_piece rules)) l) (sym left) (tail_some rules (drop item (drop lead before)) nl.char white)) in
-      (_, ap (λ b. blank_for lead ++ blank_for item ++ map cell_of (take (length (drop (lead + item) line) - tail) (drop (lead + item) line)) ++ b) (blank_some tail end)))
+      let room : item ≤ length (drop lead before) =
+      subst (λ l. item_after_lead rules part l ≤ length (drop lead before)) (sym rest)
+      (item_room (drop lead before) nl.char white) in
+      let left : drop item (drop lead text) ≡ drop item (drop lead before) ++ nl.char ∷ [] =
+      ap (drop item) rest ∙ drop-append-le item (drop lead before) (nl.char ∷ []) room in
+      let end : 0 < tail = subst (λ n. 0 < n)
+      (sym (cond-true part.has_end
+      (longest_end (is_row (is_tail_piece rules)) (drop item (drop lead text))) 0 has_end))
+      (subst (λ l. 0 < longest_end (is_row (is_tail_piece rules)) l) (sym left)
+      (tail_some rules (drop item (drop lead before)) nl.char white)) in (
+        _,
+        ap (λ b. blank_for lead ++ blank_for item
+            ++ map cell_of (take (length (drop (lead + item) line) - tail) (drop (lead + item) line)) ++ b)
+            (blank_some tail end),
+      ))
       (λ all.
       let all_is : length text ≤ lead = all in
       let none' : drop lead text ≡ [] = drop_all lead text all_is in
@@ -176,12 +210,16 @@ filter_append : {A : Type 0} (keeps : A → Bool) (xs ys : List A) → filter ke
 filter_append keeps [] ys = refl
 filter_append keeps (x ∷ xs) ys =
     ⊎_elim
-    (λ yes. cond-true (keeps x) _ _ yes ∙ ap (λ l. x ∷ l) (filter_append keeps xs ys) ∙ ap (λ l. l ++ filter keeps ys) (sym (cond-true (keeps x) (x ∷ filter keeps xs) (filter keeps xs) yes)))
-    (λ none. cond-false (keeps x) _ _ none ∙ filter_append keeps xs ys ∙ ap (λ l. l ++ filter keeps ys) (sym (cond-false (keeps x) (x ∷ filter keeps xs) (filter keeps xs) none)))
+    (λ yes. cond-true (keeps x) _ _ yes ∙ ap (λ l. x ∷ l) (filter_append keeps xs ys)
+    ∙ ap (λ l. l ++ filter keeps ys) (sym (cond-true (keeps x) (x ∷ filter keeps xs) (filter keeps xs) yes)))
+    (λ none. cond-false (keeps x) _ _ none ∙ filter_append keeps xs ys
+    ∙ ap (λ l. l ++ filter keeps ys) (sym (cond-false (keeps x) (x ∷ filter keeps xs) (filter keeps xs) none)))
     (cases_Bool (keeps x))
 
 -- the cells of a text up to a line end, and those behind it
-pub cells_of-line : (rules : LineRules) (front : List SourceChar) (nl : SourceChar) (rest : List SourceChar) → nl.char ≡ 0x0A → (cells : List Cell) × (cells_of rules (front ++ nl ∷ []) ≡ cells ++ Blank ∷ []) × (cells_of rules (front ++ nl ∷ rest) ≡ cells ++ Blank ∷ cells_of rules rest)
+pub cells_of-line : (rules : LineRules) (front : List SourceChar) (nl : SourceChar) (rest : List SourceChar)
+    → nl.char ≡ 0x0A → (cells : List Cell) × (cells_of rules (front ++ nl ∷ []) ≡ cells ++ Blank ∷ [])
+    × (cells_of rules (front ++ nl ∷ rest) ≡ cells ++ Blank ∷ cells_of rules rest)
 cells_of-line rules front nl rest is_end =
     let f = line_cells rules whole_line in
     let ends = λ (s : SourceChar). s.char == 0x0A in
@@ -190,8 +228,11 @@ cells_of-line rules front nl rest is_end =
     let is_end_of : ends nl ≡ true = ap (λ c. c == 0x0A) is_end in
     let white : is_whitespace nl.char ≡ true = ap is_whitespace is_end in
     let before = without_dropped front in
-    let upto : without_dropped (front ++ nl ∷ []) ≡ before ++ nl ∷ [] = filter_append keeps front (nl ∷ []) ∙ ap (λ l. before ++ l) (cond-true (keeps nl) (nl ∷ []) [] kept) in
-    let whole : without_dropped (front ++ nl ∷ rest) ≡ before ++ nl ∷ without_dropped rest = filter_append keeps front (nl ∷ rest) ∙ ap (λ l. before ++ l) (cond-true (keeps nl) (nl ∷ without_dropped rest) (without_dropped rest) kept) in
+    let upto : without_dropped (front ++ nl ∷ []) ≡ before ++ nl ∷ [] =
+    filter_append keeps front (nl ∷ []) ∙ ap (λ l. before ++ l) (cond-true (keeps nl) (nl ∷ []) [] kept) in
+    let whole : without_dropped (front ++ nl ∷ rest) ≡ before ++ nl ∷ without_dropped rest =
+    filter_append keeps front (nl ∷ rest)
+    ∙ ap (λ l. before ++ l) (cond-true (keeps nl) (nl ∷ without_dropped rest) (without_dropped rest) kept) in
     let last = cut_last ends before nl is_end_of in
     let blank = line_ends rules whole_line last.1 nl white refl in
     let cells = flat_map f last.0 ++ blank.0 in
@@ -209,14 +250,20 @@ cells_of-line rules front nl rest is_end =
     )
 
 -- The first tokens of a text up to a line end, and those behind it.
-pub first_tokens-line : (rules : LineRules) (front : List SourceChar) (nl : SourceChar) (rest : List SourceChar) → nl.char ≡ 0x0A → first_tokens (runs_joined rules (cells_of rules (front ++ nl ∷ rest))) ≡ first_tokens (runs_joined rules (cells_of rules (front ++ nl ∷ []))) ++ first_tokens (runs_joined rules (cells_of rules rest))
+pub first_tokens-line : (rules : LineRules) (front : List SourceChar) (nl : SourceChar) (rest : List SourceChar)
+    → nl.char ≡ 0x0A → first_tokens (runs_joined rules (cells_of rules (front ++ nl ∷ rest)))
+    ≡ first_tokens (runs_joined rules (cells_of rules (front ++ nl ∷ [])))
+    ++ first_tokens (runs_joined rules (cells_of rules rest))
 first_tokens-line rules front nl rest is_end =
     let cells = cells_of-line rules front nl rest is_end in
     let tokens = λ (l : List Cell). first_tokens (runs_joined rules l) in
     ap tokens cells.2
     ∙ ap first_tokens (runs_joined-gap rules cells.0 (cells_of rules rest))
     ∙ first_tokens-gap (runs_joined rules cells.0) (runs_joined rules (cells_of rules rest))
-    ∙ ap (λ l. l ++ tokens (cells_of rules rest)) (sym (ap tokens cells.1 ∙ ap first_tokens (runs_joined-gap rules cells.0 []) ∙ first_tokens-gap (runs_joined rules cells.0) (runs_joined rules []) ∙ ap (λ l. first_tokens (runs_joined rules cells.0) ++ first_tokens l) (no_runs rules) ∙ append-nil _))
+    ∙ ap (λ l. l ++ tokens (cells_of rules rest))
+    (sym (ap tokens cells.1 ∙ ap first_tokens (runs_joined-gap rules cells.0 [])
+    ∙ first_tokens-gap (runs_joined rules cells.0) (runs_joined rules [])
+    ∙ ap (λ l. first_tokens (runs_joined rules cells.0) ++ first_tokens l) (no_runs rules) ∙ append-nil _))
 
 -- ---- tokens, signs too
 
@@ -253,15 +300,20 @@ single_signs-append (a ∷ b ∷ c ∷ xs) ys h =
     (λ yes.
     cond-true (is_sign_in_parentheses a b c) _ _ yes
     ∙ ap (λ l. sign_from a c ∷ l) (single_signs-append xs ys h)
-    ∙ ap (λ l. l ++ single_signs ys) (sym (cond-true (is_sign_in_parentheses a b c) (sign_from a c ∷ single_signs xs) (as_sign a ∷ single_signs (b ∷ c ∷ xs)) yes)))
+    ∙ ap (λ l. l ++ single_signs ys)
+    (sym (cond-true (is_sign_in_parentheses a b c) (sign_from a c ∷ single_signs xs)
+    (as_sign a ∷ single_signs (b ∷ c ∷ xs)) yes)))
     (λ none.
     cond-false (is_sign_in_parentheses a b c) _ _ none
     ∙ ap (λ l. as_sign a ∷ l) (single_signs-append (b ∷ c ∷ xs) ys h)
-    ∙ ap (λ l. l ++ single_signs ys) (sym (cond-false (is_sign_in_parentheses a b c) (sign_from a c ∷ single_signs xs) (as_sign a ∷ single_signs (b ∷ c ∷ xs)) none)))
+    ∙ ap (λ l. l ++ single_signs ys)
+    (sym (cond-false (is_sign_in_parentheses a b c) (sign_from a c ∷ single_signs xs)
+    (as_sign a ∷ single_signs (b ∷ c ∷ xs)) none)))
     (cases_Bool (is_sign_in_parentheses a b c))
 
 -- The tokens of cells up to a blank, and those behind it.
-pub tokens_of_cells-blank : (rules : LineRules) (xs ys : List Cell) → tokens_of_cells rules (xs ++ Blank ∷ ys) ≡ tokens_of_cells rules (xs ++ Blank ∷ []) ++ tokens_of_cells rules ys
+pub tokens_of_cells-blank : (rules : LineRules) (xs ys : List Cell)
+    → tokens_of_cells rules (xs ++ Blank ∷ ys) ≡ tokens_of_cells rules (xs ++ Blank ∷ []) ++ tokens_of_cells rules ys
 tokens_of_cells-blank rules xs ys =
     let front = first_tokens (runs_joined rules xs) in
     let rest = first_tokens (runs_joined rules ys) in
@@ -273,16 +325,22 @@ tokens_of_cells-blank rules xs ys =
     ∙ ap (λ l. single_signs l ++ single_signs rest) (sym alone)
 
 -- The tokens of a text up to a line end, and those behind it.
-pub text_tokens-line : (rules : LineRules) (front : List SourceChar) (nl : SourceChar) (rest : List SourceChar) → nl.char ≡ 0x0A → text_tokens rules (front ++ nl ∷ rest) ≡ text_tokens rules (front ++ nl ∷ []) ++ text_tokens rules rest
+pub text_tokens-line : (rules : LineRules) (front : List SourceChar) (nl : SourceChar) (rest : List SourceChar)
+    → nl.char ≡ 0x0A → text_tokens rules (front ++ nl ∷ rest)
+    ≡ text_tokens rules (front ++ nl ∷ []) ++ text_tokens rules rest
 text_tokens-line rules front nl rest is_end =
     let cells = cells_of-line rules front nl rest is_end in
     ap (tokens_of_cells rules) cells.2
     ∙ tokens_of_cells-blank rules cells.0 (cells_of rules rest)
     ∙ ap (λ l. tokens_of_cells rules l ++ text_tokens rules rest) (sym cells.1)
 
-lines_tokens : (rules : LineRules) (lines : List (List SourceChar)) → AllButLastEnd (λ s. s.char == 0x0A) lines → tokens_of_cells rules (flat_map (line_cells rules whole_line) lines) ≡ flat_map (line_tokens rules whole_line) lines
+lines_tokens : (rules : LineRules) (lines : List (List SourceChar)) → AllButLastEnd (λ s. s.char == 0x0A) lines
+    → tokens_of_cells rules (flat_map (line_cells rules whole_line) lines)
+    ≡ flat_map (line_tokens rules whole_line) lines
 lines_tokens rules [] h = ap (λ l. single_signs (first_tokens l)) (no_runs rules)
-lines_tokens rules (line ∷ []) h = ap (tokens_of_cells rules) (append-nil (line_cells rules whole_line line)) ∙ sym (append-nil (line_tokens rules whole_line line))
+lines_tokens rules (line ∷ []) h =
+    ap (tokens_of_cells rules) (append-nil (line_cells rules whole_line line))
+    ∙ sym (append-nil (line_tokens rules whole_line line))
 lines_tokens rules (line ∷ next ∷ lines) h =
     let feed : h.0.1.char ≡ 0x0A = eqb-true h.0.1.char 0x0A h.0.3 in
     let blank = line_ends rules whole_line h.0.0 h.0.1 (ap is_whitespace feed) refl in
@@ -294,5 +352,6 @@ lines_tokens rules (line ∷ next ∷ lines) h =
     ∙ ap₂ (λ a b. tokens_of_cells rules a ++ b) (sym cells) (lines_tokens rules (next ∷ lines) h.1)
 
 -- The tokens of a text are those of its lines, one line after the other.
-pub text_tokens-lines : (rules : LineRules) (text : List SourceChar) → text_tokens rules text ≡ flat_map (line_tokens rules whole_line) (lines_of (without_dropped text))
+pub text_tokens-lines : (rules : LineRules) (text : List SourceChar)
+    → text_tokens rules text ≡ flat_map (line_tokens rules whole_line) (lines_of (without_dropped text))
 text_tokens-lines rules text = lines_tokens rules (lines_of (without_dropped text)) (cut_after-ends (λ s. s.char == 0x0A) (without_dropped text))

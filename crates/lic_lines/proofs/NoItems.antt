@@ -25,7 +25,9 @@ not_equal : (m n : ℕ) → n < m → (m == n) ≡ false
 not_equal m n lt = ⊎_elim (λ yes. let same : m ≡ n = eqb-true m n yes in absurd (omega arith)) (λ none. none) (cases_Bool (m == n))
 
 not_in_range : (low high n : ℕ) → high < n → is_in_range low high n ≡ false
-not_in_range low high n lt = at (nat_le low n) (nat_le n high) (⊎_elim (λ yes. let le : n ≤ high = leb-true n high yes in absurd (omega arith)) (λ none. none) (cases_Bool (nat_le n high)))
+not_in_range low high n lt = at (nat_le low n) (nat_le n high)
+    (⊎_elim (λ yes. let le : n ≤ high = leb-true n high yes in absurd (omega arith)) (λ none. none)
+    (cases_Bool (nat_le n high)))
   where
     at : (a b : Bool) → b ≡ false → (a && b) ≡ false
     at true b off = off
@@ -82,15 +84,21 @@ module _ (f : ℕ) (fs : List ℕ) (c : ℕ) where
       or_off _ _
       (or_off _ _
       (or_off _ _ no_bullet (number ∙ and_off (ends_item c) _ (no_numbers f fs known.no_digit)))
-      (letter ∙ and_off ((c == 0x2E) || (c == 0x29)) _ (or_off _ _ (off_and _ _ (not_equal (length (f ∷ fs)) 1 (omega (arith, known.long)))) (off_and _ _ (not_in_range 1 5 (length (f ∷ fs)) (omega (arith, known.long)))))))
+      (letter ∙ and_off ((c == 0x2E) || (c == 0x29)) _
+      (or_off _ _ (off_and _ _ (not_equal (length (f ∷ fs)) 1 (omega (arith, known.long))))
+      (off_and _ _ (not_in_range 1 5 (length (f ∷ fs)) (omega (arith, known.long)))))))
       (closed ∙ off_and _ _ known.no_parenthesis)
 
 -- a word of two characters or more
-pub no_item_form : (word : List ℕ) → 2 ≤ length word → (ends_item (get_or word (length word - 1) 0) ≡ false) ⊎ IsNoLongItem (take (length word - 1) word) → is_item_form word ≡ false
+pub no_item_form : (word : List ℕ) → 2 ≤ length word
+    → (ends_item (get_or word (length word - 1) 0) ≡ false) ⊎ IsNoLongItem (take (length word - 1) word)
+    → is_item_form word ≡ false
 no_item_form word long why =
     let n = length word - 1 in
     let next : n + 1 ≡ length word = omega arith in
-    let split : word ≡ take n word ++ get_or word n 0 ∷ [] = sym (ap (λ m. take m word) next ∙ take_all (length word) word (omega arith)) ∙ take_more word n 0 (omega arith) in
+    let split : word ≡ take n word ++ get_or word n 0 ∷ [] =
+    sym (ap (λ m. take m word) next ∙ take_all (length word) word (omega arith))
+    ∙ take_more word n 0 (omega arith) in
     ap is_item_form split ∙ at (take n word) (get_or word n 0) (front_some word n long next) why
   where
     front_some : (word : List ℕ) (n : ℕ) → 2 ≤ length word → n + 1 ≡ length word → 0 < length (take n word)
@@ -103,10 +111,12 @@ no_item_form word long why =
     at (f ∷ fs) c some why = ⊎_elim (other_end f fs c) (long_word f fs c) why
 
 -- no item where the first word is none
-pub no_item : (rules : LineRules) (line : List ℕ) (end : ℕ) → end ≡ position_or_len is_whitespace line → end < length line → is_item_form (take end line) ≡ false → item_length rules line ≡ 0
+pub no_item : (rules : LineRules) (line : List ℕ) (end : ℕ) → end ≡ position_or_len is_whitespace line
+    → end < length line → is_item_form (take end line) ≡ false → item_length rules line ≡ 0
 no_item rules line end is within none =
     ap (item_length rules) (sym (append-nil line)) ∙ item_behind rules line [] end is within
-    ∙ sym (item_off rules.items (is_item_form (take end line)) (lets (take end line) (drop (end + 1) line ++ [])) end (ap (λ b. b && lets (take end line) (drop (end + 1) line ++ [])) none))
+    ∙ sym (item_off rules.items (is_item_form (take end line)) (lets (take end line) (drop (end + 1) line ++ [])) end
+    (ap (λ b. b && lets (take end line) (drop (end + 1) line ++ [])) none))
 
 -- none where the line is one word
 pub no_item_alone : (rules : LineRules) (line : List ℕ) → length line ≤ position_or_len is_whitespace line → item_length rules line ≡ 0

@@ -35,7 +35,8 @@ pub record Ends (p : List ℕ → Bool) (flags : List Bool) (line : List ℕ) (e
   pub piece : p (slice_range line from end) ≡ true
 
 -- a part of a line, and the character behind it
-pub slice_snoc : (line : List ℕ) (j before : ℕ) → j ≤ before → before < length line → slice_range line j (before + 1) ≡ slice_range line j before ++ slice_index line before ∷ []
+pub slice_snoc : (line : List ℕ) (j before : ℕ) → j ≤ before → before < length line
+    → slice_range line j (before + 1) ≡ slice_range line j before ++ slice_index line before ∷ []
 slice_snoc line j before h within =
     let len : length (drop j line) ≡ length line - j = length-drop j line in
     let more : before + 1 - j ≡ (before - j) + 1 = omega arith in
@@ -54,7 +55,9 @@ ends_in-snoc last q front c =
     ∙ ap (λ l. last c && q l) (reverse-reverse front)
 
 -- what a separator is
-pub separator_parts : (text : List ℕ) → is_separator text ≡ true → (3 ≤ length text) × (m : ℕ) × (is_mark_kind (kind_of m) ≡ true) × ((i : ℕ) → i < length text → get_or text i 0 ≡ m)
+pub separator_parts : (text : List ℕ) → is_separator text ≡ true
+    → (3 ≤ length text) × (m : ℕ) × (is_mark_kind (kind_of m) ≡ true)
+    × ((i : ℕ) → i < length text → get_or text i 0 ≡ m)
 separator_parts [] h = absurd (false≢true h)
 separator_parts (c ∷ text) h =
     let a = and_parts (is_mark_kind (kind_of c) && nat_le 2 (length text)) (list_all (λ d. d == c) text) h in
@@ -71,7 +74,8 @@ separator_parts (c ∷ text) h =
     all_same c text h zero lt = refl
     all_same c text h (suc i) lt = all_below c text h i (omega arith)
 
-pub separator_from : (text : List ℕ) (m : ℕ) → is_mark_kind (kind_of m) ≡ true → 3 ≤ length text → ((i : ℕ) → i < length text → get_or text i 0 ≡ m) → is_separator text ≡ true
+pub separator_from : (text : List ℕ) (m : ℕ) → is_mark_kind (kind_of m) ≡ true → 3 ≤ length text
+    → ((i : ℕ) → i < length text → get_or text i 0 ≡ m) → is_separator text ≡ true
 separator_from [] m mark long each = absurd (omega arith)
 separator_from (c ∷ text) m mark long each =
     let first : c ≡ m = each 0 (omega arith) in
@@ -121,10 +125,20 @@ module _ (flags : List Bool) (line : List ℕ) (end : ℕ) where
   length_part from within = length-take-le (end - from) (drop from line) (omega (arith, length-drop from line))
 
   -- a text ends here where it stands before this place, behind a flagged one
-  pub text_ends : (t : List ℕ) → 0 < length t → length t ≤ end → slice_index_or flags (end - length t) false ≡ true → slice_range line (end - length t) end ≡ t → ends_piece (bytes_eq t) flags line end ≡ true
-  text_ends t some fits flag text = ends-from (bytes_eq t) (record { from = end - length t; below = omega arith; flagged = flag; piece = (bytes_eq-Decides t _).1 (sym text) })
+  pub text_ends : (t : List ℕ) → 0 < length t → length t ≤ end → slice_index_or flags (end - length t) false ≡ true
+      → slice_range line (end - length t) end ≡ t → ends_piece (bytes_eq t) flags line end ≡ true
+  text_ends t some fits flag text =
+      ends-from (bytes_eq t) (record {
+        from = end - length t;
+        below = omega arith;
+        flagged = flag;
+        piece =
+            (bytes_eq-Decides t _).1 (sym text);
+      })
 
-  pub text_ends-only : (t : List ℕ) → end ≤ length line → ends_piece (bytes_eq t) flags line end ≡ true → (0 < length t) × (length t ≤ end) × (slice_index_or flags (end - length t) false ≡ true) × (slice_range line (end - length t) end ≡ t)
+  pub text_ends-only : (t : List ℕ) → end ≤ length line → ends_piece (bytes_eq t) flags line end ≡ true
+      → (0 < length t) × (length t ≤ end) × (slice_index_or flags (end - length t) false ≡ true)
+      × (slice_range line (end - length t) end ≡ t)
   text_ends-only t within h =
       let e = ends-true (bytes_eq t) h in
       let text : t ≡ slice_range line e.from end = (bytes_eq-Decides t _).0 e.piece in
@@ -141,10 +155,13 @@ module _ (flags : List Bool) (line : List ℕ) (end : ℕ) where
   pub text_ends-none : (t : List ℕ) → end ≤ length line → (0 < length t → length t ≤ end → ⊥) → false ≡ ends_piece (bytes_eq t) flags line end
   text_ends-none t within never = same_truth _ _ (λ h. absurd (false≢true h)) (λ h. let e = text_ends-only t within h in absurd (never e.0 e.1))
 
-  pub text_ends-value : (t : List ℕ) (b : Bool) → end ≤ length line → 0 < length t → length t ≤ end → slice_index_or flags (end - length t) false ≡ true → b ≡ bytes_eq (slice_range line (end - length t) end) t → b ≡ ends_piece (bytes_eq t) flags line end
+  pub text_ends-value : (t : List ℕ) (b : Bool) → end ≤ length line → 0 < length t → length t ≤ end
+      → slice_index_or flags (end - length t) false ≡ true → b ≡ bytes_eq (slice_range line (end - length t) end) t
+      → b ≡ ends_piece (bytes_eq t) flags line end
   text_ends-value t b within some fits flag e = same_truth _ _
       (λ h. text_ends t some fits flag ((bytes_eq-Decides _ t).0 (sym e ∙ h)))
       (λ h. e ∙ (bytes_eq-Decides _ t).1 (text_ends-only t within h).3)
 
-  pub text_ends-unflagged : (t : List ℕ) → end ≤ length line → slice_index_or flags (end - length t) false ≡ false → slice_index_or flags (end - length t) false ≡ ends_piece (bytes_eq t) flags line end
+  pub text_ends-unflagged : (t : List ℕ) → end ≤ length line → slice_index_or flags (end - length t) false ≡ false
+      → slice_index_or flags (end - length t) false ≡ ends_piece (bytes_eq t) flags line end
   text_ends-unflagged t within unflagged = same_truth _ _ (λ h. absurd (false≢true (sym unflagged ∙ h))) (λ h. (text_ends-only t within h).2)

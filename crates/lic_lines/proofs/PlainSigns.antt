@@ -6,7 +6,7 @@ use Rattle.std.proofs.lemmas.List.{take_more, map-append}
 use Rattle.lic_lines.specs.Tokens.{Token, is_text, is_sign_in_parentheses, sign_from, as_sign, single_signs, token_in, tokens_in}
 use Rattle.lic_lines.specs.declared.tokens.FirstToken.{FirstToken}
 
-plain_first : (t : Token) (ts : List Token) → is_text (codes "(") t ≡ false → as_sign t ≡ t → single_signs (t ∷ ts) ≡ t ∷ single_signs ts
+pub plain_first : (t : Token) (ts : List Token) → is_text (codes "(") t ≡ false → as_sign t ≡ t → single_signs (t ∷ ts) ≡ t ∷ single_signs ts
 plain_first t [] no_parenthesis same = ap (λ u. u ∷ []) same
 plain_first t (b ∷ []) no_parenthesis same = ap (λ u. u ∷ as_sign b ∷ []) same
 plain_first t (b ∷ c ∷ ts) no_parenthesis same =
@@ -25,4 +25,6 @@ plain_step xs at d lt no_parenthesis same =
     ap (λ l. tokens_in l ++ behind) front
     ∙ ap (λ l. l ++ behind) (map-append token_in (take at xs) (x ∷ []))
     ∙ append_assoc (tokens_in (take at xs)) (token_in x ∷ []) behind
-    ∙ ap (λ l. tokens_in (take at xs) ++ l) (sym (plain_first (token_in x) (tokens_in (drop (at + 1) xs)) no_parenthesis same) ∙ ap (λ l. single_signs (tokens_in l)) (sym next))
+    ∙ ap (λ l. tokens_in (take at xs) ++ l)
+    (sym (plain_first (token_in x) (tokens_in (drop (at + 1) xs)) no_parenthesis same)
+    ∙ ap (λ l. single_signs (tokens_in l)) (sym next))

@@ -22,7 +22,8 @@ module _ {A : Type 0} (p : List A → Bool) where
       (λ later. subst (IsRow p) (append_assoc front (c ∷ []) text) (row_sound_after (front ++ c ∷ []) text later))
       (or_cases (p (front ++ c ∷ []) && is_row_after p [] text) (is_row_after p (front ++ c ∷ []) text) h)
 
-  row_complete_after : (front : List A) (c : A) (first rest : List A) → p (front ++ c ∷ first) ≡ true → is_row p rest ≡ true → is_row_after p front ((c ∷ first) ++ rest) ≡ true
+  row_complete_after : (front : List A) (c : A) (first rest : List A) → p (front ++ c ∷ first) ≡ true
+      → is_row p rest ≡ true → is_row_after p front ((c ∷ first) ++ rest) ≡ true
   row_complete_after front c [] rest h row = or_left _ _ (and_from _ _ h row)
   row_complete_after front c (d ∷ first) rest h row =
       or_right _ _ (row_complete_after (front ++ c ∷ []) d first rest (subst (λ l. p l ≡ true) (sym (append_assoc front (c ∷ []) (d ∷ first))) h) row)
@@ -89,7 +90,8 @@ module _ {A : Type 0} (p : List A → Bool) where
       ap₂ (λ a b. a ++ b) (sym (take-take j n line h)) (sym (drop-take j (n - j) line) ∙ ap (λ m. drop j (take m line)) e) ∙ take-append-drop j (take n line)
 
   -- a front that is a row ends in a piece behind a shorter one
-  pub row_ends : (line : List A) (n : ℕ) → 0 < n → n ≤ length line → is_row p (take n line) ≡ true → (j : ℕ) × (j < n) × (is_row p (take j line) ≡ true) × (p (slice_range line j n) ≡ true)
+  pub row_ends : (line : List A) (n : ℕ) → 0 < n → n ≤ length line → is_row p (take n line) ≡ true
+      → (j : ℕ) × (j < n) × (is_row p (take j line) ≡ true) × (p (slice_range line j n) ≡ true)
   row_ends line n some within h =
       let row = is_row-sound (take n line) h in
       let long : length (take n line) ≡ n = length-take-le n line within in
@@ -101,20 +103,28 @@ module _ {A : Type 0} (p : List A → Bool) where
       let sum : n ≡ length e.front + length e.last = sym long ∙ ap length e.whole ∙ length-append e.front e.last in
       let below : j < n = omega (arith, e.not_empty) in
       let front : take j line ≡ e.front = sym (take-take j n line (omega arith)) ∙ ap (take j) e.whole ∙ take_at e.front e.last j refl in
-      let last : slice_range line j n ≡ e.last = append_cancel_left (take j line) _ _ (cut_front line j n (omega arith) ∙ e.whole ∙ ap (λ l. l ++ e.last) (sym front)) in
+      let last : slice_range line j n ≡ e.last =
+      append_cancel_left (take j line) _ _
+      (cut_front line j n (omega arith) ∙ e.whole ∙ ap (λ l. l ++ e.last) (sym front)) in
       (j, below, subst (λ l. is_row p l ≡ true) (sym front) (is_row-complete e.front e.row), subst (λ l. p l ≡ true) (sym last) e.piece))
       (ends_pieces row.0 row.1)
 
   -- a row and a piece behind it are a row
   pub row_goes_on : (line : List A) (j n : ℕ) → j ≤ n → is_row p (take j line) ≡ true → p (slice_range line j n) ≡ true → is_row p (take n line) ≡ true
   row_goes_on line j n h row piece =
-      subst (λ l. is_row p l ≡ true) (cut_front line j n h) (is_row-complete _ (row_push (take j line) (slice_range line j n) (is_row-sound (take j line) row) piece))
+      subst (λ l. is_row p l ≡ true) (cut_front line j n h)
+      (is_row-complete _ (row_push (take j line) (slice_range line j n) (is_row-sound (take j line) row) piece))
 
   -- a text that is a row begins with a piece
-  pub row_begins-text : (text : List A) → 0 < length text → IsRow p text → (first : List A) × (rest : List A) × (text ≡ first ++ rest) × (0 < length first) × (p first ≡ true) × IsRow p rest
+  pub row_begins-text : (text : List A) → 0 < length text → IsRow p text
+      → (first : List A) × (rest : List A) × (text ≡ first ++ rest) × (0 < length first) × (p first ≡ true)
+      × IsRow p rest
   row_begins-text text some row = begins row.0 row.1 text some row.2
     where
-      begins : (pieces : List (List A)) → list_all p pieces ≡ true → (text : List A) → 0 < length text → flat_map (λ piece. piece) pieces ≡ text → (first : List A) × (rest : List A) × (text ≡ first ++ rest) × (0 < length first) × (p first ≡ true) × IsRow p rest
+      begins : (pieces : List (List A)) → list_all p pieces ≡ true → (text : List A) → 0 < length text
+          → flat_map (λ piece. piece) pieces ≡ text
+          → (first : List A) × (rest : List A) × (text ≡ first ++ rest) × (0 < length first) × (p first ≡ true)
+          × IsRow p rest
       begins [] h text some e = absurd (omega (arith, ap length e))
       begins ([] ∷ pieces) h text some e = begins pieces (and_parts _ _ h).1 text some e
       begins ((c ∷ first) ∷ pieces) h text some e =
@@ -127,7 +137,8 @@ module _ {A : Type 0} (p : List A → Bool) where
       ap (λ l. slice_range line k j ++ l) (ap (λ m. drop m line) (sym e) ∙ sym (drop-drop (j - k) k line)) ∙ take-append-drop (j - k) (drop k line)
 
   -- an end that is a row begins with a piece before a shorter one
-  pub row_begins : (line : List A) (k : ℕ) → k < length line → is_row p (drop k line) ≡ true → (j : ℕ) × (k < j) × (j ≤ length line) × (p (slice_range line k j) ≡ true) × (is_row p (drop j line) ≡ true)
+  pub row_begins : (line : List A) (k : ℕ) → k < length line → is_row p (drop k line) ≡ true
+      → (j : ℕ) × (k < j) × (j ≤ length line) × (p (slice_range line k j) ≡ true) × (is_row p (drop j line) ≡ true)
   row_begins line k within h =
       let long = length-drop k line in
       let b = row_begins-text (drop k line) (omega arith) (is_row-sound (drop k line) h) in
@@ -141,4 +152,5 @@ module _ {A : Type 0} (p : List A → Bool) where
 
   pub row_goes_before : (line : List A) (k j : ℕ) → k ≤ j → p (slice_range line k j) ≡ true → is_row p (drop j line) ≡ true → is_row p (drop k line) ≡ true
   row_goes_before line k j h piece row =
-      subst (λ l. is_row p l ≡ true) (cut_rest line k j h) (is_row-complete _ (row_cons (slice_range line k j) (drop j line) piece (is_row-sound (drop j line) row)))
+      subst (λ l. is_row p l ≡ true) (cut_rest line k j h)
+      (is_row-complete _ (row_cons (slice_range line k j) (drop j line) piece (is_row-sound (drop j line) row)))

@@ -4,7 +4,8 @@ use Rattle.std.specs.Prelude.{slice_index_or, slice_index}
 use Rattle.std.proofs.lemmas.Bool.{false≢true, cases_lt, cases_eq}
 use Rattle.lic_lines.specs.Walks.{IsRunFront}
 
-module _ (flags : List Bool) (line : List ℕ) (k first : ℕ) (front : IsRunFront flags line k first) (stops : 0 < k → first < k → slice_index line k ≡ slice_index line (k - 1) → ⊥) where
+module _ (flags : List Bool) (line : List ℕ) (k first : ℕ) (front : IsRunFront flags line k first)
+    (stops : 0 < k → first < k → slice_index line k ≡ slice_index line (k - 1) → ⊥) where
   other : (j : ℕ) → j < k → slice_index_or flags j false ≡ true → (i : ℕ) × (j ≤ i) × (i < k + 1) × (slice_index line i ≢ slice_index line (k + 1 - 1))
   other j below flag =
       let here : k + 1 - 1 ≡ k = omega arith in

@@ -31,10 +31,13 @@ is_separator-reverse : (text : List ℕ) → is_separator (reverse text) ≡ is_
 is_separator-reverse = same_reversed is_separator (λ text h.
     let parts = separator_parts text h in
     let long = length-reverse text in
-    separator_from (reverse text) parts.1 parts.2 (omega (arith, parts.0)) (λ i lt. get_or-reverse text i 0 (omega arith) ∙ parts.3 (length text - 1 - i) (omega arith)))
+    separator_from (reverse text) parts.1 parts.2
+    (omega (arith, parts.0)) (λ i lt. get_or-reverse text i 0 (omega arith)
+    ∙ parts.3 (length text - 1 - i) (omega arith)))
 
 -- ---- one of several texts
-ends_in-any : (last : ℕ → Bool) (test : List ℕ → List ℕ → Bool) (ts : List (List ℕ)) (text : List ℕ) → ends_in last (λ front. list_any (λ t. test t front) ts) text ≡ list_any (λ t. ends_in last (test t) text) ts
+ends_in-any : (last : ℕ → Bool) (test : List ℕ → List ℕ → Bool) (ts : List (List ℕ)) (text : List ℕ)
+    → ends_in last (λ front. list_any (λ t. test t front) ts) text ≡ list_any (λ t. ends_in last (test t) text) ts
 ends_in-any last test ts text = at ts (reverse text)
   where
     -- whether the first element passes, and what is behind it
@@ -53,13 +56,20 @@ ends_in-any last test ts text = at ts (reverse text)
     both true x y = refl
     both false x y = refl
 
-    more : (p q : List ℕ → Bool) (backwards : List ℕ) → elim backwards as (λ _. Bool) [ [] ↦ false | c ∷ rest ↦ last c && (p (reverse rest) || q (reverse rest)) ] ≡ (elim backwards as (λ _. Bool) [ [] ↦ false | c ∷ rest ↦ last c && p (reverse rest) ] || elim backwards as (λ _. Bool) [ [] ↦ false | c ∷ rest ↦ last c && q (reverse rest) ])
+    more : (p q : List ℕ → Bool) (backwards : List ℕ)
+        → elim backwards as (λ _. Bool) [ [] ↦ false | c ∷ rest ↦ last c && (p (reverse rest) || q (reverse rest)) ]
+        ≡ (elim backwards as (λ _. Bool) [ [] ↦ false | c ∷ rest ↦ last c && p (reverse rest) ]
+        || elim backwards as (λ _. Bool) [ [] ↦ false | c ∷ rest ↦ last c && q (reverse rest) ])
     more p q [] = refl
     more p q (c ∷ rest) = both (last c) (p (reverse rest)) (q (reverse rest))
 
-    at : (ts : List (List ℕ)) (backwards : List ℕ) → elim backwards as (λ _. Bool) [ [] ↦ false | c ∷ rest ↦ last c && list_any (λ t. test t (reverse rest)) ts ] ≡ list_any (λ t. elim backwards as (λ _. Bool) [ [] ↦ false | c ∷ rest ↦ last c && test t (reverse rest) ]) ts
+    at : (ts : List (List ℕ)) (backwards : List ℕ)
+        → elim backwards as (λ _. Bool) [ [] ↦ false | c ∷ rest ↦ last c && list_any (λ t. test t (reverse rest)) ts ]
+        ≡ list_any (λ t. elim backwards as (λ _. Bool) [ [] ↦ false | c ∷ rest ↦ last c && test t (reverse rest) ]) ts
     at [] backwards = none backwards
-    at (t ∷ ts) backwards = more (test t) (λ front. list_any (λ u. test u front) ts) backwards ∙ ap (λ b. (elim backwards as (λ _. Bool) [ [] ↦ false | c ∷ rest ↦ last c && test t (reverse rest) ]) || b) (at ts backwards)
+    at (t ∷ ts) backwards = more (test t) (λ front. list_any (λ u. test u front) ts) backwards
+        ∙ ap (λ b. (elim backwards as (λ _. Bool) [ [] ↦ false | c ∷ rest ↦ last c && test t (reverse rest) ]) || b)
+        (at ts backwards)
 
 list_any-same : {A : Type 0} (p q : A → Bool) → ((x : A) → p x ≡ q x) → (xs : List A) → list_any p xs ≡ list_any q xs
 list_any-same p q same [] = refl
@@ -70,13 +80,21 @@ list_any-map f test [] = refl
 list_any-map f test (x ∷ xs) = ap (λ b. test (f x) || b) (list_any-map f test xs)
 
 -- a white space character and a text, met from the end
-is_behind_space-reverse : (ts : List (List ℕ)) (text : List ℕ) → is_behind_space ts (reverse text) ≡ list_any (λ t. ends_in is_whitespace (bytes_eq (reverse t)) text) ts
+is_behind_space-reverse : (ts : List (List ℕ)) (text : List ℕ)
+    → is_behind_space ts (reverse text) ≡ list_any (λ t. ends_in is_whitespace (bytes_eq (reverse t)) text) ts
 is_behind_space-reverse ts text =
     at (reverse text) ∙ ends_in-any is_whitespace (λ t front. bytes_eq (reverse t) front) ts text
   where
-    at : (backwards : List ℕ) → is_behind_space ts backwards ≡ elim backwards as (λ _. Bool) [ [] ↦ false | c ∷ rest ↦ is_whitespace c && list_any (λ t. bytes_eq (reverse t) (reverse rest)) ts ]
+    at : (backwards : List ℕ) → is_behind_space ts backwards
+        ≡ elim backwards as (λ _. Bool) [
+          | [] ↦ false
+          | c ∷ rest ↦ is_whitespace c
+              && list_any (λ t. bytes_eq (reverse t) (reverse rest)) ts
+        ]
     at [] = refl
-    at (c ∷ rest) = ap (λ b. is_whitespace c && b) (list_any-same (λ t. bytes_eq t rest) (λ t. bytes_eq (reverse t) (reverse rest)) (λ t. bytes_eq-reverses t rest) ts)
+    at (c ∷ rest) = ap (λ b. is_whitespace c && b)
+        (list_any-same (λ t. bytes_eq t rest) (λ t. bytes_eq (reverse t) (reverse rest)) (λ t.
+        bytes_eq-reverses t rest) ts)
 
 bytes_eq-reverse : (t text : List ℕ) → bytes_eq t (reverse text) ≡ bytes_eq (reverse t) text
 bytes_eq-reverse t text = bytes_eq-reverses t (reverse text) ∙ ap (bytes_eq (reverse t)) (reverse-reverse text)
@@ -102,12 +120,17 @@ four false false true d = refl
 four false false false true = refl
 four false false false false = refl
 
-pub walked_piece : (rules : LineRules) (side : Side) (text : List ℕ) → is_walked_piece rules side text ≡ any_piece rules.separators side (side_texts rules side) (side_spaced rules side) (side_repeated rules side) text
+pub walked_piece : (rules : LineRules) (side : Side) (text : List ℕ)
+    → is_walked_piece rules side text
+    ≡ any_piece rules.separators side (side_texts rules side) (side_spaced rules side) (side_repeated rules side) text
 walked_piece rules Front text =
     four (is_space text) (rules.separators && is_separator text) (is_one_of rules.lead text) (ends_in is_whitespace (is_one_of rules.lead_space) text)
-    ∙ ap (λ d. ((is_space text || (rules.separators && is_separator text)) || is_one_of rules.lead text) || (d || false)) (ends_in-any is_whitespace (λ t front. bytes_eq t front) rules.lead_space text)
+    ∙ ap (λ d. ((is_space text || (rules.separators && is_separator text)) || is_one_of rules.lead text)
+    || (d || false)) (ends_in-any is_whitespace (λ t front. bytes_eq t front) rules.lead_space text)
 walked_piece rules End text =
-    five (is_space (reverse text)) (rules.separators && is_separator (reverse text)) (is_one_of rules.tail (reverse text)) (is_behind_space rules.tail_space (reverse text)) (list_any (λ t. repeats t (reverse text)) rules.tail_repeat)
+    five (is_space (reverse text)) (rules.separators && is_separator (reverse text))
+    (is_one_of rules.tail (reverse text)) (is_behind_space rules.tail_space (reverse text))
+    (list_any (λ t. repeats t (reverse text)) rules.tail_repeat)
     ∙ (λ i. ((is_space-reverse text i || (rules.separators && is_separator-reverse text i))
     || list_any-same (λ t. bytes_eq t (reverse text)) (λ t. bytes_eq (reverse t) text) (λ t. bytes_eq-reverse t text) rules.tail i)
     || (is_behind_space-reverse rules.tail_space text i || list_any (λ t. repeats t (reverse text)) rules.tail_repeat))
@@ -116,12 +139,20 @@ module _ (flags : List Bool) (line : List ℕ) (end : ℕ) where
   -- two kinds with the same pieces
   ends_piece-same : (p q : List ℕ → Bool) → ((text : List ℕ) → p text ≡ q text) → ends_piece p flags line end ≡ ends_piece q flags line end
   ends_piece-same p q same = same_truth _ _
-      (λ h. let e = ends-true flags line end p h in ends-from flags line end q (record { from = e.from; below = e.below; flagged = e.flagged; piece = sym (same _) ∙ e.piece }))
-      (λ h. let e = ends-true flags line end q h in ends-from flags line end p (record { from = e.from; below = e.below; flagged = e.flagged; piece = same _ ∙ e.piece }))
+      (λ h. let e = ends-true flags line end p h in
+      ends-from flags line end q
+      (record { from = e.from; below = e.below; flagged = e.flagged; piece = sym (same _) ∙ e.piece }))
+      (λ h. let e = ends-true flags line end q h in
+      ends-from flags line end p
+      (record { from = e.from; below = e.below; flagged = e.flagged; piece = same _ ∙ e.piece }))
 
-  ends_piece-any : (test : List ℕ → List ℕ → Bool) (ts : List (List ℕ)) → ends_piece (λ x. list_any (λ t. test t x) ts) flags line end ≡ list_any (λ t. ends_piece (test t) flags line end) ts
+  ends_piece-any : (test : List ℕ → List ℕ → Bool) (ts : List (List ℕ))
+      → ends_piece (λ x. list_any (λ t. test t x) ts) flags line end
+      ≡ list_any (λ t. ends_piece (test t) flags line end) ts
   ends_piece-any test [] = ends_piece-none flags line end
-  ends_piece-any test (t ∷ ts) = ends_piece-or flags line end (test t) (λ x. list_any (λ u. test u x) ts) ∙ ap (λ b. ends_piece (test t) flags line end || b) (ends_piece-any test ts)
+  ends_piece-any test (t ∷ ts) =
+      ends_piece-or flags line end (test t) (λ x. list_any (λ u. test u x) ts)
+      ∙ ap (λ b. ends_piece (test t) flags line end || b) (ends_piece-any test ts)
 
   where_on : (b : Bool) (q : List ℕ → Bool) → ends_piece (λ x. b && q x) flags line end ≡ (b && ends_piece q flags line end)
   where_on true q = refl
@@ -129,15 +160,19 @@ module _ (flags : List Bool) (line : List ℕ) (end : ℕ) where
 
   -- whether a piece ends here is told kind by kind
   pub side_ends : (rules : LineRules) (side : Side) → ends_piece (is_walked_piece rules side) flags line end
-      ≡ (((ends_piece is_space flags line end || (rules.separators && ends_piece is_separator flags line end)) || list_any (λ t. ends_piece (bytes_eq (walked side t)) flags line end) (side_texts rules side))
-      || (list_any (λ t. spaced_text_ends flags line end (walked side t)) (side_spaced rules side) || list_any (repeat_ends flags line end) (side_repeated rules side)))
+      ≡ (((ends_piece is_space flags line end || (rules.separators && ends_piece is_separator flags line end))
+      || list_any (λ t. ends_piece (bytes_eq (walked side t)) flags line end) (side_texts rules side))
+      || (list_any (λ t. spaced_text_ends flags line end (walked side t)) (side_spaced rules side)
+      || list_any (repeat_ends flags line end) (side_repeated rules side)))
   unfolding spaced_text_ends repeat_ends
   side_ends rules side =
       let texts = λ (x : List ℕ). list_any (λ t. bytes_eq (walked side t) x) (side_texts rules side) in
       let spaced = λ (x : List ℕ). list_any (λ t. ends_in is_whitespace (bytes_eq (walked side t)) x) (side_spaced rules side) in
       let repeated = λ (x : List ℕ). list_any (λ t. repeats t (reverse x)) (side_repeated rules side) in
       let marks = λ (x : List ℕ). rules.separators && is_separator x in
-      ends_piece-same (is_walked_piece rules side) (any_piece rules.separators side (side_texts rules side) (side_spaced rules side) (side_repeated rules side)) (walked_piece rules side)
+      ends_piece-same (is_walked_piece rules side)
+      (any_piece rules.separators side (side_texts rules side) (side_spaced rules side) (side_repeated rules side))
+      (walked_piece rules side)
       ∙ ends_piece-or flags line end (λ x. (is_space x || marks x) || texts x) (λ x. spaced x || repeated x)
       ∙ ap₂ (λ a b. a || b)
       (ends_piece-or flags line end (λ x. is_space x || marks x) texts
@@ -155,15 +190,29 @@ module _ (flags : List Bool) (line : List ℕ) (end : ℕ) where
       (λ h.
       let e = ends-true (flags ++ b ∷ []) line end p h in
       let below : e.from < end = e.below in
-      ends-from flags line end p (record { from = e.from; below = e.below; flagged = sym (get_or_append_left flags (b ∷ []) false e.from (omega arith)) ∙ e.flagged; piece = e.piece }))
+      ends-from flags line end p (record {
+        from = e.from;
+        below = e.below;
+        flagged =
+            sym (get_or_append_left flags (b ∷ []) false e.from (omega arith)) ∙ e.flagged;
+        piece = e.piece;
+      }))
       (λ h.
       let e = ends-true flags line end p h in
       let below : e.from < end = e.below in
-      ends-from (flags ++ b ∷ []) line end p (record { from = e.from; below = e.below; flagged = get_or_append_left flags (b ∷ []) false e.from (omega arith) ∙ e.flagged; piece = e.piece }))
+      ends-from (flags ++ b ∷ []) line end p
+      (record {
+        from = e.from;
+        below = e.below;
+        flagged =
+            get_or_append_left flags (b ∷ []) false e.from (omega arith) ∙ e.flagged;
+        piece = e.piece;
+      }))
 
 -- ---- texts that repeat
 
-pub repeat_ends-push : (flags : List Bool) (line : List ℕ) (end : ℕ) (b : Bool) → end ≤ length flags → (t : List ℕ) → repeat_ends (flags ++ b ∷ []) line end t ≡ repeat_ends flags line end t
+pub repeat_ends-push : (flags : List Bool) (line : List ℕ) (end : ℕ) (b : Bool) → end ≤ length flags → (t : List ℕ)
+    → repeat_ends (flags ++ b ∷ []) line end t ≡ repeat_ends flags line end t
 unfolding repeat_ends
 repeat_ends-push flags line end b within t = ends_piece-push flags line end (λ part. repeats t (reverse part)) b within
 
@@ -185,7 +234,10 @@ module _ (flags : List Bool) (line : List ℕ) (k c : ℕ) (rest : List ℕ) (wi
   pub part_more : (j : ℕ) → j ≤ k → reverse (slice_range line j (k + 1)) ≡ slice_index line k ∷ reverse (slice_range line j k)
   part_more j h = ap reverse (slice_snoc line j k h within) ∙ reverse-append (slice_range line j k) (slice_index line k ∷ [])
 
-  pub repeats_more : (j : ℕ) → j ≤ k → repeats (c ∷ rest) (reverse (slice_range line j (k + 1))) ≡ ((slice_index line k == c) && (bytes_eq rest (reverse (slice_range line j k)) || repeats (c ∷ rest) (reverse (slice_range line j k))))
+  pub repeats_more : (j : ℕ) → j ≤ k
+      → repeats (c ∷ rest) (reverse (slice_range line j (k + 1)))
+      ≡ ((slice_index line k == c)
+      && (bytes_eq rest (reverse (slice_range line j k)) || repeats (c ∷ rest) (reverse (slice_range line j k))))
   repeats_more j h = ap (repeats (c ∷ rest)) (part_more j h)
 
   empty_part : slice_range line k k ≡ []
@@ -215,7 +267,8 @@ module _ (flags : List Bool) (line : List ℕ) (k c : ℕ) (rest : List ℕ) (wi
             (λ lower. inr (ends-from flags line k test (record { from = e.from; below = lower; flagged = e.flagged; piece = before })))
             (λ high.
             let same : e.from ≡ k = omega arith in
-            absurd (false≢true (sym (ap (λ l. repeats (c ∷ rest) (reverse l)) empty_part) ∙ subst (λ j. repeats (c ∷ rest) (reverse (slice_range line j k)) ≡ true) same before)))
+            absurd (false≢true (sym (ap (λ l. repeats (c ∷ rest) (reverse l)) empty_part)
+            ∙ subst (λ j. repeats (c ∷ rest) (reverse (slice_range line j k)) ≡ true) same before)))
             (cases_lt e.from k))
             (or_cases (bytes_eq rest part) (repeats (c ∷ rest) part) piece.1),
       )
@@ -229,7 +282,9 @@ module _ (flags : List Bool) (line : List ℕ) (k c : ℕ) (rest : List ℕ) (wi
         from = j;
         below = omega arith;
         flagged = stands.flagged;
-        piece = repeats_more j (omega arith) ∙ and_from _ _ (eq-eqb (slice_index line k) c same) (or_left (bytes_eq rest (reverse (slice_range line j k))) _ ((bytes_eq-Decides rest _).1 stands.text));
+        piece = repeats_more j (omega arith)
+            ∙ and_from _ _ (eq-eqb (slice_index line k) c same)
+            (or_left (bytes_eq rest (reverse (slice_range line j k))) _ ((bytes_eq-Decides rest _).1 stands.text));
       })
 
   pub repeat_from_repeat : slice_index line k ≡ c → repeat_ends flags line k (c ∷ rest) ≡ true → repeat_ends flags line (k + 1) (c ∷ rest) ≡ true
@@ -242,7 +297,9 @@ module _ (flags : List Bool) (line : List ℕ) (k c : ℕ) (rest : List ℕ) (wi
         from = e.from;
         below = omega arith;
         flagged = e.flagged;
-        piece = repeats_more e.from (omega arith) ∙ and_from _ _ (eq-eqb (slice_index line k) c same) (or_right (bytes_eq rest (reverse (slice_range line e.from k))) _ e.piece);
+        piece = repeats_more e.from (omega arith)
+            ∙ and_from _ _ (eq-eqb (slice_index line k) c same)
+            (or_right (bytes_eq rest (reverse (slice_range line e.from k))) _ e.piece);
       })
 
 -- ---- the same, for a text that is not taken apart
@@ -263,11 +320,15 @@ module _ (flags : List Bool) (line : List ℕ) (k : ℕ) (within : k < length li
     whole = split_first t c some first
 
     pub repeat_other : (slice_index line k ≡ c → ⊥) → false ≡ repeat_ends flags line (k + 1) t
-    repeat_other other = same_truth _ _ (λ h. absurd (false≢true h)) (λ h. absurd (other (repeat_more flags line k c (drop 1 t) within (ap (repeat_ends flags line (k + 1)) (sym whole) ∙ h)).0))
+    repeat_other other = same_truth _ _ (λ h. absurd (false≢true h)) (λ h.
+        absurd (other (repeat_more flags line k c (drop 1 t) within
+        (ap (repeat_ends flags line (k + 1)) (sym whole) ∙ h)).0))
 
     pub repeat_again : slice_index line k ≡ c → repeat_ends flags line k t ≡ true → true ≡ repeat_ends flags line (k + 1) t
     repeat_again same before =
-        sym (ap (repeat_ends flags line (k + 1)) whole ∙ repeat_from_repeat flags line k c (drop 1 t) within same (ap (repeat_ends flags line k) (sym whole) ∙ before))
+        sym (ap (repeat_ends flags line (k + 1)) whole
+        ∙ repeat_from_repeat flags line k c (drop 1 t) within same
+        (ap (repeat_ends flags line k) (sym whole) ∙ before))
 
     -- the rest of the text must end here, behind a row
     only_rest : repeat_ends flags line k t ≡ false → repeat_ends flags line (k + 1) t ≡ true → RestEnds flags line k c (drop 1 t) within
@@ -277,13 +338,18 @@ module _ (flags : List Bool) (line : List ℕ) (k : ℕ) (within : k < length li
         (λ again. absurd (false≢true (sym before ∙ ap (repeat_ends flags line k) whole ∙ again)))
         (repeat_more flags line k c (drop 1 t) within (ap (repeat_ends flags line (k + 1)) (sym whole) ∙ h)).1
 
-    pub repeat_no_rest : repeat_ends flags line k t ≡ false → (length (drop 1 t) ≤ k → slice_index_or flags (k - length (drop 1 t)) false ≡ true → ⊥) → false ≡ repeat_ends flags line (k + 1) t
+    pub repeat_no_rest : repeat_ends flags line k t ≡ false
+        → (length (drop 1 t) ≤ k → slice_index_or flags (k - length (drop 1 t)) false ≡ true → ⊥)
+        → false ≡ repeat_ends flags line (k + 1) t
     repeat_no_rest before none = same_truth _ _ (λ h. absurd (false≢true h)) (λ h. let rest = only_rest before h in absurd (none rest.fits rest.flagged))
 
-    pub repeat_rest : slice_index line k ≡ c → repeat_ends flags line k t ≡ false → length (drop 1 t) ≤ k → slice_index_or flags (k - length (drop 1 t)) false ≡ true
+    pub repeat_rest : slice_index line k ≡ c → repeat_ends flags line k t ≡ false → length (drop 1 t) ≤ k
+        → slice_index_or flags (k - length (drop 1 t)) false ≡ true
         → (b : Bool) → b ≡ bytes_eq (drop 1 t) (reverse (slice_range line (k - length (drop 1 t)) k)) → b ≡ repeat_ends flags line (k + 1) t
     repeat_rest same before fits flagged b value = same_truth _ _
-        (λ h. ap (repeat_ends flags line (k + 1)) whole ∙ repeat_from_rest flags line k c (drop 1 t) within same (record { fits = fits; flagged = flagged; text = (bytes_eq-Decides _ _).0 (sym value ∙ h) }))
+        (λ h. ap (repeat_ends flags line (k + 1)) whole
+        ∙ repeat_from_rest flags line k c (drop 1 t) within same
+        (record { fits = fits; flagged = flagged; text = (bytes_eq-Decides _ _).0 (sym value ∙ h) }))
         (λ h. value ∙ (bytes_eq-Decides _ _).1 (only_rest before h).text)
 
 -- what is known of the texts before the first place
@@ -291,7 +357,8 @@ pub repeats_start : (flags : List Bool) (line : List ℕ) (ts : List (List ℕ))
 repeats_start flags line [] = refl
 repeats_start flags line (t ∷ ts) = ap₂ (λ b l. b ∷ l) (sym (repeat_ends-start flags line t)) (repeats_start flags line ts)
 
-pub repeats_push : (flags : List Bool) (line : List ℕ) (end : ℕ) (b : Bool) → end ≤ length flags → (ts : List (List ℕ)) → map (repeat_ends flags line end) ts ≡ map (repeat_ends (flags ++ b ∷ []) line end) ts
+pub repeats_push : (flags : List Bool) (line : List ℕ) (end : ℕ) (b : Bool) → end ≤ length flags → (ts : List (List ℕ))
+    → map (repeat_ends flags line end) ts ≡ map (repeat_ends (flags ++ b ∷ []) line end) ts
 repeats_push flags line end b within [] = refl
 repeats_push flags line end b within (t ∷ ts) = ap₂ (λ c l. c ∷ l) (sym (repeat_ends-push flags line end b within t)) (repeats_push flags line end b within ts)
 

@@ -1,65 +1,67 @@
 -- Where white space stands at a side, and behind it a character that no other piece begins in, the longest row is the white space.
-use Rattle.std.proofs.Common.{◌≡◌, ◌≢◌, ℕ, zero, suc, ◌+◌, ◌-◌, ◌<◌, ◌≤◌, Bool, true, false, ◌&&◌, ◌||◌, ◌==◌, List, [], ◌∷◌, ◌++◌, ◌⊎◌, inl, inr, length, take, get_or, reverse, refl, sym, ap, ◌∙◌, ⊎_elim, arith}
+use Rattle.std.proofs.Common.{◌≡◌, ◌≢◌, ℕ, zero, suc, ◌+◌, ◌-◌, ◌<◌, ◌≤◌, Bool, true, false, ◌&&◌, ◌||◌, ◌==◌, List, [], ◌∷◌, ◌++◌, ◌⊎◌, inl, inr, length, take, drop, get_or, reverse, refl, sym, ap, ap₂, ◌∙◌, append_assoc, append-nil, ⊎_elim, arith}
 use Rattle.std.specs.Prelude.{slice_range, slice_index, slice_index_or, bytes_eq}
 use Rattle.std.specs.List.{list_any}
 use Rattle.std.specs.Char.{is_whitespace}
-use Rattle.std.proofs.lemmas.Bool.{false≢true, and_parts, or_cases, or_left, or_right, cases_Bool, cases_lt, eqb-true, eq-eqb}
-use Rattle.std.proofs.lemmas.List.{length-reverse, get_or-reverse, reverse-append, reverse-reverse}
+use Rattle.std.proofs.lemmas.Bool.{false≢true, and_parts, and_from, or_cases, or_left, or_right, cases_Bool, cases_lt, eqb-true, eq-eqb}
+use Rattle.std.proofs.lemmas.List.{length-reverse, reverse-append, reverse-reverse, take-append-drop, get_or-drop}
 use Rattle.std.proofs.lemmas.Slice.Eq.{bytes_eq-Decides}
 use Rattle.lic_kind.specs.Kinds.{kind_of, is_mark_kind}
 use Rattle.lic_kind.proofs.KindLemmas.{kind_of-white}
 use Rattle.lic_lines.specs.Texts.{is_row, ends_in, greatest, longest_front}
 use Rattle.lic_lines.specs.LineRules.{LineRules}
 use Rattle.lic_lines.specs.Lines.{is_space, is_separator, repeats}
-use Rattle.lic_lines.specs.Walks.{Side, Front, End, walked, is_walked_piece, side_texts, side_spaced, side_repeated, opens_in, may_open}
+use Rattle.lic_lines.specs.Walks.{Side, Front, End, walked, is_walked_piece, side_texts, side_spaced, side_repeated, opens_in, may_open, stands_in, may_stand, may_stand_at}
 use Rattle.lic_lines.proofs.PieceEnds.{length_part, slice_at, separator_parts}
 use Rattle.lic_lines.proofs.KindEnds.{space_parts, slice_one}
 use Rattle.lic_lines.proofs.SideEnds.{walked_piece}
 use Rattle.lic_lines.proofs.Stops.{any_some, any_from}
 use Rattle.lic_lines.proofs.RowLemmas.{row_ends, row_goes_on}
 use Rattle.lic_lines.proofs.TailRows.{greatest_stays}
+use Rattle.lic_lines.proofs.TextLemmas.{same_truth}
 
--- ---- the first character of a text
+or_none : (a b : Bool) → (a || b) ≡ false → (a ≡ false) × (b ≡ false)
+or_none false b h = (refl, h)
+or_none true b h = cc
 
-opens : (c : ℕ) (t : List ℕ) → 0 < length t → (is_whitespace (get_or t 0 0) ≡ true) ⊎ (get_or t 0 0 ≡ c) → opens_in c t ≡ true
-opens c [] some first = absurd (omega arith)
-opens c (d ∷ t) some (inl white) = or_left (is_whitespace d) (d == c) white
-opens c (d ∷ t) some (inr same) = or_right (is_whitespace d) (d == c) (eq-eqb d c same)
+pub or_off : (a b : Bool) → a ≡ false → b ≡ false → (a || b) ≡ false
+or_off a b h k = ap₂ (λ x y. x || y) h k
 
--- what is a text with its first character standing once or more ends as the text does
-repeats_last : (t x : List ℕ) → repeats t x ≡ true → (0 < length t) × (0 < length x) × (get_or x (length x - 1) 0 ≡ get_or t (length t - 1) 0)
-repeats_last [] x h = absurd (false≢true h)
-repeats_last (c ∷ rest) [] h = absurd (false≢true h)
-repeats_last (c ∷ rest) (d ∷ x) h =
+eqb-sym : (a b : ℕ) → (a == b) ≡ (b == a)
+eqb-sym a b = same_truth (a == b) (b == a) (λ h. eq-eqb b a (sym (eqb-true a b h))) (λ h. eq-eqb a b (sym (eqb-true b a h)))
+
+-- ---- a text in front of another
+
+stands_front : (t more : List ℕ) → stands_in (t ++ more) t ≡ true
+stands_front [] more = refl
+stands_front (c ∷ t) more = and_from (c == c) (stands_in (t ++ more) t) (eq-eqb c c refl) (stands_front t more)
+
+-- a text with a character may stand where it does, and where it begins in white space
+may_stand_there : (way t more : List ℕ) → 0 < length t → (is_whitespace (get_or t 0 0) ≡ true) ⊎ (way ≡ t ++ more) → may_stand way t ≡ true
+may_stand_there way [] more some how = absurd (omega arith)
+may_stand_there way (c ∷ t) more some (inl white) = or_left (is_whitespace c) (stands_in way (c ∷ t)) white
+may_stand_there way (c ∷ t) more some (inr is) =
+    or_right (is_whitespace c) (stands_in way (c ∷ t)) (ap (λ l. stands_in l (c ∷ t)) is ∙ stands_front (c ∷ t) more)
+
+-- a text that may stand begins in white space or as the way does
+stands_first : (way t : List ℕ) → opens_in (get_or way 0 0) t ≡ false → may_stand way t ≡ false
+stands_first way [] none = refl
+stands_first [] (c ∷ t) none = or_off (is_whitespace c) false (or_none (is_whitespace c) (c == 0) none).0 refl
+stands_first (d ∷ way) (c ∷ t) none =
+    let parts = or_none (is_whitespace c) (c == d) none in
+    or_off (is_whitespace c) ((d == c) && stands_in way t) parts.0 (ap (λ b. b && stands_in way t) (eqb-sym d c ∙ parts.1))
+
+-- what is a text with its first character standing once or more ends in the text
+repeats_end : (t x : List ℕ) → repeats t x ≡ true → (0 < length t) × ((front : List ℕ) × (x ≡ front ++ t))
+repeats_end [] x h = absurd (false≢true h)
+repeats_end (c ∷ rest) [] h = absurd (false≢true h)
+repeats_end (c ∷ rest) (d ∷ x) h =
     let parts = and_parts (d == c) (bytes_eq rest x || repeats (c ∷ rest) x) h in
+    let first : d ≡ c = eqb-true d c parts.0 in
     ⊎_elim
-    (λ here. (omega arith, omega arith, same (eqb-true d c parts.0) ((bytes_eq-Decides rest x).0 here)))
-    (λ again.
-    let known = repeats_last (c ∷ rest) x again in
-    let long : 0 < length x = known.1 in
-    let place : length (d ∷ x) - 1 ≡ suc (length x - 1) = omega arith in
-    (omega arith, omega arith, ap (λ i. get_or (d ∷ x) i 0) place ∙ known.2))
+    (λ here. (omega arith, ([], ap₂ (λ a l. a ∷ l) first (sym ((bytes_eq-Decides rest x).0 here)))))
+    (λ again. let known = repeats_end (c ∷ rest) x again in (omega arith, (d ∷ known.1.0, ap (λ l. d ∷ l) known.1.1)))
     (or_cases (bytes_eq rest x) (repeats (c ∷ rest) x) parts.1)
-  where
-    same : d ≡ c → rest ≡ x → get_or (d ∷ x) (length (d ∷ x) - 1) 0 ≡ get_or (c ∷ rest) (length (c ∷ rest) - 1) 0
-    same first others = λ i. get_or (first i ∷ sym others i) (length (first i ∷ sym others i) - 1) 0
-
-first_of_reverse : (x : List ℕ) → 0 < length x → get_or (reverse x) 0 0 ≡ get_or x (length x - 1) 0
-first_of_reverse x some = let place : length x - 1 - 0 ≡ length x - 1 = omega arith in get_or-reverse x 0 0 some ∙ ap (λ i. get_or x i 0) place
-
--- a part with the pieces that repeat among them begins as one of their texts does
-repeated_opens : (rules : LineRules) (side : Side) (c : ℕ) (x : List ℕ) → 0 < length x → (is_whitespace (get_or x 0 0) ≡ true) ⊎ (get_or x 0 0 ≡ c)
-    → list_any (λ t. repeats t (reverse x)) (side_repeated rules side) ≡ true → list_any (λ t. opens_in c (walked side t)) (side_repeated rules side) ≡ true
-repeated_opens rules Front c x some first h = absurd (false≢true h)
-repeated_opens rules End c x some first h =
-    let found = any_some (λ t. repeats t (reverse x)) rules.tail_repeat [] h in
-    let t = slice_index_or rules.tail_repeat found.0 [] in
-    let known = repeats_last t (reverse x) found.2 in
-    let long : 0 < length t = known.0 in
-    let same : get_or (reverse t) 0 0 ≡ get_or x 0 0 =
-    first_of_reverse t long ∙ sym known.2 ∙ sym (first_of_reverse (reverse x) known.1) ∙ ap (λ l. get_or l 0 0) (reverse-reverse x) in
-    any_from (λ u. opens_in c (reverse u)) rules.tail_repeat found.0 [] found.1
-    (opens c (reverse t) (omega (arith, length-reverse t)) (⊎_elim (λ w. inl (ap is_whitespace same ∙ w)) (λ e. inr (same ∙ e)) first))
 
 -- a white space character is a piece
 space_is_piece : (rules : LineRules) (side : Side) (c : ℕ) → is_whitespace c ≡ true → is_walked_piece rules side (c ∷ []) ≡ true
@@ -75,7 +77,7 @@ greatest_itself test (suc k) h = search h
 
 module _ (rules : LineRules) (side : Side) (line : List ℕ) (n : ℕ) (inside : n < length line)
     (white : (i : ℕ) → i < n → is_whitespace (slice_index line i) ≡ true) (dark : is_whitespace (slice_index line n) ≡ false)
-    (closed : may_open rules side (slice_index line n) ≡ false)
+    (closed : may_stand_at rules side (drop n line) ≡ false)
     (apart : n + 2 < length line → slice_index line (n + 1) ≡ slice_index line n → slice_index line (n + 2) ≢ slice_index line n) where
   abbrev p : List ℕ → Bool
   p = is_walked_piece rules side
@@ -89,25 +91,16 @@ module _ (rules : LineRules) (side : Side) (line : List ℕ) (n : ℕ) (inside :
   is_space_row (suc m) le =
       let next : m + 1 ≡ suc m = omega arith in
       let one : slice_range line m (suc m) ≡ slice_index line m ∷ [] = ap (slice_range line m) (sym next) ∙ slice_one line m (omega arith) in
-      row_goes_on p line m (suc m) (omega arith) (is_space_row m (omega arith)) (ap p one ∙ space_is_piece rules side (slice_index line m) (white m (omega arith)))
+      row_goes_on p line m (suc m) (omega arith) (is_space_row m (omega arith))
+      (ap p one ∙ space_is_piece rules side (slice_index line m) (white m (omega arith)))
 
-  -- no text of the side begins as a part does that begins in the white space, or behind it
-  never_opens : (ts : List (List ℕ)) (k : ℕ) (d : ℕ) → list_any (λ t. opens_in c (walked side t)) ts ≡ false → k < length ts → (is_whitespace d ≡ true) ⊎ (d ≡ c) → 0 < length (walked side (slice_index_or ts k [])) → get_or (walked side (slice_index_or ts k [])) 0 0 ≢ d
-  never_opens ts k d none lt first some same =
-      false≢true (sym none ∙ any_from (λ t. opens_in c (walked side t)) ts k [] lt
-      (opens c (walked side (slice_index_or ts k [])) some (⊎_elim (λ w. inl (ap is_whitespace same ∙ w)) (λ e. inr (same ∙ e)) first)))
-
-  or_none : (a b : Bool) → (a || b) ≡ false → (a ≡ false) × (b ≡ false)
-  or_none false b h = (refl, h)
-  or_none true b h = cc
-
-  no_texts : list_any (λ t. opens_in c (walked side t)) (side_texts rules side) ≡ false
+  no_texts : list_any (λ t. may_stand (drop n line) (walked side t)) (side_texts rules side) ≡ false
   no_texts = (or_none _ _ closed).0
 
-  no_spaced : list_any (λ t. opens_in c (walked side t)) (side_spaced rules side) ≡ false
+  no_spaced : list_any (λ t. may_stand (drop n line) (walked side t)) (side_spaced rules side) ≡ false
   no_spaced = (or_none _ _ (or_none _ _ closed).1).0
 
-  no_repeated : list_any (λ t. opens_in c (walked side t)) (side_repeated rules side) ≡ false
+  no_repeated : list_any (λ t. may_stand (drop n line) (walked side t)) (side_repeated rules side) ≡ false
   no_repeated = (or_none _ _ (or_none _ _ closed).1).1
 
   module _ (m j : ℕ) (low : j ≤ n) (high : n < m) (within : m ≤ length line) where
@@ -128,6 +121,28 @@ module _ (rules : LineRules) (side : Side) (line : List ℕ) (n : ℕ) (inside :
         (λ before. inl (ap is_whitespace is ∙ white j before))
         (λ behind. let same : j ≡ n = omega arith in inr (is ∙ ap (slice_index line) same))
         (cases_lt j n)
+
+    -- no text of the side stands in front of a part that begins in the white space, or behind it
+    never_stands : (ts : List (List ℕ)) (k : ℕ) (more : List ℕ)
+        → list_any (λ t. may_stand (drop n line) (walked side t)) ts ≡ false → k < length ts
+        → 0 < length (walked side (slice_index_or ts k [])) → x ≡ walked side (slice_index_or ts k []) ++ more → ⊥
+    never_stands ts k more none lt some is =
+        let t = walked side (slice_index_or ts k []) in
+        let begins : get_or x 0 0 ≡ get_or t 0 0 = ap (λ l. get_or l 0 0) is ∙ first_of t more some in
+        false≢true (sym none ∙ any_from (λ u. may_stand (drop n line) (walked side u)) ts k [] lt
+        (may_stand_there (drop n line) t (more ++ drop (m - j) (drop j line)) some
+        (⊎_elim
+        (λ before. let start : j + 0 ≡ j = omega arith in
+        inl (ap is_whitespace (sym begins ∙ at 0 (omega arith) ∙ ap (slice_index line) start) ∙ white j before))
+        (λ behind.
+        let same : n ≡ j = omega arith in
+        inr (ap (λ i. drop i line) same ∙ sym (take-append-drop (m - j) (drop j line))
+        ∙ ap (λ l. l ++ drop (m - j) (drop j line)) is ∙ append_assoc t more (drop (m - j) (drop j line))))
+        (cases_lt j n))))
+      where
+        first_of : (t more : List ℕ) → 0 < length t → get_or (t ++ more) 0 0 ≡ get_or t 0 0
+        first_of [] more some = absurd (omega arith)
+        first_of (d ∷ t) more some = refl
 
     -- a part of one character is the dark one
     no_one : length x ≡ 1 → is_whitespace (get_or x 0 0) ≡ true → ⊥
@@ -166,13 +181,16 @@ module _ (rules : LineRules) (side : Side) (line : List ℕ) (n : ℕ) (inside :
     no_text h =
         let found = any_some (λ t. bytes_eq (walked side t) x) (side_texts rules side) [] h in
         let same = (bytes_eq-Decides (walked side (slice_index_or (side_texts rules side) found.0 [])) x).0 found.2 in
-        never_opens (side_texts rules side) found.0 (get_or x 0 0) no_texts found.1 first (omega (arith, ap length same, size)) (ap (λ l. get_or l 0 0) same)
+        never_stands (side_texts rules side) found.0 [] no_texts found.1 (omega (arith, ap length same, size))
+        (sym same ∙ sym (append-nil (walked side (slice_index_or (side_texts rules side) found.0 []))))
 
     -- a text and a white space character
     spaced_parts : (t : List ℕ) → ends_in is_whitespace (bytes_eq t) x ≡ true → (w : ℕ) × (is_whitespace w ≡ true) × (x ≡ t ++ w ∷ [])
     spaced_parts t h = from (reverse x) refl h
       where
-        from : (backwards : List ℕ) → reverse x ≡ backwards → elim backwards as (λ _. Bool) [ [] ↦ false | d ∷ rest ↦ is_whitespace d && bytes_eq t (reverse rest) ] ≡ true → (w : ℕ) × (is_whitespace w ≡ true) × (x ≡ t ++ w ∷ [])
+        from : (backwards : List ℕ) → reverse x ≡ backwards
+            → elim backwards as (λ _. Bool) [ [] ↦ false | d ∷ rest ↦ is_whitespace d && bytes_eq t (reverse rest) ]
+            ≡ true → (w : ℕ) × (is_whitespace w ≡ true) × (x ≡ t ++ w ∷ [])
         from [] same e = absurd (false≢true e)
         from (d ∷ rest) same e =
             let parts = and_parts (is_whitespace d) (bytes_eq t (reverse rest)) e in
@@ -184,14 +202,27 @@ module _ (rules : LineRules) (side : Side) (line : List ℕ) (n : ℕ) (inside :
         let found = any_some (λ t. ends_in is_whitespace (bytes_eq (walked side t)) x) (side_spaced rules side) [] h in
         let t = walked side (slice_index_or (side_spaced rules side) found.0 []) in
         let parts = spaced_parts t found.2 in
-        by t parts.0 parts.1 parts.2 (λ some same. never_opens (side_spaced rules side) found.0 (get_or x 0 0) no_spaced found.1 first some same)
+        by t parts.0 parts.1 parts.2 (λ some. never_stands (side_spaced rules side) found.0 (parts.0 ∷ []) no_spaced found.1 some parts.2)
       where
-        by : (t : List ℕ) (w : ℕ) → is_whitespace w ≡ true → x ≡ t ++ w ∷ [] → (0 < length t → get_or t 0 0 ≢ get_or x 0 0) → ⊥
+        by : (t : List ℕ) (w : ℕ) → is_whitespace w ≡ true → x ≡ t ++ w ∷ [] → (0 < length t → ⊥) → ⊥
         by [] w light same other = no_one (ap length same) (ap (λ l. is_whitespace (get_or l 0 0)) same ∙ light)
-        by (d ∷ t) w light same other = other (omega arith) (sym (ap (λ l. get_or l 0 0) same))
+        by (d ∷ t) w light same other = other (omega arith)
 
     no_repeated_text : list_any (λ t. repeats t (reverse x)) (side_repeated rules side) ≡ true → ⊥
-    no_repeated_text h = false≢true (sym no_repeated ∙ repeated_opens rules side c x (omega (arith, size)) first h)
+    no_repeated_text h = by side (λ ts k more. never_stands ts k more) no_repeated h
+      where
+        by : (s : Side) → ((ts : List (List ℕ)) (k : ℕ) (more : List ℕ)
+            → list_any (λ t. may_stand (drop n line) (walked s t)) ts ≡ false → k < length ts
+            → 0 < length (walked s (slice_index_or ts k [])) → x ≡ walked s (slice_index_or ts k []) ++ more → ⊥)
+            → list_any (λ t. may_stand (drop n line) (walked s t)) (side_repeated rules s) ≡ false
+            → list_any (λ t. repeats t (reverse x)) (side_repeated rules s) ≡ true → ⊥
+        by Front never none h = false≢true h
+        by End never none h =
+            let found = any_some (λ t. repeats t (reverse x)) rules.tail_repeat [] h in
+            let t = slice_index_or rules.tail_repeat found.0 [] in
+            let known = repeats_end t (reverse x) found.2 in
+            never rules.tail_repeat found.0 (reverse known.1.0) none found.1 (omega (arith, known.0, length-reverse t))
+            (sym (reverse-reverse x) ∙ ap reverse known.1.1 ∙ reverse-append known.1.0 t)
 
   beyond : (k m : ℕ) → m ≤ k → n < m → m ≤ length line → is_row p (take m line) ≡ false
   beyond zero m le more within = absurd (omega arith)
@@ -204,18 +235,53 @@ module _ (rules : LineRules) (side : Side) (line : List ℕ) (n : ℕ) (inside :
       let y = slice_range line e.0 m in
       absurd (⊎_elim
       (λ left. ⊎_elim
-      (λ left'. ⊎_elim (no_space m e.0 low more within) (λ marks. no_separator m e.0 low more within (and_parts rules.separators (is_separator y) marks).1) (or_cases (is_space y) (rules.separators && is_separator y) left'))
+      (λ left'. ⊎_elim (no_space m e.0 low more within) (λ marks.
+      no_separator m e.0 low more within (and_parts rules.separators (is_separator y) marks).1)
+      (or_cases (is_space y) (rules.separators && is_separator y) left'))
       (no_text m e.0 low more within)
       (or_cases (is_space y || (rules.separators && is_separator y)) (list_any (λ t. bytes_eq (walked side t) y) (side_texts rules side)) left))
-      (λ right. ⊎_elim (no_spaced_text m e.0 low more within) (no_repeated_text m e.0 low more within) (or_cases (list_any (λ t. ends_in is_whitespace (bytes_eq (walked side t)) y) (side_spaced rules side)) (list_any (λ t. repeats t (reverse y)) (side_repeated rules side)) right))
-      (or_cases ((is_space y || (rules.separators && is_separator y)) || list_any (λ t. bytes_eq (walked side t) y) (side_texts rules side)) (list_any (λ t. ends_in is_whitespace (bytes_eq (walked side t)) y) (side_spaced rules side) || list_any (λ t. repeats t (reverse y)) (side_repeated rules side)) (sym (walked_piece rules side y) ∙ e.3))))
+      (λ right. ⊎_elim (no_spaced_text m e.0 low more within) (no_repeated_text m e.0 low more within)
+      (or_cases (list_any (λ t. ends_in is_whitespace (bytes_eq (walked side t)) y) (side_spaced rules side))
+      (list_any (λ t. repeats t (reverse y)) (side_repeated rules side)) right))
+      (or_cases ((is_space y || (rules.separators && is_separator y))
+      || list_any (λ t. bytes_eq (walked side t) y) (side_texts rules side))
+      (list_any (λ t. ends_in is_whitespace (bytes_eq (walked side t)) y) (side_spaced rules side)
+      || list_any (λ t. repeats t (reverse y)) (side_repeated rules side))
+      (sym (walked_piece rules side y) ∙ e.3))))
       (λ none. none)
       (cases_Bool (is_row p (take m line)))
 
-  pub longest_spaces : n ≡ longest_front (is_row p) line
-  longest_spaces =
+  pub longest_standing : n ≡ longest_front (is_row p) line
+  longest_standing =
       let test = λ (m : ℕ). is_row p (take m line) in
-      sym (greatest_stays test n (length line) (omega arith) (λ m more le. beyond m m (omega arith) more le) ∙ greatest_itself test n (is_space_row n (omega arith)))
+      sym (greatest_stays test n (length line) (omega arith) (λ m more le. beyond m m (omega arith) more le)
+      ∙ greatest_itself test n (is_space_row n (omega arith)))
+
+-- the same where no text begins in that character
+closed_first : (side : Side) (way : List ℕ) (ts : List (List ℕ))
+    → list_any (λ t. opens_in (get_or way 0 0) (walked side t)) ts ≡ false
+    → list_any (λ t. may_stand way (walked side t)) ts ≡ false
+closed_first side way [] none = refl
+closed_first side way (t ∷ ts) none =
+    let parts = or_none (opens_in (get_or way 0 0) (walked side t)) _ none in
+    or_off (may_stand way (walked side t)) _ (stands_first way (walked side t) parts.0) (closed_first side way ts parts.1)
+
+pub longest_spaces : (rules : LineRules) (side : Side) (line : List ℕ) (n : ℕ) → n < length line
+    → ((i : ℕ) → i < n → is_whitespace (slice_index line i) ≡ true) → is_whitespace (slice_index line n) ≡ false
+    → may_open rules side (slice_index line n) ≡ false
+    → (n + 2 < length line → slice_index line (n + 1) ≡ slice_index line n → slice_index line (n + 2) ≢ slice_index line n)
+    → n ≡ longest_front (is_row (is_walked_piece rules side)) line
+longest_spaces rules side line n inside white dark closed apart =
+    let way = drop n line in
+    let first : slice_index line n ≡ get_or way 0 0 = let place : n + 0 ≡ n = omega arith in sym (get_or-drop n line 0 0 ∙ ap (λ i. get_or line i 0) place) in
+    let off = sym (ap (may_open rules side) first) ∙ closed in
+    let parts = or_none _ _ off in
+    let more = or_none _ _ parts.1 in
+    longest_standing rules side line n inside white dark
+    (or_off _ _ (closed_first side way (side_texts rules side) parts.0)
+    (or_off _ _ (closed_first side way (side_spaced rules side) more.0)
+    (closed_first side way (side_repeated rules side) more.1)))
+    apart
 
 -- a line of white space alone is a row
 module _ (rules : LineRules) (side : Side) (line : List ℕ) (white : (i : ℕ) → i < length line → is_whitespace (slice_index line i) ≡ true) where
@@ -227,7 +293,8 @@ module _ (rules : LineRules) (side : Side) (line : List ℕ) (white : (i : ℕ) 
   all_spaces (suc m) le =
       let next : m + 1 ≡ suc m = omega arith in
       let one : slice_range line m (suc m) ≡ slice_index line m ∷ [] = ap (slice_range line m) (sym next) ∙ slice_one line m (omega arith) in
-      row_goes_on piece line m (suc m) (omega arith) (all_spaces m (omega arith)) (ap piece one ∙ space_is_piece rules side (slice_index line m) (white m (omega arith)))
+      row_goes_on piece line m (suc m) (omega arith) (all_spaces m (omega arith))
+      (ap piece one ∙ space_is_piece rules side (slice_index line m) (white m (omega arith)))
 
   pub longest_of_spaces : length line ≡ longest_front (is_row piece) line
   longest_of_spaces = sym (greatest_itself (λ m. is_row piece (take m line)) (length line) (all_spaces (length line) (omega arith)))

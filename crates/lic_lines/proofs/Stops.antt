@@ -16,7 +16,8 @@ use Rattle.lic_lines.proofs.SideEnds.{walked_piece, repeats_more}
 use Rattle.lic_lines.proofs.RowLemmas.{row_ends, row_goes_on}
 use Rattle.lic_lines.proofs.Walking.{length-walked}
 
-pub any_some : {A : Type 0} (test : A → Bool) (xs : List A) (d : A) → list_any test xs ≡ true → (k : ℕ) × (k < length xs) × (test (slice_index_or xs k d) ≡ true)
+pub any_some : {A : Type 0} (test : A → Bool) (xs : List A) (d : A) → list_any test xs ≡ true
+    → (k : ℕ) × (k < length xs) × (test (slice_index_or xs k d) ≡ true)
 any_some test [] d h = absurd (false≢true h)
 any_some test (x ∷ xs) d h =
     ⊎_elim
@@ -33,7 +34,9 @@ any_from test (x ∷ xs) (suc k) d lt h = or_right (test x) (list_any test xs) (
 ends_in-length : (last : ℕ → Bool) (t text : List ℕ) → ends_in last (bytes_eq t) text ≡ true → length text ≡ length t + 1
 ends_in-length last t text h = at (reverse text) refl h
   where
-    at : (backwards : List ℕ) → reverse text ≡ backwards → elim backwards as (λ _. Bool) [ [] ↦ false | c ∷ rest ↦ last c && bytes_eq t (reverse rest) ] ≡ true → length text ≡ length t + 1
+    at : (backwards : List ℕ) → reverse text ≡ backwards
+        → elim backwards as (λ _. Bool) [ [] ↦ false | c ∷ rest ↦ last c && bytes_eq t (reverse rest) ] ≡ true
+        → length text ≡ length t + 1
     at [] same e = absurd (false≢true e)
     at (c ∷ rest) same e =
         let text_is : t ≡ reverse rest = (bytes_eq-Decides t (reverse rest)).0 (and_parts (last c) (bytes_eq t (reverse rest)) e).1 in
@@ -46,25 +49,29 @@ pub record AreShort (rules : LineRules) (side : Side) (reach : ℕ) : Type 0 whe
   pub repeated : All (λ t. length t ≤ reach) (side_repeated rules side)
 
 module _ (rules : LineRules) (side : Side) (flags : List Bool) (line : List ℕ) (end longest reach : ℕ)
-    (rows : AreRows (is_walked_piece rules side) flags line) (count : length flags ≡ end) (front : IsRunFront flags line end end) (short : AreShort rules side reach)
+    (rows : AreRows (is_walked_piece rules side) flags line) (count : length flags ≡ end)
+    (front : IsRunFront flags line end end) (short : AreShort rules side reach)
     (above : (m : ℕ) → longest < m → m < end → is_row (is_walked_piece rules side) (take m line) ≡ false) (far : reach + longest + 1 < end) where
   abbrev pub p : List ℕ → Bool
   p = is_walked_piece rules side
 
   -- a longer repetition is a piece one place before
-  repeated_before : (m j : ℕ) (t : List ℕ) → end ≤ m + 1 → m + 1 ≤ length line → j ≤ longest → length t ≤ reach → repeats t (reverse (slice_range line j (m + 1))) ≡ true → repeats t (reverse (slice_range line j m)) ≡ true
+  repeated_before : (m j : ℕ) (t : List ℕ) → end ≤ m + 1 → m + 1 ≤ length line → j ≤ longest → length t ≤ reach
+      → repeats t (reverse (slice_range line j (m + 1))) ≡ true → repeats t (reverse (slice_range line j m)) ≡ true
   repeated_before m j [] behind within low fits h = absurd (false≢true h)
   repeated_before m j (c ∷ rest) behind within low fits h =
       let part = reverse (slice_range line j m) in
       let long : length part ≡ m - j = length-reverse (slice_range line j m) ∙ length_part flags line m j (omega arith) in
-      let more = and_parts (slice_index line m == c) (bytes_eq rest part || repeats (c ∷ rest) part) (sym (repeats_more flags line m c rest (omega arith) j (omega arith)) ∙ h) in
+      let more = and_parts (slice_index line m == c) (bytes_eq rest part || repeats (c ∷ rest) part)
+      (sym (repeats_more flags line m c rest (omega arith) j (omega arith)) ∙ h) in
       ⊎_elim
       (λ here. absurd (omega (arith, ap length ((bytes_eq-Decides rest part).0 here))))
       (λ before. before)
       (or_cases (bytes_eq rest part) (repeats (c ∷ rest) part) more.1)
 
   -- a piece from a row to a place beyond can only be a repetition
-  piece_before : (m j : ℕ) → end ≤ m + 1 → m + 1 ≤ length line → j ≤ longest → slice_index_or flags j false ≡ true → p (slice_range line j (m + 1)) ≡ true → p (slice_range line j m) ≡ true
+  piece_before : (m j : ℕ) → end ≤ m + 1 → m + 1 ≤ length line → j ≤ longest → slice_index_or flags j false ≡ true
+      → p (slice_range line j (m + 1)) ≡ true → p (slice_range line j m) ≡ true
   piece_before m j behind within low flag h =
       let x = slice_range line j (m + 1) in
       let y = slice_range line j m in
@@ -119,9 +126,12 @@ module _ (rules : LineRules) (side : Side) (flags : List Bool) (line : List ℕ)
       let e = row_ends p line m (omega arith) within yes in
       let j = e.0 in
       let below : j < m = e.1 in
-      let low : j ≤ longest = ⊎_elim (λ high. absurd (false≢true (sym (beyond n j (omega arith) high (omega arith)) ∙ e.2))) (λ fine. fine) (cases_lt longest j) in
+      let low : j ≤ longest = ⊎_elim (λ high.
+      absurd (false≢true (sym (beyond n j (omega arith) high (omega arith)) ∙ e.2))) (λ fine. fine)
+      (cases_lt longest j) in
       let last : m - 1 + 1 ≡ m = omega arith in
-      let piece = piece_before (m - 1) j (omega arith) (omega arith) low (rows.each j (omega arith) ∙ e.2) (subst (λ i. p (slice_range line j i) ≡ true) (sym last) e.3) in
+      let piece = piece_before (m - 1) j (omega arith) (omega arith) low (rows.each j (omega arith) ∙ e.2)
+      (subst (λ i. p (slice_range line j i) ≡ true) (sym last) e.3) in
       absurd (false≢true (sym (beyond n (m - 1) (omega arith) (omega arith) (omega arith)) ∙ row_goes_on p line j (m - 1) (omega arith) e.2 piece)))
       (λ none. none)
       (cases_Bool (is_row p (take m line))))

@@ -29,7 +29,8 @@ greatest-same : (f g : ℕ → Bool) (n : ℕ) → ((m : ℕ) → m ≤ n → f 
 greatest-same f g zero same = refl
 greatest-same f g (suc n) same = ap₂ (λ b m. cond b (suc n) m) (same (suc n) (omega arith)) (greatest-same f g n (λ m le. same m (omega arith)))
 
-pub longest_end-reverse : {A : Type 0} (p : List A → Bool) (text : List A) → longest_end (is_row p) text ≡ longest_front (is_row (λ x. p (reverse x))) (reverse text)
+pub longest_end-reverse : {A : Type 0} (p : List A → Bool) (text : List A)
+    → longest_end (is_row p) text ≡ longest_front (is_row (λ x. p (reverse x))) (reverse text)
 longest_end-reverse {A} p text =
     let n = length text in
     let q = λ (x : List A). p (reverse x) in
@@ -54,7 +55,8 @@ pub greatest_stays : (test : ℕ → Bool) (k n : ℕ) → k ≤ n → ((m : ℕ
 greatest_stays test k zero le none = let e : 0 ≡ k = omega arith in ap (greatest test) e
 greatest_stays test k (suc n) le none =
     ⊎_elim
-    (λ below. cond-false (test (suc n)) (suc n) (greatest test n) (none (suc n) below (omega arith)) ∙ greatest_stays test k n (omega arith) (λ m lt h. none m lt (omega arith)))
+    (λ below. cond-false (test (suc n)) (suc n) (greatest test n) (none (suc n) below (omega arith))
+    ∙ greatest_stays test k n (omega arith) (λ m lt h. none m lt (omega arith)))
     (λ last. let e : suc n ≡ k = omega arith in ap (greatest test) e)
     (cases_lt k (suc n))
 

@@ -34,7 +34,8 @@ bytes_eq-reverses a b = same_truth (bytes_eq a b) (bytes_eq (reverse a) (reverse
 
 pub reverse-map : {A B : Type 0} (f : A → B) (xs : List A) → reverse (map f xs) ≡ map f (reverse xs)
 reverse-map f [] = refl
-reverse-map f (x ∷ xs) = reverse-append (f x ∷ []) (map f xs) ∙ ap (λ l. l ++ f x ∷ []) (reverse-map f xs) ∙ sym (map-append f (reverse xs) (x ∷ [])) ∙ ap (map f) (sym (reverse-append (x ∷ []) xs))
+reverse-map f (x ∷ xs) = reverse-append (f x ∷ []) (map f xs) ∙ ap (λ l. l ++ f x ∷ []) (reverse-map f xs)
+    ∙ sym (map-append f (reverse xs) (x ∷ [])) ∙ ap (map f) (sym (reverse-append (x ∷ []) xs))
 
 -- the front of a text in reverse is its end in reverse
 pub take-reverse : {A : Type 0} (n : ℕ) (xs : List A) → n ≤ length xs → take n (reverse xs) ≡ reverse (drop (length xs - n) xs)

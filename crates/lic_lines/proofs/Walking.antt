@@ -22,10 +22,12 @@ bytes_eq-walked side a b = same_truth _ _
 
 -- a part of a line
 pub chars_of-range : (line : List SourceChar) (from to : ℕ) → chars_of (slice_range line from to) ≡ slice_range (chars_of line) from to
-chars_of-range line from to = sym (take-map (λ (s : SourceChar). s.char) (to - from) (drop from line)) ∙ ap (take (to - from)) (sym (drop-map (λ (s : SourceChar). s.char) from line))
+chars_of-range line from to = sym (take-map (λ (s : SourceChar). s.char) (to - from) (drop from line))
+    ∙ ap (take (to - from)) (sym (drop-map (λ (s : SourceChar). s.char) from line))
 
 -- a part on the way from the end
-pub reverse-range : (text : List ℕ) (from to : ℕ) → from ≤ to → to ≤ length text → reverse (slice_range text (length text - to) (length text - from)) ≡ slice_range (reverse text) from to
+pub reverse-range : (text : List ℕ) (from to : ℕ) → from ≤ to → to ≤ length text
+    → reverse (slice_range text (length text - to) (length text - from)) ≡ slice_range (reverse text) from to
 reverse-range text from to order within =
     let n = length text in
     let size : n - from - (n - to) ≡ to - from = omega arith in

@@ -7,3 +7,4 @@ pub mod SmallStrings
 pub mod Tokens
 pub mod Groupings
 pub mod Walks
+pub mod AsciiFronts

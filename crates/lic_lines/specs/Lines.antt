@@ -41,10 +41,12 @@ is_behind_space texts [] = false
 is_behind_space texts (c ∷ text) = is_whitespace c && is_one_of texts text
 
 abbrev pub is_lead_piece : LineRules → List ℕ → Bool
-is_lead_piece rules text = is_space text || (rules.separators && is_separator text) || is_one_of rules.lead text || ends_in is_whitespace (is_one_of rules.lead_space) text
+is_lead_piece rules text = is_space text || (rules.separators && is_separator text) || is_one_of rules.lead text
+    || ends_in is_whitespace (is_one_of rules.lead_space) text
 
 abbrev pub is_tail_piece : LineRules → List ℕ → Bool
-is_tail_piece rules text = is_space text || (rules.separators && is_separator text) || is_one_of rules.tail text || is_behind_space rules.tail_space text || list_any (λ t. repeats t text) rules.tail_repeat
+is_tail_piece rules text = is_space text || (rules.separators && is_separator text) || is_one_of rules.tail text
+    || is_behind_space rules.tail_space text || list_any (λ t. repeats t text) rules.tail_repeat
 
 -- ---- items
 
@@ -72,7 +74,8 @@ is_bullet_item text = (length text == 1) && list_all is_bullet_sign text
 
 -- numbers with full stops between them, and then `.`, `)` or `:`
 abbrev pub is_number_item : List ℕ → Bool
-is_number_item text = ends_in (λ c. (c == 0x2E) || (c == 0x29) || (c == 0x3A)) (λ front. list_all is_number (slice_split (λ c. c == 0x2E) front)) text
+is_number_item text = ends_in (λ c. (c == 0x2E) || (c == 0x29)
+    || (c == 0x3A)) (λ front. list_all is_number (slice_split (λ c. c == 0x2E) front)) text
 
 -- a letter or a Roman numeral, and then `.` or `)`
 abbrev pub is_letter_item : List ℕ → Bool
@@ -81,7 +84,8 @@ is_letter_item text = ends_in (λ c. (c == 0x2E) || (c == 0x29)) (λ front. is_l
 -- a number, a letter or a Roman numeral, in parentheses
 abbrev pub is_item_in_parentheses : List ℕ → Bool
 is_item_in_parentheses [] = false
-is_item_in_parentheses (c ∷ text) = (c == 0x28) && ends_in (λ d. d == 0x29) (λ front. is_number front || is_letter front || is_roman front) text
+is_item_in_parentheses (c ∷ text) =
+    (c == 0x28) && ends_in (λ d. d == 0x29) (λ front. is_number front || is_letter front || is_roman front) text
 
 abbrev pub is_item_form : List ℕ → Bool
 is_item_form text = is_bullet_item text || is_number_item text || is_letter_item text || is_item_in_parentheses text
@@ -93,7 +97,9 @@ is_copyright_sign text = bytes_eq text (codes "(c)") || bytes_eq text (codes "(C
 -- this is no digit where the form could be the copyright sign of a year.
 abbrev pub lets_item : List ℕ → List ℕ → Bool
 lets_item form [] = false
-lets_item form (c ∷ text) = is_whitespace c && option_map_or (λ d. not (is_copyright_sign form && is_ascii_digit d)) (find (λ d. not (is_whitespace d)) text) false
+lets_item form (c ∷ text) = is_whitespace c
+    && option_map_or (λ d. not (is_copyright_sign form && is_ascii_digit d))
+    (find (λ d. not (is_whitespace d)) text) false
 
 -- how long the item at the front of a text is, or 0
 abbrev pub item_length : LineRules → List ℕ → ℕ

@@ -4,7 +4,8 @@ use Rattle.std.specs.List.{list_all, flat_map, onto_first}
 
 -- a text is a row of pieces: pieces of this kind, joined end to end, none of them at all included
 abbrev pub IsRow : {A : Type 0} → (List A → Bool) → List A → Type 0
-IsRow {A} is_piece text = (pieces : List (List A)) × IsTrue (list_all is_piece pieces) × (flat_map (λ piece. piece) pieces ≡ text)
+IsRow {A} is_piece text = (pieces : List (List A)) × IsTrue (list_all is_piece pieces)
+    × (flat_map (λ piece. piece) pieces ≡ text)
 
 abbrev pub is_empty : {A : Type 0} → List A → Bool
 is_empty [] = true
@@ -13,7 +14,8 @@ is_empty (x ∷ xs) = false
 -- whether `front ++ text` is a row whose first piece is longer than `front`; of no text, whether `front` is empty
 abbrev pub is_row_after : {A : Type 0} → (List A → Bool) → List A → List A → Bool
 is_row_after is_piece front [] = is_empty front
-is_row_after is_piece front (c ∷ text) = (is_piece (front ++ c ∷ []) && is_row_after is_piece [] text) || is_row_after is_piece (front ++ c ∷ []) text
+is_row_after is_piece front (c ∷ text) =
+    (is_piece (front ++ c ∷ []) && is_row_after is_piece [] text) || is_row_after is_piece (front ++ c ∷ []) text
 
 -- the test that computes `IsRow`
 abbrev pub is_row : {A : Type 0} → (List A → Bool) → List A → Bool
@@ -41,7 +43,8 @@ cut_after ends (x ∷ xs) = if ends x then (x ∷ []) ∷ cut_after ends xs else
 abbrev pub join_group : {A : Type 0} → (A → A → Bool) → A → List (List A) → List (List A)
 join_group together x [] = (x ∷ []) ∷ []
 join_group together x ([] ∷ groups) = (x ∷ []) ∷ [] ∷ groups
-join_group together x ((y ∷ group) ∷ groups) = if together x y then (x ∷ y ∷ group) ∷ groups else (x ∷ []) ∷ (y ∷ group) ∷ groups
+join_group together x ((y ∷ group) ∷ groups) =
+    if together x y then (x ∷ y ∷ group) ∷ groups else (x ∷ []) ∷ (y ∷ group) ∷ groups
 
 -- the longest runs of neighbours that belong together
 abbrev pub groups : {A : Type 0} → (A → A → Bool) → List A → List (List A)

@@ -34,7 +34,14 @@ letters_of = flat_map cell_letters
 
 -- the token of a group of cells, of which the first was read from s
 abbrev pub token_of : Bool → SourceChar → List Cell → Token
-token_of after_blank s group = record { text = encode_utf8_all (letters_of group); start = s.start; end = end_after s.start group; after_blank = after_blank }
+token_of after_blank s group =
+    record {
+      text = encode_utf8_all (letters_of group);
+      start = s.start;
+      end = end_after s.start group;
+      after_blank =
+          after_blank;
+    }
 
 -- the tokens of these groups, where a blank stands before the first or does not
 abbrev pub tokens_from : Bool → List (List Cell) → List Token
@@ -78,7 +85,8 @@ abbrev pub single_signs : List Token → List Token
 single_signs [] = []
 single_signs (a ∷ []) = as_sign a ∷ []
 single_signs (a ∷ b ∷ []) = as_sign a ∷ as_sign b ∷ []
-single_signs (a ∷ b ∷ c ∷ ts) = if is_sign_in_parentheses a b c then sign_from a c ∷ single_signs ts else as_sign a ∷ single_signs (b ∷ c ∷ ts)
+single_signs (a ∷ b ∷ c ∷ ts) =
+    if is_sign_in_parentheses a b c then sign_from a c ∷ single_signs ts else as_sign a ∷ single_signs (b ∷ c ∷ ts)
 
 -- ---- of a line, and of a text
 

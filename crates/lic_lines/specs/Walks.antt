@@ -36,7 +36,26 @@ side_repeated rules End = rules.tail_repeat
 
 -- whether one of the texts of this side does, on the way
 abbrev pub may_open : LineRules → Side → ℕ → Bool
-may_open rules side c = list_any (λ t. opens_in c (walked side t)) (side_texts rules side) || (list_any (λ t. opens_in c (walked side t)) (side_spaced rules side) || list_any (λ t. opens_in c (walked side t)) (side_repeated rules side))
+may_open rules side c = list_any (λ t. opens_in c (walked side t)) (side_texts rules side)
+    || (list_any (λ t. opens_in c (walked side t)) (side_spaced rules side)
+    || list_any (λ t. opens_in c (walked side t)) (side_repeated rules side))
+
+-- whether a text stands in front of this way
+abbrev pub stands_in : List ℕ → List ℕ → Bool
+stands_in way [] = true
+stands_in [] (c ∷ text) = false
+stands_in (d ∷ way) (c ∷ text) = (d == c) && stands_in way text
+
+-- whether a text begins in white space, or stands in front of this way
+abbrev pub may_stand : List ℕ → List ℕ → Bool
+may_stand way [] = false
+may_stand way (c ∷ text) = is_whitespace c || stands_in way (c ∷ text)
+
+-- whether one of the texts of this side does, on the way
+abbrev pub may_stand_at : LineRules → Side → List ℕ → Bool
+may_stand_at rules side way = list_any (λ t. may_stand way (walked side t)) (side_texts rules side)
+    || (list_any (λ t. may_stand way (walked side t)) (side_spaced rules side)
+    || list_any (λ t. may_stand way (walked side t)) (side_repeated rules side))
 
 -- whether some number below n passes
 abbrev pub any_below : (ℕ → Bool) → ℕ → Bool
@@ -45,7 +64,8 @@ any_below test (suc n) = test n || any_below test n
 
 -- whether a piece ends here that begins at one of the flagged places
 abbrev pub ends_piece : (List ℕ → Bool) → List Bool → List ℕ → ℕ → Bool
-ends_piece is_piece flags line end = any_below (λ j. slice_index_or flags j false && is_piece (slice_range line j end)) end
+ends_piece is_piece flags line end =
+    any_below (λ j. slice_index_or flags j false && is_piece (slice_range line j end)) end
 
 -- the flags say of each front of the line, up to a length, whether it is a row
 pub record AreRows (is_piece : List ℕ → Bool) (flags : List Bool) (line : List ℕ) : Type 0 where
@@ -56,7 +76,8 @@ pub record IsRunFront (flags : List Bool) (line : List ℕ) (end first : ℕ) : 
   pub within : first ≤ end
   pub same : (i : ℕ) → first ≤ i → i < end → slice_index line i ≡ slice_index line (end - 1)
   pub flagged : first < end → slice_index_or flags first false ≡ true
-  pub least : (j : ℕ) → j < first → j < end → slice_index_or flags j false ≡ true → (i : ℕ) × (j ≤ i) × (i < end) × (slice_index line i ≢ slice_index line (end - 1))
+  pub least : (j : ℕ) → j < first → j < end → slice_index_or flags j false ≡ true
+      → (i : ℕ) × (j ≤ i) × (i < end) × (slice_index line i ≢ slice_index line (end - 1))
 
 -- whether this text and a white space character end here, behind one of the flagged places
 unfoldable pub spaced_text_ends : List Bool → List ℕ → ℕ → List ℕ → Bool

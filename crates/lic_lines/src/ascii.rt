@@ -1,5 +1,5 @@
-//! The first tokens of a line of ASCII, straight from its bytes.
-ghost use Rattle.std.specs.Prelude.{◌≡◌, ◌≢◌, ◌+◌, ◌++◌, ◌<◌, ◌≤◌, ◌^◌, ℕ, length, map, drop, slice_index, All, IfOk, OnOk, IsAscii};
+//! What is left of a line of ASCII, and the first tokens of its rest, straight from its bytes.
+ghost use Rattle.std.specs.Prelude.{◌≡◌, ◌+◌, ◌++◌, ◌<◌, ◌≤◌, ◌^◌, true, length, map, drop, All, IfOk, OnOk, IsAscii};
 ghost use Rattle.std.specs.Char.{to_ascii_lowercase};
 ghost use Rattle.lic_kind.specs.Kinds.{kind_of};
 ghost use Rattle.lic_lines.specs.LineRules.{rules_of};
@@ -7,9 +7,11 @@ ghost use Rattle.lic_lines.specs.Lines.{cell_of, cut_of, whole_line};
 ghost use Rattle.lic_lines.specs.Runs.{runs_joined};
 ghost use Rattle.lic_lines.specs.Sources.{placed};
 ghost use Rattle.lic_lines.specs.Texts.{groups};
-ghost use Rattle.lic_lines.specs.Tokens.{both_words, blank_behind, line_tokens, stretch_tokens, tokens_after, tokens_from, tokens_in};
+ghost use Rattle.lic_lines.specs.AsciiFronts.{ascii_tokens};
+ghost use Rattle.lic_lines.specs.Tokens.{both_words, blank_behind, line_tokens, tokens_after, tokens_from, tokens_in};
 
 use crate::ascii_cut::quick_cut;
+use crate::ascii_front::kind_count;
 use crate::cut::{LineCut, cut_line};
 use crate::line_part::LinePart;
 use crate::room::Room;
@@ -29,20 +31,6 @@ const WHOLE_LINE: LinePart = LinePart {
     has_end: true,
     behind: None,
 };
-
-/// How many bytes in front of a text are of this kind.
-#[inline(always)]
-fn kind_count(kind: Kind, text: &[u8]) -> usize
-    ensures within { result ≤ length text.now }
-    ensures all { (i : ℕ) → i < result → kind_of (slice_index text.now i) ≡ kind }
-    ensures stop { result < length text.now → kind_of (slice_index text.now result) ≢ kind }
-{
-    let mut count = 0;
-    while count < text.len() && kind_of(text[count] as char) == kind {
-        count += 1;
-    }
-    count
-}
 
 /// Puts the source characters of a text that begins at this byte in the place of those that are there.
 fn place(characters: &mut Vec<SourceChar>, at: u32, text: &[u8]) -> Result<(), AllocError>
@@ -95,8 +83,16 @@ fn push_row_of_marks(
     requires ascii { IsAscii row.now }
     requires fits { at + length row.now < 2 ^ 32 }
     requires marks { All (λ b. kind_of b ≡ Kind.Mark) row.now }
-    ensures tokens { OnOk result (tokens_in out.new.items ≡ tokens_in out.old.items ++ tokens_from after_blank (groups both_words (runs_joined (rules_of rules.now) (map cell_of (placed at row.now))))) }
-    ensures blank { IfOk result (λ blank. blank ≡ blank_behind after_blank (groups both_words (runs_joined (rules_of rules.now) (map cell_of (placed at row.now))))) }
+    ensures tokens { OnOk result
+        (tokens_in out.new.items
+        ≡ tokens_in out.old.items
+        ++ tokens_from after_blank
+        (groups both_words (runs_joined (rules_of rules.now)
+        (map cell_of (placed at row.now))))) }
+    ensures blank { IfOk result (λ blank. blank
+        ≡ blank_behind after_blank
+        (groups both_words (runs_joined (rules_of rules.now)
+        (map cell_of (placed at row.now))))) }
 {
     let mut marks = replace(&mut room.marks, Vec::new(alloc));
     place(&mut marks, at, row)?;
@@ -124,7 +120,11 @@ fn push_front(
     requires lowered { lowered.now ≡ map to_ascii_lowercase text.now }
     ensures some { IfOk result (λ row. 0 < row.length) }
     ensures within { IfOk result (λ row. row.length ≤ length text.now) }
-    ensures tokens { IfOk result (λ row. tokens_in out.new.items ++ tokens_after (rules_of rules.now) row.blank_behind (placed (at + row.length) (drop row.length text.now)) ≡ tokens_in out.old.items ++ tokens_after (rules_of rules.now) after_blank (placed at text.now)) }
+    ensures tokens { IfOk result (λ row. tokens_in out.new.items
+        ++ tokens_after (rules_of rules.now) row.blank_behind
+        (placed (at + row.length) (drop row.length text.now))
+        ≡ tokens_in out.old.items
+        ++ tokens_after (rules_of rules.now) after_blank (placed at text.now)) }
 {
     match kind_of(text[0] as char) {
         Kind::Blank | Kind::Dropped => Ok(FrontRow {
@@ -158,11 +158,12 @@ fn push_front(
     }
 }
 
-/// Adds the first tokens of a text that begins at this byte and of which nothing is taken; its small letters are
-/// given too.
+/// Adds the first tokens of a text that begins at this byte and of which nothing is taken, where a blank stands before
+/// it or does not; its small letters are given too.
 fn push_text(
     alloc: Global,
     rules: &Rules,
+    mut after_blank: bool,
     at: u32,
     text: &[u8],
     lowered: &str,
@@ -172,9 +173,10 @@ fn push_text(
     requires ascii { IsAscii text.now }
     requires fits { at + length text.now < 2 ^ 32 }
     requires lowered { lowered.now ≡ map to_ascii_lowercase text.now }
-    ensures { OnOk result (tokens_in out.new.items ≡ tokens_in out.old.items ++ stretch_tokens (rules_of rules.now) (placed at text.now)) }
+    ensures { OnOk result (tokens_in out.new.items
+        ≡ tokens_in out.old.items
+        ++ tokens_after (rules_of rules.now) after_blank (placed at text.now)) }
 {
-    let mut after_blank = true;
     let mut place = 0;
     while place < text.len() {
         let start = at + place as u32;
@@ -194,57 +196,61 @@ fn push_text(
     Ok(())
 }
 
-/// Adds the first tokens of a text that begins at this byte and of which nothing is taken.
-fn push_stretch(
+/// What is left of a whole line of ASCII that begins at this byte: the byte where that begins, and its text. The room
+/// may hold anything.
+///
+/// The error is that memory ran out.
+pub fn left_of_ascii<'a>(
     alloc: Global,
     rules: &Rules,
     at: u32,
+    line: &'a str,
+    room: &mut Room,
+) -> Result<(u32, &'a str), AllocError>
+    requires ascii { IsAscii line.now }
+    requires fits { at + length line.now < 2 ^ 32 }
+    ensures tokens { IfOk result (λ left. ascii_tokens (rules_of rules.now) true left.0 left.1.now
+        ≡ line_tokens (rules_of rules.now) whole_line (placed at line.now)) }
+    ensures ascii { IfOk result (λ left. IsAscii left.1.now) }
+    ensures fits { IfOk result (λ left. left.0 + length left.1.now < 2 ^ 32) }
+{
+    let cut = cut_of_line(alloc, rules, line.as_bytes(), &mut room.marks)?;
+    let lead = cut.lead + cut.item;
+    Ok((at + lead as u32, &line[lead..line.len() - cut.tail]))
+}
+
+/// Adds the tokens of the rest of a line of ASCII, which begins at this byte and of which nothing is taken, where a blank
+/// stands before it or does not; its small letters are given too. The room may hold anything.
+///
+/// The error is that memory ran out; `out` then holds some of the tokens, and is of no use.
+pub fn push_rest_of_ascii(
+    alloc: Global,
+    rules: &Rules,
+    after_blank: bool,
+    at: u32,
     text: &str,
+    lowered: &str,
     room: &mut Room,
     out: &mut Vec<FirstToken>,
 ) -> Result<(), AllocError>
     requires ascii { IsAscii text.now }
     requires fits { at + length text.now < 2 ^ 32 }
-    ensures { OnOk result (tokens_in out.new.items ≡ tokens_in out.old.items ++ stretch_tokens (rules_of rules.now) (placed at text.now)) }
+    requires lowered { lowered.now ≡ map to_ascii_lowercase text.now }
+    ensures { OnOk result (tokens_in out.new.items
+        ≡ tokens_in out.old.items
+        ++ ascii_tokens (rules_of rules.now) after_blank at text.now) }
 {
-    let mut lowered = replace(&mut room.lowered, String::new(alloc));
-    lowered.clear();
-    lowered.push_str(text)?;
-    lowered.make_ascii_lowercase();
+    let from = out.len();
     push_text(
         alloc,
         rules,
+        after_blank,
         at,
         text.as_bytes(),
-        lowered.as_str(),
+        lowered,
         room,
         out,
     )?;
-    room.lowered = lowered;
-    Ok(())
-}
-
-/// Adds the tokens of a whole line of ASCII that begins at this byte, as `push_tokens_of_line` adds those of its
-/// characters. What a line before or behind this one holds has no effect, nor what the room holds.
-///
-/// The error is that memory ran out; `out` then holds some of the line's tokens, and is of no use.
-pub fn push_tokens_of_ascii(
-    alloc: Global,
-    rules: &Rules,
-    at: u32,
-    line: &str,
-    room: &mut Room,
-    out: &mut Vec<FirstToken>,
-) -> Result<(), AllocError>
-    requires ascii { IsAscii line.now }
-    requires fits { at + length line.now < 2 ^ 32 }
-    ensures { OnOk result (tokens_in out.new.items ≡ tokens_in out.old.items ++ line_tokens (rules_of rules.now) whole_line (placed at line.now)) }
-{
-    let cut = cut_of_line(alloc, rules, line.as_bytes(), &mut room.marks)?;
-    let lead = cut.lead + cut.item;
-    let left = &line[lead..line.len() - cut.tail];
-    let from = out.len();
-    push_stretch(alloc, rules, at + lead as u32, left, room, out)?;
     join_single_signs(out, from);
     Ok(())
 }

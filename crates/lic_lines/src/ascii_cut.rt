@@ -7,14 +7,15 @@ ghost use Rattle.lic_lines.specs.Lines.{cut_of, is_item_form, item_length, whole
 ghost use Rattle.lic_lines.specs.Texts.{is_row, longest_front};
 ghost use Rattle.lic_lines.specs.Walks.{walked, is_walked_piece};
 
+use crate::ascii_texts::any_text_may_stand;
 use crate::cut::LineCut;
-use crate::space_rows::may_open;
+use crate::space_rows::quick_look;
 use crate::walk::Side;
 use lic_kind::Rules;
 
 /// The byte at this place of the way.
 #[inline(always)]
-fn byte_at(line: &[u8], side: Side, place: usize) -> u8
+pub(crate) fn byte_at(line: &[u8], side: Side, place: usize) -> u8
     requires { place < length line.now }
     ensures { result ≡ slice_index (walked side line.now) place }
 {
@@ -28,8 +29,10 @@ fn byte_at(line: &[u8], side: Side, place: usize) -> u8
 #[inline(always)]
 fn spaces(side: Side, line: &[u8]) -> usize
     ensures within { result ≤ length line.now }
-    ensures all { (i : ℕ) → i < result → is_whitespace (slice_index (walked side line.now) i) ≡ true }
-    ensures stop { result < length line.now → is_whitespace (slice_index (walked side line.now) result) ≡ false }
+    ensures all { (i : ℕ) → i < result
+        → is_whitespace (slice_index (walked side line.now) i) ≡ true }
+    ensures stop { result < length line.now
+        → is_whitespace (slice_index (walked side line.now) result) ≡ false }
 {
     let mut count = 0;
     while count < line.len() && (byte_at(line, side, count) as char).is_whitespace() {
@@ -44,7 +47,8 @@ fn three_alike(side: Side, line: &[u8], place: usize) -> bool
     requires { place < length line.now }
     ensures { result ≡ false → place + 2 < length line.now
         → slice_index (walked side line.now) (place + 1) ≡ slice_index (walked side line.now) place
-        → slice_index (walked side line.now) (place + 2) ≢ slice_index (walked side line.now) place }
+        → slice_index (walked side line.now) (place + 2)
+        ≢ slice_index (walked side line.now) place }
 {
     let byte = byte_at(line, side, place);
     line.len() - place > 2
@@ -52,10 +56,12 @@ fn three_alike(side: Side, line: &[u8], place: usize) -> bool
         && byte_at(line, side, place + 2) == byte
 }
 
-/// How long the longest row of pieces is where it is white space alone, as far as the byte behind that tells.
+/// How long the longest row of pieces is where it is white space alone, as far as the bytes behind that tell.
 #[inline(always)]
 fn space_row(rules: &Rules, side: Side, line: &[u8]) -> Option<usize>
-    ensures row { IfSome result (λ n. n ≡ longest_front (is_row (is_walked_piece (rules_of rules.now) side)) (walked side line.now)) }
+    ensures row { IfSome result (λ n. n
+        ≡ longest_front (is_row (is_walked_piece (rules_of rules.now) side))
+        (walked side line.now)) }
     ensures within { IfSome result (λ n. n ≤ length line.now) }
 {
     let count = spaces(side, line);
@@ -65,7 +71,10 @@ fn space_row(rules: &Rules, side: Side, line: &[u8]) -> Option<usize>
     if three_alike(side, line, count) {
         return None;
     }
-    if may_open(rules, side, byte_at(line, side, count) as char) {
+    if !quick_look(rules, side, byte_at(line, side, count) as char) {
+        return Some(count);
+    }
+    if any_text_may_stand(rules, side, line, count) {
         return None;
     }
     Some(count)

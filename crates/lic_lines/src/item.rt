@@ -116,7 +116,8 @@ fn is_letter_item(text: &[SourceChar]) -> bool
 
 /// Whether this is a number, a letter or a Roman numeral, and then `)`.
 fn is_closed(text: &[SourceChar]) -> bool
-    ensures { result ≡ ends_in (λ d. d == 0x29) (λ front. is_number front || is_letter front || is_roman front) (chars_of text.now) }
+    ensures { result ≡ ends_in (λ d. d == 0x29) (λ front. is_number front || is_letter front
+        || is_roman front) (chars_of text.now) }
 {
     if text.is_empty() {
         return false;
@@ -167,7 +168,8 @@ fn first_space(text: &[SourceChar]) -> usize
 
 /// The first character that is not white space, of these and what counts as standing behind them.
 fn next_dark(text: &[SourceChar], behind: Option<char>) -> Option<char>
-    ensures { result ≡ find (λ c. not (is_whitespace c)) (chars_of text.now ++ option_to_list behind) }
+    ensures { result ≡ find (λ c. not (is_whitespace c))
+        (chars_of text.now ++ option_to_list behind) }
 {
     for s in text {
         if !s.char.is_whitespace() {
@@ -182,7 +184,9 @@ fn next_dark(text: &[SourceChar], behind: Option<char>) -> Option<char>
 
 /// Whether what stands behind an item form and a white space character lets it be an item.
 fn lets_item(form: &[SourceChar], text: &[SourceChar], behind: Option<char>) -> bool
-    ensures { result ≡ option_map_or (λ d. not (is_copyright_sign (chars_of form.now) && is_ascii_digit d)) (find (λ c. not (is_whitespace c)) (chars_of text.now ++ option_to_list behind)) false }
+    ensures { result ≡ option_map_or (λ d.
+        not (is_copyright_sign (chars_of form.now) && is_ascii_digit d))
+        (find (λ c. not (is_whitespace c)) (chars_of text.now ++ option_to_list behind)) false }
 {
     match next_dark(text, behind) {
         None => false,
@@ -192,7 +196,8 @@ fn lets_item(form: &[SourceChar], text: &[SourceChar], behind: Option<char>) -> 
 
 /// How long the item at the front of a line is, whose lead is taken already, or 0.
 pub fn item_length(rules: &Rules, line: &[SourceChar], behind: Option<char>) -> usize
-    ensures item { result ≡ item_length (rules_of rules.now) (chars_of line.now ++ option_to_list behind) }
+    ensures item { result ≡ item_length (rules_of rules.now)
+        (chars_of line.now ++ option_to_list behind) }
     ensures within { result ≤ length line.now }
 {
     if !rules.items() {

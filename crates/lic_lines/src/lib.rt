@@ -4,6 +4,8 @@
 
 mod ascii;
 mod ascii_cut;
+mod ascii_front;
+mod ascii_texts;
 pub mod cell;
 pub mod cut;
 mod item;
@@ -21,7 +23,8 @@ mod text;
 pub mod tokens;
 mod walk;
 
-pub use ascii::push_tokens_of_ascii;
+pub use ascii::{left_of_ascii, push_rest_of_ascii};
+pub use ascii_front::{AsciiFront, front_of_ascii};
 pub use cell::Cell;
 pub use lic_kind::Rules;
 pub use line::{cells_of_line, push_tokens_of_line};

@@ -59,7 +59,8 @@ pub fn cells_of_line(
     part: LinePart,
     line: &[SourceChar],
 ) -> Result<Vec<Cell>, AllocError>
-    ensures { IfOk result (λ cells. cells.items ≡ runs_joined (rules_of rules.now) (line_cells (rules_of rules.now) part line.now)) }
+    ensures { IfOk result (λ cells. cells.items
+        ≡ runs_joined (rules_of rules.now) (line_cells (rules_of rules.now) part line.now)) }
 {
     let cut = cut_line(alloc, rules, part, line)?;
     let left = &line[cut.lead + cut.item..line.len() - cut.tail];
@@ -87,7 +88,8 @@ pub fn push_tokens_of_line(
     room: &mut Room,
     out: &mut Vec<FirstToken>,
 ) -> Result<(), AllocError>
-    ensures { OnOk result (tokens_in out.new.items ≡ tokens_in out.old.items ++ line_tokens (rules_of rules.now) part line.now) }
+    ensures { OnOk result (tokens_in out.new.items
+        ≡ tokens_in out.old.items ++ line_tokens (rules_of rules.now) part line.now) }
 {
     let cut = cut_line(alloc, rules, part, line)?;
     let left = &line[cut.lead + cut.item..line.len() - cut.tail];

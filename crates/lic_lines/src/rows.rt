@@ -23,7 +23,8 @@ fn is_mark(c: char) -> bool
 fn text_ends(text: &[char], flags: &[bool], line: &[SourceChar], side: Side, end: usize) -> bool
     requires flagged { end ≤ length flags.now }
     requires within { end ≤ length line.now }
-    ensures { result ≡ ends_piece (bytes_eq (walked side text.now)) flags.now (walked side (chars_of line.now)) end }
+    ensures { result ≡ ends_piece (bytes_eq (walked side text.now)) flags.now
+        (walked side (chars_of line.now)) end }
 {
     let len = text.len();
     if len == 0 || len > end {
@@ -36,7 +37,9 @@ fn text_ends(text: &[char], flags: &[bool], line: &[SourceChar], side: Side, end
 fn any_text_ends(texts: &Texts, flags: &[bool], line: &[SourceChar], side: Side, end: usize) -> bool
     requires flagged { end ≤ length flags.now }
     requires within { end ≤ length line.now }
-    ensures { result ≡ list_any (λ t. ends_piece (bytes_eq (walked side t)) flags.now (walked side (chars_of line.now)) end) (texts_of texts.now) }
+    ensures { result ≡ list_any (λ t.
+        ends_piece (bytes_eq (walked side t)) flags.now (walked side (chars_of line.now)) end)
+        (texts_of texts.now) }
 {
     for i in 0..texts.len() {
         if text_ends(texts.characters(i), flags, line, side, end) {
@@ -57,7 +60,8 @@ fn spaced_text_ends(
     requires flagged { end ≤ length flags.now }
     requires within { end ≤ length line.now }
     requires some { 0 < end }
-    ensures { result ≡ spaced_text_ends flags.now (walked side (chars_of line.now)) end (walked side text.now) }
+    ensures { result ≡ spaced_text_ends flags.now (walked side (chars_of line.now)) end
+        (walked side text.now) }
 {
     let before = end - 1;
     let len = text.len();
@@ -84,7 +88,9 @@ fn any_spaced_text_ends(
     requires flagged { end ≤ length flags.now }
     requires within { end ≤ length line.now }
     requires some { 0 < end }
-    ensures { result ≡ list_any (λ t. spaced_text_ends flags.now (walked side (chars_of line.now)) end (walked side t)) (texts_of texts.now) }
+    ensures { result ≡ list_any (λ t.
+        spaced_text_ends flags.now (walked side (chars_of line.now)) end (walked side t))
+        (texts_of texts.now) }
 {
     for i in 0..texts.len() {
         if spaced_text_ends(texts.characters(i), flags, line, side, end) {
@@ -175,8 +181,10 @@ fn repeat_ends(text: &[char], before: bool, flags: &[bool], line: &[SourceChar],
 fn step_texts(texts: &Texts, repeating: &mut [bool], flags: &[bool], line: &[SourceChar], k: usize)
     requires flagged { k < length flags.now }
     requires within { k < length line.now }
-    requires told { repeating.old ≡ map (repeat_ends flags.now (reverse (chars_of line.now)) k) (texts_of texts.now) }
-    ensures { repeating.new ≡ map (repeat_ends flags.now (reverse (chars_of line.now)) (k + 1)) (texts_of texts.now) }
+    requires told { repeating.old
+        ≡ map (repeat_ends flags.now (reverse (chars_of line.now)) k) (texts_of texts.now) }
+    ensures { repeating.new ≡ map (repeat_ends flags.now (reverse (chars_of line.now)) (k + 1))
+        (texts_of texts.now) }
 {
     for i in 0..texts.len() {
         let before = repeating[i];
@@ -195,8 +203,11 @@ fn step_repeats(
 )
     requires flagged { k < length flags.now }
     requires within { k < length line.now }
-    requires told { repeating.old ≡ map (repeat_ends flags.now (walked side (chars_of line.now)) k) (side_repeated (rules_of rules.now) side) }
-    ensures { repeating.new ≡ map (repeat_ends flags.now (walked side (chars_of line.now)) (k + 1)) (side_repeated (rules_of rules.now) side) }
+    requires told { repeating.old
+        ≡ map (repeat_ends flags.now (walked side (chars_of line.now)) k)
+        (side_repeated (rules_of rules.now) side) }
+    ensures { repeating.new ≡ map (repeat_ends flags.now (walked side (chars_of line.now)) (k + 1))
+        (side_repeated (rules_of rules.now) side) }
 {
     match side {
         Side::Front => {}
@@ -212,7 +223,8 @@ fn any_set(flags: &[bool]) -> bool
 
 /// What is known before the first place: none of the texts that repeat ends there.
 fn no_repeats(alloc: Global, rules: &Rules, side: Side) -> Result<Vec<bool>, AllocError>
-    ensures { IfOk result (λ v. v.items ≡ replicate (length (side_repeated (rules_of rules.now) side)) false) }
+    ensures { IfOk result (λ v. v.items
+        ≡ replicate (length (side_repeated (rules_of rules.now) side)) false) }
 {
     match side {
         Side::Front => Ok(Vec::new(alloc)),
@@ -258,8 +270,11 @@ fn piece_ends(
     requires within { end ≤ length line.now }
     requires some { 0 < end }
     requires front { IsRunFront flags.now (walked side (chars_of line.now)) end first }
-    requires told { repeated ≡ list_any (repeat_ends flags.now (walked side (chars_of line.now)) end) (side_repeated (rules_of rules.now) side) }
-    ensures { result ≡ ends_piece (is_walked_piece (rules_of rules.now) side) flags.now (walked side (chars_of line.now)) end }
+    requires told { repeated
+        ≡ list_any (repeat_ends flags.now (walked side (chars_of line.now)) end)
+        (side_repeated (rules_of rules.now) side) }
+    ensures { result ≡ ends_piece (is_walked_piece (rules_of rules.now) side) flags.now
+        (walked side (chars_of line.now)) end }
 {
     let space = space_ends(flags, line, side, end);
     let separator = rules.separators() && separator_ends(flags, line, side, end, first);
@@ -275,7 +290,9 @@ pub fn longest_row(
     side: Side,
     line: &[SourceChar],
 ) -> Result<usize, AllocError>
-    ensures row { IfOk result (λ n. n ≡ longest_front (is_row (is_walked_piece (rules_of rules.now) side)) (walked side (chars_of line.now))) }
+    ensures row { IfOk result (λ n. n
+        ≡ longest_front (is_row (is_walked_piece (rules_of rules.now) side))
+        (walked side (chars_of line.now))) }
     ensures within { IfOk result (λ n. n ≤ length line.now) }
 {
     let reach = reach(rules, side);

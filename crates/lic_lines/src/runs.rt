@@ -57,7 +57,8 @@ pub fn group_end(grouping: Grouping, cells: &[Cell], from: usize) -> usize
     requires { from < length cells.now }
     ensures after { from < result }
     ensures within { result ≤ length cells.now }
-    ensures group { groups (together grouping) (drop from cells.now) ≡ slice_range cells.now from result ∷ groups (together grouping) (drop result cells.now) }
+    ensures group { groups (together grouping) (drop from cells.now)
+        ≡ slice_range cells.now from result ∷ groups (together grouping) (drop result cells.now) }
 {
     let mut end = from + 1;
     while end < cells.len() && together(grouping, &cells[end - 1], &cells[end]) {

@@ -44,7 +44,9 @@ fn settle(tokens: &mut [FirstToken], kept: usize, at: usize) -> usize
     requires within { at < length tokens.old }
     ensures after { at < result }
     ensures within { result ≤ length tokens.old }
-    ensures settled { tokens_in (take (kept + 1) tokens.new) ++ single_signs (tokens_in (drop result tokens.new)) ≡ tokens_in (take kept tokens.old) ++ single_signs (tokens_in (drop at tokens.old)) }
+    ensures settled { tokens_in (take (kept + 1) tokens.new)
+        ++ single_signs (tokens_in (drop result tokens.new))
+        ≡ tokens_in (take kept tokens.old) ++ single_signs (tokens_in (drop at tokens.old)) }
 {
     tokens.swap(kept, at);
     if tokens.len() - at > 2
@@ -72,7 +74,9 @@ fn first_sign(tokens: &[FirstToken], from: usize) -> usize
     requires { from ≤ length tokens.now }
     ensures after { from ≤ result }
     ensures within { result ≤ length tokens.now }
-    ensures plain { tokens_in (take result tokens.now) ++ single_signs (tokens_in (drop result tokens.now)) ≡ tokens_in (take from tokens.now) ++ single_signs (tokens_in (drop from tokens.now)) }
+    ensures plain { tokens_in (take result tokens.now)
+        ++ single_signs (tokens_in (drop result tokens.now))
+        ≡ tokens_in (take from tokens.now) ++ single_signs (tokens_in (drop from tokens.now)) }
 {
     let mut at = from;
     while at < tokens.len() && !may_begin_sign(&tokens[at]) {
@@ -84,7 +88,9 @@ fn first_sign(tokens: &[FirstToken], from: usize) -> usize
 /// Makes each copyright sign from this token on one token by itself.
 pub fn join_single_signs(tokens: &mut Vec<FirstToken>, from: usize)
     requires { from ≤ length tokens.old.items }
-    ensures { tokens_in tokens.new.items ≡ tokens_in (take from tokens.old.items) ++ single_signs (tokens_in (drop from tokens.old.items)) }
+    ensures { tokens_in tokens.new.items
+        ≡ tokens_in (take from tokens.old.items)
+        ++ single_signs (tokens_in (drop from tokens.old.items)) }
 {
     let first = first_sign(tokens, from);
     let mut kept = first;

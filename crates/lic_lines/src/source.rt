@@ -19,7 +19,8 @@ pub struct SourceChar {
 /// The characters of a text that is no source, where only letters count: without the dropped ones, each placed at
 /// byte 0. The error is that memory ran out.
 pub fn unplaced(alloc: Global, text: &str) -> Result<Vec<SourceChar>, AllocError>
-    ensures { IfOk result (λ characters. characters.items ≡ without_dropped (unplaced (chars text.now))) }
+    ensures { IfOk result (λ characters. characters.items
+        ≡ without_dropped (unplaced (chars text.now))) }
 {
     let mut characters = Vec::new(alloc);
     for char in text.chars() {

@@ -41,7 +41,7 @@ fn any_opens_in(c: char, side: Side, texts: &Texts) -> bool
 
 /// A quick look: false where no text of a side begins in white space or in this character.
 #[inline(always)]
-fn quick_look(rules: &Rules, side: Side, c: char) -> bool
+pub(crate) fn quick_look(rules: &Rules, side: Side, c: char) -> bool
     ensures { result ≡ false → may_open (rules_of rules.now) side c ≡ false }
 {
     match side {
@@ -51,7 +51,7 @@ fn quick_look(rules: &Rules, side: Side, c: char) -> bool
 }
 
 /// Whether one of the texts of a side begins in white space or in this character.
-pub(crate) fn may_open(rules: &Rules, side: Side, c: char) -> bool
+fn may_open(rules: &Rules, side: Side, c: char) -> bool
     ensures { result ≡ may_open (rules_of rules.now) side c }
 {
     if !quick_look(rules, side, c) {
@@ -69,8 +69,10 @@ pub(crate) fn may_open(rules: &Rules, side: Side, c: char) -> bool
 /// How many characters on the way from a side are white space.
 fn spaces(side: Side, line: &[SourceChar]) -> usize
     ensures within { result ≤ length line.now }
-    ensures all { (i : ℕ) → i < result → is_whitespace (slice_index (walked side (chars_of line.now)) i) ≡ true }
-    ensures stop { result < length line.now → is_whitespace (slice_index (walked side (chars_of line.now)) result) ≡ false }
+    ensures all { (i : ℕ) → i < result
+        → is_whitespace (slice_index (walked side (chars_of line.now)) i) ≡ true }
+    ensures stop { result < length line.now
+        → is_whitespace (slice_index (walked side (chars_of line.now)) result) ≡ false }
 {
     let mut count = 0;
     while count < line.len() && char_at(line, side, count).is_whitespace() {
@@ -83,8 +85,10 @@ fn spaces(side: Side, line: &[SourceChar]) -> usize
 fn three_alike(side: Side, line: &[SourceChar], place: usize) -> bool
     requires { place < length line.now }
     ensures { result ≡ false → place + 2 < length line.now
-        → slice_index (walked side (chars_of line.now)) (place + 1) ≡ slice_index (walked side (chars_of line.now)) place
-        → slice_index (walked side (chars_of line.now)) (place + 2) ≢ slice_index (walked side (chars_of line.now)) place }
+        → slice_index (walked side (chars_of line.now)) (place + 1)
+        ≡ slice_index (walked side (chars_of line.now)) place
+        → slice_index (walked side (chars_of line.now)) (place + 2)
+        ≢ slice_index (walked side (chars_of line.now)) place }
 {
     let c = char_at(line, side, place);
     line.len() - place > 2
@@ -95,7 +99,9 @@ fn three_alike(side: Side, line: &[SourceChar], place: usize) -> bool
 /// How long the longest row of pieces is where it is white space alone, as far as the character behind
 /// that tells, if there is one.
 fn space_row(rules: &Rules, side: Side, line: &[SourceChar]) -> Option<usize>
-    ensures row { IfSome result (λ n. n ≡ longest_front (is_row (is_walked_piece (rules_of rules.now) side)) (walked side (chars_of line.now))) }
+    ensures row { IfSome result (λ n. n
+        ≡ longest_front (is_row (is_walked_piece (rules_of rules.now) side))
+        (walked side (chars_of line.now))) }
     ensures within { IfSome result (λ n. n ≤ length line.now) }
 {
     let count = spaces(side, line);
@@ -118,7 +124,9 @@ pub fn row_length(
     side: Side,
     line: &[SourceChar],
 ) -> Result<usize, AllocError>
-    ensures row { IfOk result (λ n. n ≡ longest_front (is_row (is_walked_piece (rules_of rules.now) side)) (walked side (chars_of line.now))) }
+    ensures row { IfOk result (λ n. n
+        ≡ longest_front (is_row (is_walked_piece (rules_of rules.now) side))
+        (walked side (chars_of line.now))) }
     ensures within { IfOk result (λ n. n ≤ length line.now) }
 {
     match space_row(rules, side, line) {

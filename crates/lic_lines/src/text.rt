@@ -26,8 +26,10 @@ pub(crate) struct FrontRow {
 /// How many characters in front of a text are marks.
 fn mark_count(text: &[SourceChar]) -> usize
     ensures within { result ≤ length text.now }
-    ensures all { (i : ℕ) (d : SourceChar) → i < result → kind_of (slice_index_or text.now i d).char ≡ Kind.Mark }
-    ensures stop { (d : SourceChar) → result < length text.now → kind_of (slice_index_or text.now result d).char ≢ Kind.Mark }
+    ensures all { (i : ℕ) (d : SourceChar) → i < result
+        → kind_of (slice_index_or text.now i d).char ≡ Kind.Mark }
+    ensures stop { (d : SourceChar) → result < length text.now
+        → kind_of (slice_index_or text.now result d).char ≢ Kind.Mark }
 {
     let mut end = 0;
     while end < text.len() && kind_of(text[end].char) == Kind::Mark {
@@ -47,8 +49,14 @@ pub(crate) fn push_marks(
     out: &mut Vec<FirstToken>,
 ) -> Result<bool, AllocError>
     requires { All (λ s. kind_of s.char ≡ Kind.Mark) marks.now }
-    ensures tokens { OnOk result (tokens_in out.new.items ≡ tokens_in out.old.items ++ tokens_from after_blank (groups both_words (runs_joined (rules_of rules.now) (map cell_of marks.now)))) }
-    ensures blank { IfOk result (λ blank. blank ≡ blank_behind after_blank (groups both_words (runs_joined (rules_of rules.now) (map cell_of marks.now)))) }
+    ensures tokens { OnOk result
+        (tokens_in out.new.items
+        ≡ tokens_in out.old.items
+        ++ tokens_from after_blank
+        (groups both_words (runs_joined (rules_of rules.now) (map cell_of marks.now)))) }
+    ensures blank { IfOk result (λ blank. blank
+        ≡ blank_behind after_blank
+        (groups both_words (runs_joined (rules_of rules.now) (map cell_of marks.now)))) }
 {
     if let [mark] = marks {
         out.push(mark_token(alloc, after_blank, *mark, &mut room.letters)?)?;
@@ -72,7 +80,9 @@ fn push_front(
     requires { 0 < length text.now }
     ensures some { IfOk result (λ row. 0 < row.length) }
     ensures within { IfOk result (λ row. row.length ≤ length text.now) }
-    ensures tokens { IfOk result (λ row. tokens_in out.new.items ++ tokens_after (rules_of rules.now) row.blank_behind (drop row.length text.now) ≡ tokens_in out.old.items ++ tokens_after (rules_of rules.now) after_blank text.now) }
+    ensures tokens { IfOk result (λ row. tokens_in out.new.items
+        ++ tokens_after (rules_of rules.now) row.blank_behind (drop row.length text.now)
+        ≡ tokens_in out.old.items ++ tokens_after (rules_of rules.now) after_blank text.now) }
 {
     match kind_of(text[0].char) {
         Kind::Blank | Kind::Dropped => Ok(FrontRow {
@@ -108,7 +118,8 @@ pub(crate) fn push_text(
     room: &mut Room,
     out: &mut Vec<FirstToken>,
 ) -> Result<(), AllocError>
-    ensures { OnOk result (tokens_in out.new.items ≡ tokens_in out.old.items ++ stretch_tokens (rules_of rules.now) text.now) }
+    ensures { OnOk result (tokens_in out.new.items
+        ≡ tokens_in out.old.items ++ stretch_tokens (rules_of rules.now) text.now) }
 {
     let mut after_blank = true;
     let mut at = 0;

@@ -26,7 +26,8 @@ pub struct FirstToken {
 
 /// Adds the letters that a character stands for.
 fn push_spelled(alloc: Global, text: &mut String, c: char) -> Result<(), AllocError>
-    ensures { OnOk result (string_bytes text.new ≡ string_bytes text.old ++ encode_utf8_all (spell c)) }
+    ensures { OnOk result (string_bytes text.new
+        ≡ string_bytes text.old ++ encode_utf8_all (spell c)) }
 {
     let letters = spell(alloc, c)?;
     for letter in letters.as_slice() {
@@ -38,7 +39,8 @@ fn push_spelled(alloc: Global, text: &mut String, c: char) -> Result<(), AllocEr
 /// Adds the letters that a word character stands for.
 fn push_word_letters(alloc: Global, text: &mut String, c: char) -> Result<(), AllocError>
     requires { kind_of c ≡ Kind.Word }
-    ensures { OnOk result (string_bytes text.new ≡ string_bytes text.old ++ encode_utf8_all (spell c)) }
+    ensures { OnOk result (string_bytes text.new
+        ≡ string_bytes text.old ++ encode_utf8_all (spell c)) }
 {
     if c.is_ascii() {
         words_are_folded();
@@ -50,7 +52,8 @@ fn push_word_letters(alloc: Global, text: &mut String, c: char) -> Result<(), Al
 
 /// Adds the letters that a cell stands for.
 fn push_letters(alloc: Global, text: &mut String, cell: &Cell) -> Result<(), AllocError>
-    ensures { OnOk result (string_bytes text.new ≡ string_bytes text.old ++ encode_utf8_all (cell_letters cell.now)) }
+    ensures { OnOk result (string_bytes text.new
+        ≡ string_bytes text.old ++ encode_utf8_all (cell_letters cell.now)) }
 {
     match cell {
         Cell::Blank => Ok(()),
@@ -96,9 +99,12 @@ pub(crate) fn spell_word(
     letters: &mut String,
 ) -> Result<usize, AllocError>
     ensures within { IfOk result (λ count. count ≤ length text.now) }
-    ensures words { IfOk result (λ count. (i : ℕ) (d : SourceChar) → i < count → kind_of (slice_index_or text.now i d).char ≡ Kind.Word) }
-    ensures stop { IfOk result (λ count. (d : SourceChar) → count < length text.now → kind_of (slice_index_or text.now count d).char ≢ Kind.Word) }
-    ensures letters { IfOk result (λ count. string_bytes letters.new ≡ encode_utf8_all (letters_of (map Word (take count text.now)))) }
+    ensures words { IfOk result (λ count. (i : ℕ) (d : SourceChar) → i < count
+        → kind_of (slice_index_or text.now i d).char ≡ Kind.Word) }
+    ensures stop { IfOk result (λ count. (d : SourceChar) → count < length text.now
+        → kind_of (slice_index_or text.now count d).char ≢ Kind.Word) }
+    ensures letters { IfOk result (λ count. string_bytes letters.new
+        ≡ encode_utf8_all (letters_of (map Word (take count text.now)))) }
 {
     letters.clear();
     let mut count = 0;
@@ -118,7 +124,8 @@ pub(crate) fn word_token(
 ) -> Result<FirstToken, AllocError>
     requires some { 0 < length word.now }
     requires letters { letters.now ≡ encode_utf8_all (letters_of (map Word word.now)) }
-    ensures { IfOk result (λ token. token_in token ∷ [] ≡ tokens_from after_blank (map Word word.now ∷ [])) }
+    ensures { IfOk result (λ token. token_in token ∷ []
+        ≡ tokens_from after_blank (map Word word.now ∷ [])) }
 {
     Ok(FirstToken {
         text: SmallString::from_str(alloc, letters)?,
@@ -156,8 +163,11 @@ pub(crate) fn push_first_tokens(
     cells: &[Cell],
     room: &mut String,
 ) -> Result<bool, AllocError>
-    ensures tokens { OnOk result (tokens_in out.new.items ≡ tokens_in out.old.items ++ tokens_from after_blank (groups both_words cells.now)) }
-    ensures blank { IfOk result (λ blank. blank ≡ blank_behind after_blank (groups both_words cells.now)) }
+    ensures tokens { OnOk result
+        (tokens_in out.new.items
+        ≡ tokens_in out.old.items ++ tokens_from after_blank (groups both_words cells.now)) }
+    ensures blank { IfOk result (λ blank. blank
+        ≡ blank_behind after_blank (groups both_words cells.now)) }
 {
     let mut at = 0;
     while at < cells.len() {

@@ -27,7 +27,8 @@ pub fn char_at(line: &[SourceChar], side: Side, place: usize) -> char
 pub fn part(line: &[SourceChar], side: Side, from: usize, to: usize) -> &[SourceChar]
     requires order { from ≤ to }
     requires within { to ≤ length line.now }
-    ensures { walked side (chars_of result.now) ≡ slice_range (walked side (chars_of line.now)) from to }
+    ensures { walked side (chars_of result.now)
+        ≡ slice_range (walked side (chars_of line.now)) from to }
 {
     match side {
         Side::Front => &line[from..to],

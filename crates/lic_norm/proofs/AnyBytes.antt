@@ -115,13 +115,17 @@ begins_or_not bytes some = at (width_of_first bytes) refl
 -- the source characters behind a character are those of what follows it
 behind_all : (front rest : List ℕ) (at : ℕ) → source_behind (length front) at (front ++ rest) ≡ source_behind 0 (at + length front) rest
 behind_all [] rest at = ap (λ n. source_behind 0 n rest) (let e : at ≡ at + 0 = omega arith in e)
-behind_all (b ∷ front) rest at = behind_all front rest (at + 1) ∙ ap (λ n. source_behind 0 n rest) (let e : at + 1 + length front ≡ at + length (b ∷ front) = omega arith in e)
+behind_all (b ∷ front) rest at =
+    behind_all front rest (at + 1)
+    ∙ ap (λ n. source_behind 0 n rest) (let e : at + 1 + length front ≡ at + length (b ∷ front) = omega arith in e)
 
 pub source_of-none : (at : ℕ) → source_of at [] ≡ []
 unfolding source_of
 source_of-none at = refl
 
-pub source_of-char : (at c : ℕ) (rest : List ℕ) → IsScalar c → source_of at (encode_utf8 c ++ rest) ≡ (record { char = c; start = at; end = at + len_utf8 c }) ∷ source_of (at + len_utf8 c) rest
+pub source_of-char : (at c : ℕ) (rest : List ℕ) → IsScalar c
+    → source_of at (encode_utf8 c ++ rest)
+    ≡ (record { char = c; start = at; end = at + len_utf8 c }) ∷ source_of (at + len_utf8 c) rest
 unfolding source_of
 source_of-char at c rest scalar = by (encode_utf8 c) refl
   where
@@ -129,7 +133,9 @@ source_of-char at c rest scalar = by (encode_utf8 c) refl
     own = ap chars (take_at (encode_utf8 c) rest (len_utf8 c) (length-encode c))
         ∙ chars_past_char (encode_utf8 c) [] c (IsUtf8-encode c scalar) (sym (append-nil (encode_utf8 c))) ∙ ap (λ l. c ∷ l) chars-nil
 
-    by : (front : List ℕ) → encode_utf8 c ≡ front → source_behind 0 at (encode_utf8 c ++ rest) ≡ (record { char = c; start = at; end = at + len_utf8 c }) ∷ source_behind 0 (at + len_utf8 c) rest
+    by : (front : List ℕ) → encode_utf8 c ≡ front
+        → source_behind 0 at (encode_utf8 c ++ rest)
+        ≡ (record { char = c; start = at; end = at + len_utf8 c }) ∷ source_behind 0 (at + len_utf8 c) rest
     by [] e = absurd (omega (arith, ap length e, length-encode c, len_utf8_bounds c))
     by (b ∷ front) e =
         let bytes = encode_utf8 c ++ rest in
@@ -146,11 +152,18 @@ source_of-char at c rest scalar = by (encode_utf8 c) refl
         (ap (λ n. source_behind n (at + 1) (front ++ rest)) long ∙ behind_all front rest (at + 1)
         ∙ ap (λ n. source_behind 0 n rest) (let e : at + 1 + length front ≡ at + len_utf8 c = omega (arith, long, len_utf8_bounds c) in e))
 
-pub source_of-byte : (at b : ℕ) (rest : List ℕ) → StartsWithNoChar (b ∷ rest) → source_of at (b ∷ rest) ≡ (record { char = 0xFFFD; start = at; end = at + 1 }) ∷ source_of (at + 1) rest
+pub source_of-byte : (at b : ℕ) (rest : List ℕ) → StartsWithNoChar (b ∷ rest)
+    → source_of at (b ∷ rest) ≡ (record { char = 0xFFFD; start = at; end = at + 1 }) ∷ source_of (at + 1) rest
 unfolding source_of
 source_of-byte at b rest none =
     let found = no_width_of (b ∷ rest) (omega arith) none in
-    ap (λ (o : Option ℕ). (record { char = option_map_or (λ n. slice_index (chars (take n (b ∷ rest))) 0) o 0xFFFD; start = at; end = at + unwrap_or o 1 }) ∷ source_behind (unwrap_or o 1 - 1) (at + 1) rest) found
+    ap (λ (o : Option ℕ). (record {
+      char =
+          option_map_or (λ n. slice_index (chars (take n (b ∷ rest))) 0) o 0xFFFD;
+      start = at;
+      end =
+          at + unwrap_or o 1;
+    }) ∷ source_behind (unwrap_or o 1 - 1) (at + 1) rest) found
 
 -- Source characters as they are read from the front of bytes that begin at this byte of the input.
 pub data AreRead : ℕ → List ℕ → List SourceChar → Type 0 where
@@ -169,16 +182,25 @@ source_of-AreRead at bytes = within (length bytes) at bytes (omega arith)
     within (suc n) at (b ∷ bytes) short =
         elim (begins_or_not (b ∷ bytes) (omega arith)) [
           | inl first ↦
-              let less : length first.rest ≤ n = omega (arith, ap length first.parts, length-append (encode_utf8 first.c) first.rest, length-encode first.c, len_utf8_bounds first.c) in
+              let less : length first.rest ≤ n =
+              omega (
+                arith,
+                ap length first.parts,
+                length-append (encode_utf8 first.c) first.rest,
+                length-encode first.c,
+                len_utf8_bounds first.c,
+              ) in
               subst (AreRead at (b ∷ bytes)) (sym (ap (source_of at) first.parts ∙ source_of-char at first.c first.rest first.scalar))
               (AreRead.a_char at (b ∷ bytes) first.c first.rest _ first.scalar first.parts (within n (at + len_utf8 first.c) first.rest less))
-          | inr none ↦ subst (AreRead at (b ∷ bytes)) (sym (source_of-byte at b bytes none)) (AreRead.a_byte at b bytes _ none (within n (at + 1) bytes (omega arith)))
+          | inr none ↦ subst (AreRead at (b ∷ bytes)) (sym (source_of-byte at b bytes none))
+              (AreRead.a_byte at b bytes _ none (within n (at + 1) bytes (omega arith)))
         ]
 
 -- ---- cuts that go through no character
 
 -- characters before some bytes are read first
-pub source_of-chars : (at : ℕ) (cs : List ℕ) (rest : List ℕ) → all_scalars cs ≡ true → source_of at (encode_utf8_all cs ++ rest) ≡ placed at cs ++ source_of (at + length (encode_utf8_all cs)) rest
+pub source_of-chars : (at : ℕ) (cs : List ℕ) (rest : List ℕ) → all_scalars cs ≡ true
+    → source_of at (encode_utf8_all cs ++ rest) ≡ placed at cs ++ source_of (at + length (encode_utf8_all cs)) rest
 source_of-chars at [] rest scalars = ap (λ n. source_of n rest) (let e : at ≡ at + 0 = omega arith in e)
 source_of-chars at (c ∷ cs) rest scalars =
     let both : IsScalar c × (all_scalars cs ≡ true) = and_parts _ _ scalars in
@@ -212,7 +234,8 @@ no_char_sooner front rest none = λ c behind scalar parts.
     none c (behind ++ rest) scalar (ap (λ l. l ++ rest) parts ∙ append_assoc (encode_utf8 c) behind rest)
 
 -- No character goes over an ASCII byte: what stands before it is read by itself.
-pub source_of-before_ascii : (at : ℕ) (front : List ℕ) (b : ℕ) (rest : List ℕ) → b < 128 → source_of at (front ++ b ∷ rest) ≡ source_of at front ++ source_of (at + length front) (b ∷ rest)
+pub source_of-before_ascii : (at : ℕ) (front : List ℕ) (b : ℕ) (rest : List ℕ) → b < 128
+    → source_of at (front ++ b ∷ rest) ≡ source_of at front ++ source_of (at + length front) (b ∷ rest)
 source_of-before_ascii at front b rest ascii = by (source_of-AreRead at (front ++ b ∷ rest)) front refl
   where
     nothing : (at : ℕ) → source_of at (b ∷ rest) ≡ source_of at [] ++ source_of (at + 0) (b ∷ rest)
@@ -229,7 +252,9 @@ source_of-before_ascii at front b rest ascii = by (source_of-AreRead at (front +
         (λ (within : len_utf8 c ≤ length front). within)
         (cases_lt (length front) (len_utf8 c))
 
-    by : {at : ℕ} {bytes : List ℕ} {cs : List SourceChar} → AreRead at bytes cs → (front : List ℕ) → bytes ≡ front ++ b ∷ rest → source_of at bytes ≡ source_of at front ++ source_of (at + length front) (b ∷ rest)
+    by : {at : ℕ} {bytes : List ℕ} {cs : List SourceChar} → AreRead at bytes cs → (front : List ℕ)
+        → bytes ≡ front ++ b ∷ rest → source_of at bytes
+        ≡ source_of at front ++ source_of (at + length front) (b ∷ rest)
     by (AreRead.no_bytes at) front parts = absurd (omega (arith, ap length parts, length-append front (b ∷ rest)))
     by (AreRead.a_char at bytes c behind cs scalar came read) [] parts = ap (source_of at) parts ∙ nothing at
     by (AreRead.a_char at bytes c behind cs scalar came read) (x ∷ front) parts =
@@ -275,5 +300,9 @@ source_of-has_none at b bytes other ascii none = by (source_of-AreRead at bytes)
         (λ same.
         let first : bytes ≡ b ∷ rest = came ∙ ap (λ d. encode_utf8 d ++ rest) same ∙ ap (λ l. l ++ rest) (encode_ascii b ascii) in
         All-head IsOther b rest (subst (All IsOther) first none) refl)
-        (by read (subst (All IsOther) (ap (drop (len_utf8 c)) came ∙ drop_at (encode_utf8 c) rest (len_utf8 c) (length-encode c)) (All-drop IsOther (len_utf8 c) bytes none)))
-    by (AreRead.a_byte at a rest cs nothing read) none = All-cons IsOther 0xFFFD (chars_of cs) (λ same. absurd (omega (arith, same))) (by read (All-tail IsOther a rest none))
+        (by read (subst (All IsOther)
+        (ap (drop (len_utf8 c)) came ∙ drop_at (encode_utf8 c) rest (len_utf8 c) (length-encode c))
+        (All-drop IsOther (len_utf8 c) bytes none)))
+    by (AreRead.a_byte at a rest cs nothing read) none =
+        All-cons IsOther 0xFFFD (chars_of cs) (λ same. absurd (omega (arith, same)))
+        (by read (All-tail IsOther a rest none))

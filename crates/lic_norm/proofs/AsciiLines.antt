@@ -27,4 +27,6 @@ none_dropped at (b ∷ bytes) ascii =
     ∙ ap (λ l. record { char = b; start = at; end = at + len_utf8 b } ∷ l) (none_dropped (at + len_utf8 b) bytes (behind b bytes ascii))
 
 pub source_of-ascii_line : (at : ℕ) (line : List ℕ) → IsUtf8 line → IsAscii line → placed at line ≡ without_dropped (source_of at line)
-source_of-ascii_line at line utf8 ascii = sym (ap without_dropped (source_of-utf8 at line utf8 ∙ ap (placed at) (chars-IsAscii line ascii)) ∙ none_dropped at line ascii)
+source_of-ascii_line at line utf8 ascii =
+    sym (ap without_dropped (source_of-utf8 at line utf8 ∙ ap (placed at) (chars-IsAscii line ascii))
+    ∙ none_dropped at line ascii)

@@ -48,8 +48,12 @@ pub parts_of_cut : {A : Type 0} (ends : A → Bool) (xs : List A) → flat_map (
 parts_of_cut ends [] = refl
 parts_of_cut {A} ends (x ∷ xs) =
     elim (cases_Bool (ends x)) [
-      | inl yes_end ↦ ap (flat_map (λ part. part)) (cond-true (ends x) ((x ∷ []) ∷ cut_after ends xs) (onto_first x (cut_after ends xs)) yes_end) ∙ ap (λ l. x ∷ l) (parts_of_cut ends xs)
-      | inr no_end ↦ ap (flat_map (λ part. part)) (cond-false (ends x) ((x ∷ []) ∷ cut_after ends xs) (onto_first x (cut_after ends xs)) no_end) ∙ onto (cut_after ends xs) ∙ ap (λ l. x ∷ l) (parts_of_cut ends xs)
+      | inl yes_end ↦ ap (flat_map (λ part. part))
+          (cond-true (ends x) ((x ∷ []) ∷ cut_after ends xs) (onto_first x (cut_after ends xs)) yes_end)
+          ∙ ap (λ l. x ∷ l) (parts_of_cut ends xs)
+      | inr no_end ↦ ap (flat_map (λ part. part))
+          (cond-false (ends x) ((x ∷ []) ∷ cut_after ends xs) (onto_first x (cut_after ends xs)) no_end)
+          ∙ onto (cut_after ends xs) ∙ ap (λ l. x ∷ l) (parts_of_cut ends xs)
     ]
   where
     onto : (parts : List (List A)) → flat_map (λ part. part) (onto_first x parts) ≡ x ∷ flat_map (λ part. part) parts
@@ -72,7 +76,8 @@ parts_of_groups {A} together (x ∷ xs) = join (groups together xs) ∙ ap (λ l
 -- ---- characters
 
 -- source characters that are read lie in the source, if it has them
-read-Lie : (source : List ℕ) {at : ℕ} {bytes : List ℕ} {cs : List SourceChar} → AreRead at bytes cs → ((s : SourceChar) → Contains cs s → Contains (source_of 0 source) s) → CharsLie source at cs (at + length bytes)
+read-Lie : (source : List ℕ) {at : ℕ} {bytes : List ℕ} {cs : List SourceChar} → AreRead at bytes cs
+    → ((s : SourceChar) → Contains cs s → Contains (source_of 0 source) s) → CharsLie source at cs (at + length bytes)
 read-Lie source (AreRead.no_bytes at) has = omega arith
 read-Lie source (AreRead.a_char at bytes c rest cs scalar came read) has =
     let s : SourceChar = record { char = c; start = at; end = at + len_utf8 c } in
@@ -97,7 +102,9 @@ read-Lie source (AreRead.a_byte at b rest cs nothing read) has =
 
 module _ (source : List ℕ) where
   pub source-Lie : CharsLie source 0 (source_of 0 source) (length source)
-  source-Lie = subst (CharsLie source 0 (source_of 0 source)) (let e : 0 + length source ≡ length source = omega arith in e) (read-Lie source (source_of-AreRead 0 source) (λ s among. among))
+  source-Lie = subst (CharsLie source 0 (source_of 0 source))
+      (let e : 0 + length source ≡ length source = omega arith in e)
+      (read-Lie source (source_of-AreRead 0 source) (λ s among. among))
 
   -- ---- cells of lines
 
@@ -125,7 +132,8 @@ module _ (source : List ℕ) where
   solid_blank zero = refl
   solid_blank (suc n) = refl
 
-  pub line-Lie : (rules : LineRules) (part : LinePart) (from : ℕ) (line : List SourceChar) (to : ℕ) → CharsLie source from line to → CellsLie source from (line_cells rules part line) to
+  pub line-Lie : (rules : LineRules) (part : LinePart) (from : ℕ) (line : List SourceChar) (to : ℕ)
+      → CharsLie source from line to → CellsLie source from (line_cells rules part line) to
   line-Lie rules part from line to l =
       let cut = cut_of rules part (chars_of line) in
       let rest = drop (cut.lead + cut.item) line in
@@ -139,18 +147,24 @@ module _ (source : List ℕ) where
       ∙ ap (λ x. solid (blank_for cut.lead ++ blank_for cut.item ++ map cell_of kept) ++ x) (solid_blank cut.tail)
       ∙ append-nil (solid (blank_for cut.lead ++ blank_for cut.item ++ map cell_of kept))
       ∙ solid-append (blank_for cut.lead ++ blank_for cut.item) (map cell_of kept)
-      ∙ ap (λ x. x ++ solid (map cell_of kept)) (solid-append (blank_for cut.lead) (blank_for cut.item) ∙ ap (λ x. x ++ solid (blank_for cut.item)) (solid_blank cut.lead) ∙ solid_blank cut.item) in
+      ∙ ap (λ x. x ++ solid (map cell_of kept))
+      (solid-append (blank_for cut.lead) (blank_for cut.item)
+      ∙ ap (λ x. x ++ solid (blank_for cut.item)) (solid_blank cut.lead) ∙ solid_blank cut.item) in
       subst (λ x. CharsLie source from x to) (sym same) lies
 
-  lines-Lie : (f : List SourceChar → List Cell) → ((from : ℕ) (line : List SourceChar) (to : ℕ) → CharsLie source from line to → CellsLie source from (f line) to)
-      → (from : ℕ) (lines : List (List SourceChar)) (to : ℕ) → CharsLie source from (flat_map (λ line. line) lines) to → CellsLie source from (flat_map f lines) to
+  lines-Lie : (f : List SourceChar → List Cell)
+      → ((from : ℕ) (line : List SourceChar) (to : ℕ) → CharsLie source from line to → CellsLie source from (f line) to)
+      → (from : ℕ) (lines : List (List SourceChar)) (to : ℕ) → CharsLie source from (flat_map (λ line. line) lines) to
+      → CellsLie source from (flat_map f lines) to
   lines-Lie f each from [] to l = l
   lines-Lie f each from (line ∷ lines) to l =
       let two = Lie-split source (λ (r : SourceChar). r.start) (λ r. r.end) from line (flat_map (λ line. line) lines) to l in
       subst (λ x. CharsLie source from x to) (sym (solid-append (f line) (flat_map f lines)))
-      (Lie-append source (λ (r : SourceChar). r.start) (λ r. r.end) from (solid (f line)) two.0 (solid (flat_map f lines)) to (each from line two.0 two.1) (lines-Lie f each two.0 lines to two.2))
+      (Lie-append source (λ (r : SourceChar). r.start) (λ r. r.end) from (solid (f line)) two.0
+      (solid (flat_map f lines)) to (each from line two.0 two.1) (lines-Lie f each two.0 lines to two.2))
 
-  pub cells_of-Lie : (rules : LineRules) (from : ℕ) (text : List SourceChar) (to : ℕ) → CharsLie source from text to → CellsLie source from (cells_of rules text) to
+  pub cells_of-Lie : (rules : LineRules) (from : ℕ) (text : List SourceChar) (to : ℕ) → CharsLie source from text to
+      → CellsLie source from (cells_of rules text) to
   cells_of-Lie rules from text to l =
       let kept = without_dropped text in
       let lies : CharsLie source from kept to = Lie-filter source (λ (r : SourceChar). r.start) (λ r. r.end) _ from text to l in
@@ -166,7 +180,8 @@ module _ (source : List ℕ) where
       let two = Lie-split source (λ (r : SourceChar). r.start) (λ r. r.end) from (solid run) (solid (flat_map (λ run. run) runs)) to
       (subst (λ x. CharsLie source from x to) (solid-append run (flat_map (λ run. run) runs)) l) in
       subst (λ x. CharsLie source from x to) (sym (solid-append (f run) (flat_map f runs)))
-      (Lie-append source (λ (r : SourceChar). r.start) (λ r. r.end) from (solid (f run)) two.0 (solid (flat_map f runs)) to (each from run two.0 two.1) (runs-Lie f each two.0 runs to two.2))
+      (Lie-append source (λ (r : SourceChar). r.start) (λ r. r.end) from (solid (f run)) two.0
+      (solid (flat_map f runs)) to (each from run two.0 two.1) (runs-Lie f each two.0 runs to two.2))
 
   separator-Lie : (from : ℕ) (run : List Cell) (to : ℕ) → CellsLie source from run to → CellsLie source from (without_separator run) to
   separator-Lie from [] to l = l
@@ -175,12 +190,14 @@ module _ (source : List ℕ) where
   separator-Lie from (Mark s ∷ run) to l =
       let P : List Cell → Type 0 = λ cells. CellsLie source from cells to in
       elim (cases_Bool (nat_le 2 (length run))) [
-        | inl many ↦ subst P (sym (cond-true (nat_le 2 (length run)) (Blank ∷ []) (Mark s ∷ run) many)) (Lie-order source (λ (r : SourceChar). r.start) (λ r. r.end) from (s ∷ solid run) to l)
+        | inl many ↦ subst P (sym (cond-true (nat_le 2 (length run)) (Blank ∷ []) (Mark s ∷ run) many))
+            (Lie-order source (λ (r : SourceChar). r.start) (λ r. r.end) from (s ∷ solid run) to l)
         | inr few ↦ subst P (sym (cond-false (nat_le 2 (length run)) (Blank ∷ []) (Mark s ∷ run) few)) l
       ]
 
   -- where the last of these ends lies between, and a source character ends there
-  pub end_after-lies : (at : ℕ) (cells : List Cell) (to : ℕ) → EndsAt source at → CellsLie source at cells to → (at ≤ end_after at cells) × (end_after at cells ≤ to) × EndsAt source (end_after at cells)
+  pub end_after-lies : (at : ℕ) (cells : List Cell) (to : ℕ) → EndsAt source at → CellsLie source at cells to
+      → (at ≤ end_after at cells) × (end_after at cells ≤ to) × EndsAt source (end_after at cells)
   end_after-lies at [] to here l = (omega arith, l, here)
   end_after-lies at (Blank ∷ cells) to here l = end_after-lies at cells to here l
   end_after-lies at (Mark s ∷ cells) to here l = let rest = end_after-lies s.end cells to l.3 l.4 in (omega (arith, l.0, l.1, rest.0), rest.1, rest.2)
@@ -192,13 +209,19 @@ module _ (source : List ℕ) where
   joined-Lie from (Word s ∷ run) to l = l
   joined-Lie from (Mark s ∷ run) to l = let last = end_after-lies s.end run to l.3 l.4 in (l.0, omega (arith, l.1, last.0), l.2, last.2, last.1)
 
-  pub runs_joined-Lie : (rules : LineRules) (from : ℕ) (cells : List Cell) (to : ℕ) → CellsLie source from cells to → CellsLie source from (runs_joined rules cells) to
+  pub runs_joined-Lie : (rules : LineRules) (from : ℕ) (cells : List Cell) (to : ℕ) → CellsLie source from cells to
+      → CellsLie source from (runs_joined rules cells) to
   runs_joined-Lie rules from cells to l =
       let P : List Cell → Type 0 = λ cells. CellsLie source from cells to in
-      let parted : P (without_separators cells) = runs-Lie without_separator separator-Lie from (groups same_mark cells) to (subst P (sym (parts_of_groups same_mark cells)) l) in
+      let parted : P (without_separators cells) =
+      runs-Lie without_separator separator-Lie from (groups same_mark cells) to
+      (subst P (sym (parts_of_groups same_mark cells)) l) in
       let first : P (if rules.separators then without_separators cells else cells) =
       elim (cases_Bool rules.separators) [
         | inl on ↦ subst P (sym (cond-true rules.separators (without_separators cells) cells on)) parted
         | inr off ↦ subst P (sym (cond-false rules.separators (without_separators cells) cells off)) l
       ] in
-      runs-Lie joined joined-Lie from (groups same_family (if rules.separators then without_separators cells else cells)) to (subst P (sym (parts_of_groups same_family (if rules.separators then without_separators cells else cells))) first)
+      runs-Lie joined joined-Lie from
+      (groups same_family (if rules.separators then without_separators cells else cells)) to
+      (subst P (sym (parts_of_groups same_family
+      (if rules.separators then without_separators cells else cells))) first)

@@ -41,10 +41,12 @@ pub as_line-some : (front : List SourceChar) (s : SourceChar) → as_line (front
 as_line-some [] s = refl
 as_line-some (r ∷ front) s = refl
 
-cut-first : (front : List SourceChar) (feed : SourceChar) (rest : List SourceChar) → All NoEnd front → feed.char ≡ 0x0A → cut_after ends (front ++ feed ∷ rest) ≡ (front ++ feed ∷ []) ∷ cut_after ends rest
+cut-first : (front : List SourceChar) (feed : SourceChar) (rest : List SourceChar) → All NoEnd front → feed.char ≡ 0x0A
+    → cut_after ends (front ++ feed ∷ rest) ≡ (front ++ feed ∷ []) ∷ cut_after ends rest
 cut-first [] feed rest none is = cond-true (ends feed) ((feed ∷ []) ∷ cut_after ends rest) (onto_first feed (cut_after ends rest)) (eq-eqb feed.char 0x0A is)
 cut-first (s ∷ front) feed rest none is =
-    cond-false (ends s) ((s ∷ []) ∷ cut_after ends (front ++ feed ∷ rest)) (onto_first s (cut_after ends (front ++ feed ∷ rest))) (no_end-false s (All-head NoEnd s front none))
+    cond-false (ends s) ((s ∷ []) ∷ cut_after ends (front ++ feed ∷ rest))
+    (onto_first s (cut_after ends (front ++ feed ∷ rest))) (no_end-false s (All-head NoEnd s front none))
     ∙ ap (onto_first s) (cut-first front feed rest (All-tail NoEnd s front none) is)
 
 cut-only : (line : List SourceChar) → All NoEnd line → cut_after ends line ≡ as_line line
@@ -83,11 +85,13 @@ ends_line (s ∷ text) (c ∷ front) e =
 pub kept_feed : (text : List SourceChar) (front : List ℕ) (line : EndsLine text front) → without_dropped text ≡ without_dropped line.before ++ line.feed ∷ []
 kept_feed text front line =
     let kept : keeps line.feed ≡ true = ap (λ c. not (is_dropped c)) line.is_end in
-    ap without_dropped line.parts ∙ filter-append keeps line.before (line.feed ∷ []) ∙ ap (λ l. without_dropped line.before ++ l) (cond-true (keeps line.feed) (line.feed ∷ []) [] kept)
+    ap without_dropped line.parts ∙ filter-append keeps line.before (line.feed ∷ [])
+    ∙ ap (λ l. without_dropped line.before ++ l) (cond-true (keeps line.feed) (line.feed ∷ []) [] kept)
 
 no_ends : (text : List SourceChar) → All (λ c. c ≢ 0x0A) (chars_of text) → All NoEnd text
 no_ends [] none = All-nil NoEnd
-no_ends (s ∷ text) none = All-cons NoEnd s text (All-head (λ c. c ≢ 0x0A) s.char (chars_of text) none) (no_ends text (All-tail (λ c. c ≢ 0x0A) s.char (chars_of text) none))
+no_ends (s ∷ text) none = All-cons NoEnd s text (All-head (λ c. c ≢ 0x0A) s.char (chars_of text) none)
+    (no_ends text (All-tail (λ c. c ≢ 0x0A) s.char (chars_of text) none))
 
 -- The lines of a text are its first line and those of the rest, however its characters are placed.
 pub lines_of-first : (line rest : List SourceChar) (letters behind : List ℕ) → IsFirstLine letters behind → chars_of line ≡ letters → (behind ≡ [] → rest ≡ [])
@@ -100,7 +104,9 @@ lines_of-first line rest letters behind first same none_behind =
           let before = without_dropped e.before in
           let others = without_dropped rest in
           let alone : without_dropped line ≡ before ++ feed ∷ [] = kept_feed line first.front e in
-          let clear : All NoEnd before = All-filter keeps NoEnd e.before (no_ends e.before (subst (λ cs. All (λ c. c ≢ 0x0A) cs) (sym e.letters) first.no_end)) in
+          let clear : All NoEnd before =
+          All-filter keeps NoEnd e.before
+          (no_ends e.before (subst (λ cs. All (λ c. c ≢ 0x0A) cs) (sym e.letters) first.no_end)) in
           let whole : without_dropped (line ++ rest) ≡ before ++ feed ∷ others =
           filter-append keeps line rest ∙ ap (λ l. l ++ others) alone ∙ append_assoc before (feed ∷ []) others in
           ap lines_of whole ∙ cut-first before feed others clear e.is_end
@@ -118,7 +124,8 @@ lines_of-first line rest letters behind first same none_behind =
 -- ---- source characters
 
 -- the source characters of an input are those of its first line and those of the rest
-pub source_of-first : (at : ℕ) (line rest : List ℕ) → IsFirstLine line rest → source_of at (line ++ rest) ≡ source_of at line ++ source_of (at + length line) rest
+pub source_of-first : (at : ℕ) (line rest : List ℕ) → IsFirstLine line rest
+    → source_of at (line ++ rest) ≡ source_of at line ++ source_of (at + length line) rest
 source_of-first at line rest first =
     elim first.ends [
       | inl feed_last ↦
@@ -161,7 +168,9 @@ letters_of-first at line rest first =
 
 -- a line without characters leaves nothing
 pub no_cells_whole : (rules : LineRules) → line_cells rules whole_line [] ≡ []
-no_cells_whole rules = ap (λ n. cells_of_cut (record { lead = 0; item = n; tail = tail_length rules whole_line (drop n []) }) []) (item_none rules [] [] (omega arith) (few_behind None))
+no_cells_whole rules = ap (λ n.
+    cells_of_cut (record { lead = 0; item = n; tail = tail_length rules whole_line (drop n []) }) [])
+    (item_none rules [] [] (omega arith) (few_behind None))
 
 -- and no cells no tokens
 pub no_tokens : (rules : LineRules) → tokens_of_cells rules [] ≡ []
@@ -172,7 +181,9 @@ line_or_none rules [] = sym (ap (tokens_of_cells rules) (no_cells_whole rules) �
 line_or_none rules (s ∷ line) = append-nil (line_tokens rules whole_line (s ∷ line))
 
 -- The tokens of an input are those of its first line and those of the rest.
-pub first_tokens_of-first : (rules : LineRules) (at : ℕ) (input line rest : List ℕ) → input ≡ line ++ rest → IsFirstLine line rest → first_tokens_of rules at input ≡ line_tokens_of rules at line ++ first_tokens_of rules (at + length line) rest
+pub first_tokens_of-first : (rules : LineRules) (at : ℕ) (input line rest : List ℕ) → input ≡ line ++ rest
+    → IsFirstLine line rest → first_tokens_of rules at input
+    ≡ line_tokens_of rules at line ++ first_tokens_of rules (at + length line) rest
 unfolding first_tokens_of line_tokens_of
 first_tokens_of-first rules at input line rest parts first =
     let here = source_of at line in

@@ -26,7 +26,9 @@ text_read out out' at bytes text utf8 within front added =
 
 -- a byte at which no character begins is read as U+FFFD
 pub byte_read : (out : List SourceChar) (at n : ℕ) (bytes : List ℕ) → n < length bytes → StartsWithNoChar (drop n bytes)
-    → (out ++ (record { char = 0xFFFD; start = at + n; end = at + n + 1 }) ∷ []) ++ without_dropped (source_of (at + (n + 1)) (drop (n + 1) bytes)) ≡ out ++ without_dropped (source_of (at + n) (drop n bytes))
+    → (out ++ (record { char = 0xFFFD; start = at + n; end = at + n + 1 }) ∷ [])
+    ++ without_dropped (source_of (at + (n + 1)) (drop (n + 1) bytes))
+    ≡ out ++ without_dropped (source_of (at + n) (drop n bytes))
 byte_read out at n bytes within none =
     let single : SourceChar = record { char = 0xFFFD; start = at + n; end = at + n + 1 } in
     let rest = drop (n + 1) bytes in
@@ -34,10 +36,15 @@ byte_read out at n bytes within none =
     drop-cons bytes n 0 within ∙ ap (λ m. get_or bytes n 0 ∷ drop m bytes) (let e : suc n ≡ n + 1 = omega arith in e) in
     let there : at + n + 1 ≡ at + (n + 1) = omega arith in
     let read : source_of (at + n) (drop n bytes) ≡ single ∷ source_of (at + (n + 1)) rest =
-    ap (source_of (at + n)) parts ∙ source_of-byte (at + n) (get_or bytes n 0) rest (subst StartsWithNoChar parts none) ∙ ap (λ m. single ∷ source_of m rest) there in
+    ap (source_of (at + n)) parts ∙ source_of-byte (at + n) (get_or bytes n 0) rest (subst StartsWithNoChar parts none)
+    ∙ ap (λ m. single ∷ source_of m rest) there in
     append_assoc out (single ∷ []) (without_dropped (source_of (at + (n + 1)) rest))
-    ∙ ap (λ l. out ++ l) (sym (ap without_dropped read ∙ cond-true (not (is_dropped 0xFFFD)) (single ∷ without_dropped (source_of (at + (n + 1)) rest)) (without_dropped (source_of (at + (n + 1)) rest)) refl))
+    ∙ ap (λ l. out ++ l) (sym (ap without_dropped read
+    ∙ cond-true (not (is_dropped 0xFFFD)) (single ∷ without_dropped (source_of (at + (n + 1)) rest))
+    (without_dropped (source_of (at + (n + 1)) rest)) refl))
 
 -- behind the last byte nothing is left
 pub all_read : (out : List SourceChar) (at n : ℕ) (bytes : List ℕ) → length bytes ≤ n → out ≡ out ++ without_dropped (source_of (at + n) (drop n bytes))
-all_read out at n bytes all = sym (ap (λ l. out ++ without_dropped l) (ap (source_of (at + n)) (drop_all n bytes all) ∙ source_of-none (at + n)) ∙ append-nil out)
+all_read out at n bytes all = sym
+    (ap (λ l. out ++ without_dropped l) (ap (source_of (at + n)) (drop_all n bytes all) ∙ source_of-none (at + n))
+    ∙ append-nil out)

@@ -14,6 +14,7 @@ pub mod WholeLines
 pub mod ReaderLemmas
 pub mod ReadingLemmas
 pub mod AsciiLines
+pub mod AsciiTexts
 pub mod TextLemmas
 pub mod PieceLines
 pub mod SpellingPlaces

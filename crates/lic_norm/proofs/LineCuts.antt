@@ -22,7 +22,9 @@ line_end bytes (Some place) = place + 1
 line_end bytes None = length bytes
 
 -- the first U+000A that was found, and what stands before it
-pub found_end : (bytes : List ℕ) (place : ℕ) → IsFirstByte (is_byte 0x0A) bytes (Some place) → (take (place + 1) bytes ≡ take place bytes ++ 0x0A ∷ []) × All (λ c. c ≢ 0x0A) (take place bytes) × (place < length bytes)
+pub found_end : (bytes : List ℕ) (place : ℕ) → IsFirstByte (is_byte 0x0A) bytes (Some place)
+    → (take (place + 1) bytes ≡ take place bytes ++ 0x0A ∷ []) × All (λ c. c ≢ 0x0A) (take place bytes)
+    × (place < length bytes)
 found_end bytes place h =
     let lt : place < length bytes = h.0.high in
     let at : get_or bytes place 0 ≡ 0x0A = eqb-true (get_or bytes place 0) 0x0A h.1 in
@@ -38,7 +40,8 @@ found_none bytes h =
     let none : HasNoEnd bytes = λ k lt at. h k (omega arith) lt (eq-eqb _ _ at) in
     All-from_get_or (λ c. c ≢ 0x0A) bytes 0 none
 
-pub line_end-is : (bytes : List ℕ) (found : Option ℕ) → IsFirstByte (is_byte 0x0A) bytes found → IsFirstLine (take (line_end bytes found) bytes) (drop (line_end bytes found) bytes)
+pub line_end-is : (bytes : List ℕ) (found : Option ℕ) → IsFirstByte (is_byte 0x0A) bytes found
+    → IsFirstLine (take (line_end bytes found) bytes) (drop (line_end bytes found) bytes)
 line_end-is bytes None h = record {
   front = bytes;
   no_end = found_none bytes h;
@@ -70,10 +73,14 @@ chars-no_end bytes text none =
 
 -- The first line of the bytes of a text is its first line, and no character is cut behind it.
 module _ (bytes : List ℕ) (n : ℕ) (text : IsUtf8 bytes) (within : n ≤ length bytes) (first : IsFirstLine (take n bytes) (drop n bytes)) where
-  feed_at : take n bytes ≡ first.front ++ 0x0A ∷ [] → (length first.front < length bytes) × (get_or bytes (length first.front) 0 ≡ 0x0A) × (n ≡ length first.front + 1)
+  feed_at : take n bytes ≡ first.front ++ 0x0A ∷ []
+      → (length first.front < length bytes) × (get_or bytes (length first.front) 0 ≡ 0x0A)
+      × (n ≡ length first.front + 1)
   feed_at ends =
       let long : n ≡ length first.front + 1 = sym (length-take-le n bytes within) ∙ ap length ends ∙ length-append first.front (0x0A ∷ []) in
-      let whole : bytes ≡ first.front ++ 0x0A ∷ drop n bytes = sym (take-append-drop n bytes) ∙ ap (λ l. l ++ drop n bytes) ends ∙ append_assoc first.front (0x0A ∷ []) (drop n bytes) in
+      let whole : bytes ≡ first.front ++ 0x0A ∷ drop n bytes =
+      sym (take-append-drop n bytes) ∙ ap (λ l. l ++ drop n bytes) ends
+      ∙ append_assoc first.front (0x0A ∷ []) (drop n bytes) in
       (omega arith, ap (λ l. get_or l (length first.front) 0) whole ∙ get_or-append_seam first.front 0x0A (drop n bytes) 0, long)
 
   pub text_line-boundary : IsCharBoundary bytes n
@@ -92,13 +99,21 @@ module _ (bytes : List ℕ) (n : ℕ) (text : IsUtf8 bytes) (within : n ≤ leng
       elim first.ends [
         | inl ends ↦
             let feed = feed_at ends in
-            let whole : bytes ≡ first.front ++ 0x0A ∷ drop n bytes = sym (take-append-drop n bytes) ∙ ap (λ l. l ++ drop n bytes) ends ∙ append_assoc first.front (0x0A ∷ []) (drop n bytes) in
-            let same : take (length first.front) bytes ≡ first.front = ap (take (length first.front)) whole ∙ take_at first.front (0x0A ∷ drop n bytes) (length first.front) refl in
-            let cut : IsUtf8 first.front = subst IsUtf8 same (IsUtf8-take bytes (length first.front) text (IsCharBoundary-before_ascii bytes (length first.front) feed.0 (omega (arith, feed.1)))) in
+            let whole : bytes ≡ first.front ++ 0x0A ∷ drop n bytes =
+            sym (take-append-drop n bytes) ∙ ap (λ l. l ++ drop n bytes) ends
+            ∙ append_assoc first.front (0x0A ∷ []) (drop n bytes) in
+            let same : take (length first.front) bytes ≡ first.front =
+            ap (take (length first.front)) whole
+            ∙ take_at first.front (0x0A ∷ drop n bytes) (length first.front) refl in
+            let cut : IsUtf8 first.front =
+            subst IsUtf8 same (IsUtf8-take bytes (length first.front) text
+            (IsCharBoundary-before_ascii bytes (length first.front) feed.0 (omega (arith, feed.1)))) in
             record {
               front = chars first.front;
               no_end = chars-no_end first.front cut first.no_end;
-              ends = inl (ap chars ends ∙ chars-append first.front (0x0A ∷ []) cut ∙ ap (λ l. chars first.front ++ l) (chars-IsAscii (0x0A ∷ []) (IsAscii-cons 0x0A [] (lit< tt) IsAscii-nil)));
+              ends = inl (ap chars ends ∙ chars-append first.front (0x0A ∷ []) cut
+                  ∙ ap (λ l. chars first.front ++ l)
+                  (chars-IsAscii (0x0A ∷ []) (IsAscii-cons 0x0A [] (lit< tt) IsAscii-nil)));
             }
         | inr all ↦
             let cut : IsUtf8 first.front = subst IsUtf8 all.0 (IsUtf8-take bytes n text text_line-boundary) in

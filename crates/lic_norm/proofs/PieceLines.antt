@@ -50,9 +50,13 @@ no_cells rules false Var = refl
 no_cells rules false Optional = refl
 
 -- what is made of cells that a blank parts: of those up to it, and of those behind it
-module _ (rules : LineRules) {A : Type 0} (made : List Cell → List A) (none : made [] ≡ []) (parts : (xs ys : List Cell) → made (xs ++ Blank ∷ ys) ≡ made (xs ++ Blank ∷ []) ++ made ys) (before : Next) where
-  first_line_made : (has_front : Bool) (line rest : List SourceChar) (letters behind : List ℕ) → IsFirstLine letters behind → chars_of line ≡ letters → (behind ≡ [] → rest ≡ [])
-      → made (cells_of_lines rules has_front before (lines_of (without_dropped (line ++ rest)))) ≡ made (line_cells rules (part_of has_front before (without_dropped line)) (without_dropped line)) ++ made (cells_of_lines rules true before (lines_of (without_dropped rest)))
+module _ (rules : LineRules) {A : Type 0} (made : List Cell → List A) (none : made [] ≡ [])
+    (parts : (xs ys : List Cell) → made (xs ++ Blank ∷ ys) ≡ made (xs ++ Blank ∷ []) ++ made ys) (before : Next) where
+  first_line_made : (has_front : Bool) (line rest : List SourceChar) (letters behind : List ℕ)
+      → IsFirstLine letters behind → chars_of line ≡ letters → (behind ≡ [] → rest ≡ [])
+      → made (cells_of_lines rules has_front before (lines_of (without_dropped (line ++ rest))))
+      ≡ made (line_cells rules (part_of has_front before (without_dropped line)) (without_dropped line))
+      ++ made (cells_of_lines rules true before (lines_of (without_dropped rest)))
   first_line_made has_front line rest letters behind first same none_behind =
       let here = without_dropped line in
       let part = part_of has_front before here in
@@ -66,7 +70,10 @@ module _ (rules : LineRules) {A : Type 0} (made : List Cell → List A) (none : 
             let cut = kept_feed line first.front end in
             let alone : as_line here ≡ here ∷ [] = ap as_line cut ∙ as_line-some front end.feed ∙ ap (λ l. l ∷ []) (sym cut) in
             let has_end : part.has_end ≡ true =
-            ap (λ (p : LinePart). p.has_end) (cond-true (ends_in_feed here) (record { has_front = has_front; has_end = true; behind = None }) (record { has_front = has_front; has_end = is_line_end before; behind = counts_as before }) (ap ends_in_feed cut ∙ feed_last front end.feed end.is_end)) in
+            ap (λ (p : LinePart). p.has_end)
+            (cond-true (ends_in_feed here) (record { has_front = has_front; has_end = true; behind = None })
+            (record { has_front = has_front; has_end = is_line_end before; behind = counts_as before })
+            (ap ends_in_feed cut ∙ feed_last front end.feed end.is_end)) in
             let blank = line_ends rules part front end.feed (ap is_whitespace end.is_end) has_end in
             let cells : line_cells rules part here ≡ blank.0 ++ Blank ∷ [] = ap (line_cells rules part) cut ∙ blank.1 in
             ap (λ ls. made (cells_of_lines rules has_front before (ls ++ others))) alone
@@ -83,16 +90,22 @@ module _ (rules : LineRules) {A : Type 0} (made : List Cell → List A) (none : 
             ∙ ap (λ l. made (line_cells rules part here) ++ l) (sym (ap (λ ls. made (cells_of_lines rules true before ls)) nothing ∙ none))
       ]
     where
-      only : (here : List SourceChar) → made (cells_of_lines rules has_front before (as_line here)) ≡ made (line_cells rules (part_of has_front before here) here)
+      only : (here : List SourceChar)
+          → made (cells_of_lines rules has_front before (as_line here))
+          ≡ made (line_cells rules (part_of has_front before here) here)
       only [] = ap made (sym (no_cells rules has_front before))
       only (s ∷ here) = ap made (append-nil (line_cells rules (part_of has_front before (s ∷ here)) (s ∷ here)))
 
   first_bytes_made : (has_front : Bool) (text line rest : List ℕ) → text ≡ line ++ rest → IsUtf8 line → IsFirstLine (chars line) rest
-      → made (cells_of_lines rules has_front before (lines_of (without_dropped (unplaced (chars text))))) ≡ made (line_cells rules (part_of has_front before (without_dropped (unplaced (chars line)))) (without_dropped (unplaced (chars line)))) ++ made (cells_of_lines rules true before (lines_of (without_dropped (unplaced (chars rest)))))
+      → made (cells_of_lines rules has_front before (lines_of (without_dropped (unplaced (chars text)))))
+      ≡ made (line_cells rules (part_of has_front before (without_dropped (unplaced (chars line))))
+      (without_dropped (unplaced (chars line))))
+      ++ made (cells_of_lines rules true before (lines_of (without_dropped (unplaced (chars rest)))))
   first_bytes_made has_front text line rest cut utf8 first =
       ap (λ cs. made (cells_of_lines rules has_front before (lines_of (without_dropped cs))))
       (ap (λ t. unplaced (chars t)) cut ∙ ap unplaced (chars-append line rest utf8) ∙ map-append _ (chars line) (chars rest))
-      ∙ first_line_made has_front (unplaced (chars line)) (unplaced (chars rest)) (chars line) rest first (chars_of-unplaced (chars line)) (λ e. ap (λ r. unplaced (chars r)) e ∙ ap unplaced chars-nil)
+      ∙ first_line_made has_front (unplaced (chars line)) (unplaced (chars rest)) (chars line) rest first
+      (chars_of-unplaced (chars line)) (λ e. ap (λ r. unplaced (chars r)) e ∙ ap unplaced chars-nil)
 
 runs-blank : (rules : LineRules) (xs ys : List Cell) → runs_joined rules (xs ++ Blank ∷ ys) ≡ runs_joined rules (xs ++ Blank ∷ []) ++ runs_joined rules ys
 runs-blank rules xs ys =
@@ -102,7 +115,9 @@ runs-blank rules xs ys =
     ∙ ap (λ l. l ++ back) (sym (runs_joined-gap rules xs [] ∙ ap (λ l. runs_joined rules xs ++ Blank ∷ l) (no_runs rules)))
 
 -- The list of a piece is that of its first line and that of the rest.
-pub piece_cells-first : (rules : LineRules) (has_front : Bool) (before : Next) (text line rest : List ℕ) (here : List SourceChar) → text ≡ line ++ rest → IsUtf8 line → IsFirstLine (chars line) rest → here ≡ without_dropped (unplaced (chars line))
+pub piece_cells-first : (rules : LineRules) (has_front : Bool) (before : Next) (text line rest : List ℕ)
+    (here : List SourceChar) → text ≡ line ++ rest → IsUtf8 line → IsFirstLine (chars line) rest
+    → here ≡ without_dropped (unplaced (chars line))
     → piece_cells rules has_front before text ≡ runs_joined rules (line_cells rules (part_of has_front before here) here) ++ piece_cells rules true before rest
 unfolding piece_cells
 piece_cells-first rules has_front before text line rest here cut utf8 first is =
@@ -110,7 +125,9 @@ piece_cells-first rules has_front before text line rest here cut utf8 first is =
     ∙ ap (λ h. runs_joined rules (line_cells rules (part_of has_front before h) h) ++ piece_cells rules true before rest) (sym is)
 
 -- So are its tokens.
-pub piece_tokens-first : (rules : LineRules) (has_front : Bool) (before : Next) (text line rest : List ℕ) (here : List SourceChar) → text ≡ line ++ rest → IsUtf8 line → IsFirstLine (chars line) rest → here ≡ without_dropped (unplaced (chars line))
+pub piece_tokens-first : (rules : LineRules) (has_front : Bool) (before : Next) (text line rest : List ℕ)
+    (here : List SourceChar) → text ≡ line ++ rest → IsUtf8 line → IsFirstLine (chars line) rest
+    → here ≡ without_dropped (unplaced (chars line))
     → piece_tokens rules has_front before text ≡ line_tokens rules (part_of has_front before here) here ++ piece_tokens rules true before rest
 unfolding piece_cells piece_tokens
 piece_tokens-first rules has_front before text line rest here cut utf8 first is =
@@ -119,11 +136,15 @@ piece_tokens-first rules has_front before text line rest here cut utf8 first is 
 
 pub piece_cells-none : (rules : LineRules) (has_front : Bool) (before : Next) → piece_cells rules has_front before [] ≡ []
 unfolding piece_cells
-piece_cells-none rules has_front before = ap (λ cs. runs_joined rules (cells_of_lines rules has_front before (lines_of (without_dropped (unplaced cs))))) chars-nil ∙ no_runs rules
+piece_cells-none rules has_front before =
+    ap (λ cs. runs_joined rules (cells_of_lines rules has_front before
+    (lines_of (without_dropped (unplaced cs))))) chars-nil ∙ no_runs rules
 
 pub piece_tokens-none : (rules : LineRules) (has_front : Bool) (before : Next) → piece_tokens rules has_front before [] ≡ []
 unfolding piece_cells piece_tokens
-piece_tokens-none rules has_front before = ap (λ cs. tokens_of_cells rules (cells_of_lines rules has_front before (lines_of (without_dropped (unplaced cs))))) chars-nil ∙ no_tokens rules
+piece_tokens-none rules has_front before =
+    ap (λ cs. tokens_of_cells rules
+    (cells_of_lines rules has_front before (lines_of (without_dropped (unplaced cs))))) chars-nil ∙ no_tokens rules
 
 -- ---- line by line
 
@@ -133,7 +154,8 @@ pub record IsLineOf (text : List ℕ) (at n : ℕ) : Type 0 where
   pub utf8 : IsUtf8 (slice_range text at (at + n))
   pub first : IsFirstLine (chars (slice_range text at (at + n))) (drop (at + n) text)
 
-pub line_and_rest : (text : List ℕ) (at n : ℕ) → IsUtf8 text → IsCharBoundary text at → IsCharBoundary (drop at text) n → IsFirstLine (chars (take n (drop at text))) (drop n (drop at text)) → IsLineOf text at n
+pub line_and_rest : (text : List ℕ) (at n : ℕ) → IsUtf8 text → IsCharBoundary text at → IsCharBoundary (drop at text) n
+    → IsFirstLine (chars (take n (drop at text))) (drop n (drop at text)) → IsLineOf text at n
 line_and_rest text at n utf8 here there first =
     let left = drop at text in
     let size : at + n - at ≡ n = omega arith in
@@ -144,7 +166,8 @@ line_and_rest text at n utf8 here there first =
       first = subst (λ r. IsFirstLine (chars (slice_range text at (at + n))) r) rest (subst (λ l. IsFirstLine (chars l) (drop n left)) line first);
     }
 
-module _ (rules : LineRules) (part : LinePart) (has_front : Bool) (before : Next) (here line line' : List SourceChar) (same : line ≡ here) (same' : line' ≡ here) (parted : part ≡ part_of has_front before line) where
+module _ (rules : LineRules) (part : LinePart) (has_front : Bool) (before : Next) (here line line' : List SourceChar)
+    (same : line ≡ here) (same' : line' ≡ here) (parted : part ≡ part_of has_front before line) where
   pub line_cells-is : runs_joined rules (line_cells rules part line') ≡ runs_joined rules (line_cells rules (part_of has_front before here) here)
   line_cells-is = let p = parted ∙ ap (part_of has_front before) same in ap₂ (λ part line. runs_joined rules (line_cells rules part line)) p same'
 
@@ -152,10 +175,18 @@ module _ (rules : LineRules) (part : LinePart) (has_front : Bool) (before : Next
   line_tokens-is = let p = parted ∙ ap (part_of has_front before) same in ap₂ (line_tokens rules) p same'
 
 -- behind the last line nothing is left
-pub no_more_cells : (rules : LineRules) (has_front : Bool) (before : Next) (text : List ℕ) (at : ℕ) (cells all : List Cell) → length text ≤ at → cells ++ piece_cells rules has_front before (drop at text) ≡ all → cells ≡ all
+pub no_more_cells : (rules : LineRules) (has_front : Bool) (before : Next) (text : List ℕ) (at : ℕ)
+    (cells all : List Cell) → length text ≤ at → cells ++ piece_cells rules has_front before (drop at text) ≡ all
+    → cells ≡ all
 no_more_cells rules has_front before text at cells all over known =
-    sym (append-nil cells) ∙ ap (λ l. cells ++ l) (sym (ap (piece_cells rules has_front before) (drop_all at text over) ∙ piece_cells-none rules has_front before)) ∙ known
+    sym (append-nil cells) ∙ ap (λ l. cells ++ l)
+    (sym (ap (piece_cells rules has_front before) (drop_all at text over)
+    ∙ piece_cells-none rules has_front before)) ∙ known
 
-pub no_more_tokens : (rules : LineRules) (has_front : Bool) (before : Next) (text : List ℕ) (at : ℕ) (tokens all : List Token) → length text ≤ at → tokens ++ piece_tokens rules has_front before (drop at text) ≡ all → tokens ≡ all
+pub no_more_tokens : (rules : LineRules) (has_front : Bool) (before : Next) (text : List ℕ) (at : ℕ)
+    (tokens all : List Token) → length text ≤ at → tokens ++ piece_tokens rules has_front before (drop at text) ≡ all
+    → tokens ≡ all
 no_more_tokens rules has_front before text at tokens all over known =
-    sym (append-nil tokens) ∙ ap (λ l. tokens ++ l) (sym (ap (piece_tokens rules has_front before) (drop_all at text over) ∙ piece_tokens-none rules has_front before)) ∙ known
+    sym (append-nil tokens) ∙ ap (λ l. tokens ++ l)
+    (sym (ap (piece_tokens rules has_front before) (drop_all at text over)
+    ∙ piece_tokens-none rules has_front before)) ∙ known

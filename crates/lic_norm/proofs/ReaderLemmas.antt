@@ -25,7 +25,8 @@ range_parts : (source : List ℕ) (at mid n : ℕ) → at ≤ mid → slice_rang
 range_parts source at mid n le =
     ap (λ k. take k (drop at source)) (let e : mid + n - at ≡ (mid - at) + n = omega arith in e)
     ∙ take-add (mid - at) n (drop at source)
-    ∙ ap (λ l. slice_range source at mid ++ take n l) (drop-drop (mid - at) at source ∙ ap (λ k. drop k source) (let e : at + (mid - at) ≡ mid = omega arith in e))
+    ∙ ap (λ l. slice_range source at mid ++ take n l)
+    (drop-drop (mid - at) at source ∙ ap (λ k. drop k source) (let e : at + (mid - at) ≡ mid = omega arith in e))
 
 -- the rest is a slice and the rest behind it
 rest_parts : (source : List ℕ) (at mid : ℕ) → at ≤ mid → drop at source ≡ slice_range source at mid ++ drop mid source
@@ -34,7 +35,9 @@ rest_parts source at mid le =
     ∙ ap (λ l. slice_range source at mid ++ l) (drop-drop (mid - at) at source ∙ ap (λ k. drop k source) (let e : at + (mid - at) ≡ mid = omega arith in e))
 
 -- A line that begins at `at` ends behind the first U+000A from `searched` on, where there is none between.
-module _ (source : List ℕ) (at searched place : ℕ) (order : at ≤ searched) (clear : All NoEnd (slice_range source at searched)) (found : IsFirstByte (is_byte 0x0A) (drop searched source) (Some place)) where
+module _ (source : List ℕ) (at searched place : ℕ) (order : at ≤ searched)
+    (clear : All NoEnd (slice_range source at searched))
+    (found : IsFirstByte (is_byte 0x0A) (drop searched source) (Some place)) where
   pub line_found : IsFirstLine (slice_range source at (searched + (place + 1))) (drop (searched + (place + 1)) source)
   line_found =
       let end = found_end (drop searched source) place found in
@@ -59,19 +62,26 @@ module _ (source : List ℕ) (at searched place : ℕ) (order : at ≤ searched)
   end_within = let end = found_end (drop searched source) place found in omega (arith, end.2, length-drop searched source)
 
 -- behind the last line that has ended there is no U+000A
-pub no_more_ends : (source : List ℕ) (at searched : ℕ) → at ≤ searched → All NoEnd (slice_range source at searched) → IsFirstByte (is_byte 0x0A) (drop searched source) None → All NoEnd (drop at source)
+pub no_more_ends : (source : List ℕ) (at searched : ℕ) → at ≤ searched → All NoEnd (slice_range source at searched)
+    → IsFirstByte (is_byte 0x0A) (drop searched source) None → All NoEnd (drop at source)
 no_more_ends source at searched order clear none =
-    subst (All NoEnd) (sym (rest_parts source at searched order)) (All-append NoEnd (slice_range source at searched) (drop searched source) clear (found_none (drop searched source) none))
+    subst (All NoEnd) (sym (rest_parts source at searched order))
+    (All-append NoEnd (slice_range source at searched) (drop searched source) clear
+    (found_none (drop searched source) none))
 
 -- what has not ended is a line, if the input ends there
-pub last_line : (source : List ℕ) (at : ℕ) → at ≤ length source → All NoEnd (drop at source) → IsFirstLine (slice_range source at (length source)) (drop (length source) source)
+pub last_line : (source : List ℕ) (at : ℕ) → at ≤ length source → All NoEnd (drop at source)
+    → IsFirstLine (slice_range source at (length source)) (drop (length source) source)
 last_line source at within clear =
-    let whole : slice_range source at (length source) ≡ drop at source = take_all (length source - at) (drop at source) (omega (arith, length-drop at source)) in
+    let whole : slice_range source at (length source) ≡ drop at source =
+    take_all (length source - at) (drop at source) (omega (arith, length-drop at source)) in
     record { front = drop at source; no_end = clear; ends = inr (whole, drop_all (length source) source (omega arith)) }
 
 -- the rest of the source, as it is searched
 pub searched_rest : (here source : List ℕ) (searched : ℕ) → here ≡ source → take (length here - searched) (drop searched here) ≡ drop searched source
-searched_rest here source searched same = take_all (length here - searched) (drop searched here) (omega (arith, length-drop searched here)) ∙ ap (drop searched) same
+searched_rest here source searched same =
+    take_all (length here - searched) (drop searched here) (omega (arith, length-drop searched here))
+    ∙ ap (drop searched) same
 
 -- between a place and itself there is nothing
 pub none_between : (source : List ℕ) (at end : ℕ) → at ≡ end → All NoEnd (slice_range source at end)
@@ -80,7 +90,8 @@ none_between source at end same =
 
 -- a reader that took the line that ends here has read up to there
 pub read_on : (old new : Reader) (end : ℕ) → new.rules.now ≡ old.rules.now → new.line_start ≡ end → new.source.items ≡ old.source.items
-    → end ≤ length old.source.items → AreLines (take end old.source.items) → HasTaken new.rewriting (first_tokens_of (rules_of old.rules.now) 0 (take end old.source.items)) → HasRead new
+    → end ≤ length old.source.items → AreLines (take end old.source.items)
+    → HasTaken new.rewriting (first_tokens_of (rules_of old.rules.now) 0 (take end old.source.items)) → HasRead new
 read_on old new end rules start source within lines taken =
     let same : take new.line_start new.source.items ≡ take end old.source.items = ap₂ (λ n l. take n l) start source in
     record {
@@ -95,7 +106,8 @@ read_on old new end rules start source within lines taken =
 pub front_stays : (source bytes : List ℕ) (at : ℕ) → at ≤ length source → take at (source ++ bytes) ≡ take at source
 front_stays source bytes at within = take-append-le at source bytes within
 
-pub open_stays : (source bytes : List ℕ) (at : ℕ) → at ≤ length source → All NoEnd (drop at source) → All NoEnd (slice_range (source ++ bytes) at (length source))
+pub open_stays : (source bytes : List ℕ) (at : ℕ) → at ≤ length source → All NoEnd (drop at source)
+    → All NoEnd (slice_range (source ++ bytes) at (length source))
 open_stays source bytes at within clear =
     let long : length (drop at source) ≡ length source - at = length-drop at source in
     subst (All NoEnd)
@@ -106,7 +118,8 @@ open_stays source bytes at within clear =
 -- ---- settled tokens
 
 -- the settled tokens of whole lines begin those of every input that begins so
-pub settled_first : (rules : LineRules) (rewriting : Rewriting) (source more : List ℕ) (at : ℕ) → AreLines (take at source) → HasTaken rewriting (first_tokens_of rules 0 (take at source))
+pub settled_first : (rules : LineRules) (rewriting : Rewriting) (source more : List ℕ) (at : ℕ)
+    → AreLines (take at source) → HasTaken rewriting (first_tokens_of rules 0 (take at source))
     → AreFirst rewriting.tokens (tokens_of rules rewriting.phrases.now.phrases (source ++ more))
 settled_first rules rewriting source more at lines has =
     let words = rewriting.phrases.now.phrases in
@@ -124,11 +137,15 @@ settled_first rules rewriting source more at lines has =
     )
 
 -- nearly all tokens of the lines that have ended are settled
-pub nearly_all_settled : (rules : LineRules) (rewriting : Rewriting) (source : List ℕ) (at : ℕ) → AreLines (take at source) → All NoEnd (drop at source) → HasTaken rewriting (first_tokens_of rules 0 (take at source))
+pub nearly_all_settled : (rules : LineRules) (rewriting : Rewriting) (source : List ℕ) (at : ℕ)
+    → AreLines (take at source) → All NoEnd (drop at source)
+    → HasTaken rewriting (first_tokens_of rules 0 (take at source))
     → length (tokens_of rules rewriting.phrases.now.phrases (lines_read source)) ≤ length rewriting.tokens + 12
 nearly_all_settled rules rewriting source at lines clear has =
     let words = rewriting.phrases.now.phrases in
-    let read : lines_read source ≡ take at source = ap lines_read (sym (take-append-drop at source)) ∙ lines_read-is (take at source) (drop at source) lines clear in
+    let read : lines_read source ≡ take at source =
+    ap lines_read (sym (take-append-drop at source))
+    ∙ lines_read-is (take at source) (drop at source) lines clear in
     let all = rewritten words (first_tokens_of rules 0 (take at source)) in
     let count : length (tokens_of rules words (lines_read source)) ≡ length all = ap (λ l. length (tokens_of rules words l)) read ∙ length-map all reported in
     let listed : length rewriting.tokens ≡ length has.settled = ap length has.listed ∙ length-map has.settled reported in
@@ -137,7 +154,9 @@ nearly_all_settled rules rewriting source at lines clear has =
 -- ---- as callers see them
 
 -- a caller sees the bytes, the words, the rules and the settled tokens of a reader that was not refused
-module _ (value : FeederValue) (reader : Reader) (refused : Option TextFault) (bytes : reader.source.items ≡ value.bytes) (words : reader.rewriting.phrases.now.phrases ≡ value.words) (rules : rules_of reader.rules.now ≡ value.rules)
+module _ (value : FeederValue) (reader : Reader) (refused : Option TextFault)
+    (bytes : reader.source.items ≡ value.bytes) (words : reader.rewriting.phrases.now.phrases ≡ value.words)
+    (rules : rules_of reader.rules.now ≡ value.rules)
     (tokens : settled_in refused reader.rewriting.tokens ≡ value.tokens) (none : refused ≡ None) (read : HasReadLines reader) where
   settled_same : reader.rewriting.tokens ≡ value.tokens
   settled_same = sym (ap (λ r. settled_in r reader.rewriting.tokens) none) ∙ tokens
@@ -153,8 +172,10 @@ module _ (value : FeederValue) (reader : Reader) (refused : Option TextFault) (b
 
   pub seen_nearly_all : length (tokens_of value.rules value.words (lines_read value.bytes)) ≤ length reader.rewriting.tokens + 12
   seen_nearly_all =
-      let all : length (tokens_of (rules_of reader.rules.now) reader.rewriting.phrases.now.phrases (lines_read reader.source.items)) ≤ length reader.rewriting.tokens + 12 =
+      let all : length (tokens_of (rules_of reader.rules.now) reader.rewriting.phrases.now.phrases
+      (lines_read reader.source.items)) ≤ length reader.rewriting.tokens + 12 =
       nearly_all_settled (rules_of reader.rules.now) reader.rewriting reader.source.items reader.line_start read.read.lines read.open_line read.read.taken in
       subst (λ rs. length (tokens_of rs value.words (lines_read value.bytes)) ≤ length reader.rewriting.tokens + 12) rules
       (subst (λ ws. length (tokens_of (rules_of reader.rules.now) ws (lines_read value.bytes)) ≤ length reader.rewriting.tokens + 12) words
-      (subst (λ bs. length (tokens_of (rules_of reader.rules.now) reader.rewriting.phrases.now.phrases (lines_read bs)) ≤ length reader.rewriting.tokens + 12) bytes all))
+      (subst (λ bs. length (tokens_of (rules_of reader.rules.now) reader.rewriting.phrases.now.phrases (lines_read bs))
+      ≤ length reader.rewriting.tokens + 12) bytes all))

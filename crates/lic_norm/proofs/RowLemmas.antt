@@ -46,17 +46,21 @@ row_value-grown texts more r w =
 row_values-grown : (texts more : List ℕ) (rows : List Row) → All (IsWithin texts) rows → map (row_value (texts ++ more)) rows ≡ map (row_value texts) rows
 row_values-grown texts more [] within = refl
 row_values-grown texts more (r ∷ rows) within =
-    ap₂ (λ v vs. v ∷ vs) (row_value-grown texts more r (All-head (IsWithin texts) r rows within)) (row_values-grown texts more rows (All-tail (IsWithin texts) r rows within))
+    ap₂ (λ v vs. v ∷ vs) (row_value-grown texts more r (All-head (IsWithin texts) r rows within))
+    (row_values-grown texts more rows (All-tail (IsWithin texts) r rows within))
 
 -- the rows so far, behind whose texts more comes
-pub AreWithin-grown : (texts texts' more : List ℕ) (rows rows' : List Row) → IsUtf8 more → texts' ≡ texts ++ more → rows' ≡ rows → All (IsWithin texts) rows → All (IsWithin texts') rows'
+pub AreWithin-grown : (texts texts' more : List ℕ) (rows rows' : List Row) → IsUtf8 more → texts' ≡ texts ++ more
+    → rows' ≡ rows → All (IsWithin texts) rows → All (IsWithin texts') rows'
 AreWithin-grown texts texts' more rows rows' text grown same within =
     subst (λ t. All (IsWithin t) rows') (sym grown)
     (subst (λ rs. All (IsWithin (texts ++ more)) rs) (sym same)
     (All-weaker (IsWithin texts) (IsWithin (texts ++ more)) (λ r w. IsWithin-grown texts more r text w) rows within))
 
 -- one more row, whose text comes behind the others
-module _ (texts texts' text : List ℕ) (rows rows' : List Row) (r : Row) (utf8 : IsUtf8 text) (grown : texts' ≡ texts ++ text) (added : rows' ≡ rows ++ r ∷ []) (starts : r.text_start ≡ length texts) (ends : r.text_end ≡ length texts') (within : All (IsWithin texts) rows) where
+module _ (texts texts' text : List ℕ) (rows rows' : List Row) (r : Row) (utf8 : IsUtf8 text)
+    (grown : texts' ≡ texts ++ text) (added : rows' ≡ rows ++ r ∷ []) (starts : r.text_start ≡ length texts)
+    (ends : r.text_end ≡ length texts') (within : All (IsWithin texts) rows) where
   pub AreWithin-pushed : All (IsWithin texts') rows'
   AreWithin-pushed =
       let seam : IsCharBoundary texts' (length texts) = IsCharBoundary-at_seam texts' texts text grown utf8 in
@@ -68,11 +72,13 @@ module _ (texts texts' text : List ℕ) (rows rows' : List Row) (r : Row) (utf8 
       subst (λ rs. All (IsWithin texts') rs) (sym added)
       (All-push (IsWithin texts') rows r (AreWithin-grown texts texts' text rows rows utf8 grown refl within) row)
 
-  pub row_values-pushed : map (row_value texts') rows' ≡ map (row_value texts) rows ++ (record { text = text; span = record { start = r.start; end = r.end } }) ∷ []
+  pub row_values-pushed : map (row_value texts') rows'
+      ≡ map (row_value texts) rows ++ (record { text = text; span = record { start = r.start; end = r.end } }) ∷ []
   row_values-pushed =
       let size : r.text_end - r.text_start ≡ length text = omega (arith, ap length grown, length-append texts text) in
       let last : slice_range texts' r.text_start r.text_end ≡ text =
       ap (take (r.text_end - r.text_start)) (ap₂ (λ n l. drop n l) starts grown ∙ drop-append_seam texts text)
       ∙ take_all (r.text_end - r.text_start) text (omega arith) in
       ap (map (row_value texts')) added ∙ map_push (row_value texts') rows r
-      ∙ ap₂ (λ vs l. vs ++ (record { text = l; span = record { start = r.start; end = r.end } }) ∷ []) (ap (λ t. map (row_value t) rows) grown ∙ row_values-grown texts text rows within) last
+      ∙ ap₂ (λ vs l. vs ++ (record { text = l; span = record { start = r.start; end = r.end } }) ∷ [])
+      (ap (λ t. map (row_value t) rows) grown ∙ row_values-grown texts text rows within) last

@@ -19,7 +19,8 @@ text_at (t ∷ tokens) zero = refl
 text_at (t ∷ tokens) (suc k) = text_at tokens k
 
 -- whether two neighbours are parted
-pub parted_neighbours : (tokens : List TokenValue) (place j : ℕ) (a b : List ℕ) → j + 1 ≡ place → a ≡ (get_or tokens j nothing).text → b ≡ (get_or tokens place nothing).text
+pub parted_neighbours : (tokens : List TokenValue) (place j : ℕ) (a b : List ℕ) → j + 1 ≡ place
+    → a ≡ (get_or tokens j nothing).text → b ≡ (get_or tokens place nothing).text
     → is_parted a b ≡ is_parted_at (texts_of tokens) place
 parted_neighbours tokens zero j a b e is_a is_b = absurd (omega arith)
 parted_neighbours tokens (suc k) j a b e is_a is_b =
@@ -27,8 +28,10 @@ parted_neighbours tokens (suc k) j a b e is_a is_b =
     ap₂ is_parted (is_a ∙ ap (λ i. (get_or tokens i nothing).text) same ∙ sym (text_at tokens k)) (is_b ∙ sym (text_at tokens (suc k)))
 
 -- one more text of a spelling
-pub spelling_step : (tokens : List TokenValue) (i : ℕ) (text : List ℕ) (parted : Bool) (before middle after : List ℕ) → i < length tokens → text ≡ (get_or tokens i nothing).text
-    → parted ≡ is_parted_at (texts_of tokens) i → before ≡ spelled (take i (texts_of tokens)) → middle ≡ before ++ blank_if parted → after ≡ middle ++ text → after ≡ spelled (take (i + 1) (texts_of tokens))
+pub spelling_step : (tokens : List TokenValue) (i : ℕ) (text : List ℕ) (parted : Bool) (before middle after : List ℕ)
+    → i < length tokens → text ≡ (get_or tokens i nothing).text
+    → parted ≡ is_parted_at (texts_of tokens) i → before ≡ spelled (take i (texts_of tokens))
+    → middle ≡ before ++ blank_if parted → after ≡ middle ++ text → after ≡ spelled (take (i + 1) (texts_of tokens))
 spelling_step tokens i text parted before middle after h is p b m a =
     let texts = texts_of tokens in
     a

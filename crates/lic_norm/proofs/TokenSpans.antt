@@ -32,27 +32,46 @@ module _ (source : List ℕ) where
 
   -- ---- first tokens
 
-  tokens_from-Lie : (after_blank : Bool) (from : ℕ) (runs : List (List Cell)) (to : ℕ) → CellsLie source from (flat_map (λ run. run) runs) to → TokensLie source from (tokens_from after_blank runs) to
+  tokens_from-Lie : (after_blank : Bool) (from : ℕ) (runs : List (List Cell)) (to : ℕ)
+      → CellsLie source from (flat_map (λ run. run) runs) to → TokensLie source from (tokens_from after_blank runs) to
   tokens_from-Lie after_blank from [] to l = l
   tokens_from-Lie after_blank from ([] ∷ runs) to l = tokens_from-Lie after_blank from runs to l
   tokens_from-Lie after_blank from ((Blank ∷ cells) ∷ runs) to l =
       let rest = flat_map (λ (run : List Cell). run) runs in
-      let two = Lie-split source (λ (r : SourceChar). r.start) (λ r. r.end) from (solid cells) (solid rest) to (subst (λ x. CharsLie source from x to) (solid-append cells rest) l) in
-      wider from two.0 (tokens_from true runs) to (Lie-order source (λ (r : SourceChar). r.start) (λ r. r.end) from (solid cells) two.0 two.1) (tokens_from-Lie true two.0 runs to two.2)
+      let two = Lie-split source (λ (r : SourceChar). r.start) (λ r. r.end) from (solid cells) (solid rest) to
+      (subst (λ x. CharsLie source from x to) (solid-append cells rest) l) in
+      wider from two.0 (tokens_from true runs) to
+      (Lie-order source (λ (r : SourceChar). r.start) (λ r. r.end) from (solid cells) two.0 two.1)
+      (tokens_from-Lie true two.0 runs to two.2)
   tokens_from-Lie after_blank from ((Mark s ∷ cells) ∷ runs) to l =
       let rest = flat_map (λ (run : List Cell). run) runs in
-      let two = Lie-split source (λ (r : SourceChar). r.start) (λ r. r.end) s.end (solid cells) (solid rest) to (subst (λ x. CharsLie source s.end x to) (solid-append cells rest) l.4) in
-      let last = end_after-lies source s.end cells two.0 l.3 two.1 in
-      (l.0, omega (arith, l.1, last.0), l.2, last.2, wider (end_after s.end cells) two.0 (tokens_from false runs) to last.1 (tokens_from-Lie false two.0 runs to two.2))
+      let two = Lie-split source (λ (r : SourceChar). r.start) (λ r. r.end) s.end (solid cells) (solid rest) to
+      (subst (λ x. CharsLie source s.end x to) (solid-append cells rest) l.4) in
+      let last = end_after-lies source s.end cells two.0 l.3 two.1 in (
+        l.0,
+        omega (arith, l.1, last.0),
+        l.2,
+        last.2,
+        wider (end_after s.end cells) two.0 (tokens_from false runs) to last.1
+            (tokens_from-Lie false two.0 runs to two.2),
+      )
   tokens_from-Lie after_blank from ((Word s ∷ cells) ∷ runs) to l =
       let rest = flat_map (λ (run : List Cell). run) runs in
-      let two = Lie-split source (λ (r : SourceChar). r.start) (λ r. r.end) s.end (solid cells) (solid rest) to (subst (λ x. CharsLie source s.end x to) (solid-append cells rest) l.4) in
-      let last = end_after-lies source s.end cells two.0 l.3 two.1 in
-      (l.0, omega (arith, l.1, last.0), l.2, last.2, wider (end_after s.end cells) two.0 (tokens_from false runs) to last.1 (tokens_from-Lie false two.0 runs to two.2))
+      let two = Lie-split source (λ (r : SourceChar). r.start) (λ r. r.end) s.end (solid cells) (solid rest) to
+      (subst (λ x. CharsLie source s.end x to) (solid-append cells rest) l.4) in
+      let last = end_after-lies source s.end cells two.0 l.3 two.1 in (
+        l.0,
+        omega (arith, l.1, last.0),
+        l.2,
+        last.2,
+        wider (end_after s.end cells) two.0 (tokens_from false runs) to last.1
+            (tokens_from-Lie false two.0 runs to two.2),
+      )
 
   -- ---- signs
 
-  as_sign-Lie : (from : ℕ) (t : Token) (ts : List Token) (to : ℕ) → TokensLie source from (t ∷ ts) to → (us : List Token) → TokensLie source t.end us to → TokensLie source from (as_sign t ∷ us) to
+  as_sign-Lie : (from : ℕ) (t : Token) (ts : List Token) (to : ℕ) → TokensLie source from (t ∷ ts) to
+      → (us : List Token) → TokensLie source t.end us to → TokensLie source from (as_sign t ∷ us) to
   as_sign-Lie from t ts to l us m =
       let test = is_text (encode_utf8_all (0xA9 ∷ [])) t in
       let P : Token → Type 0 = λ u. TokensLie source from (u ∷ us) to in
@@ -79,11 +98,13 @@ module _ (source : List ℕ) where
       ]
 
   -- where the last of these ends lies between, and a source character ends there
-  last-lies : (t : Token) (ts : List Token) (to : ℕ) → EndsAt source t.end → TokensLie source t.end ts to → (t.end ≤ end_of_last t ts) × (end_of_last t ts ≤ to) × EndsAt source (end_of_last t ts)
+  last-lies : (t : Token) (ts : List Token) (to : ℕ) → EndsAt source t.end → TokensLie source t.end ts to
+      → (t.end ≤ end_of_last t ts) × (end_of_last t ts ≤ to) × EndsAt source (end_of_last t ts)
   last-lies t [] to here l = (omega arith, l, here)
   last-lies t (u ∷ ts) to here l = let rest = last-lies u ts to l.3 l.4 in (omega (arith, l.0, l.1, rest.0), rest.1, rest.2)
 
-  rows-Lie : (from : ℕ) (rows : List (List Token)) (to : ℕ) → TokensLie source from (flat_map (λ row. row) rows) to → TokensLie source from (flat_map sign_of_row rows) to
+  rows-Lie : (from : ℕ) (rows : List (List Token)) (to : ℕ) → TokensLie source from (flat_map (λ row. row) rows) to
+      → TokensLie source from (flat_map sign_of_row rows) to
   rows-Lie from [] to l = l
   rows-Lie from ([] ∷ rows) to l = rows-Lie from rows to l
   rows-Lie from ((t ∷ ts) ∷ rows) to l =
@@ -112,22 +133,28 @@ module _ (source : List ℕ) where
   behind-Lie (suc n) t [] to l = l
   behind-Lie (suc n) t (u ∷ ts) to l = behind-Lie n u ts to l.4
 
-  phrases-Lie : (words : List Phrase) (n : ℕ) (from : ℕ) (ts : List Token) (to : ℕ) → TokensLie source from (drop n ts) to → TokensLie source from (phrases_behind words n ts) to
+  phrases-Lie : (words : List Phrase) (n : ℕ) (from : ℕ) (ts : List Token) (to : ℕ)
+      → TokensLie source from (drop n ts) to → TokensLie source from (phrases_behind words n ts) to
   phrases-Lie words zero from [] to l = l
   phrases-Lie words (suc n) from [] to l = l
   phrases-Lie words (suc n) from (t ∷ ts) to l = phrases-Lie words n from ts to l
   phrases-Lie words zero from (t ∷ ts) to l = at (longest_phrase words (t ∷ ts)) (λ n low rest. phrases-Lie words n low ts to rest)
     where
-      at : (phrase : Option Phrase) → ((n low : ℕ) → TokensLie source low (drop n ts) to → TokensLie source low (phrases_behind words n ts) to) → TokensLie source from (first_as phrase t ts ∷ phrases_behind words (count_behind phrase) ts) to
+      at : (phrase : Option Phrase)
+          → ((n low : ℕ) → TokensLie source low (drop n ts) to → TokensLie source low (phrases_behind words n ts) to)
+          → TokensLie source from (first_as phrase t ts ∷ phrases_behind words (count_behind phrase) ts) to
       at None more = (l.0, l.1, l.2, l.3, more 0 t.end l.4)
       at (Some p) more =
           let n = length p.texts - 1 in
           let last = last-lies t (take n ts) to l.3 (Lie-take source (λ (r : Token). r.start) (λ r. r.end) n t.end ts to l.4) in
           (l.0, omega (arith, l.1, last.0), l.2, last.2, more n (end_of_last t (take n ts)) (behind-Lie n t ts to l.4))
 
-  rewritten-Lie : (words : List Phrase) (from : ℕ) (ts : List Token) (to : ℕ) → TokensLie source from ts to → TokensLie source from (phrases_joined words (https_as_http (sign_rows ts))) to
+  rewritten-Lie : (words : List Phrase) (from : ℕ) (ts : List Token) (to : ℕ) → TokensLie source from ts to
+      → TokensLie source from (phrases_joined words (https_as_http (sign_rows ts))) to
   rewritten-Lie words from ts to l =
-      let rows : TokensLie source from (sign_rows ts) to = rows-Lie from (groups both_signs ts) to (subst (λ us. TokensLie source from us to) (sym (parts_of_groups both_signs ts)) l) in
+      let rows : TokensLie source from (sign_rows ts) to =
+      rows-Lie from (groups both_signs ts) to
+      (subst (λ us. TokensLie source from us to) (sym (parts_of_groups both_signs ts)) l) in
       phrases-Lie words 0 from (https_as_http (sign_rows ts)) to (https-Lie from (sign_rows ts) to rows)
 
   -- ---- as they are reported
@@ -141,16 +168,20 @@ module _ (source : List ℕ) where
   reported-boundaries from (t ∷ ts) to l =
       All-cons (IsOnBoundaries source) (reported (spanned t)) (map reported (map spanned ts)) (l.2, l.3) (reported-boundaries t.end ts to l.4)
 
-  reported-within : (from : ℕ) (ts : List Token) (to : ℕ) → TokensLie source from ts to → All (λ (t : TokenValue). t.span.end ≤ to) (map reported (map spanned ts))
+  reported-within : (from : ℕ) (ts : List Token) (to : ℕ) → TokensLie source from ts to
+      → All (λ (t : TokenValue). t.span.end ≤ to) (map reported (map spanned ts))
   reported-within from [] to l = All-nil (λ (t : TokenValue). t.span.end ≤ to)
   reported-within from (t ∷ ts) to l =
-      All-cons (λ (u : TokenValue). u.span.end ≤ to) (reported (spanned t)) (map reported (map spanned ts)) (order t.end ts to l.4) (reported-within t.end ts to l.4)
+      All-cons (λ (u : TokenValue). u.span.end ≤ to) (reported (spanned t)) (map reported (map spanned ts))
+      (order t.end ts to l.4) (reported-within t.end ts to l.4)
 
   text_tokens-Lie : (rules : LineRules) → TokensLie source 0 (text_tokens rules (source_of 0 source)) (length source)
   text_tokens-Lie rules =
       let to = length source in
       let cells = runs_joined rules (cells_of rules (source_of 0 source)) in
-      let lies : CellsLie source 0 cells to = runs_joined-Lie source rules 0 (cells_of rules (source_of 0 source)) to (cells_of-Lie source rules 0 (source_of 0 source) to (source-Lie source)) in
+      let lies : CellsLie source 0 cells to =
+      runs_joined-Lie source rules 0 (cells_of rules (source_of 0 source)) to
+      (cells_of-Lie source rules 0 (source_of 0 source) to (source-Lie source)) in
       single_signs-Lie 0 (first_tokens cells) to
       (tokens_from-Lie true 0 (groups both_words cells) to (subst (λ x. CellsLie source 0 x to) (sym (parts_of_groups both_words cells)) lies))
 
@@ -161,10 +192,16 @@ tokens_of-AreSpans rules words input =
     let to = length input in
     let lies = rewritten-Lie input words 0 (text_tokens rules (source_of 0 input)) to (text_tokens-Lie input rules) in
     let joined = phrases_joined words (https_as_http (sign_rows (text_tokens rules (source_of 0 input)))) in
-    record { rising = reported-rising input 0 joined to lies; within = reported-within input 0 joined to lies; boundaries = reported-boundaries input 0 joined to lies }
+    record {
+      rising = reported-rising input 0 joined to lies;
+      within =
+          reported-within input 0 joined to lies;
+      boundaries = reported-boundaries input 0 joined to lies;
+    }
 
 -- no span is empty
-pub AreRising-at : (from : ℕ) (ts : List TokenValue) (i : ℕ) (d : TokenValue) → AreRising from ts → i < length ts → (get_or ts i d).span.start < (get_or ts i d).span.end
+pub AreRising-at : (from : ℕ) (ts : List TokenValue) (i : ℕ) (d : TokenValue) → AreRising from ts → i < length ts
+    → (get_or ts i d).span.start < (get_or ts i d).span.end
 AreRising-at from [] i d r lt = absurd (omega arith)
 AreRising-at from (t ∷ ts) zero d r lt = r.1
 AreRising-at from (t ∷ ts) (suc i) d r lt = AreRising-at t.span.end ts i d r.2 (omega arith)

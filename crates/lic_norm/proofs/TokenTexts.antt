@@ -117,14 +117,19 @@ fit-line rules part line =
     let rest = drop (cut.lead + cut.item) line in
     let kept = map cell_of (take (length rest - cut.tail) rest) in
     fit-append (blank_for cut.lead ++ blank_for cut.item ++ kept) (blank_for cut.tail)
-    (fit-append (blank_for cut.lead ++ blank_for cut.item) kept (fit-append (blank_for cut.lead) (blank_for cut.item) (fit-blank cut.lead) (fit-blank cut.item)) (fit-cells (take (length rest - cut.tail) rest)))
+    (fit-append (blank_for cut.lead ++ blank_for cut.item) kept
+    (fit-append (blank_for cut.lead) (blank_for cut.item) (fit-blank cut.lead) (fit-blank cut.item))
+    (fit-cells (take (length rest - cut.tail) rest)))
     (fit-blank cut.tail)
 
 fit-lines : (rules : LineRules) (lines : List (List SourceChar)) → KindsFit (flat_map (line_cells rules whole_line) lines)
 fit-lines rules [] = tt
-fit-lines rules (line ∷ lines) = fit-append (line_cells rules whole_line line) (flat_map (line_cells rules whole_line) lines) (fit-line rules whole_line line) (fit-lines rules lines)
+fit-lines rules (line ∷ lines) =
+    fit-append (line_cells rules whole_line line) (flat_map (line_cells rules whole_line) lines)
+    (fit-line rules whole_line line) (fit-lines rules lines)
 
-fit-runs : (f : List Cell → List Cell) → ((run : List Cell) → KindsFit run → KindsFit (f run)) → (runs : List (List Cell)) → KindsFit (flat_map (λ run. run) runs) → KindsFit (flat_map f runs)
+fit-runs : (f : List Cell → List Cell) → ((run : List Cell) → KindsFit run → KindsFit (f run))
+    → (runs : List (List Cell)) → KindsFit (flat_map (λ run. run) runs) → KindsFit (flat_map f runs)
 fit-runs f each [] h = tt
 fit-runs f each (run ∷ runs) h =
     let two = fit-split run (flat_map (λ run. run) runs) h in
@@ -148,13 +153,17 @@ fit-joined (Mark s ∷ run) h = (h.0, tt)
 
 fit-runs_joined : (rules : LineRules) (cells : List Cell) → KindsFit cells → KindsFit (runs_joined rules cells)
 fit-runs_joined rules cells h =
-    let parted : KindsFit (without_separators cells) = fit-runs without_separator fit-separator (groups same_mark cells) (subst KindsFit (sym (parts_of_groups same_mark cells)) h) in
+    let parted : KindsFit (without_separators cells) =
+    fit-runs without_separator fit-separator (groups same_mark cells)
+    (subst KindsFit (sym (parts_of_groups same_mark cells)) h) in
     let first : KindsFit (if rules.separators then without_separators cells else cells) =
     elim (cases_Bool rules.separators) [
       | inl on ↦ subst KindsFit (sym (cond-true rules.separators (without_separators cells) cells on)) parted
       | inr off ↦ subst KindsFit (sym (cond-false rules.separators (without_separators cells) cells off)) h
     ] in
-    fit-runs joined fit-joined (groups same_family (if rules.separators then without_separators cells else cells)) (subst KindsFit (sym (parts_of_groups same_family (if rules.separators then without_separators cells else cells))) first)
+    fit-runs joined fit-joined (groups same_family (if rules.separators then without_separators cells else cells))
+    (subst KindsFit (sym (parts_of_groups same_family
+    (if rules.separators then without_separators cells else cells))) first)
 
 -- ---- letters
 
@@ -173,14 +182,16 @@ dark_letters [] h = tt
 dark_letters (c ∷ cs) h = (not_space c (All-head (λ c. is_whitespace c ≡ false) c cs h), dark_letters cs (All-tail (λ c. is_whitespace c ≡ false) c cs h))
 
 mark_spelled : (c : ℕ) → kind_of c ≡ MarkKind → NonePass is_space (spell c)
-mark_spelled c mark = dark_letters (spell c) (All-weaker (λ d. kind_of d ≡ MarkKind) (λ d. is_whitespace d ≡ false) mark_is_dark (spell c) (mark_letters c mark))
+mark_spelled c mark = dark_letters (spell c)
+    (All-weaker (λ d. kind_of d ≡ MarkKind) (λ d. is_whitespace d ≡ false) mark_is_dark (spell c) (mark_letters c mark))
 
 no_space_letters : (cells : List Cell) → KindsFit cells → NonePass is_space (letters_of cells)
 no_space_letters [] h = tt
 no_space_letters (Blank ∷ cells) h = no_space_letters cells h
 no_space_letters (Mark s ∷ cells) h = NonePass-append is_space (spell s.char) (letters_of cells) (mark_spelled s.char h.0) (no_space_letters cells h.1)
 no_space_letters (Word s ∷ cells) h =
-    NonePass-append is_space (spell s.char) (letters_of cells) (dark_letters (spell s.char) (word_letters_are_not_white s.char h.0)) (no_space_letters cells h.1)
+    NonePass-append is_space (spell s.char) (letters_of cells)
+    (dark_letters (spell s.char) (word_letters_are_not_white s.char h.0)) (no_space_letters cells h.1)
 
 -- ---- first tokens
 
@@ -206,12 +217,16 @@ tokens_from-texts after_blank ((Blank ∷ cells) ∷ runs) h = tokens_from-texts
 tokens_from-texts after_blank ((Mark s ∷ cells) ∷ runs) h =
     let two = fit-split (Mark s ∷ cells) (flat_map (λ run. run) runs) h in
     more_have _ _
-    (letters_text (letters_of (Mark s ∷ cells)) (omega (arith, length-append (spell s.char) (letters_of cells), ap length (spell-Mark s.char h.0))) (no_space_letters (Mark s ∷ cells) two.0))
+    (letters_text (letters_of (Mark s ∷ cells))
+    (omega (arith, length-append (spell s.char) (letters_of cells), ap length (spell-Mark s.char h.0)))
+    (no_space_letters (Mark s ∷ cells) two.0))
     (tokens_from-texts false runs two.1)
 tokens_from-texts after_blank ((Word s ∷ cells) ∷ runs) h =
     let two = fit-split (Word s ∷ cells) (flat_map (λ run. run) runs) h in
     more_have _ _
-    (letters_text (letters_of (Word s ∷ cells)) (omega (arith, length-append (spell s.char) (letters_of cells), word_has_letters s.char h.0)) (no_space_letters (Word s ∷ cells) two.0))
+    (letters_text (letters_of (Word s ∷ cells))
+    (omega (arith, length-append (spell s.char) (letters_of cells), word_has_letters s.char h.0))
+    (no_space_letters (Word s ∷ cells) two.0))
     (tokens_from-texts false runs two.1)
 
 -- ---- the rewriting
@@ -284,22 +299,31 @@ longest-has [] ts h = tt
 longest-has (p ∷ words) ts h =
     let rest = longest-has words ts (All-tail (λ q. IsTokenText q.spelling) p words h) in
     elim (cases_Bool (stands p.texts ts)) [
-      | inl here ↦ subst HasSpelling (sym (cond-true (stands p.texts ts) (Some (longer p (longest_phrase words ts))) (longest_phrase words ts) here)) (longer-has p (longest_phrase words ts) (All-head (λ q. IsTokenText q.spelling) p words h) rest)
-      | inr no_such ↦ subst HasSpelling (sym (cond-false (stands p.texts ts) (Some (longer p (longest_phrase words ts))) (longest_phrase words ts) no_such)) rest
+      | inl here ↦ subst HasSpelling
+          (sym (cond-true (stands p.texts ts) (Some (longer p (longest_phrase words ts)))
+          (longest_phrase words ts) here))
+          (longer-has p (longest_phrase words ts) (All-head (λ q. IsTokenText q.spelling) p words h) rest)
+      | inr no_such ↦ subst HasSpelling
+          (sym (cond-false (stands p.texts ts) (Some (longer p (longest_phrase words ts)))
+          (longest_phrase words ts) no_such)) rest
     ]
 
 phrases-texts : (words : List Phrase) (n : ℕ) (ts : List Token) → HaveTokenTexts words → HaveTexts ts → HaveTexts (phrases_behind words n ts)
 phrases-texts words n [] known h = none_have
 phrases-texts words (suc n) (t ∷ ts) known h = phrases-texts words n ts known (rest_have t ts h)
-phrases-texts words zero (t ∷ ts) known h = at (longest_phrase words (t ∷ ts)) (longest-has words (t ∷ ts) known) (λ n. phrases-texts words n ts known (rest_have t ts h))
+phrases-texts words zero (t ∷ ts) known h =
+    at (longest_phrase words (t ∷ ts))
+    (longest-has words (t ∷ ts) known) (λ n. phrases-texts words n ts known (rest_have t ts h))
   where
-    at : (phrase : Option Phrase) → HasSpelling phrase → ((n : ℕ) → HaveTexts (phrases_behind words n ts)) → HaveTexts (first_as phrase t ts ∷ phrases_behind words (count_behind phrase) ts)
+    at : (phrase : Option Phrase) → HasSpelling phrase → ((n : ℕ) → HaveTexts (phrases_behind words n ts))
+        → HaveTexts (first_as phrase t ts ∷ phrases_behind words (count_behind phrase) ts)
     at None g more = more_have t (phrases_behind words 0 ts) (first_has t ts h) (more 0)
     at (Some p) g more = more_have (first_as (Some p) t ts) (phrases_behind words (length p.texts - 1) ts) g (more (length p.texts - 1))
 
 reported-texts : (ts : List Token) → HaveTexts ts → AreTokenTexts (map reported (map spanned ts))
 reported-texts [] h = All-nil (λ t. IsTokenText t.text)
-reported-texts (t ∷ ts) h = All-cons (λ u. IsTokenText u.text) (reported (spanned t)) (map reported (map spanned ts)) (first_has t ts h) (reported-texts ts (rest_have t ts h))
+reported-texts (t ∷ ts) h = All-cons (λ u. IsTokenText u.text) (reported (spanned t)) (map reported (map spanned ts))
+    (first_has t ts h) (reported-texts ts (rest_have t ts h))
 
 -- the texts of an input's tokens
 pub tokens_of-AreTokenTexts : (rules : LineRules) (words : List Phrase) (input : List ℕ) → HaveTokenTexts words → AreTokenTexts (tokens_of rules words input)
@@ -308,9 +332,12 @@ tokens_of-AreTokenTexts rules words input known =
     let text = source_of 0 input in
     let cells = runs_joined rules (cells_of rules text) in
     let fit : KindsFit cells = fit-runs_joined rules (cells_of rules text) (fit-lines rules (lines_of (without_dropped text))) in
-    let first : HaveTexts (first_tokens cells) = tokens_from-texts true (groups both_words cells) (subst KindsFit (sym (parts_of_groups both_words cells)) fit) in
+    let first : HaveTexts (first_tokens cells) =
+    tokens_from-texts true (groups both_words cells)
+    (subst KindsFit (sym (parts_of_groups both_words cells)) fit) in
     let signs : HaveTexts (single_signs (first_tokens cells)) = single_signs-texts (first_tokens cells) first in
     let rows : HaveTexts (sign_rows (single_signs (first_tokens cells))) =
-    rows-texts (groups both_signs (single_signs (first_tokens cells))) (subst HaveTexts (sym (parts_of_groups both_signs (single_signs (first_tokens cells)))) signs) in
+    rows-texts (groups both_signs (single_signs (first_tokens cells)))
+    (subst HaveTexts (sym (parts_of_groups both_signs (single_signs (first_tokens cells)))) signs) in
     let joined = https_as_http (sign_rows (single_signs (first_tokens cells))) in
     reported-texts (phrases_joined words joined) (phrases-texts words 0 joined known (https-texts (sign_rows (single_signs (first_tokens cells))) rows))

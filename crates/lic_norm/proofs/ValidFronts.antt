@@ -32,7 +32,8 @@ pub no_char_behind : (bytes : List ℕ) (n : ℕ) → n ≡ utf8_valid_len bytes
 unfolding utf8_valid_len
 no_char_behind bytes n longest within c rest scalar parts =
     let front = longest_up_to bytes (length bytes) in
-    let long : length (drop n bytes) ≡ len_utf8 c + length rest = ap length parts ∙ length-append (encode_utf8 c) rest ∙ ap (λ k. k + length rest) (length-encode c) in
+    let long : length (drop n bytes) ≡ len_utf8 c + length rest =
+    ap length parts ∙ length-append (encode_utf8 c) rest ∙ ap (λ k. k + length rest) (length-encode c) in
     let more : take (n + len_utf8 c) bytes ≡ take n bytes ++ encode_utf8 c =
     take-add n (len_utf8 c) bytes ∙ ap (λ l. take n bytes ++ take (len_utf8 c) l) parts
     ∙ ap (λ l. take n bytes ++ l) (take_at (encode_utf8 c) rest (len_utf8 c) (length-encode c)) in

@@ -24,25 +24,34 @@ ends s = s.char == 0x0A
 -- ---- source characters
 
 -- a U+000A in an input is read by itself, and what stands before it and behind it as well
-source_of-feed : (at : ℕ) (front behind : List ℕ) → source_of at (front ++ 0x0A ∷ behind) ≡ source_of at front ++ (record { char = 0x0A; start = at + length front; end = at + length front + 1 }) ∷ source_of (at + length front + 1) behind
+source_of-feed : (at : ℕ) (front behind : List ℕ)
+    → source_of at (front ++ 0x0A ∷ behind)
+    ≡ source_of at front ++ (record { char = 0x0A; start = at + length front; end = at + length front + 1 })
+    ∷ source_of (at + length front + 1) behind
 source_of-feed at front behind =
     source_of-before_ascii at front 0x0A behind (lit< tt) ∙ ap (λ l. source_of at front ++ l) (source_of-ascii (at + length front) 0x0A behind (lit< tt))
 
 -- the source characters with a line end in them, without the dropped ones
-kept_feed : (xs : List SourceChar) (feed : SourceChar) (ys : List SourceChar) → feed.char ≡ 0x0A → without_dropped (xs ++ feed ∷ ys) ≡ without_dropped xs ++ feed ∷ without_dropped ys
+kept_feed : (xs : List SourceChar) (feed : SourceChar) (ys : List SourceChar) → feed.char ≡ 0x0A
+    → without_dropped (xs ++ feed ∷ ys) ≡ without_dropped xs ++ feed ∷ without_dropped ys
 kept_feed xs feed ys is =
     filter-append (λ (s : SourceChar). not (is_dropped s.char)) xs (feed ∷ ys)
-    ∙ ap (λ l. without_dropped xs ++ l) (cond-true (not (is_dropped feed.char)) (feed ∷ without_dropped ys) (without_dropped ys) (ap (λ c. not (is_dropped c)) is))
+    ∙ ap (λ l. without_dropped xs ++ l)
+    (cond-true (not (is_dropped feed.char)) (feed ∷ without_dropped ys) (without_dropped ys)
+    (ap (λ c. not (is_dropped c)) is))
 
 -- ---- tokens
 
 -- the tokens of whole lines come first, and then those of what is behind them
-pub first_tokens_of-lines : (rules : LineRules) (at : ℕ) (lines behind : List ℕ) → AreLines lines → first_tokens_of rules at (lines ++ behind) ≡ first_tokens_of rules at lines ++ first_tokens_of rules (at + length lines) behind
+pub first_tokens_of-lines : (rules : LineRules) (at : ℕ) (lines behind : List ℕ) → AreLines lines
+    → first_tokens_of rules at (lines ++ behind)
+    ≡ first_tokens_of rules at lines ++ first_tokens_of rules (at + length lines) behind
 unfolding first_tokens_of
 first_tokens_of-lines rules at lines behind (inl none) =
     ap (λ l. text_tokens rules (source_of at (l ++ behind))) none
     ∙ ap (λ n. text_tokens rules (source_of n behind)) (let e : at ≡ at + length lines = omega (arith, ap length none) in e)
-    ∙ ap (λ l. l ++ text_tokens rules (source_of (at + length lines) behind)) (sym (ap (text_tokens rules) (ap (source_of at) none ∙ source_of-none at) ∙ no_tokens rules))
+    ∙ ap (λ l. l ++ text_tokens rules (source_of (at + length lines) behind))
+    (sym (ap (text_tokens rules) (ap (source_of at) none ∙ source_of-none at) ∙ no_tokens rules))
 first_tokens_of-lines rules at lines behind (inr (front, is)) =
     let f = line_tokens rules whole_line in
     let n = at + length front in
@@ -82,7 +91,8 @@ take_more_range : (source : List ℕ) (at end : ℕ) → at ≤ end → take end
 take_more_range source at end le = ap (λ n. take n source) (let e : end ≡ at + (end - at) = omega arith in e) ∙ take-add at (end - at) source
 
 -- one more line is taken behind whole lines
-pub one_more_line : (rules : LineRules) (source : List ℕ) (at end : ℕ) → AreLines (take at source) → at ≤ end → end ≤ length source → IsFirstLine (slice_range source at end) (drop end source)
+pub one_more_line : (rules : LineRules) (source : List ℕ) (at end : ℕ) → AreLines (take at source) → at ≤ end
+    → end ≤ length source → IsFirstLine (slice_range source at end) (drop end source)
     → first_tokens_of rules 0 (take at source) ++ line_tokens_of rules at (slice_range source at end) ≡ first_tokens_of rules 0 (take end source)
 one_more_line rules source at end lines order within first =
     let line = slice_range source at end in
@@ -121,4 +131,6 @@ lines_read-feed (b ∷ front) behind none =
 
 pub lines_read-is : (lines behind : List ℕ) → AreLines lines → All (λ b. b ≢ 0x0A) behind → lines_read (lines ++ behind) ≡ lines
 lines_read-is lines behind (inl none) clear = ap (λ l. lines_read (l ++ behind)) none ∙ lines_read-none behind clear ∙ sym none
-lines_read-is lines behind (inr (front, is)) clear = ap (λ l. lines_read (l ++ behind)) is ∙ ap lines_read (append_assoc front (0x0A ∷ []) behind) ∙ lines_read-feed front behind clear ∙ sym is
+lines_read-is lines behind (inr (front, is)) clear =
+    ap (λ l. lines_read (l ++ behind)) is ∙ ap lines_read (append_assoc front (0x0A ∷ []) behind)
+    ∙ lines_read-feed front behind clear ∙ sym is

@@ -40,11 +40,13 @@ part_of has_front before line =
 -- the cells of lines of which the first may lack its front
 abbrev pub cells_of_lines : LineRules → Bool → Next → List (List SourceChar) → List Cell
 cells_of_lines rules has_front before [] = []
-cells_of_lines rules has_front before (line ∷ lines) = line_cells rules (part_of has_front before line) line ++ cells_of_lines rules true before lines
+cells_of_lines rules has_front before (line ∷ lines) =
+    line_cells rules (part_of has_front before line) line ++ cells_of_lines rules true before lines
 
 -- the list of blanks, marks and word characters of a piece
 unfoldable pub piece_cells : LineRules → Bool → Next → List ℕ → List Cell
-piece_cells rules at_line_start before text = runs_joined rules (cells_of_lines rules at_line_start before (lines_of (without_dropped (unplaced (chars text)))))
+piece_cells rules at_line_start before text =
+    runs_joined rules (cells_of_lines rules at_line_start before (lines_of (without_dropped (unplaced (chars text)))))
 
 -- its tokens before the rewriting
 unfoldable pub piece_tokens : LineRules → Bool → Next → List ℕ → List Token
@@ -71,4 +73,5 @@ with_edges cells letters =
 -- the letters of a piece: the texts of its tokens in canonical spelling, between its edges
 unfoldable pub piece_of : LineRules → List Phrase → Bool → Next → List ℕ → List ℕ
 piece_of rules words at_line_start before text =
-    with_edges (piece_cells rules at_line_start before text) (spelled (map (λ t. t.text) (rewritten words (piece_tokens rules at_line_start before text))))
+    with_edges (piece_cells rules at_line_start before text)
+    (spelled (map (λ t. t.text) (rewritten words (piece_tokens rules at_line_start before text))))

@@ -19,7 +19,8 @@ pub record HasTaken (rewriting : Rewriting) (taken : List Token) : Type 0 where
 pub record HasRead (reader : Reader) : Type 0 where
   pub within : reader.line_start ≤ length reader.source.items
   pub lines : AreLines (take reader.line_start reader.source.items)
-  pub taken : HasTaken reader.rewriting (first_tokens_of (rules_of reader.rules.now) 0 (take reader.line_start reader.source.items))
+  pub taken : HasTaken reader.rewriting
+      (first_tokens_of (rules_of reader.rules.now) 0 (take reader.line_start reader.source.items))
 
 -- and that one has no U+000A
 pub record HasReadLines (reader : Reader) : Type 0 where

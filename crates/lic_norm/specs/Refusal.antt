@@ -4,9 +4,9 @@ use Rattle.lic_norm.specs.declared.fault.TextFault.{TextFault}
 use Rattle.lic_norm.specs.declared.fault.TextFault.TheVariants.{TooLong}
 
 -- the most bytes of an input
-abbrev pub most_bytes : ℕ
-most_bytes = 67108864
+abbrev pub max_bytes : ℕ
+max_bytes = 67108864
 
 -- the refusal of an input, if it is refused: it is too long, whatever its bytes are
 unfoldable pub refusal_of : List ℕ → Option TextFault
-refusal_of bytes = if nat_lt most_bytes (length bytes) then Some TooLong else None
+refusal_of bytes = if nat_lt max_bytes (length bytes) then Some TooLong else None

@@ -11,7 +11,11 @@ pub record TextValue : Type 0 where
 
 -- a token as it is kept, with its text among these texts
 abbrev pub row_value : List ℕ → Row → TokenValue
-row_value texts r = record { text = slice_range texts r.text_start r.text_end; span = record { start = r.start; end = r.end } }
+row_value texts r = record {
+  text = slice_range texts r.text_start r.text_end;
+  span =
+      record { start = r.start; end = r.end };
+}
 
 -- a row's text lies among the texts, and no character is cut at its ends
 pub record IsWithin (texts : List ℕ) (r : Row) : Type 0 where

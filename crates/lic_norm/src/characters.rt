@@ -37,7 +37,8 @@ fn is_kept(c: char) -> bool
 /// Adds the characters of a text that begins at this byte of the input, without the dropped ones.
 fn push_text(characters: &mut Vec<SourceChar>, at: u32, text: &str) -> Result<(), AllocError>
     requires { at + length text.now < 2 ^ 32 }
-    ensures { OnOk result (characters.new.items ≡ characters.old.items ++ without_dropped (placed at (chars text.now))) }
+    ensures { OnOk result (characters.new.items
+        ≡ characters.old.items ++ without_dropped (placed at (chars text.now))) }
 {
     let mut start = at;
     for char in text.chars() {
@@ -69,7 +70,8 @@ fn push_front(characters: &mut Vec<SourceChar>, at: u32, bytes: &[u8]) -> Result
     requires fits { at + length bytes.now < 2 ^ 32 }
     ensures some { IfOk result (λ n. 0 < n) }
     ensures within { IfOk result (λ n. n ≤ length bytes.now) }
-    ensures added { IfOk result (λ n. characters.new.items ++ without_dropped (source_of (at + n) (drop n bytes.now))
+    ensures added { IfOk result (λ n. characters.new.items
+        ++ without_dropped (source_of (at + n) (drop n bytes.now))
         ≡ characters.old.items ++ without_dropped (source_of at bytes.now)) }
 {
     let text = valid_front(bytes);
@@ -90,7 +92,8 @@ fn push_front(characters: &mut Vec<SourceChar>, at: u32, bytes: &[u8]) -> Result
 /// Adds the source characters of bytes that begin at this byte of the input, without the dropped ones.
 fn push_bytes(characters: &mut Vec<SourceChar>, at: u32, bytes: &[u8]) -> Result<(), AllocError>
     requires { at + length bytes.now < 2 ^ 32 }
-    ensures { OnOk result (characters.new.items ≡ characters.old.items ++ without_dropped (source_of at bytes.now)) }
+    ensures { OnOk result (characters.new.items
+        ≡ characters.old.items ++ without_dropped (source_of at bytes.now)) }
 {
     let mut place = 0;
     while place < bytes.len() {

@@ -4,7 +4,7 @@ ghost use Rattle.std.specs.Prelude.{◌≡◌, ◌≢◌, ◌<◌, ◌≤◌, �
 
 use crate::fault::TextFault;
 use crate::reader::Reader;
-use crate::refusal::MOST_BYTES;
+use crate::refusal::MAX_BYTES;
 use crate::text::Text;
 use crate::token::Token;
 use crate::words::Words;
@@ -25,7 +25,7 @@ impl<'w> Model for Feeder<'w> {
     ghost use Rattle.lic_lines.specs.LineRules.{rules_of};
     ghost use Rattle.lic_norm.specs.Feeding.{FeederValue, settled_in};
     ghost use Rattle.lic_norm.specs.Reading.{HasReadLines};
-    ghost use Rattle.lic_norm.specs.Refusal.{most_bytes};
+    ghost use Rattle.lic_norm.specs.Refusal.{max_bytes};
 
     ghost Value = { FeederValue };
 
@@ -38,7 +38,7 @@ impl<'w> Model for Feeder<'w> {
     } };
 
     ghost invariant = { λ f. (f.reader.rewriting.phrases.now.phrases ≡ f.words.now)
-        × (f.refused ≡ None → HasReadLines f.reader × (length f.reader.source.items ≤ most_bytes)) };
+        × (f.refused ≡ None → HasReadLines f.reader × (length f.reader.source.items ≤ max_bytes)) };
 }
 
 impl<'w> Feeder<'w> {
@@ -50,7 +50,13 @@ impl<'w> Feeder<'w> {
 
     /// Nothing is fed yet.
     pub fn new(alloc: Global, words: &'w Words, rules: &'w Rules) -> Feeder<'w>
-        ensures { result ≡ record { bytes = []; words = words.now; rules = rules_of rules.now; tokens = []; refused = None } }
+        ensures { result ≡ record {
+          bytes = [];
+          words = words.now;
+          rules = rules_of rules.now;
+          tokens = [];
+          refused = None;
+        } }
     {
         Feeder {
             words,
@@ -90,8 +96,12 @@ impl<'w> Feeder<'w> {
     /// a refusal.
     pub fn ready(&self) -> usize
         ensures count { result ≡ length self.now.tokens }
-        ensures settled { self.now.refused ≡ None → (more : List ℕ) → AreFirst self.now.tokens (tokens_of self.now.rules self.now.words (self.now.bytes ++ more)) }
-        ensures nearly { self.now.refused ≡ None → length (tokens_of self.now.rules self.now.words (lines_read self.now.bytes)) ≤ result + 12 }
+        ensures settled { self.now.refused ≡ None → (more : List ℕ)
+            → AreFirst self.now.tokens
+            (tokens_of self.now.rules self.now.words (self.now.bytes ++ more)) }
+        ensures nearly { self.now.refused ≡ None
+            → length (tokens_of self.now.rules self.now.words (lines_read self.now.bytes))
+            ≤ result + 12 }
         ensures refused { (fault : _) → self.now.refused ≡ Some fault → result ≡ 0 }
     {
         match self.refused {
@@ -116,12 +126,14 @@ impl<'w> Feeder<'w> {
     /// The refusal, if there was one; `Memory` if memory ran out.
     pub fn finish(self) -> Result<Text, TextFault>
         ensures source { IfOk result (λ t. t.source ≡ self.entry.bytes) }
-        ensures tokens { IfOk result (λ t. t.tokens ≡ tokens_of self.entry.rules self.entry.words self.entry.bytes) }
+        ensures tokens { IfOk result (λ t. t.tokens
+            ≡ tokens_of self.entry.rules self.entry.words self.entry.bytes) }
         ensures spans { IfOk result (λ t. AreSpans t.source t.tokens) }
         ensures words { IfOk result (λ t. AreTokenTexts t.tokens) }
         ensures accepted { OnOk result (refusal_of self.entry.bytes ≡ None) }
         ensures open { OnOk result (self.entry.refused ≡ None) }
-        ensures refused { IfErr result (λ fault. self.entry.refused ≡ None → fault ≡ TextFault.Memory) }
+        ensures refused { IfErr result (λ fault. self.entry.refused ≡ None
+            → fault ≡ TextFault.Memory) }
         ensures again { (fault : _) → self.entry.refused ≡ Some fault → result ≡ Err fault }
     {
         let Feeder {

@@ -1,16 +1,14 @@
 //! The first tokens of a line of an input.
 
-ghost use Rattle.std.specs.Prelude.{◌≡◌, ◌+◌, ◌++◌, ◌<◌, ◌^◌, length, IfSome, OnOk, IsAscii, IsUtf8};
+ghost use Rattle.std.specs.Prelude.{◌≡◌, ◌+◌, ◌++◌, ◌<◌, ◌≤◌, ◌^◌, List, length, IfOk, IfSome, OnOk, IsAscii, IsUtf8};
 ghost use Rattle.lic_lines.specs.LineRules.{rules_of};
-ghost use Rattle.lic_lines.specs.Lines.{whole_line};
-ghost use Rattle.lic_lines.specs.Sources.{without_dropped};
-ghost use Rattle.lic_lines.specs.Tokens.{line_tokens, tokens_in};
-ghost use Rattle.lic_norm.specs.Sources.{source_of};
+ghost use Rattle.lic_lines.specs.Tokens.{Token, tokens_in};
+ghost use Rattle.lic_norm.specs.Reading.{HasTaken};
+ghost use Rattle.lic_norm.specs.Tokens.{line_tokens_of};
 
 use crate::characters::read_characters;
-use lic_lines::{
-    FirstToken, LinePart, Room, Rules, SourceChar, push_tokens_of_ascii, push_tokens_of_line,
-};
+use crate::rewriting::Rewriting;
+use lic_lines::{FirstToken, LinePart, Room, Rules, SourceChar, push_tokens_of_line};
 use simdutf8::compat::from_utf8;
 use std::alloc::{AllocError, Global};
 
@@ -33,24 +31,79 @@ fn ascii_text(bytes: &[u8]) -> Option<&str>
     from_utf8(bytes).ok()
 }
 
-/// Adds the first tokens, by these line rules, of a line that begins at this byte of the input. The characters are room
-/// for those of a line that is not ASCII, whatever they hold, and so is the room.
-pub(crate) fn push_line(
+/// So many characters a list may keep room for from one line to the next.
+const MAX_KEPT: usize = 65_536;
+
+/// Room for the work on a line, kept from one line to the next. What it holds has no effect.
+#[derive(Drop)]
+pub(crate) struct LineRoom {
+    /// The characters of a line that is not ASCII.
+    characters: Vec<SourceChar>,
+    /// A line of ASCII in small letters.
+    lowered: String,
+    room: Room,
+}
+
+impl LineRoom {
+    /// Room that takes no memory yet.
+    pub(crate) fn new(alloc: Global) -> LineRoom {
+        LineRoom {
+            characters: Vec::new(alloc),
+            lowered: String::new(alloc),
+            room: Room::new(alloc),
+        }
+    }
+}
+
+/// Lets go of the characters of a long line, so that their room is free while its tokens are rewritten.
+fn give_back(alloc: Global, characters: &mut Vec<SourceChar>)
+    ensures { length characters.new.items ≤ length characters.old.items }
+{
+    if characters.len() > MAX_KEPT {
+        *characters = Vec::new(alloc);
+    }
+}
+
+/// The first tokens, by these line rules, of a line that begins at this byte of the input. The characters are room for
+/// those of the line, whatever they hold, and so is the room.
+fn tokens_of_line(
     alloc: Global,
     rules: &Rules,
     at: u32,
     line: &[u8],
     characters: &mut Vec<SourceChar>,
     room: &mut Room,
-    tokens: &mut Vec<FirstToken>,
+) -> Result<Vec<FirstToken>, AllocError>
+    requires { at + length line.now < 2 ^ 32 }
+    ensures { IfOk result (λ tokens. tokens_in tokens.items
+        ≡ line_tokens_of (rules_of rules.now) at line.now) }
+{
+    read_characters(characters, at, line)?;
+    // A token takes some five bytes of an input.
+    let mut tokens = Vec::with_capacity(alloc, line.len() / 4)?;
+    push_tokens_of_line(alloc, rules, WHOLE_LINE, characters, room, &mut tokens)?;
+    give_back(alloc, characters);
+    Ok(tokens)
+}
+
+/// Takes the first tokens, by these line rules, of a line that begins at this byte of the input. A line of ASCII is read
+/// straight from its bytes.
+pub(crate) fn take_line(
+    alloc: Global,
+    rules: &Rules,
+    at: u32,
+    line: &[u8],
+    room: &mut LineRoom,
+    rewriting: &mut Rewriting<'_>,
 ) -> Result<(), AllocError>
     requires { at + length line.now < 2 ^ 32 }
-    ensures { OnOk result (tokens_in tokens.new.items ≡ tokens_in tokens.old.items
-        ++ line_tokens (rules_of rules.now) whole_line (without_dropped (source_of at line.now))) }
+    ensures taken { OnOk result ((taken : List Token) → HasTaken rewriting.old taken
+        → HasTaken rewriting.new (taken ++ line_tokens_of (rules_of rules.now) at line.now)) }
+    ensures phrases { rewriting.new.phrases.now ≡ rewriting.old.phrases.now }
 {
     if let Some(text) = ascii_text(line) {
-        return push_tokens_of_ascii(alloc, rules, at, text, room, tokens);
+        return rewriting.take_line(alloc, rules, at, text, &mut room.room, &mut room.lowered);
     }
-    read_characters(characters, at, line)?;
-    push_tokens_of_line(alloc, rules, WHOLE_LINE, characters, room, tokens)
+    let tokens = tokens_of_line(alloc, rules, at, line, &mut room.characters, &mut room.room)?;
+    rewriting.take(tokens)
 }

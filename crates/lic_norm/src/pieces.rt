@@ -75,8 +75,14 @@ impl Left {
         line: &[SourceChar],
         room: &mut Room,
     ) -> Result<(), AllocError>
-        ensures cells { OnOk result (self.new.cells.items ≡ self.old.cells.items ++ runs_joined (rules_of rules.now) (line_cells (rules_of rules.now) part line.now)) }
-        ensures tokens { OnOk result (tokens_in self.new.tokens.items ≡ tokens_in self.old.tokens.items ++ line_tokens (rules_of rules.now) part line.now) }
+        ensures cells { OnOk result
+            (self.new.cells.items ≡ self.old.cells.items
+            ++ runs_joined (rules_of rules.now)
+            (line_cells (rules_of rules.now) part line.now)) }
+        ensures tokens { OnOk result
+            (tokens_in self.new.tokens.items
+            ≡ tokens_in self.old.tokens.items
+            ++ line_tokens (rules_of rules.now) part line.now) }
     {
         let cells = cells_of_line(alloc, rules, part, line)?;
         self.cells.extend_from_slice(&cells)?;
@@ -92,8 +98,10 @@ fn left_of(
     at_line_start: bool,
     before: Next,
 ) -> Result<Left, AllocError>
-    ensures cells { IfOk result (λ left. left.cells.items ≡ piece_cells (rules_of rules.now) at_line_start before text.now) }
-    ensures tokens { IfOk result (λ left. tokens_in left.tokens.items ≡ piece_tokens (rules_of rules.now) at_line_start before text.now) }
+    ensures cells { IfOk result (λ left. left.cells.items
+        ≡ piece_cells (rules_of rules.now) at_line_start before text.now) }
+    ensures tokens { IfOk result (λ left. tokens_in left.tokens.items
+        ≡ piece_tokens (rules_of rules.now) at_line_start before text.now) }
 {
     let mut left = Left {
         cells: Vec::new(alloc),
@@ -173,7 +181,8 @@ pub fn piece(
     words: &Words,
     rules: &Rules,
 ) -> Result<String, AllocError>
-    ensures { IfOk result (λ letters. string_bytes letters ≡ piece_of (rules_of rules.now) words.now at_line_start before text.now) }
+    ensures { IfOk result (λ letters. string_bytes letters
+        ≡ piece_of (rules_of rules.now) words.now at_line_start before text.now) }
 {
     let Left { cells, tokens } = left_of(alloc, rules, text, at_line_start, before)?;
     let mut rewriting = Rewriting::new(alloc, words.phrases());

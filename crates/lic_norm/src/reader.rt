@@ -1,53 +1,20 @@
 //! Reads an input line by line, as its bytes come.
-ghost use Rattle.std.specs.Prelude.{◌≡◌, ◌≢◌, ◌+◌, ◌++◌, ◌<◌, ◌≤◌, ◌^◌, [], All, IfOk, IfErr, OnOk, Some, length, take, drop, slice_range};
+ghost use Rattle.std.specs.Prelude.{◌≡◌, ◌≢◌, ◌++◌, ◌<◌, ◌≤◌, ◌^◌, [], All, IfOk, IfErr, OnOk, Some, length, take, drop, slice_range};
 ghost use Rattle.lic_lines.specs.LineRules.{rules_of};
-ghost use Rattle.lic_lines.specs.Tokens.{tokens_in};
 ghost use Rattle.lic_norm.specs.LineEnds.{IsFirstLine};
 ghost use Rattle.lic_norm.specs.Reading.{HasTaken, HasRead, HasReadLines};
-ghost use Rattle.lic_norm.specs.Refusal.{most_bytes, refusal_of};
-ghost use Rattle.lic_norm.specs.Tokens.{first_tokens_of, line_tokens_of, tokens_of};
+ghost use Rattle.lic_norm.specs.Refusal.{max_bytes, refusal_of};
+ghost use Rattle.lic_norm.specs.Tokens.{first_tokens_of, tokens_of};
 
 use crate::fault::TextFault;
-use crate::line_tokens::push_line;
-use crate::refusal::MOST_BYTES;
+use crate::line_tokens::{LineRoom, take_line};
+use crate::refusal::MAX_BYTES;
 use crate::rewriting::Rewriting;
 use crate::token_list::TokenList;
 use crate::words::Words;
-use lic_lines::{FirstToken, Room, Rules, SourceChar};
+use lic_lines::Rules;
 use memchr::memchr;
 use std::alloc::{AllocError, Global};
-
-/// So many characters a list may keep room for from one line to the next.
-const MOST_KEPT: usize = 65_536;
-
-/// Lets go of the characters of a long line, so that their room is free while its tokens are rewritten.
-fn give_back(alloc: Global, characters: &mut Vec<SourceChar>)
-    ensures { length characters.new.items ≤ length characters.old.items }
-{
-    if characters.len() > MOST_KEPT {
-        *characters = Vec::new(alloc);
-    }
-}
-
-/// The tokens of a line that begins at this byte of the input, before the rewriting. The characters are room for
-/// those of the line, whatever they hold, and so is the room.
-fn tokens_of_line(
-    alloc: Global,
-    rules: &Rules,
-    at: u32,
-    line: &[u8],
-    characters: &mut Vec<SourceChar>,
-    room: &mut Room,
-) -> Result<Vec<FirstToken>, AllocError>
-    requires { at + length line.now < 2 ^ 32 }
-    ensures { IfOk result (λ tokens. tokens_in tokens.items ≡ line_tokens_of (rules_of rules.now) at line.now) }
-{
-    // A token takes some five bytes of an input.
-    let mut tokens = Vec::with_capacity(alloc, line.len() / 4)?;
-    push_line(alloc, rules, at, line, characters, room, &mut tokens)?;
-    give_back(alloc, characters);
-    Ok(tokens)
-}
 
 /// The bytes that were read, and the tokens of their lines up to the last U+000A. Of the line that has not ended
 /// only the bytes are kept.
@@ -59,8 +26,7 @@ pub(crate) struct Reader<'w> {
     line_start: usize,
     rewriting: Rewriting<'w>,
     rules: &'w Rules,
-    characters: Vec<SourceChar>,
-    room: Room,
+    room: LineRoom,
 }
 
 impl<'w> Reader<'w> {
@@ -84,8 +50,7 @@ impl<'w> Reader<'w> {
             line_start: 0,
             rewriting: Rewriting::new(alloc, words.phrases()),
             rules,
-            characters: Vec::new(alloc),
-            room: Room::new(alloc),
+            room: LineRoom::new(alloc),
         }
     }
 
@@ -95,23 +60,26 @@ impl<'w> Reader<'w> {
         requires order { self.old.line_start ≤ end }
         requires within { end ≤ length self.old.source.items }
         requires fits { length self.old.source.items < 2 ^ 32 }
-        requires line { IsFirstLine (slice_range self.old.source.items self.old.line_start end) (drop end self.old.source.items) }
-        ensures taken { OnOk result (HasTaken self.new.rewriting (first_tokens_of (rules_of self.old.rules.now) 0 (take end self.old.source.items))) }
+        requires line { IsFirstLine (slice_range self.old.source.items self.old.line_start end)
+            (drop end self.old.source.items) }
+        ensures taken { OnOk result
+            (HasTaken self.new.rewriting
+            (first_tokens_of (rules_of self.old.rules.now) 0
+            (take end self.old.source.items))) }
         ensures start { OnOk result (self.new.line_start ≡ end) }
         ensures source { self.new.source.items ≡ self.old.source.items }
         ensures words { self.new.rewriting.phrases.now ≡ self.old.rewriting.phrases.now }
         ensures rules { self.new.rules.now ≡ self.old.rules.now }
     {
         let line = &self.source[self.line_start..end];
-        let tokens = tokens_of_line(
+        take_line(
             self.alloc,
             self.rules,
             self.line_start as u32,
             line,
-            &mut self.characters,
             &mut self.room,
+            &mut self.rewriting,
         )?;
-        self.rewriting.take(tokens)?;
         self.line_start = end;
         Ok(())
     }
@@ -122,7 +90,8 @@ impl<'w> Reader<'w> {
         requires order { self.old.line_start ≤ from }
         requires within { from ≤ length self.old.source.items }
         requires fits { length self.old.source.items < 2 ^ 32 }
-        requires searched { All (λ b. b ≢ 0x0A) (slice_range self.old.source.items self.old.line_start from) }
+        requires searched { All (λ b. b ≢ 0x0A)
+            (slice_range self.old.source.items self.old.line_start from) }
         ensures read { OnOk result (HasReadLines self.new) }
         ensures source { self.new.source.items ≡ self.old.source.items }
         ensures words { self.new.rewriting.phrases.now ≡ self.old.rewriting.phrases.now }
@@ -139,16 +108,17 @@ impl<'w> Reader<'w> {
     /// Takes the next bytes, and the lines that have ended then.
     pub(crate) fn feed(&mut self, bytes: &[u8]) -> Result<(), TextFault>
         requires read { HasReadLines self.old }
-        requires short { length self.old.source.items ≤ most_bytes }
+        requires short { length self.old.source.items ≤ max_bytes }
         ensures read { OnOk result (HasReadLines self.new) }
         ensures source { OnOk result (self.new.source.items ≡ self.old.source.items ++ bytes.now) }
-        ensures short { OnOk result (length self.new.source.items ≤ most_bytes) }
-        ensures refused { IfErr result (λ fault. fault ≢ TextFault.Memory → refusal_of (self.old.source.items ++ bytes.now) ≡ Some fault) }
+        ensures short { OnOk result (length self.new.source.items ≤ max_bytes) }
+        ensures refused { IfErr result (λ fault. fault ≢ TextFault.Memory
+            → refusal_of (self.old.source.items ++ bytes.now) ≡ Some fault) }
         ensures words { self.new.rewriting.phrases.now ≡ self.old.rewriting.phrases.now }
         ensures rules { self.new.rules.now ≡ self.old.rules.now }
     {
         let searched = self.source.len();
-        if bytes.len() > MOST_BYTES - searched {
+        if bytes.len() > MAX_BYTES - searched {
             return Err(TextFault::TooLong);
         }
         self.source.extend_from_slice(bytes)?;
@@ -168,7 +138,8 @@ impl<'w> Reader<'w> {
         requires read { HasReadLines self }
         requires fits { length self.source.items < 2 ^ 32 }
         ensures source { IfOk result (λ text. text.0.items ≡ self.entry.source.items) }
-        ensures tokens { IfOk result (λ text. text.1 ≡ tokens_of (rules_of self.entry.rules.now) self.entry.rewriting.phrases.now.phrases self.entry.source.items) }
+        ensures tokens { IfOk result (λ text. text.1
+            ≡ tokens_of (rules_of self.entry.rules.now) self.entry.rewriting.phrases.now.phrases self.entry.source.items) }
     {
         let mut reader = self;
         let end = reader.source.len();

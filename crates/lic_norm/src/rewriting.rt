@@ -1,12 +1,20 @@
 //! From first tokens to the tokens of the rewriting, as they are kept.
-ghost use Rattle.std.specs.Prelude.{◌≡◌, ◌++◌, ◌∷◌, [], List, map, IfOk, OnOk};
-ghost use Rattle.lic_lines.specs.Tokens.{Token, token_in, tokens_in};
+ghost use Rattle.std.specs.Prelude.{◌≡◌, ◌++◌, ◌∷◌, ◌+◌, ◌<◌, ◌^◌, [], true, List, length, map, IfOk, OnOk, IsAscii};
+ghost use Rattle.std.specs.Char.{to_ascii_lowercase};
+ghost use Rattle.lic_lines.specs.AsciiFronts.{ascii_tokens};
+ghost use Rattle.lic_lines.specs.LineRules.{rules_of};
+ghost use Rattle.lic_lines.specs.Lines.{whole_line};
+ghost use Rattle.lic_lines.specs.Sources.{placed};
+ghost use Rattle.lic_lines.specs.Tokens.{Token, line_tokens, token_in, tokens_in};
 ghost use Rattle.lic_phrases.specs.Rewriting.{rewritten};
 ghost use Rattle.lic_norm.specs.Reading.{HasTaken};
 ghost use Rattle.lic_norm.specs.Tokens.{reported};
 
 use crate::token_list::TokenList;
-use lic_lines::FirstToken;
+use lic_lines::{
+    AsciiFront, FirstToken, Room, Rules, SmallString, front_of_ascii, left_of_ascii,
+    push_rest_of_ascii,
+};
 use lic_phrases::{FinalToken, Phrases, Rewriter};
 use std::alloc::{AllocError, Global};
 
@@ -35,11 +43,62 @@ impl<'w> Rewriting<'w> {
         }
     }
 
+    /// Takes the next token, which need not pass, and lists those that are settled then.
+    #[inline(never)]
+    fn push(&mut self, token: FirstToken) -> Result<(), AllocError>
+        requires { self.old.settled.items ≡ [] }
+        ensures taken { OnOk result
+            ((taken : List Token) → HasTaken self.old taken
+            → HasTaken self.new (taken ++ token_in token ∷ [])) }
+        ensures phrases { self.new.phrases.now ≡ self.old.phrases.now }
+        ensures emptied { OnOk result (self.new.settled.items ≡ []) }
+    {
+        self.rewriter.push(self.phrases, token, &mut self.settled)?;
+        self.tokens.extend(self.phrases, &self.settled)?;
+        self.settled.clear();
+        Ok(())
+    }
+
+    /// Takes the next token, of this text, and lists those that are settled then: mostly itself, as it is.
+    #[inline(always)]
+    fn take_text(
+        &mut self,
+        alloc: Global,
+        text: &str,
+        start: u32,
+        end: u32,
+        after_blank: bool,
+    ) -> Result<(), AllocError>
+        requires { self.old.settled.items ≡ [] }
+        ensures taken { OnOk result ((taken : List Token) → HasTaken self.old taken
+            → HasTaken self.new (taken
+            ++ (record {
+              text = text.now;
+              start = start;
+              end = end;
+              after_blank = after_blank;
+            }) ∷ [])) }
+        ensures phrases { self.new.phrases.now ≡ self.old.phrases.now }
+        ensures emptied { OnOk result (self.new.settled.items ≡ []) }
+    {
+        if self.rewriter.lets_pass(self.phrases, text) {
+            return self.tokens.push(text, start, end);
+        }
+        self.push(FirstToken {
+            text: SmallString::from_str(alloc, text)?,
+            start,
+            end,
+            after_blank,
+        })
+    }
+
     /// Takes the next token, and lists those that are settled then: mostly itself, as it is.
     #[inline(always)]
     fn take_one(&mut self, token: FirstToken) -> Result<(), AllocError>
         requires { self.old.settled.items ≡ [] }
-        ensures taken { OnOk result ((taken : List Token) → HasTaken self.old taken → HasTaken self.new (taken ++ token_in token ∷ [])) }
+        ensures taken { OnOk result
+            ((taken : List Token) → HasTaken self.old taken
+            → HasTaken self.new (taken ++ token_in token ∷ [])) }
         ensures phrases { self.new.phrases.now ≡ self.old.phrases.now }
         ensures emptied { OnOk result (self.new.settled.items ≡ []) }
     {
@@ -48,15 +107,126 @@ impl<'w> Rewriting<'w> {
                 .tokens
                 .push(token.text.as_str(), token.start, token.end);
         }
-        self.rewriter.push(self.phrases, token, &mut self.settled)?;
-        self.tokens.extend(self.phrases, &self.settled)?;
-        self.settled.clear();
+        self.push(token)
+    }
+
+    /// Takes the rest of a line of ASCII, of which nothing is taken, and lists the tokens that are settled then.
+    #[inline(never)]
+    fn take_rest(
+        &mut self,
+        alloc: Global,
+        rules: &Rules,
+        after_blank: bool,
+        at: u32,
+        text: &str,
+        lowered: &str,
+        room: &mut Room,
+    ) -> Result<(), AllocError>
+        requires ascii { IsAscii text.now }
+        requires fits { at + length text.now < 2 ^ 32 }
+        requires lowered { lowered.now ≡ map to_ascii_lowercase text.now }
+        ensures taken { OnOk result ((taken : List Token) → HasTaken self.old taken
+            → HasTaken self.new (taken
+            ++ ascii_tokens (rules_of rules.now) after_blank at text.now)) }
+        ensures phrases { self.new.phrases.now ≡ self.old.phrases.now }
+    {
+        let mut tokens = Vec::with_capacity(alloc, text.len() / 4)?;
+        push_rest_of_ascii(
+            alloc,
+            rules,
+            after_blank,
+            at,
+            text,
+            lowered,
+            room,
+            &mut tokens,
+        )?;
+        self.take(tokens)
+    }
+
+    /// Takes a text of ASCII, of which nothing is taken and before which a blank stands, and lists the tokens that are
+    /// settled then.
+    fn take_ascii(
+        &mut self,
+        alloc: Global,
+        rules: &Rules,
+        at: u32,
+        text: &str,
+        lowered: &str,
+        room: &mut Room,
+    ) -> Result<(), AllocError>
+        requires emptied { self.old.settled.items ≡ [] }
+        requires ascii { IsAscii text.now }
+        requires fits { at + length text.now < 2 ^ 32 }
+        requires lowered { lowered.now ≡ map to_ascii_lowercase text.now }
+        ensures taken { OnOk result ((taken : List Token) → HasTaken self.old taken
+            → HasTaken self.new (taken ++ ascii_tokens (rules_of rules.now) true at text.now)) }
+        ensures phrases { self.new.phrases.now ≡ self.old.phrases.now }
+    {
+        let bytes = text.as_bytes();
+        let mut after_blank = true;
+        let mut place = 0;
+        while place < bytes.len() {
+            let start = at + place as u32;
+            match front_of_ascii(&bytes[place..]) {
+                AsciiFront::Blank => {
+                    after_blank = true;
+                    place += 1;
+                }
+                AsciiFront::Token(length) => {
+                    let letters = &lowered[place..place + length];
+                    self.take_text(alloc, letters, start, start + length as u32, after_blank)?;
+                    after_blank = false;
+                    place += length;
+                }
+                AsciiFront::Marks => {
+                    let rest = &text[place..];
+                    return self.take_rest(
+                        alloc,
+                        rules,
+                        after_blank,
+                        start,
+                        rest,
+                        &lowered[place..],
+                        room,
+                    );
+                }
+            }
+        }
         Ok(())
+    }
+
+    /// Takes a whole line of ASCII that begins at this byte, and lists the tokens that are settled then. The rooms may hold
+    /// anything.
+    pub(crate) fn take_line(
+        &mut self,
+        alloc: Global,
+        rules: &Rules,
+        at: u32,
+        line: &str,
+        room: &mut Room,
+        lowered: &mut String,
+    ) -> Result<(), AllocError>
+        requires ascii { IsAscii line.now }
+        requires fits { at + length line.now < 2 ^ 32 }
+        ensures taken { OnOk result ((taken : List Token) → HasTaken self.old taken
+            → HasTaken self.new (taken
+            ++ line_tokens (rules_of rules.now) whole_line (placed at line.now))) }
+        ensures phrases { self.new.phrases.now ≡ self.old.phrases.now }
+    {
+        let (start, text) = left_of_ascii(alloc, rules, at, line, room)?;
+        lowered.clear();
+        lowered.push_str(text)?;
+        lowered.make_ascii_lowercase();
+        self.settled.clear();
+        self.take_ascii(alloc, rules, start, text, lowered.as_str(), room)
     }
 
     /// Takes the next tokens, and lists those that are settled then.
     pub(crate) fn take(&mut self, tokens: Vec<FirstToken>) -> Result<(), AllocError>
-        ensures taken { OnOk result ((taken : List Token) → HasTaken self.old taken → HasTaken self.new (taken ++ tokens_in tokens.items)) }
+        ensures taken { OnOk result
+            ((taken : List Token) → HasTaken self.old taken
+            → HasTaken self.new (taken ++ tokens_in tokens.items)) }
         ensures phrases { self.new.phrases.now ≡ self.old.phrases.now }
     {
         self.settled.clear();
@@ -75,7 +245,8 @@ impl<'w> Rewriting<'w> {
 
     /// The tokens of the whole text.
     pub(crate) fn finish(self) -> Result<TokenList, AllocError>
-        ensures { IfOk result (λ tokens. (taken : List Token) → HasTaken self.entry taken → tokens ≡ map reported (rewritten self.entry.phrases.now.phrases taken)) }
+        ensures { IfOk result (λ tokens. (taken : List Token) → HasTaken self.entry taken
+            → tokens ≡ map reported (rewritten self.entry.phrases.now.phrases taken)) }
     {
         let Rewriting {
             phrases,

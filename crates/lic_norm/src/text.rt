@@ -56,11 +56,13 @@ impl Text {
         rules: &Rules,
     ) -> Result<Text, TextFault>
         ensures source { IfOk result (λ t. t.source ≡ source.items) }
-        ensures tokens { IfOk result (λ t. t.tokens ≡ tokens_of (rules_of rules.now) words.now source.items) }
+        ensures tokens { IfOk result (λ t. t.tokens
+            ≡ tokens_of (rules_of rules.now) words.now source.items) }
         ensures spans { IfOk result (λ t. AreSpans t.source t.tokens) }
         ensures words { IfOk result (λ t. AreTokenTexts t.tokens) }
         ensures accepted { OnOk result (refusal_of source.items ≡ None) }
-        ensures refused { IfErr result (λ fault. fault ≢ TextFault.Memory → refusal_of source.items ≡ Some fault) }
+        ensures refused { IfErr result (λ fault. fault ≢ TextFault.Memory
+            → refusal_of source.items ≡ Some fault) }
     {
         check_length(source.as_slice())?;
         let mut reader = Reader::new(alloc, source, words, rules);
@@ -74,7 +76,8 @@ impl Text {
         requires fits { length reader.source.items < 2 ^ 32 }
         requires words { reader.rewriting.phrases.now.phrases ≡ words.now }
         ensures source { IfOk result (λ t. t.source ≡ reader.entry.source.items) }
-        ensures tokens { IfOk result (λ t. t.tokens ≡ tokens_of (rules_of reader.entry.rules.now) words.now reader.entry.source.items) }
+        ensures tokens { IfOk result (λ t. t.tokens
+            ≡ tokens_of (rules_of reader.entry.rules.now) words.now reader.entry.source.items) }
         ensures spans { IfOk result (λ t. AreSpans t.source t.tokens) }
         ensures words { IfOk result (λ t. AreTokenTexts t.tokens) }
     {

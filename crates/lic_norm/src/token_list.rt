@@ -59,7 +59,11 @@ impl TokenList {
     /// Adds a token.
     #[inline(always)]
     pub(crate) fn push(&mut self, text: &str, start: u32, end: u32) -> Result<(), AllocError>
-        ensures { OnOk result (self.new ≡ self.old ++ (record { text = text.now; span = record { start = start; end = end } }) ∷ []) }
+        ensures { OnOk result (self.new
+            ≡ self.old ++ (record {
+              text = text.now;
+              span = record { start = start; end = end };
+            }) ∷ []) }
     {
         let text_start = self.texts.len();
         self.texts.push_str(text)?;
@@ -81,7 +85,8 @@ impl TokenList {
         settled: &[FinalToken],
     ) -> Result<(), AllocError>
         requires { AreKnown (length phrases.now.spellings) settled.now }
-        ensures { OnOk result (self.new ≡ self.old ++ map reported (map (spanned_in phrases.now.spellings) settled.now)) }
+        ensures { OnOk result (self.new
+            ≡ self.old ++ map reported (map (spanned_in phrases.now.spellings) settled.now)) }
     {
         for token in settled {
             self.push(phrases.text_of(token), token.start, token.end)?;

@@ -27,20 +27,25 @@ on_one_line_back lines p q (line, there, has_p, has_q) = (line, there, has_q, ha
 
 leads_back : {A : Type 0} (lines : List (List A)) (p q : A) (xs : List A) → Leads lines p xs q → Equivalent lines q p
 leads_back lines p q [] e = subst (λ x. Equivalent lines q x) (sym e) (equivalent_self lines q)
-leads_back lines p q (x ∷ xs) (one, rest) = equivalent_through lines q x p (leads_back lines x q xs rest) (equivalent_step lines x p (on_one_line_back lines p x one))
+leads_back lines p q (x ∷ xs) (one, rest) =
+    equivalent_through lines q x p (leads_back lines x q xs rest)
+    (equivalent_step lines x p (on_one_line_back lines p x one))
 
 pub equivalent_back : {A : Type 0} (lines : List (List A)) (p q : A) → Equivalent lines p q → Equivalent lines q p
 equivalent_back lines p q (xs, a) = leads_back lines p q xs a
 
-leads_more : {A : Type 0} (lines more : List (List A)) (p q : A) (xs : List A) → ((x y : A) → OnOneLine lines x y → OnOneLine more x y) → Leads lines p xs q → Leads more p xs q
+leads_more : {A : Type 0} (lines more : List (List A)) (p q : A) (xs : List A)
+    → ((x y : A) → OnOneLine lines x y → OnOneLine more x y) → Leads lines p xs q → Leads more p xs q
 leads_more lines more p q [] up e = e
 leads_more lines more p q (x ∷ xs) up (one, rest) = (up p x one, leads_more lines more x q xs up rest)
 
-pub equivalent_more : {A : Type 0} (lines more : List (List A)) (p q : A) → ((x y : A) → OnOneLine lines x y → OnOneLine more x y) → Equivalent lines p q → Equivalent more p q
+pub equivalent_more : {A : Type 0} (lines more : List (List A)) (p q : A)
+    → ((x y : A) → OnOneLine lines x y → OnOneLine more x y) → Equivalent lines p q → Equivalent more p q
 equivalent_more lines more p q up (xs, a) = (xs, leads_more lines more p q xs up a)
 
 -- what is alike on each line is alike along a chain
-pub leads_alike : {A : Type 0} {B : Type 0} (lines : List (List A)) (f : A → B) (p q : A) (xs : List A) → ((x y : A) → OnOneLine lines x y → f x ≡ f y) → Leads lines p xs q → f p ≡ f q
+pub leads_alike : {A : Type 0} {B : Type 0} (lines : List (List A)) (f : A → B) (p q : A) (xs : List A)
+    → ((x y : A) → OnOneLine lines x y → f x ≡ f y) → Leads lines p xs q → f p ≡ f q
 leads_alike lines f p q [] alike e = ap f e
 leads_alike lines f p q (x ∷ xs) alike (one, rest) = alike p x one ∙ leads_alike lines f x q xs alike rest
 
@@ -65,7 +70,9 @@ on_new_line lines i j (line, there, has_i, has_j) = ⊎_elim
 pub new_line : (lines : List (List ℕ)) (heads : List ℕ) → AreHeads lines heads → AreHeads (lines ++ [] ∷ []) heads
 new_line lines heads known = record {
   numbered = λ line i there has_i. let o = on_new_line lines i i (line, there, has_i, has_i) in known.numbered o.0 i o.1 o.2;
-  same = λ i j hi hj e. equivalent_more lines (lines ++ [] ∷ []) i j (λ x y o. (o.0, Contains-append_left lines ([] ∷ []) o.0 o.1, o.2, o.3)) (known.same i j hi hj e);
+  same = λ i j hi hj e. equivalent_more lines
+      (lines ++ [] ∷ []) i j (λ x y o. (o.0, Contains-append_left lines ([] ∷ []) o.0 o.1, o.2, o.3))
+      (known.same i j hi hj e);
   back = λ i j o. known.back i j (on_new_line lines i j o);
   low = known.low;
   own = known.own;
@@ -83,12 +90,14 @@ new_phrase lines heads known = record {
   numbered = λ line i there has_i. let h = known.numbered line i there has_i in omega (arith, length-append heads (length heads ∷ []));
   same = λ i j hi hj e. ⊎_elim
       (λ (i_old : i < length heads). ⊎_elim
-      (λ (j_old : j < length heads). known.same i j i_old j_old (sym (get-push_before heads (length heads) i i_old) ∙ e ∙ get-push_before heads (length heads) j j_old))
+      (λ (j_old : j < length heads). known.same i j i_old j_old
+      (sym (get-push_before heads (length heads) i i_old) ∙ e ∙ get-push_before heads (length heads) j j_old))
       (λ (j_new : length heads ≤ j). absurd (clash lines heads known i j i_old (is_last heads j hj j_new) e))
       (cases_lt j (length heads)))
       (λ (i_new : length heads ≤ i). ⊎_elim
       (λ (j_old : j < length heads). absurd (clash lines heads known j i j_old (is_last heads i hi i_new) (sym e)))
-      (λ (j_new : length heads ≤ j). let last_i = is_last heads i hi i_new in let last_j = is_last heads j hj j_new in subst (λ k. Equivalent lines i k) (last_i ∙ sym last_j) (equivalent_self lines i))
+      (λ (j_new : length heads ≤ j). let last_i = is_last heads i hi i_new in let last_j = is_last heads j hj j_new in
+      subst (λ k. Equivalent lines i k) (last_i ∙ sym last_j) (equivalent_self lines i))
       (cases_lt j (length heads)))
       (cases_lt i (length heads));
   back = λ i j o.
@@ -117,7 +126,8 @@ new_phrase lines heads known = record {
     at_last : (xs : List ℕ) (i : ℕ) → i ≡ length xs → get_or (xs ++ length xs ∷ []) i 0 ≡ length xs
     at_last xs i e = ap (λ k. get_or (xs ++ length xs ∷ []) k 0) e ∙ get-push_at xs (length xs)
 
-    clash : (ls : List (List ℕ)) (xs : List ℕ) → AreHeads ls xs → (i j : ℕ) → i < length xs → j ≡ length xs → get_or (xs ++ length xs ∷ []) i 0 ≡ get_or (xs ++ length xs ∷ []) j 0 → ⊥
+    clash : (ls : List (List ℕ)) (xs : List ℕ) → AreHeads ls xs → (i j : ℕ) → i < length xs → j ≡ length xs
+        → get_or (xs ++ length xs ∷ []) i 0 ≡ get_or (xs ++ length xs ∷ []) j 0 → ⊥
     clash ls xs k i j hi hj e = let l = k.low i hi in omega (arith, get-push_before xs (length xs) i hi, at_last xs j hj, e)
 
 -- the classes of a and b are joined, and a line with a gets b
@@ -131,7 +141,12 @@ joined_cases p q x = elim (cases_eq x (max p q)) [ inl e ↦ inl (e, grind (arit
 both_joined : (p q : ℕ) → replaced (max p q) (min p q) p ≡ replaced (max p q) (min p q) q
 both_joined p q = elim (joined_cases p q p) [
   | inl a ↦ elim (joined_cases p q q) [ inl b ↦ a.1 ∙ sym b.1 | inr b ↦ let bn = b.0 in let ae = a.0 in let b1 = b.1 in let a1 = a.1 in omega arith ]
-  | inr a ↦ elim (joined_cases p q q) [ inl b ↦ (let an = a.0 in let be = b.0 in let b1 = b.1 in let a1 = a.1 in omega arith) | inr b ↦ (let an = a.0 in let bn = b.0 in absurd (omega arith)) ]
+  | inr a ↦ elim (joined_cases p q q) [
+    | inl b ↦
+        (let an = a.0 in let be = b.0 in let b1 = b.1 in let a1 = a.1 in omega arith)
+    | inr b ↦
+        (let an = a.0 in let bn = b.0 in absurd (omega arith))
+  ]
 ]
 
 min_is : (p q : ℕ) → (min p q ≡ p) ⊎ (min p q ≡ q)
@@ -141,7 +156,8 @@ max_is : (p q : ℕ) → (max p q ≡ p) ⊎ (max p q ≡ q)
 max_is p q = ⊎_elim (λ (l : p < q). inr (omega arith)) (λ (l : q ≤ p). inl (omega arith)) (cases_lt p q)
 
 -- the line that is being read gets one more phrase
-module _ (lines : List (List ℕ)) (cur heads : List ℕ) (f q : ℕ) (known : AreHeads (lines ++ cur ∷ []) heads) (has_f : Contains cur f) (q_in : q < length heads) where
+module _ (lines : List (List ℕ)) (cur heads : List ℕ) (f q : ℕ) (known : AreHeads (lines ++ cur ∷ []) heads)
+    (has_f : Contains cur f) (q_in : q < length heads) where
   abbrev now : List (List ℕ)
   now = lines ++ cur ∷ []
 
@@ -163,7 +179,12 @@ module _ (lines : List (List ℕ)) (cur heads : List ℕ) (f q : ℕ) (known : A
   up : (x y : ℕ) → OnOneLine now x y → OnOneLine then_ x y
   up x y (line, there, has_x, has_y) = ⊎_elim
       (λ before. (line, Contains-append_left lines ((cur ++ q ∷ []) ∷ []) line before, has_x, has_y))
-      (λ last. (cur ++ q ∷ [], Contains-push lines (cur ++ q ∷ []), Contains-append_left cur (q ∷ []) x (subst (λ l. Contains l x) (sym last) has_x), Contains-append_left cur (q ∷ []) y (subst (λ l. Contains l y) (sym last) has_y)))
+      (λ last. (
+        cur ++ q ∷ [],
+        Contains-push lines (cur ++ q ∷ []),
+        Contains-append_left cur (q ∷ []) x (subst (λ l. Contains l x) (sym last) has_x),
+        Contains-append_left cur (q ∷ []) y (subst (λ l. Contains l y) (sym last) has_y),
+      ))
       (Contains-push_cases lines cur line there)
 
   abbrev On : ℕ → Type 0
@@ -172,7 +193,10 @@ module _ (lines : List (List ℕ)) (cur heads : List ℕ) (f q : ℕ) (known : A
   down : (x y : ℕ) → OnOneLine then_ x y → OnOneLine now x y ⊎ (On x × On y)
   down x y (line, there, has_x, has_y) = ⊎_elim
       (λ before. inl (line, Contains-append_left lines (cur ∷ []) line before, has_x, has_y))
-      (λ last. inr (Contains-push_cases cur q x (subst (λ l. Contains l x) (sym last) has_x), Contains-push_cases cur q y (subst (λ l. Contains l y) (sym last) has_y)))
+      (λ last. inr (
+        Contains-push_cases cur q x (subst (λ l. Contains l x) (sym last) has_x),
+        Contains-push_cases cur q y (subst (λ l. Contains l y) (sym last) has_y),
+      ))
       (Contains-push_cases lines (cur ++ q ∷ []) line there)
 
   at_new : (i : ℕ) → i < length heads → h' i ≡ f' (h i)
@@ -263,7 +287,8 @@ module _ (lines : List (List ℕ)) (cur heads : List ℕ) (f q : ℕ) (known : A
 only_itself : (x q : ℕ) → Contains (q ∷ []) x → q ≡ x
 only_itself x q (k, within, is) = elim (cases_eq k 0) [ inl e ↦ subst (λ j. get_or (q ∷ []) j x ≡ x) e is | inr n ↦ absurd (omega arith) ]
 
-pub first_phrase : (lines : List (List ℕ)) (heads : List ℕ) (q : ℕ) → AreHeads (lines ++ [] ∷ []) heads → q < length heads → AreHeads (lines ++ (q ∷ []) ∷ []) heads
+pub first_phrase : (lines : List (List ℕ)) (heads : List ℕ) (q : ℕ) → AreHeads (lines ++ [] ∷ []) heads
+    → q < length heads → AreHeads (lines ++ (q ∷ []) ∷ []) heads
 first_phrase lines heads q known q_in = record {
   numbered = λ line i there has_i. ⊎_elim
       (λ before. known.numbered line i (Contains-append_left lines ([] ∷ []) line before) has_i)
@@ -274,7 +299,9 @@ first_phrase lines heads q known q_in = record {
       (known.same i j hi hj e);
   back = λ i j o. ⊎_elim
       (λ before. known.back i j (o.0, Contains-append_left lines ([] ∷ []) o.0 before, o.2, o.3))
-      (λ last. ap (λ k. get_or heads k 0) (sym (only_itself i q (subst (λ l. Contains l i) (sym last) o.2)) ∙ only_itself j q (subst (λ l. Contains l j) (sym last) o.3)))
+      (λ last. ap (λ k. get_or heads k 0)
+      (sym (only_itself i q (subst (λ l. Contains l i) (sym last) o.2))
+      ∙ only_itself j q (subst (λ l. Contains l j) (sym last) o.3)))
       (Contains-push_cases lines (q ∷ []) o.0 o.1);
   low = known.low;
   own = known.own;

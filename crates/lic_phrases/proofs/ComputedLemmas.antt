@@ -26,7 +26,9 @@ place_within p (x ∷ xs) = elim (cases_Bool (p x)) [
   | inr e ↦ omega (arith, place_later p x xs e, place_within p xs)
 ]
 
-found_at : (p : List (List ℕ)) (phrases : List (List (List ℕ))) → position_or_len (same_phrase p) phrases < length phrases → get_or phrases (position_or_len (same_phrase p) phrases) [] ≡ p
+found_at : (p : List (List ℕ)) (phrases : List (List (List ℕ)))
+    → position_or_len (same_phrase p) phrases < length phrases
+    → get_or phrases (position_or_len (same_phrase p) phrases) [] ≡ p
 found_at p [] within = absurd (omega arith)
 found_at p (q ∷ phrases) within = elim (cases_Bool (same_phrase p q)) [
   | inl e ↦ ap (λ i. get_or (q ∷ phrases) i []) (place_here (same_phrase p) q phrases e) ∙ sym ((same-Decides p q).0 e)
@@ -35,7 +37,8 @@ found_at p (q ∷ phrases) within = elim (cases_Bool (same_phrase p q)) [
       ap (λ i. get_or (q ∷ phrases) i []) later ∙ found_at p phrases (omega arith)
 ]
 
-absent_at : (p : List (List ℕ)) (phrases : List (List (List ℕ))) → length phrases ≤ position_or_len (same_phrase p) phrases → (i : ℕ) → i < length phrases → get_or phrases i [] ≢ p
+absent_at : (p : List (List ℕ)) (phrases : List (List (List ℕ)))
+    → length phrases ≤ position_or_len (same_phrase p) phrases → (i : ℕ) → i < length phrases → get_or phrases i [] ≢ p
 absent_at p [] many i within = absurd (omega arith)
 absent_at p (q ∷ phrases) many zero within = λ same. omega (arith, place_here (same_phrase p) q phrases ((same-Decides p q).1 (sym same)))
 absent_at p (q ∷ phrases) many (suc i) within = elim (cases_Bool (same_phrase p q)) [
@@ -48,7 +51,8 @@ absent_at p (q ∷ phrases) many (suc i) within = elim (cases_Bool (same_phrase 
 abbrev Known : List (List (List (List ℕ))) → List (List (List ℕ)) → Reading → Type 0
 Known lines line r = HasRead [] lines line r.phrases r.heads r.numbers
 
-with_phrase-known : (lines : List (List (List (List ℕ)))) (line : List (List (List ℕ))) (p : List (List ℕ)) (r : Reading) → Known lines line r → Known lines (line ++ p ∷ []) (with_phrase p r)
+with_phrase-known : (lines : List (List (List (List ℕ)))) (line : List (List (List ℕ))) (p : List (List ℕ))
+    (r : Reading) → Known lines line r → Known lines (line ++ p ∷ []) (with_phrase p r)
 with_phrase-known lines line p r known =
     let place = position_or_len (same_phrase p) r.phrases in
     let old : Reading = record { phrases = r.phrases; heads = r.heads; numbers = r.numbers ++ place ∷ [] } in
@@ -67,7 +71,8 @@ with_phrase-known lines line p r known =
           (read_new [] lines line r.phrases r.heads r.numbers known p (absent_at p r.phrases beyond)))
     ]
 
-with_phrases-known : (lines : List (List (List (List ℕ)))) (line phrases : List (List (List ℕ))) (r : Reading) → Known lines line r → Known lines (line ++ phrases) (with_phrases phrases r)
+with_phrases-known : (lines : List (List (List (List ℕ)))) (line phrases : List (List (List ℕ))) (r : Reading)
+    → Known lines line r → Known lines (line ++ phrases) (with_phrases phrases r)
 with_phrases-known lines line [] r known = subst (λ (l : List (List (List ℕ))). Known lines l r) (sym (append-nil line)) known
 with_phrases-known lines line (p ∷ phrases) r known =
     subst (λ (l : List (List (List ℕ))). Known lines l (with_phrases phrases (with_phrase p r))) (append_assoc line (p ∷ []) phrases)
@@ -83,37 +88,53 @@ length-all_joined : (numbers heads : List ℕ) → length (all_joined numbers he
 length-all_joined [] heads = refl
 length-all_joined (first ∷ numbers) heads = length-joined_with first numbers heads
 
-joined_with-heads : (before : List (List ℕ)) (first : ℕ) (line numbers heads : List ℕ) → AreHeads (before ++ line ∷ []) heads → Contains line first → ((k : ℕ) → k < length numbers → get_or numbers k 0 < length heads)
+joined_with-heads : (before : List (List ℕ)) (first : ℕ) (line numbers heads : List ℕ)
+    → AreHeads (before ++ line ∷ []) heads → Contains line first
+    → ((k : ℕ) → k < length numbers → get_or numbers k 0 < length heads)
     → AreHeads (before ++ (line ++ numbers) ∷ []) (joined_with first numbers heads)
 joined_with-heads before first line [] heads known has bound = subst (λ (l : List ℕ). AreHeads (before ++ l ∷ []) heads) (sym (append-nil line)) known
 joined_with-heads before first line (number ∷ numbers) heads known has bound =
     let here : number < length heads = bound 0 (omega arith) in
     let as_long : length (classes_joined heads first number) ≡ length heads = length-map heads _ in
-    subst (λ (l : List ℕ). AreHeads (before ++ l ∷ []) (joined_with first numbers (classes_joined heads first number))) (append_assoc line (number ∷ []) numbers)
+    subst (λ (l : List ℕ). AreHeads (before ++ l ∷ []) (joined_with first numbers (classes_joined heads first number)))
+    (append_assoc line (number ∷ []) numbers)
     (joined_with-heads before first (line ++ number ∷ []) numbers (classes_joined heads first number)
     (next_phrase before line heads first number known has here) (Contains-append_left line (number ∷ []) first has)
     (λ k within. omega (arith, bound (suc k) (omega arith), as_long)))
 
-all_joined-heads : (before : List (List ℕ)) (numbers heads : List ℕ) → ((k : ℕ) → k < length numbers → get_or numbers k 0 < length heads) → AreHeads (before ++ [] ∷ []) heads → AreHeads (before ++ numbers ∷ []) (all_joined numbers heads)
+all_joined-heads : (before : List (List ℕ)) (numbers heads : List ℕ)
+    → ((k : ℕ) → k < length numbers → get_or numbers k 0 < length heads) → AreHeads (before ++ [] ∷ []) heads
+    → AreHeads (before ++ numbers ∷ []) (all_joined numbers heads)
 all_joined-heads before [] heads bound known = known
 all_joined-heads before (first ∷ numbers) heads bound known =
-    joined_with-heads before first (first ∷ []) numbers heads (first_phrase before heads first known (bound 0 (omega arith))) (0, omega arith, refl) (λ k within. bound (suc k) (omega arith))
+    joined_with-heads before first (first ∷ []) numbers heads
+    (first_phrase before heads first known (bound 0 (omega arith)))
+    (0, omega arith, refl) (λ k within. bound (suc k) (omega arith))
 
-line_ended-known : (lines : List (List (List (List ℕ)))) (line : List (List (List ℕ))) (r : Reading) → Known lines line r → Known (lines ++ line ∷ []) [] (line_ended r)
+line_ended-known : (lines : List (List (List (List ℕ)))) (line : List (List (List ℕ))) (r : Reading)
+    → Known lines line r → Known (lines ++ line ∷ []) [] (line_ended r)
 line_ended-known lines line r known =
     line_is_read lines line r.phrases r.heads (all_joined r.numbers r.heads) r.numbers known (length-all_joined r.numbers r.heads)
     (λ before heads. all_joined-heads before r.numbers r.heads
-    (λ k within. omega (arith, line_below [] lines line r.phrases r.heads r.numbers known (get_or r.numbers k 0) (Contains-get_or r.numbers k 0 within), known.as_many)) heads)
+    (λ k within. omega (
+      arith,
+      line_below [] lines line r.phrases r.heads r.numbers known (get_or r.numbers k 0)
+          (Contains-get_or r.numbers k 0 within),
+      known.as_many,
+    )) heads)
 
 -- ---- the list
 
-with_lines-known : (before lines : List (List (List (List ℕ)))) (r : Reading) → r.numbers ≡ [] → HasRead [] before [] r.phrases r.heads [] → HasRead [] (before ++ lines) [] (with_lines lines r).phrases (with_lines lines r).heads []
+with_lines-known : (before lines : List (List (List (List ℕ)))) (r : Reading) → r.numbers ≡ []
+    → HasRead [] before [] r.phrases r.heads []
+    → HasRead [] (before ++ lines) [] (with_lines lines r).phrases (with_lines lines r).heads []
 with_lines-known before [] r none known = subst (λ (l : List (List (List (List ℕ)))). HasRead [] l [] r.phrases r.heads []) (sym (append-nil before)) known
 with_lines-known before (line ∷ lines) r none known =
     let begun : Known before [] r = subst (λ (l : List ℕ). HasRead [] before [] r.phrases r.heads l) (sym none) known in
     let next : Reading = line_ended (with_phrases line r) in
     let ended : Known (before ++ line ∷ []) [] next = line_ended-known before line (with_phrases line r) (with_phrases-known before [] line r begun) in
-    subst (λ (l : List (List (List (List ℕ)))). HasRead [] l [] (with_lines lines next).phrases (with_lines lines next).heads []) (append_assoc before (line ∷ []) lines)
+    subst (λ (l : List (List (List (List ℕ)))). HasRead [] l [] (with_lines lines next).phrases
+    (with_lines lines next).heads []) (append_assoc before (line ∷ []) lines)
     (with_lines-known (before ++ line ∷ []) lines next refl ended)
 
 pub words_computed-AreWords : (lines : List (List (List (List ℕ)))) → AreWords lines (words_computed lines)

@@ -11,8 +11,11 @@ abbrev on_line : ℕ → List (List (List ℕ)) → List (ℕ × List (List ℕ)
 on_line number phrases = map (λ phrase. (number, phrase)) phrases
 
 -- the phrases of a line from this place on
-pub fault_from-drop : (line : List (List (List ℕ))) (k number before : ℕ) (later : List (ℕ × List (List ℕ))) (phrase : List (List ℕ)) → k < length line → phrase ≡ get_or line k []
-    → fault_from before (on_line number (drop k line) ++ later) ≡ fault_or (fault_of before phrase) number (fault_from (before + 1) (on_line number (drop (k + 1) line) ++ later))
+pub fault_from-drop : (line : List (List (List ℕ))) (k number before : ℕ) (later : List (ℕ × List (List ℕ)))
+    (phrase : List (List ℕ)) → k < length line → phrase ≡ get_or line k []
+    → fault_from before (on_line number (drop k line) ++ later)
+    ≡ fault_or (fault_of before phrase) number
+    (fault_from (before + 1) (on_line number (drop (k + 1) line) ++ later))
 fault_from-drop line k number before later phrase within is =
     ap (λ l. fault_from before (on_line number l ++ later)) (drop-cons line k [] within)
     ∙ ap (λ n. fault_or (fault_of before (get_or line k [])) number (fault_from (before + 1) (on_line number (drop n line) ++ later))) (sym (add-one k))
@@ -38,7 +41,8 @@ fault_of-many before phrase many =
     ap (λ b. cond b (Some TooManyPhrases) (fault_of_phrase phrase)) yes
 
 -- what is reported for a cause
-pub fault_at-told : (number : ℕ) (cause : WordsCause) (first : Option WordsFault) → (first ≡ Some (record { line = number; cause = cause })) ⊎ (cause ≡ OutOfMemory)
+pub fault_at-told : (number : ℕ) (cause : WordsCause) (first : Option WordsFault)
+    → (first ≡ Some (record { line = number; cause = cause })) ⊎ (cause ≡ OutOfMemory)
     → (first ≡ Some (fault_at number cause)) ⊎ (fault_at number cause ≡ out_of_memory)
 fault_at-told number EmptyPhrase first (inl e) = inl e
 fault_at-told number EmptyPhrase first (inr e) = absurd (let h : EmptyPhrase ≡ OutOfMemory = e in cc)
@@ -50,7 +54,9 @@ fault_at-told number OutOfMemory first e = inr refl
 
 -- the rest of a line holds a fault, and the whole line before it none
 pub has_fault_at : (line : List (List (List ℕ))) (k before count : ℕ) (phrase : List (List ℕ)) (cause : WordsCause)
-    → ((number : ℕ) (later : List (ℕ × List (List ℕ))) → fault_from before (on_line number line ++ later) ≡ fault_from count (on_line number (drop k line) ++ later))
+    → ((number : ℕ) (later : List (ℕ × List (List ℕ)))
+    → fault_from before (on_line number line ++ later)
+    ≡ fault_from count (on_line number (drop k line) ++ later))
     → k < length line → phrase ≡ get_or line k [] → fault_of count phrase ≡ Some cause → HasFault line before cause
 has_fault_at line k before count phrase cause sound within is fault number later =
     sound number later ∙ fault_from-drop line k number count later phrase within is
@@ -58,9 +64,13 @@ has_fault_at line k before count phrase cause sound within is fault number later
 
 -- one more phrase of a line without a fault
 pub sound_more : (line : List (List (List ℕ))) (k before count : ℕ) (phrase : List (List ℕ))
-    → ((number : ℕ) (later : List (ℕ × List (List ℕ))) → fault_from before (on_line number line ++ later) ≡ fault_from count (on_line number (drop k line) ++ later))
+    → ((number : ℕ) (later : List (ℕ × List (List ℕ)))
+    → fault_from before (on_line number line ++ later)
+    ≡ fault_from count (on_line number (drop k line) ++ later))
     → k < length line → phrase ≡ get_or line k [] → fault_of count phrase ≡ None
-    → (number : ℕ) (later : List (ℕ × List (List ℕ))) → fault_from before (on_line number line ++ later) ≡ fault_from (count + 1) (on_line number (drop (k + 1) line) ++ later)
+    → (number : ℕ) (later : List (ℕ × List (List ℕ)))
+    → fault_from before (on_line number line ++ later)
+    ≡ fault_from (count + 1) (on_line number (drop (k + 1) line) ++ later)
 sound_more line k before count phrase sound within is none number later =
     sound number later ∙ fault_from-drop line k number count later phrase within is
     ∙ ap (λ f. fault_or f number (fault_from (count + 1) (on_line number (drop (k + 1) line) ++ later))) none
@@ -74,8 +84,11 @@ lines_sound_more lines k count count' line first sound within is none =
 
 -- a line with a fault
 pub line_has_fault : (lines : List (List (List (List ℕ)))) (k count : ℕ) (line : List (List (List ℕ))) (cause : WordsCause) (first : Option WordsFault)
-    → first ≡ fault_from count (located (k + 1) (drop k lines)) → k < length lines → line ≡ get_or lines k [] → HasFault line count cause ⊎ (cause ≡ OutOfMemory)
+    → first ≡ fault_from count (located (k + 1) (drop k lines)) → k < length lines → line ≡ get_or lines k []
+    → HasFault line count cause ⊎ (cause ≡ OutOfMemory)
     → (first ≡ Some (fault_at (k + 1) cause)) ⊎ (fault_at (k + 1) cause ≡ out_of_memory)
 line_has_fault lines k count line cause first sound within is (inl fault) =
-    fault_at-told (k + 1) cause first (inl (sound ∙ ap (fault_from count) (located-drop lines k (k + 1) line within is) ∙ fault (k + 1) (located (k + 1 + 1) (drop (k + 1) lines))))
+    fault_at-told (k + 1) cause first
+    (inl (sound ∙ ap (fault_from count) (located-drop lines k (k + 1) line within is)
+    ∙ fault (k + 1) (located (k + 1 + 1) (drop (k + 1) lines))))
 line_has_fault lines k count line cause first sound within is (inr memory) = fault_at-told (k + 1) cause first (inr memory)

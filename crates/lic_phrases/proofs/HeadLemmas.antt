@@ -24,12 +24,14 @@ abbrev pub no_phrase : Phrase
 no_phrase = record { texts = []; spelling = [] }
 
 -- texts that no phrase has
-phrase_with-new : (words : List Phrase) (texts : List (List ℕ)) → ((k : ℕ) → k < length words → (get_or words k no_phrase).texts ≢ texts) → phrase_with words texts ≡ None
+phrase_with-new : (words : List Phrase) (texts : List (List ℕ))
+    → ((k : ℕ) → k < length words → (get_or words k no_phrase).texts ≢ texts) → phrase_with words texts ≡ None
 phrase_with-new [] texts new = refl
 phrase_with-new (q ∷ words) texts new =
     ⊎_elim
     (λ same. absurd (new 0 (omega arith) (sym ((slice_eq-Decides bytes_eq-Decides texts q.texts (same_texts texts q.texts) refl).0 same))))
-    (λ other. cond-false (same_texts texts q.texts) (Some q) (phrase_with words texts) other ∙ phrase_with-new words texts (λ k within. new (suc k) (omega arith)))
+    (λ other. cond-false (same_texts texts q.texts) (Some q) (phrase_with words texts) other
+    ∙ phrase_with-new words texts (λ k within. new (suc k) (omega arith)))
     (cases_Bool (same_texts texts q.texts))
 
 module _ (phrases : List (List (List ℕ))) (spellings : List (List ℕ)) (heads : List ℕ) (as_many : length heads ≡ length phrases) where
@@ -46,8 +48,11 @@ module _ (phrases : List (List (List ℕ))) (spellings : List (List ℕ)) (heads
   word_at i within =
       let inside : i < length heads = omega (arith, as_many) in
       let paired : i < length (zip phrases heads) = omega (arith, length-zip phrases heads, as_many) in
-      get-map (λ (p : List (List ℕ) × ℕ). let w : Phrase = record { texts = p.0; spelling = get_or spellings p.1 [] } in w) (zip phrases heads) i ([], 0) no_phrase paired
-      ∙ ap (λ (p : List (List ℕ) × ℕ). let w : Phrase = record { texts = p.0; spelling = get_or spellings p.1 [] } in w) (get_or-zip phrases heads i ([], 0) within inside)
+      get-map (λ (p : List (List ℕ) × ℕ). let w : Phrase =
+      record { texts = p.0; spelling = get_or spellings p.1 [] } in w) (zip phrases heads) i
+      ([], 0) no_phrase paired
+      ∙ ap (λ (p : List (List ℕ) × ℕ). let w : Phrase = record { texts = p.0; spelling = get_or spellings p.1 [] } in
+      w) (get_or-zip phrases heads i ([], 0) within inside)
 
   module _ (known : HaveHeads phrases heads) where
     -- the next phrase is new, and so it comes last
@@ -79,10 +84,12 @@ sound_alone : (many : Bool) (own : Option WordsCause) → (if many then Some Too
 sound_alone true own none = absurd (let h : Some TooManyPhrases ≡ None = none in cc)
 sound_alone false own none = none
 
-sound_each : (before : ℕ) (phrases : List (ℕ × List (List ℕ))) → fault_from before phrases ≡ None → (p : List (List ℕ)) → Contains (map (λ q. q.1) phrases) p → fault_of_phrase p ≡ None
+sound_each : (before : ℕ) (phrases : List (ℕ × List (List ℕ))) → fault_from before phrases ≡ None → (p : List (List ℕ))
+    → Contains (map (λ q. q.1) phrases) p → fault_of_phrase p ≡ None
 sound_each before [] none p (k, within, is) = absurd (omega arith)
 sound_each before (q ∷ phrases) none p (zero, within, is) =
-    ap fault_of_phrase (sym is) ∙ sound_alone (nat_le 4096 before) (fault_of_phrase q.1) (no_cause (fault_of before q.1) q.0 (fault_from (before + 1) phrases) none).0
+    ap fault_of_phrase (sym is) ∙ sound_alone (nat_le 4096 before) (fault_of_phrase q.1)
+    (no_cause (fault_of before q.1) q.0 (fault_from (before + 1) phrases) none).0
 sound_each before (q ∷ phrases) none p (suc k, within, is) =
     sound_each (before + 1) phrases (no_cause (fault_of before q.1) q.0 (fault_from (before + 1) phrases) none).1 p (k, omega arith, is)
 
@@ -111,7 +118,8 @@ has_few p none =
     split false false wide e = refl
 
 -- the phrases of a list without a fault, and the heads of their classes
-pub HaveHeads-read : (lines : List (List (List (List ℕ)))) (phrases : List (List (List ℕ))) (heads : List ℕ) → HasRead [] lines [] phrases heads [] → fault_from 0 (located 1 lines) ≡ None → HaveHeads phrases heads
+pub HaveHeads-read : (lines : List (List (List (List ℕ)))) (phrases : List (List (List ℕ))) (heads : List ℕ)
+    → HasRead [] lines [] phrases heads [] → fault_from 0 (located 1 lines) ≡ None → HaveHeads phrases heads
 HaveHeads-read lines phrases heads read none = record {
   some = λ i within. has_some (get_or phrases i []) (sound i within);
   few = λ i within. has_few (get_or phrases i []) (sound i within);

@@ -17,8 +17,11 @@ has_first [] k some within = absurd (omega arith)
 has_first (x ∷ xs) zero some within = absurd (omega arith)
 has_first (x ∷ xs) (suc k) some within = (0, omega (arith, length-take (suc k) (x ∷ xs)), refl)
 
-pub line_begun : (lines : List (List ℕ)) (heads line : List ℕ) → 0 < length line → get_or line 0 0 < length heads → AreHeads (lines ++ [] ∷ []) heads → AreHeads (lines ++ take 1 line ∷ []) heads
-line_begun lines heads line some within known = subst (λ l. AreHeads (lines ++ l ∷ []) heads) (sym (take_one line some)) (first_phrase lines heads (get_or line 0 0) known within)
+pub line_begun : (lines : List (List ℕ)) (heads line : List ℕ) → 0 < length line → get_or line 0 0 < length heads
+    → AreHeads (lines ++ [] ∷ []) heads → AreHeads (lines ++ take 1 line ∷ []) heads
+line_begun lines heads line some within known =
+    subst (λ l. AreHeads (lines ++ l ∷ []) heads) (sym (take_one line some))
+    (first_phrase lines heads (get_or line 0 0) known within)
 
 pub line_goes_on : (lines : List (List ℕ)) (heads line : List ℕ) (k : ℕ) → 0 < k → k < length line → get_or line k 0 < length heads
     → AreHeads (lines ++ take k line ∷ []) heads → AreHeads (lines ++ take (k + 1) line ∷ []) (classes_joined heads (get_or line 0 0) (get_or line k 0))

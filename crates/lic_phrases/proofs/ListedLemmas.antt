@@ -59,7 +59,8 @@ found_phrase key phrase (k ∷ keys) (p ∷ phrases) keyed no_blanks no_blank is
 
 -- a key that is not found is that of no phrase
 pub absent_phrase : {A : Type 0} (key : String A) (phrase : List (List ℕ)) (keys : List (String A)) (phrases : List (List (List ℕ)))
-    → texts_in keys ≡ map key_of phrases → string_bytes key ≡ key_of phrase → list_any (string_eq key) keys ≡ false → (i : ℕ) → i < length phrases → get_or phrases i [] ≢ phrase
+    → texts_in keys ≡ map key_of phrases → string_bytes key ≡ key_of phrase → list_any (string_eq key) keys ≡ false
+    → (i : ℕ) → i < length phrases → get_or phrases i [] ≢ phrase
 absent_phrase key phrase keys [] keyed is none i within = absurd (omega arith)
 absent_phrase key phrase [] (p ∷ phrases) keyed is none i within = absurd (omega (arith, ap length keyed))
 absent_phrase key phrase (k ∷ keys) (p ∷ phrases) keyed is none zero within = λ same.
@@ -70,12 +71,16 @@ absent_phrase key phrase (k ∷ keys) (p ∷ phrases) keyed is none (suc i) with
   | inr e ↦ absent_phrase key phrase keys phrases (ap (drop 1) keyed) is (sym (any_here (string_eq key) k keys e) ∙ none) i (omega arith)
 ]
 
-pub AreWithoutBlanks-push : (phrases : List (List (List ℕ))) (phrase : List (List ℕ)) → AreWithoutBlanks phrases → HaveNoBlank phrase → AreWithoutBlanks (phrases ++ phrase ∷ [])
+pub AreWithoutBlanks-push : (phrases : List (List (List ℕ))) (phrase : List (List ℕ)) → AreWithoutBlanks phrases
+    → HaveNoBlank phrase → AreWithoutBlanks (phrases ++ phrase ∷ [])
 AreWithoutBlanks-push [] phrase known more = (more, tt)
 AreWithoutBlanks-push (p ∷ phrases) phrase known more = (known.0, AreWithoutBlanks-push phrases phrase known.1 more)
 
-module _ {A : Type 0} (keys keys' : List (String A)) (phrases phrases' : List ListedPhrase) (heads heads' : List ℕ) (key : String A) (p : ListedPhrase) (number : ℕ)
-    (known : AreListed keys phrases heads) (is_key : string_bytes key ≡ key_of (texts_in p.texts.items)) (spelling : string_bytes p.spelling ≡ spelled (texts_in p.texts.items)) (no_blank : HaveNoBlank (texts_in p.texts.items)) (token_text : IsTokenText (string_bytes p.spelling)) where
+module _ {A : Type 0} (keys keys' : List (String A)) (phrases phrases' : List ListedPhrase) (heads heads' : List ℕ)
+    (key : String A) (p : ListedPhrase) (number : ℕ)
+    (known : AreListed keys phrases heads) (is_key : string_bytes key ≡ key_of (texts_in p.texts.items))
+    (spelling : string_bytes p.spelling ≡ spelled (texts_in p.texts.items))
+    (no_blank : HaveNoBlank (texts_in p.texts.items)) (token_text : IsTokenText (string_bytes p.spelling)) where
   abbrev phrase : List (List ℕ)
   phrase = texts_in p.texts.items
 
@@ -99,31 +104,43 @@ module _ {A : Type 0} (keys keys' : List (String A)) (phrases phrases' : List Li
       now = ap phrases_in ps ∙ map-append (λ (q : ListedPhrase). texts_in q.texts.items) phrases (p ∷ [])
 
   -- and read
-  pub reads_new : list_any (string_eq key) keys ≡ false → number ≡ position_or_len (string_eq key) keys → phrases' ≡ phrases ++ p ∷ [] → heads' ≡ heads ++ number ∷ [] → ReadsPhrase phrases heads phrases' heads' phrase number
+  pub reads_new : list_any (string_eq key) keys ≡ false → number ≡ position_or_len (string_eq key) keys
+      → phrases' ≡ phrases ++ p ∷ [] → heads' ≡ heads ++ number ∷ []
+      → ReadsPhrase phrases heads phrases' heads' phrase number
   reads_new none at ps hs lines line numbers read =
-      let many : length keys ≡ length (phrases_in phrases) = sym (length-map keys (λ (t : String A). string_bytes t)) ∙ ap length known.keyed ∙ length-map (phrases_in phrases) key_of in
+      let many : length keys ≡ length (phrases_in phrases) =
+      sym (length-map keys (λ (t : String A). string_bytes t)) ∙ ap length known.keyed
+      ∙ length-map (phrases_in phrases) key_of in
       let place : number ≡ length (phrases_in phrases) = at ∙ absent_place (string_eq key) keys none ∙ many in
       let head : number ≡ length heads = place ∙ sym read.as_many in
-      let now : phrases_in phrases' ≡ phrases_in phrases ++ phrase ∷ [] = ap phrases_in ps ∙ map-append (λ (q : ListedPhrase). texts_in q.texts.items) phrases (p ∷ []) in
-      let new = read_new [] lines line (phrases_in phrases) heads numbers read phrase (absent_phrase key phrase keys (phrases_in phrases) known.keyed is_key none) in
+      let now : phrases_in phrases' ≡ phrases_in phrases ++ phrase ∷ [] =
+      ap phrases_in ps ∙ map-append (λ (q : ListedPhrase). texts_in q.texts.items) phrases (p ∷ []) in
+      let new = read_new [] lines line (phrases_in phrases) heads numbers read phrase
+      (absent_phrase key phrase keys (phrases_in phrases) known.keyed is_key none) in
       subst (λ (l : List (List (List ℕ))). HasRead [] lines (line ++ phrase ∷ []) l heads' (numbers ++ number ∷ [])) (sym now)
       (subst (λ (l : List ℕ). HasRead [] lines (line ++ phrase ∷ []) (phrases_in phrases ++ phrase ∷ []) l (numbers ++ number ∷ [])) (sym hs)
       (subst (λ n. HasRead [] lines (line ++ phrase ∷ []) (phrases_in phrases ++ phrase ∷ []) (heads ++ n ∷ []) (numbers ++ number ∷ [])) (sym head)
-      (subst (λ n. HasRead [] lines (line ++ phrase ∷ []) (phrases_in phrases ++ phrase ∷ []) (heads ++ length heads ∷ []) (numbers ++ n ∷ [])) (sym place) new)))
+      (subst (λ n. HasRead [] lines (line ++ phrase ∷ []) (phrases_in phrases ++ phrase ∷ [])
+      (heads ++ length heads ∷ []) (numbers ++ n ∷ [])) (sym place) new)))
 
   -- a phrase that stands there already
   pub reads_again : number ≡ position_or_len (string_eq key) keys → number < length keys → ReadsPhrase phrases heads phrases heads phrase number
   reads_again at within lines line numbers read =
-      let many : length keys ≡ length (phrases_in phrases) = sym (length-map keys (λ (t : String A). string_bytes t)) ∙ ap length known.keyed ∙ length-map (phrases_in phrases) key_of in
+      let many : length keys ≡ length (phrases_in phrases) =
+      sym (length-map keys (λ (t : String A). string_bytes t)) ∙ ap length known.keyed
+      ∙ length-map (phrases_in phrases) key_of in
       let same : get_or (phrases_in phrases) number [] ≡ phrase =
-      ap (λ i. get_or (phrases_in phrases) i []) at ∙ found_phrase key phrase keys (phrases_in phrases) known.keyed known.no_blanks no_blank is_key (omega arith) in
+      ap (λ i. get_or (phrases_in phrases) i []) at
+      ∙ found_phrase key phrase keys (phrases_in phrases) known.keyed known.no_blanks no_blank is_key
+      (omega arith) in
       subst (λ q. HasRead [] lines (line ++ q ∷ []) (phrases_in phrases) heads (numbers ++ number ∷ [])) same
       (read_again [] lines line (phrases_in phrases) heads numbers read number (omega arith))
 
 -- ---- a line
 
 -- the element of a list of parts, with a function of each
-pub mapped_at : {A B : Type 0} (f : A → B) (xs : List A) (k : ℕ) (x : A) (d : B) → k < length xs → x ≡ get_or xs k x → (k < length (map f xs)) × (f x ≡ get_or (map f xs) k d)
+pub mapped_at : {A B : Type 0} (f : A → B) (xs : List A) (k : ℕ) (x : A) (d : B) → k < length xs → x ≡ get_or xs k x
+    → (k < length (map f xs)) × (f x ≡ get_or (map f xs) k d)
 mapped_at f xs k x d within is = (omega (arith, length-map xs f), ap f is ∙ sym (get-map f xs k x d within))
 
 -- the first elements and the next one
@@ -145,8 +162,10 @@ written_back old new n same len =
     ap (λ l. take n (new ++ l)) (drop_all (length new) old (omega arith)) ∙ ap (take n) (append-nil new) ∙ take_all n new (omega arith)
 
 -- the phrases of a line are one class
-pub line_is_read : (lines : List (List (List (List ℕ)))) (line phrases : List (List (List ℕ))) (heads heads' numbers : List ℕ) → HasRead [] lines line phrases heads numbers → length heads' ≡ length heads
-    → ((before : List (List ℕ)) → AreHeads (before ++ [] ∷ []) heads → AreHeads (before ++ numbers ∷ []) heads') → HasRead [] (lines ++ line ∷ []) [] phrases heads' []
+pub line_is_read : (lines : List (List (List (List ℕ)))) (line phrases : List (List (List ℕ)))
+    (heads heads' numbers : List ℕ) → HasRead [] lines line phrases heads numbers → length heads' ≡ length heads
+    → ((before : List (List ℕ)) → AreHeads (before ++ [] ∷ []) heads → AreHeads (before ++ numbers ∷ []) heads')
+    → HasRead [] (lines ++ line ∷ []) [] phrases heads' []
 line_is_read lines line phrases heads heads' numbers read same joined =
     read_line [] lines line phrases heads numbers read heads' same (joined read.numbers (new_line read.numbers heads read.classes))
 
@@ -170,10 +189,12 @@ nothing_read = record {
 }
 
 -- phrases with the spelling of the head of their class
-pub words_with_heads : (lines : List (List (List (List ℕ)))) (phrases : List (List (List ℕ))) (heads : List ℕ) → HasRead [] lines [] phrases heads [] → AreWords lines (with_heads phrases (map spelled phrases) heads)
+pub words_with_heads : (lines : List (List (List (List ℕ)))) (phrases : List (List (List ℕ))) (heads : List ℕ)
+    → HasRead [] lines [] phrases heads [] → AreWords lines (with_heads phrases (map spelled phrases) heads)
 words_with_heads lines phrases heads read =
     subst (λ l. AreWords l (with_heads phrases (map spelled phrases) heads)) read.named
-    (words_are phrases read.numbers heads read.classes read.as_many read.distinct (subst (λ l. AreInOrder l (length phrases)) (append-nil (in_order read.numbers)) read.ordered)
+    (words_are phrases read.numbers heads read.classes read.as_many read.distinct
+    (subst (λ l. AreInOrder l (length phrases)) (append-nil (in_order read.numbers)) read.ordered)
     (with_heads phrases (map spelled phrases) heads) no_phrase many each)
   where
     no_phrase : Phrase
@@ -182,16 +203,24 @@ words_with_heads lines phrases heads read =
     many : length (with_heads phrases (map spelled phrases) heads) ≡ length phrases
     many = length-map (zip phrases heads) _ ∙ length-zip phrases heads ∙ omega (arith, read.as_many)
 
-    each : (i : ℕ) → i < length phrases → get_or (with_heads phrases (map spelled phrases) heads) i no_phrase ≡ record { texts = get_or phrases i []; spelling = spelled (get_or phrases (get_or heads i 0) []) }
+    each : (i : ℕ) → i < length phrases
+        → get_or (with_heads phrases (map spelled phrases) heads) i no_phrase
+        ≡ record { texts = get_or phrases i []; spelling = spelled (get_or phrases (get_or heads i 0) []) }
     each i within =
         let inside : i < length heads = omega (arith, read.as_many) in
         let low = read.classes.low i inside in
         let paired : i < length (zip phrases heads) = omega (arith, length-zip phrases heads, read.as_many) in
-        get-map (λ (p : List (List ℕ) × ℕ). let w : Phrase = record { texts = p.0; spelling = get_or (map spelled phrases) p.1 [] } in w) (zip phrases heads) i ([], 0) no_phrase paired
-        ∙ ap (λ (p : List (List ℕ) × ℕ). let w : Phrase = record { texts = p.0; spelling = get_or (map spelled phrases) p.1 [] } in w) (get_or-zip phrases heads i ([], 0) within inside)
-        ∙ ap (λ (s : List ℕ). let w : Phrase = record { texts = get_or phrases i []; spelling = s } in w) (get-map spelled phrases (get_or heads i 0) [] [] (omega arith))
+        get-map (λ (p : List (List ℕ) × ℕ). let w : Phrase =
+        record { texts = p.0; spelling = get_or (map spelled phrases) p.1 [] } in w) (zip phrases heads) i
+        ([], 0) no_phrase paired
+        ∙ ap (λ (p : List (List ℕ) × ℕ). let w : Phrase =
+        record { texts = p.0; spelling = get_or (map spelled phrases) p.1 [] } in w)
+        (get_or-zip phrases heads i ([], 0) within inside)
+        ∙ ap (λ (s : List ℕ). let w : Phrase = record { texts = get_or phrases i []; spelling = s } in w)
+        (get-map spelled phrases (get_or heads i 0) [] [] (omega arith))
 
-pub words_read : {A : Type 0} (lines : List (List (List (List ℕ)))) (keys : List (String A)) (phrases : List ListedPhrase) (heads : List ℕ) → AreListed keys phrases heads
+pub words_read : {A : Type 0} (lines : List (List (List (List ℕ)))) (keys : List (String A))
+    (phrases : List ListedPhrase) (heads : List ℕ) → AreListed keys phrases heads
     → HasRead [] lines [] (phrases_in phrases) heads [] → AreWords lines (with_heads (phrases_in phrases) (spellings_in phrases) heads)
 words_read lines keys phrases heads known read =
     subst (λ s. AreWords lines (with_heads (phrases_in phrases) s heads)) (sym known.spellings) (words_with_heads lines (phrases_in phrases) heads read)

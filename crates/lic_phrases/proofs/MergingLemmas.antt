@@ -20,19 +20,27 @@ tokens_have_none [] = tt
 tokens_have_none (t ∷ items) = (utf8_has_none (small_bytes t.text) (IsUtf8-had (small_bytes t.text) t.text.utf8), tokens_have_none items)
 
 -- the text of a waiting token
-pub waiting_text : (items : List FirstToken) (n : ℕ) (t : FirstToken) (d : List ℕ) → n < length items → t ≡ get_or items n t → get_or (texts_of (tokens_in items)) n d ≡ small_bytes t.text
+pub waiting_text : (items : List FirstToken) (n : ℕ) (t : FirstToken) (d : List ℕ) → n < length items
+    → t ≡ get_or items n t → get_or (texts_of (tokens_in items)) n d ≡ small_bytes t.text
 waiting_text items n t d lt is =
     get_or-map (λ u. u.text) (tokens_in items) n (token_in t) d (omega (arith, length-map items token_in))
     ∙ ap (λ u. u.text) (get_or-map token_in items n t (token_in t) lt ∙ ap token_in (sym is))
 
 -- what a look-up by the key of the first n texts finds
-pub class-front : (words : List Phrase) (spellings : List (List ℕ)) (items : List FirstToken) (n : ℕ) (key : List ℕ) (class : Option ℕ) → key ≡ key_of (take n (texts_of (tokens_in items))) → (IsKey key → option_map (phrase_of spellings key) class ≡ phrase_with words (key_texts key))
-    → option_map (λ k. record { texts = take n (texts_of (tokens_in items)); spelling = slice_index_or spellings k [] }) class ≡ phrase_with words (take n (texts_of (tokens_in items)))
+pub class-front : (words : List Phrase) (spellings : List (List ℕ)) (items : List FirstToken) (n : ℕ) (key : List ℕ)
+    (class : Option ℕ) → key ≡ key_of (take n (texts_of (tokens_in items)))
+    → (IsKey key → option_map (phrase_of spellings key) class ≡ phrase_with words (key_texts key))
+    → option_map (λ k. record {
+      texts = take n (texts_of (tokens_in items));
+      spelling =
+          slice_index_or spellings k [];
+    }) class ≡ phrase_with words (take n (texts_of (tokens_in items)))
 class-front words spellings items n key class is looked_up =
     let texts = take n (texts_of (tokens_in items)) in
     let none = HaveNoSeparator-take n (texts_of (tokens_in items)) (tokens_have_none items) in
     let back : key_texts key ≡ texts = ap key_texts is ∙ key_texts-key_of texts none in
-    subst (λ l. option_map (λ k. record { texts = l; spelling = slice_index_or spellings k [] }) class ≡ phrase_with words l) back (looked_up (subst IsKey (sym is) (IsKey-key_of texts none)))
+    subst (λ l. option_map (λ k. record { texts = l; spelling = slice_index_or spellings k [] }) class
+    ≡ phrase_with words l) back (looked_up (subst IsKey (sym is) (IsKey-key_of texts none)))
 
 -- an option that is no value
 pub none_from : {A : Type 0} (o : Option A) → ((x : A) → o ≡ Some x → ⊥) → o ≡ None
@@ -49,14 +57,18 @@ OnOk-one (Ok x) P Q follows p = follows p
 OnOk-one (Err e) P Q follows p = tt
 
 -- one more token, with which the texts are a phrase
-pub front_phrase-some : (words : List Phrase) (texts : List (List ℕ)) (n m : ℕ) (p : Phrase) → m ≡ suc n → Some p ≡ phrase_with words (take m texts) → Some p ≡ front_phrase words texts m
+pub front_phrase-some : (words : List Phrase) (texts : List (List ℕ)) (n m : ℕ) (p : Phrase) → m ≡ suc n
+    → Some p ≡ phrase_with words (take m texts) → Some p ≡ front_phrase words texts m
 front_phrase-some words texts n m p next is =
-    subst (λ k. Some p ≡ phrase_with words (take k texts) → Some p ≡ front_phrase words texts k) (sym next) (λ found. ap (λ o. option_or o (front_phrase words texts n)) found) is
+    subst (λ k. Some p ≡ phrase_with words (take k texts) → Some p ≡ front_phrase words texts k)
+    (sym next) (λ found. ap (λ o. option_or o (front_phrase words texts n)) found) is
 
 -- one more token, with which they are none
-pub front_phrase-none : (words : List Phrase) (texts : List (List ℕ)) (n m : ℕ) → m ≡ suc n → None ≡ phrase_with words (take m texts) → front_phrase words texts n ≡ front_phrase words texts m
+pub front_phrase-none : (words : List Phrase) (texts : List (List ℕ)) (n m : ℕ) → m ≡ suc n
+    → None ≡ phrase_with words (take m texts) → front_phrase words texts n ≡ front_phrase words texts m
 front_phrase-none words texts n m next is =
-    subst (λ k. None ≡ phrase_with words (take k texts) → front_phrase words texts n ≡ front_phrase words texts k) (sym next) (λ none. ap (λ o. option_or o (front_phrase words texts n)) none) is
+    subst (λ k. None ≡ phrase_with words (take k texts) → front_phrase words texts n ≡ front_phrase words texts k)
+    (sym next) (λ none. ap (λ o. option_or o (front_phrase words texts n)) none) is
 
 -- ---- what is given
 
@@ -76,21 +88,29 @@ less_one : (n : ℕ) → suc n - 1 ≡ n
 less_one n = omega arith
 
 -- what is left of the tokens behind the first
-left_behind : (spellings : List (List ℕ)) (found : Option Found) (t : FirstToken) (items : List FirstToken) → IfSome found (λ f. (0 < f.count) × (f.count ≤ suc (length items)))
-    → drop (count_behind (option_map (phrase_found spellings (tokens_in (t ∷ items))) found)) (tokens_in items) ≡ tokens_in (drop (count_found found) (t ∷ items))
+left_behind : (spellings : List (List ℕ)) (found : Option Found) (t : FirstToken) (items : List FirstToken)
+    → IfSome found (λ f. (0 < f.count) × (f.count ≤ suc (length items)))
+    → drop (count_behind (option_map (phrase_found spellings (tokens_in (t ∷ items))) found)) (tokens_in items)
+    ≡ tokens_in (drop (count_found found) (t ∷ items))
 left_behind spellings None t items within = refl
 left_behind spellings (Some f) t items within = by f.count within
   where
-    by : (count : ℕ) → (0 < count) × (count ≤ suc (length items)) → drop (length (take count (texts_of (tokens_in (t ∷ items)))) - 1) (tokens_in items) ≡ tokens_in (drop count (t ∷ items))
+    by : (count : ℕ) → (0 < count) × (count ≤ suc (length items))
+        → drop (length (take count (texts_of (tokens_in (t ∷ items)))) - 1) (tokens_in items)
+        ≡ tokens_in (drop count (t ∷ items))
     by zero fits = absurd (omega (arith, fits.0))
     by (suc count) fits =
         let texts = texts_of (tokens_in items) in
-        let size : length (take count texts) ≡ count = length-take-le count texts (omega (arith, fits.1, length-map (tokens_in items) (λ u. u.text), length-map items token_in)) in
+        let size : length (take count texts) ≡ count =
+        length-take-le count texts (omega
+        (arith, fits.1, length-map (tokens_in items) (λ u. u.text), length-map items token_in)) in
         ap (λ k. drop k (tokens_in items)) (less_one (length (take count texts)) ∙ size) ∙ drop-map token_in count items
 
 -- the first of the waiting tokens is given
-pub GivesMore-first : (list : PhraseList) (at_end : Bool) (given : List FinalToken) (items : List FirstToken) (first : FirstToken) (most : ℕ) (found : Option Found) (given' : List FinalToken) (items' : List FirstToken)
-    → 0 < length items → first ≡ get_or items 0 first → HaveTokens list.phrases → longest_from list.phrases (small_bytes first.text) ≤ most → (at_end ≡ true) ⊎ (most ≤ length items)
+pub GivesMore-first : (list : PhraseList) (at_end : Bool) (given : List FinalToken) (items : List FirstToken)
+    (first : FirstToken) (most : ℕ) (found : Option Found) (given' : List FinalToken) (items' : List FirstToken)
+    → 0 < length items → first ≡ get_or items 0 first → HaveTokens list.phrases
+    → longest_from list.phrases (small_bytes first.text) ≤ most → (at_end ≡ true) ⊎ (most ≤ length items)
     → option_map (phrase_found list.spellings (tokens_in items)) found ≡ front_phrase list.phrases (texts_of (tokens_in items)) (min most (length items))
     → IfSome found (λ f. (0 < f.count) × (f.count ≤ min most (length items)))
     → items' ≡ drop (count_found found) items
@@ -118,7 +138,8 @@ GivesMore-first list at_end given (t ∷ items) first most found given' items' s
     let first_of : Option Phrase → List SpannedText = λ phrase. spanned (first_as phrase (token_in t) ts) ∷ rest_of (drop (count_behind phrase) ts) in
     ap (λ l. map (spanned_in list.spellings) given ++ map spanned l) (phrases_joined-first words (token_in t) ts rest decided)
     ∙ ap (λ l. map (spanned_in list.spellings) given ++ l) (ap first_of (sym longest))
-    ∙ sym (append_assoc (map (spanned_in list.spellings) given) (first_given list.spellings found (token_in t ∷ ts)) (rest_of (drop (count_behind (option_map (phrase_found list.spellings (token_in t ∷ ts)) found)) ts)))
+    ∙ sym (append_assoc (map (spanned_in list.spellings) given) (first_given list.spellings found (token_in t ∷ ts))
+    (rest_of (drop (count_behind (option_map (phrase_found list.spellings (token_in t ∷ ts)) found)) ts)))
     ∙ ap₂ (λ a b. a ++ rest_of b) (sym more) (left_behind list.spellings found t items within_all ∙ sym (ap tokens_in left))
   where
     weaker : (o : Option Found) (m n : ℕ) → m ≤ n → IfSome o (λ f. (0 < f.count) × (f.count ≤ m)) → IfSome o (λ f. (0 < f.count) × (f.count ≤ n))

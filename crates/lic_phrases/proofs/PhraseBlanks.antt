@@ -29,7 +29,8 @@ each-append : {A : Type 0} (P : A → Type 0) (xs ys : List A) → Each P xs →
 each-append P [] ys left right = right
 each-append P (x ∷ xs) ys left right = (left.0, each-append P xs ys left.1 right)
 
-each-flat_map : {A B : Type 0} (P : A → Type 0) (Q : B → Type 0) (f : A → List B) → ((x : A) → P x → Each Q (f x)) → (xs : List A) → Each P xs → Each Q (flat_map f xs)
+each-flat_map : {A B : Type 0} (P : A → Type 0) (Q : B → Type 0) (f : A → List B) → ((x : A) → P x → Each Q (f x))
+    → (xs : List A) → Each P xs → Each Q (flat_map f xs)
 each-flat_map P Q f step [] known = tt
 each-flat_map P Q f step (x ∷ xs) known = each-append Q (f x) (flat_map f xs) (step x known.0) (each-flat_map P Q f step xs known.1)
 
@@ -37,7 +38,8 @@ each-cond : {A : Type 0} (P : A → Type 0) (b : Bool) (x y : A) → P x → P y
 each-cond P true x y left right = left
 each-cond P false x y left right = right
 
-each-join_group : {A : Type 0} (P : A → Type 0) (together : A → A → Bool) (x : A) (gs : List (List A)) → P x → Each (Each P) gs → Each (Each P) (join_group together x gs)
+each-join_group : {A : Type 0} (P : A → Type 0) (together : A → A → Bool) (x : A) (gs : List (List A)) → P x
+    → Each (Each P) gs → Each (Each P) (join_group together x gs)
 each-join_group P together x [] here known = ((here, tt), tt)
 each-join_group P together x ([] ∷ gs) here known = ((here, tt), known)
 each-join_group P together x ((y ∷ g) ∷ gs) here known =
@@ -101,11 +103,13 @@ letters_of-no_blank [] known = tt
 letters_of-no_blank (Blank ∷ cells) known = letters_of-no_blank cells known.1
 letters_of-no_blank (Mark s ∷ cells) known =
     each-append (λ d. d ≢ 0x20) (spell s.char) (letters_of cells)
-    (each-from_recursion (λ d. kind_of d ≡ kind.Mark) (λ d. d ≢ 0x20) mark_no_blank (spell s.char) (recursion_from_All (λ d. kind_of d ≡ kind.Mark) (spell s.char) (mark_letters s.char known.0)))
+    (each-from_recursion (λ d. kind_of d ≡ kind.Mark) (λ d. d ≢ 0x20) mark_no_blank (spell s.char)
+    (recursion_from_All (λ d. kind_of d ≡ kind.Mark) (spell s.char) (mark_letters s.char known.0)))
     (letters_of-no_blank cells known.1)
 letters_of-no_blank (Word s ∷ cells) known =
     each-append (λ d. d ≢ 0x20) (spell s.char) (letters_of cells)
-    (each-from_recursion (λ d. kind_of d ≡ kind.Word) (λ d. d ≢ 0x20) word_no_blank (spell s.char) (recursion_from_All (λ d. kind_of d ≡ kind.Word) (spell s.char) (word_letters s.char known.0)))
+    (each-from_recursion (λ d. kind_of d ≡ kind.Word) (λ d. d ≢ 0x20) word_no_blank (spell s.char)
+    (recursion_from_All (λ d. kind_of d ≡ kind.Word) (spell s.char) (word_letters s.char known.0)))
     (letters_of-no_blank cells known.1)
 
 no_blank-append : (xs ys : List ℕ) → HasNoBlank xs → HasNoBlank ys → HasNoBlank (xs ++ ys)
@@ -146,11 +150,15 @@ tokens_from-plain after_blank [] known = tt
 tokens_from-plain after_blank ([] ∷ gs) known = tokens_from-plain after_blank gs known.1
 tokens_from-plain after_blank ((Blank ∷ cells) ∷ gs) known = tokens_from-plain true gs known.1
 tokens_from-plain after_blank ((Mark s ∷ cells) ∷ gs) known = (
-  encoded_solid (letters_of (Mark s ∷ cells)) (omega (arith, length-append (spell s.char) (letters_of cells), ap length (spell-Mark s.char known.0.0))) (letters_of-no_blank (Mark s ∷ cells) known.0),
+  encoded_solid (letters_of (Mark s ∷ cells))
+      (omega (arith, length-append (spell s.char) (letters_of cells), ap length (spell-Mark s.char known.0.0)))
+      (letters_of-no_blank (Mark s ∷ cells) known.0),
   tokens_from-plain false gs known.1,
 )
 tokens_from-plain after_blank ((Word s ∷ cells) ∷ gs) known = (
-  encoded_solid (letters_of (Word s ∷ cells)) (omega (arith, length-append (spell s.char) (letters_of cells), word_has_letters s.char known.0.0)) (letters_of-no_blank (Word s ∷ cells) known.0),
+  encoded_solid (letters_of (Word s ∷ cells))
+      (omega (arith, length-append (spell s.char) (letters_of cells), word_has_letters s.char known.0.0))
+      (letters_of-no_blank (Word s ∷ cells) known.0),
   tokens_from-plain false gs known.1,
 )
 
@@ -195,8 +203,10 @@ phrase_is_solid cs =
     let parted = without_separators cells in
     let joint = with_joined parted in
     let sound = cells-sound (without_dropped (unplaced cs)) in
-    let parted_sound = each-flat_map (Each IsSound) IsSound without_separator without_separator-sound (groups same_mark cells) (each-groups IsSound same_mark cells sound) in
-    let joint_sound = each-flat_map (Each IsSound) IsSound joined joined-sound (groups same_family parted) (each-groups IsSound same_family parted parted_sound) in
+    let parted_sound = each-flat_map (Each IsSound) IsSound without_separator without_separator-sound
+    (groups same_mark cells) (each-groups IsSound same_mark cells sound) in
+    let joint_sound = each-flat_map (Each IsSound) IsSound joined joined-sound (groups same_family parted)
+    (each-groups IsSound same_family parted parted_sound) in
     let signs = single_signs (first_tokens joint) in
     let plain = single_signs-plain (first_tokens joint) (tokens_from-plain true (groups both_words joint) (each-groups IsSound both_words joint joint_sound)) in
     let rows = each-flat_map (Each IsPlain) IsPlain sign_of_row sign_of_row-plain (groups both_signs signs) (each-groups IsPlain both_signs signs plain) in

@@ -31,7 +31,8 @@ character_has_none : (c : ℕ) → Shape c → HasNoSeparator (encode_utf8 c)
 character_has_none c (of1 small is) = subst HasNoSeparator (sym is) (λ e. omega arith, tt)
 character_has_none c (of2 a b l h f s is) = subst HasNoSeparator (sym is) (λ e. omega arith, (λ e. omega arith, tt))
 character_has_none c (of3 a b d l h f g s is) = subst HasNoSeparator (sym is) (λ e. omega arith, (λ e. omega arith, (λ e. omega arith, tt)))
-character_has_none c (of4 a b d x l h f g k s is) = subst HasNoSeparator (sym is) (λ e. omega arith, (λ e. omega arith, (λ e. omega arith, (λ e. omega arith, tt))))
+character_has_none c (of4 a b d x l h f g k s is) =
+    subst HasNoSeparator (sym is) (λ e. omega arith, (λ e. omega arith, (λ e. omega arith, (λ e. omega arith, tt))))
 
 characters_have_none : (cs : List ℕ) → scalars cs ≡ true → HasNoSeparator (encode_utf8_all cs)
 characters_have_none [] h = tt
@@ -62,7 +63,8 @@ IsKey-key_of texts h = ap key_of (key_texts-key_of texts h)
 pub same_keys : (a b : List ℕ) → IsKey a → IsKey b → bytes_eq a b ≡ same_texts (key_texts a) (key_texts b)
 same_keys a b a_is b_is =
     let texts = slice_eq-Decides bytes_eq-Decides (key_texts a) (key_texts b) (same_texts (key_texts a) (key_texts b)) refl in
-    same_from_decides (bytes_eq a b) (same_texts (key_texts a) (key_texts b)) (bytes_eq-Decides a b) (λ e. sym a_is ∙ ap key_of (texts.0 e) ∙ b_is, λ e. texts.1 (ap key_texts e))
+    same_from_decides (bytes_eq a b) (same_texts (key_texts a) (key_texts b))
+    (bytes_eq-Decides a b) (λ e. sym a_is ∙ ap key_of (texts.0 e) ∙ b_is, λ e. texts.1 (ap key_texts e))
 
 -- texts of strings have no byte that is the separator
 pub strings_have_none : {A : Type 0} (texts : List (String A)) → HaveNoSeparator (map string_bytes texts)
@@ -70,7 +72,8 @@ strings_have_none [] = tt
 strings_have_none (text ∷ texts) = (utf8_has_none (string_bytes text) (IsUtf8-string_bytes text), strings_have_none texts)
 
 -- a key made of some texts is an entry
-pub IsEntry-key_of : (count : ℕ) (key : List ℕ) (texts : List (List ℕ)) (class : ℕ) → HaveNoSeparator texts → key ≡ key_of texts → 0 < length texts → length texts ≤ 8 → class < count → IsEntry count key class
+pub IsEntry-key_of : (count : ℕ) (key : List ℕ) (texts : List (List ℕ)) (class : ℕ) → HaveNoSeparator texts
+    → key ≡ key_of texts → 0 < length texts → length texts ≤ 8 → class < count → IsEntry count key class
 IsEntry-key_of count key texts class none is some few known =
     let back : key_texts key ≡ texts = ap key_texts is ∙ key_texts-key_of texts none in
     record {
@@ -81,7 +84,8 @@ IsEntry-key_of count key texts class none is some few known =
     }
 
 -- the key of one more text
-pub key_of-more : (texts : List (List ℕ)) (n : ℕ) (d : List ℕ) → n < length texts → key_of (take (suc n) texts) ≡ (key_of (take n texts) ++ get_or texts n d) ++ 0xFF ∷ []
+pub key_of-more : (texts : List (List ℕ)) (n : ℕ) (d : List ℕ) → n < length texts
+    → key_of (take (suc n) texts) ≡ (key_of (take n texts) ++ get_or texts n d) ++ 0xFF ∷ []
 key_of-more texts n d lt =
     ap key_of (take-suc texts n d lt)
     ∙ flat_map-append (λ text. text ++ 0xFF ∷ []) (take n texts) (get_or texts n d ∷ [])

@@ -79,7 +79,9 @@ longest_phrase-within n [] ts h = tt
 longest_phrase-within n (p ∷ words) ts h =
     let rest = longest_phrase-within n words ts h.1 in
     ⊎_elim
-    (λ there. subst (IsWithin n) (sym (cond-true (stands p.texts ts) (Some (longer p (longest_phrase words ts))) (longest_phrase words ts) there)) (longer-within n p (longest_phrase words ts) (h.0 there) rest))
+    (λ there. subst (IsWithin n) (sym
+    (cond-true (stands p.texts ts) (Some (longer p (longest_phrase words ts)))
+    (longest_phrase words ts) there)) (longer-within n p (longest_phrase words ts) (h.0 there) rest))
     (λ missing. subst (IsWithin n) (sym (cond-false (stands p.texts ts) (Some (longer p (longest_phrase words ts))) (longest_phrase words ts) missing)) rest)
     (cases_Bool (stands p.texts ts))
 
@@ -89,16 +91,18 @@ longer-first p None h = refl
 longer-first p (Some q) h = cond-false (nat_lt (length p.texts) (length q.texts)) q p (grind (arith, nat_tests))
 
 -- where no phrase that stands has a token, there is no longest
-longest_phrase-none : (words : List Phrase) (ts : List Token) → HaveTokens words → StandWithin 0 words ts → longest_phrase words ts ≡ None
+pub longest_phrase-none : (words : List Phrase) (ts : List Token) → HaveTokens words → StandWithin 0 words ts → longest_phrase words ts ≡ None
 longest_phrase-none [] ts some h = refl
 longest_phrase-none (p ∷ words) ts some h =
     ⊎_elim
     (λ there. absurd (omega (arith, some.0, h.0 there)))
-    (λ missing. cond-false (stands p.texts ts) (Some (longer p (longest_phrase words ts))) (longest_phrase words ts) missing ∙ longest_phrase-none words ts some.1 h.1)
+    (λ missing. cond-false (stands p.texts ts) (Some (longer p (longest_phrase words ts)))
+    (longest_phrase words ts) missing ∙ longest_phrase-none words ts some.1 h.1)
     (cases_Bool (stands p.texts ts))
 
 -- a phrase of n tokens that stands is the longest where no longer one stands
-longest_phrase-found : (n : ℕ) (words : List Phrase) (ts : List Token) (p : Phrase) → n ≤ length ts → StandWithin n words ts → phrase_with words (take n (texts_of ts)) ≡ Some p → longest_phrase words ts ≡ Some p
+longest_phrase-found : (n : ℕ) (words : List Phrase) (ts : List Token) (p : Phrase) → n ≤ length ts
+    → StandWithin n words ts → phrase_with words (take n (texts_of ts)) ≡ Some p → longest_phrase words ts ≡ Some p
 longest_phrase-found n [] ts p fits h found = cc
 longest_phrase-found n (q ∷ words) ts p fits h found =
     let texts = take n (texts_of ts) in
@@ -110,7 +114,8 @@ longest_phrase-found n (q ∷ words) ts p fits h found =
     let q_texts : texts ≡ q.texts = same-is texts q.texts same in
     let there : stands q.texts ts ≡ true = subst (λ l. stands l ts ≡ true) q_texts (texts-stand n ts) in
     let long : n ≡ length q.texts = sym size ∙ ap length q_texts in
-    standing there ∙ ap Some (longer-first q (longest_phrase words ts) (subst (λ k. IsWithin k (longest_phrase words ts)) long (longest_phrase-within n words ts h.1))) ∙ is)
+    standing there ∙ ap Some (longer-first q (longest_phrase words ts)
+    (subst (λ k. IsWithin k (longest_phrase words ts)) long (longest_phrase-within n words ts h.1))) ∙ is)
     (λ other.
     let later : phrase_with words texts ≡ Some p = sym (cond-false (same_texts texts q.texts) (Some q) (phrase_with words texts) other) ∙ found in
     let rest : longest_phrase words ts ≡ Some p = longest_phrase-found n words ts p fits h.1 later in
@@ -131,7 +136,8 @@ longest_phrase-found n (q ∷ words) ts p fits h found =
     (cases_Bool (same_texts texts q.texts))
 
 -- where no phrase has n + 1 of these texts, those that stand have at most n
-StandWithin-less : (n : ℕ) (words : List Phrase) (ts : List Token) → StandWithin (suc n) words ts → phrase_with words (take (suc n) (texts_of ts)) ≡ None → StandWithin n words ts
+StandWithin-less : (n : ℕ) (words : List Phrase) (ts : List Token) → StandWithin (suc n) words ts
+    → phrase_with words (take (suc n) (texts_of ts)) ≡ None → StandWithin n words ts
 StandWithin-less n [] ts h none = tt
 StandWithin-less n (q ∷ words) ts h none =
     let texts = take (suc n) (texts_of ts) in
@@ -148,12 +154,16 @@ StandWithin-less n (q ∷ words) ts h none =
     (cases_Bool (same_texts texts q.texts))
 
 -- the longest front that is a phrase is the longest phrase that stands, where the fronts reach far enough
-pub front_phrase-longest : (n : ℕ) (words : List Phrase) (ts : List Token) → n ≤ length ts → HaveTokens words → StandWithin n words ts → front_phrase words (texts_of ts) n ≡ longest_phrase words ts
+pub front_phrase-longest : (n : ℕ) (words : List Phrase) (ts : List Token) → n ≤ length ts → HaveTokens words
+    → StandWithin n words ts → front_phrase words (texts_of ts) n ≡ longest_phrase words ts
 front_phrase-longest zero words ts fits some h = sym (longest_phrase-none words ts some h)
 front_phrase-longest (suc n) words ts fits some h =
     by (phrase_with words (take (suc n) (texts_of ts))) refl (λ none. front_phrase-longest n words ts (omega arith) some (StandWithin-less n words ts h none))
   where
-    by : (o : Option Phrase) → phrase_with words (take (suc n) (texts_of ts)) ≡ o → (phrase_with words (take (suc n) (texts_of ts)) ≡ None → front_phrase words (texts_of ts) n ≡ longest_phrase words ts) → option_or o (front_phrase words (texts_of ts) n) ≡ longest_phrase words ts
+    by : (o : Option Phrase) → phrase_with words (take (suc n) (texts_of ts)) ≡ o
+        → (phrase_with words (take (suc n) (texts_of ts)) ≡ None
+        → front_phrase words (texts_of ts) n ≡ longest_phrase words ts)
+        → option_or o (front_phrase words (texts_of ts) n) ≡ longest_phrase words ts
     by (Some p) is fewer = sym (longest_phrase-found (suc n) words ts p fits h is)
     by None is fewer = fewer is
 
@@ -182,7 +192,8 @@ stands-begins [] t ts some there = absurd (omega arith)
 stands-begins (text ∷ texts) t ts some there = (and_parts (is_text text t) (stands texts ts) there).0
 
 -- no phrase that stands has more tokens than the longest that begins with the first token's text
-pub StandWithin-from : (most : ℕ) (words : List Phrase) (t : Token) (ts : List Token) → HaveTokens words → longest_from words t.text ≤ most → StandWithin most words (t ∷ ts)
+pub StandWithin-from : (most : ℕ) (words : List Phrase) (t : Token) (ts : List Token) → HaveTokens words
+    → longest_from words t.text ≤ most → StandWithin most words (t ∷ ts)
 StandWithin-from most [] t ts some bound = tt
 StandWithin-from most (p ∷ words) t ts some bound = (
   λ there. let long = longest_from-first p words t.text (stands-begins p.texts t ts some.0 there) in omega arith,
@@ -201,7 +212,9 @@ stands-front [] ts rest fits = refl
 stands-front (text ∷ texts) [] rest fits = absurd (omega arith)
 stands-front (text ∷ texts) (t ∷ ts) rest fits = ap (λ b. is_text text t && b) (stands-front texts ts rest (omega arith))
 
-stands-decided : (texts : List (List ℕ)) (t : Token) (ts rest : List Token) → 0 < length texts → (begins_with t.text texts ≡ true → length texts ≤ suc (length ts)) → stands texts (t ∷ (ts ++ rest)) ≡ stands texts (t ∷ ts)
+stands-decided : (texts : List (List ℕ)) (t : Token) (ts rest : List Token) → 0 < length texts
+    → (begins_with t.text texts ≡ true → length texts ≤ suc (length ts))
+    → stands texts (t ∷ (ts ++ rest)) ≡ stands texts (t ∷ ts)
 stands-decided [] t ts rest some fits = absurd (omega arith)
 stands-decided (text ∷ texts) t ts rest some fits = by (is_text text t) refl
   where
@@ -210,7 +223,9 @@ stands-decided (text ∷ texts) t ts rest some fits = by (is_text text t) refl
     by false other = refl
 
 -- the longest phrase is known once as many tokens stand there as the longest that begins with the first token's text has
-pub longest_phrase-decided : (words : List Phrase) (t : Token) (ts rest : List Token) → HaveTokens words → longest_from words t.text ≤ suc (length ts) → longest_phrase words (t ∷ (ts ++ rest)) ≡ longest_phrase words (t ∷ ts)
+pub longest_phrase-decided : (words : List Phrase) (t : Token) (ts rest : List Token) → HaveTokens words
+    → longest_from words t.text ≤ suc (length ts)
+    → longest_phrase words (t ∷ (ts ++ rest)) ≡ longest_phrase words (t ∷ ts)
 longest_phrase-decided [] t ts rest some bound = refl
 longest_phrase-decided (p ∷ words) t ts rest some bound =
     ap₂ (λ b best. if b then Some (longer p best) else best)
@@ -224,7 +239,8 @@ phrases_behind-drop words (suc n) [] = refl
 phrases_behind-drop words zero (t ∷ ts) = refl
 phrases_behind-drop words (suc n) (t ∷ ts) = phrases_behind-drop words n ts
 
-first_as-front : (phrase : Option Phrase) (t : Token) (ts rest : List Token) → IsWithin (suc (length ts)) phrase → first_as phrase t (ts ++ rest) ≡ first_as phrase t ts
+first_as-front : (phrase : Option Phrase) (t : Token) (ts rest : List Token) → IsWithin (suc (length ts)) phrase
+    → first_as phrase t (ts ++ rest) ≡ first_as phrase t ts
 first_as-front None t ts rest h = refl
 first_as-front (Some p) t ts rest h = ap (joined_as p.spelling t) (take-append-le (length p.texts - 1) ts rest (omega arith))
 
@@ -234,7 +250,9 @@ count_behind-within (Some p) n h = omega arith
 
 -- what the first token becomes, and what is left, where the tokens that follow do not change the longest phrase
 pub phrases_joined-first : (words : List Phrase) (t : Token) (ts rest : List Token) → longest_phrase words (t ∷ (ts ++ rest)) ≡ longest_phrase words (t ∷ ts)
-    → phrases_joined words ((t ∷ ts) ++ rest) ≡ first_as (longest_phrase words (t ∷ ts)) t ts ∷ phrases_joined words (drop (count_behind (longest_phrase words (t ∷ ts))) ts ++ rest)
+    → phrases_joined words ((t ∷ ts) ++ rest)
+    ≡ first_as (longest_phrase words (t ∷ ts)) t ts
+    ∷ phrases_joined words (drop (count_behind (longest_phrase words (t ∷ ts))) ts ++ rest)
 phrases_joined-first words t ts rest decided =
     let phrase = longest_phrase words (t ∷ ts) in
     let within : IsWithin (suc (length ts)) phrase = longest_phrase-within (suc (length ts)) words (t ∷ ts) (StandWithin-length words (t ∷ ts)) in

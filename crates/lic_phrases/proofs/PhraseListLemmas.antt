@@ -20,7 +20,8 @@ longest_with : List Phrase → List ℕ → List (List ℕ) → ℕ
 longest_with words text texts = if begins_with text texts then max (length texts) (longest_from words text) else longest_from words text
 
 -- one more phrase makes the longest no longer than itself
-pub longest_from-with_added : (words : List Phrase) (p : Phrase) (text : List ℕ) → longest_from (with_added words p) text ≤ max (longest_from words text) (needed_for text p)
+pub longest_from-with_added : (words : List Phrase) (p : Phrase) (text : List ℕ)
+    → longest_from (with_added words p) text ≤ max (longest_from words text) (needed_for text p)
 longest_from-with_added [] p text = split (begins_with text p.texts)
   where
     split : (b : Bool) → (if b then max (length p.texts) 0 else 0) ≤ max 0 (if b then length p.texts else 0)
@@ -29,24 +30,36 @@ longest_from-with_added [] p text = split (begins_with text p.texts)
 longest_from-with_added (q ∷ words) p text =
     ⊎_elim
     (λ same.
-    subst (λ l. longest_from l text ≤ max (longest_from (q ∷ words) text) (needed_for text p)) (sym (cond-true (same_texts p.texts q.texts) (p ∷ words) (q ∷ with_added words p) same))
-    (subst (λ texts. (if begins_with text texts then max (length texts) (longest_from words text) else longest_from words text) ≤ max (longest_from (q ∷ words) text) (needed_for text p)) (sym ((slice_eq-Decides bytes_eq-Decides p.texts q.texts (same_texts p.texts q.texts) refl).0 same)) (omega arith)))
+    subst (λ l. longest_from l text ≤ max (longest_from (q ∷ words) text) (needed_for text p))
+    (sym (cond-true (same_texts p.texts q.texts) (p ∷ words) (q ∷ with_added words p) same))
+    (subst (λ texts. (if begins_with text texts then max (length texts)
+    (longest_from words text) else longest_from words text)
+    ≤ max (longest_from (q ∷ words) text) (needed_for text p))
+    (sym ((slice_eq-Decides bytes_eq-Decides p.texts q.texts (same_texts p.texts q.texts) refl).0 same))
+    (omega arith)))
     (λ other.
-    subst (λ l. longest_from l text ≤ max (longest_from (q ∷ words) text) (needed_for text p)) (sym (cond-false (same_texts p.texts q.texts) (p ∷ words) (q ∷ with_added words p) other))
+    subst (λ l. longest_from l text ≤ max (longest_from (q ∷ words) text) (needed_for text p))
+    (sym (cond-false (same_texts p.texts q.texts) (p ∷ words) (q ∷ with_added words p) other))
     (split (begins_with text q.texts) (longest_from (with_added words p) text) (longest_from words text) (longest_from-with_added words p text)))
     (cases_Bool (same_texts p.texts q.texts))
   where
-    split : (b : Bool) (new old : ℕ) → new ≤ max old (needed_for text p) → (if b then max (length q.texts) new else new) ≤ max (if b then max (length q.texts) old else old) (needed_for text p)
+    split : (b : Bool) (new old : ℕ) → new ≤ max old (needed_for text p)
+        → (if b then max (length q.texts) new else new)
+        ≤ max (if b then max (length q.texts) old else old) (needed_for text p)
     split true new old h = omega arith
     split false new old h = omega arith
 
 -- where texts have a first, they begin with it alone
-pub begins_with-first : (texts : List (List ℕ)) (first text : List ℕ) → 0 < length texts → get_or texts 0 first ≡ first → begins_with text texts ≡ bytes_eq first text
+pub begins_with-first : (texts : List (List ℕ)) (first text : List ℕ) → 0 < length texts → get_or texts 0 first ≡ first
+    → begins_with text texts ≡ bytes_eq first text
 begins_with-first [] first text some is = absurd (omega arith)
 begins_with-first (t ∷ texts) first text some is = ap (λ x. bytes_eq x text) is
 
 -- a table of bounds after an insertion is raised
-pub IsRaised-update : (first : List ℕ) (count value : ℕ) (old new : List ℕ → Option ℕ) → value ≡ max (unwrap_or (old first) 0) count → count ≤ 8 → ((text : List ℕ) → new text ≡ update bytes_eq old first (Some value) text) → IsRaised first count (λ text. unwrap_or (old text) 0) (λ text. unwrap_or (new text) 0)
+pub IsRaised-update : (first : List ℕ) (count value : ℕ) (old new : List ℕ → Option ℕ)
+    → value ≡ max (unwrap_or (old first) 0) count → count ≤ 8
+    → ((text : List ℕ) → new text ≡ update bytes_eq old first (Some value) text)
+    → IsRaised first count (λ text. unwrap_or (old text) 0) (λ text. unwrap_or (new text) 0)
 IsRaised-update first count value old new is few after = record {
   at_text = λ text. ap (λ o. unwrap_or o 0) (after text) ∙ split (bytes_eq first text) (old text);
   few = few;
@@ -78,7 +91,8 @@ module _ (first : List ℕ) (count : ℕ) (most_from raised : List ℕ → ℕ) 
       (λ other. omega (arith, at_other text other, short text))
       (cases_Bool (bytes_eq first text))
 
-  pub raised-needed : (p : Phrase) → 0 < length p.texts → get_or p.texts 0 first ≡ first → length p.texts ≡ count → (text : List ℕ) → needed_for text p ≤ raised text
+  pub raised-needed : (p : Phrase) → 0 < length p.texts → get_or p.texts 0 first ≡ first → length p.texts ≡ count
+      → (text : List ℕ) → needed_for text p ≤ raised text
   raised-needed p some is long text =
       let begins = begins_with-first p.texts first text some is in
       ⊎_elim
@@ -92,12 +106,19 @@ module _ {K : Type 0} (bytes : K → List ℕ) where
   abbrev same_key : K → K → Bool
   same_key j k = bytes_eq (bytes j) (bytes k)
 
-  pub AreEntries-insert : (count : ℕ) (entries : List (K × ℕ)) (k : K) (class : ℕ) → AreEntries bytes count entries → IsEntry count (bytes k) class → AreEntries bytes count (insert_entry same_key entries k class)
+  pub AreEntries-insert : (count : ℕ) (entries : List (K × ℕ)) (k : K) (class : ℕ) → AreEntries bytes count entries
+      → IsEntry count (bytes k) class → AreEntries bytes count (insert_entry same_key entries k class)
   AreEntries-insert count [] k class all new = (new, tt)
   AreEntries-insert count (e ∷ entries) k class all new =
       ⊎_elim
-      (λ same. subst (AreEntries bytes count) (sym (cond-true (same_key k e.0) ((e.0, class) ∷ entries) (e ∷ insert_entry same_key entries k class) same)) (record { is_key = all.0.is_key; some = all.0.some; few = all.0.few; known = new.known }, all.1))
-      (λ other. subst (AreEntries bytes count) (sym (cond-false (same_key k e.0) ((e.0, class) ∷ entries) (e ∷ insert_entry same_key entries k class) other)) (all.0, AreEntries-insert count entries k class all.1 new))
+      (λ same. subst (AreEntries bytes count)
+      (sym (cond-true (same_key k e.0) ((e.0, class) ∷ entries)
+      (e ∷ insert_entry same_key entries k class) same))
+      (record { is_key = all.0.is_key; some = all.0.some; few = all.0.few; known = new.known }, all.1))
+      (λ other. subst (AreEntries bytes count)
+      (sym (cond-false (same_key k e.0) ((e.0, class) ∷ entries)
+      (e ∷ insert_entry same_key entries k class) other))
+      (all.0, AreEntries-insert count entries k class all.1 new))
       (cases_Bool (same_key k e.0))
 
   -- more classes leave the entries in order
@@ -108,13 +129,20 @@ module _ {K : Type 0} (bytes : K → List ℕ) where
       (record { is_key = all.0.is_key; some = all.0.some; few = all.0.few; known = known }, AreEntries-more count more entries le all.1)
 
   -- one more spelling leaves the phrases as they are
-  pub phrases_in-more : (spellings : List (List ℕ)) (spelling : List ℕ) (entries : List (K × ℕ)) → AreEntries bytes (length spellings) entries → phrases_in bytes (spellings ++ spelling ∷ []) entries ≡ phrases_in bytes spellings entries
+  pub phrases_in-more : (spellings : List (List ℕ)) (spelling : List ℕ) (entries : List (K × ℕ))
+      → AreEntries bytes (length spellings) entries
+      → phrases_in bytes (spellings ++ spelling ∷ []) entries ≡ phrases_in bytes spellings entries
   phrases_in-more spellings spelling [] all = refl
   phrases_in-more spellings spelling (e ∷ entries) all =
-      ap₂ (λ s words. record { texts = key_texts (bytes e.0); spelling = s } ∷ words) (get_or-append spellings (spelling ∷ []) [] e.1 all.0.known) (phrases_in-more spellings spelling entries all.1)
+      ap₂ (λ s words. record { texts = key_texts (bytes e.0); spelling = s } ∷ words)
+      (get_or-append spellings (spelling ∷ []) [] e.1 all.0.known)
+      (phrases_in-more spellings spelling entries all.1)
 
   -- one more entry is one more phrase
-  pub phrases_in-insert : (count : ℕ) (spellings : List (List ℕ)) (entries : List (K × ℕ)) (k : K) (class : ℕ) → AreEntries bytes count entries → IsKey (bytes k) → phrases_in bytes spellings (insert_entry same_key entries k class) ≡ with_added (phrases_in bytes spellings entries) (phrase_of spellings (bytes k) class)
+  pub phrases_in-insert : (count : ℕ) (spellings : List (List ℕ)) (entries : List (K × ℕ)) (k : K) (class : ℕ)
+      → AreEntries bytes count entries → IsKey (bytes k)
+      → phrases_in bytes spellings (insert_entry same_key entries k class)
+      ≡ with_added (phrases_in bytes spellings entries) (phrase_of spellings (bytes k) class)
   phrases_in-insert count spellings [] k class all is_key = refl
   phrases_in-insert count spellings (e ∷ entries) k class all is_key =
       let agree = same_keys (bytes k) (bytes e.0) is_key all.0.is_key in
@@ -130,7 +158,10 @@ module _ {K : Type 0} (bytes : K → List ℕ) where
       (cases_Bool (same_key k e.0))
 
   -- a look-up by key finds the phrase with the key's texts
-  pub lookup-phrases : (count : ℕ) (spellings : List (List ℕ)) (entries : List (K × ℕ)) (key : List ℕ) → AreEntries bytes count entries → IsKey key → option_map (phrase_of spellings key) (lookup (λ k. bytes_eq key (bytes k)) entries) ≡ phrase_with (phrases_in bytes spellings entries) (key_texts key)
+  pub lookup-phrases : (count : ℕ) (spellings : List (List ℕ)) (entries : List (K × ℕ)) (key : List ℕ)
+      → AreEntries bytes count entries → IsKey key
+      → option_map (phrase_of spellings key) (lookup (λ k. bytes_eq key (bytes k)) entries)
+      ≡ phrase_with (phrases_in bytes spellings entries) (key_texts key)
   lookup-phrases count spellings [] key all is_key = refl
   lookup-phrases count spellings (e ∷ entries) key all is_key =
       let agree = same_keys key (bytes e.0) is_key all.0.is_key in
@@ -146,36 +177,48 @@ module _ {K : Type 0} (bytes : K → List ℕ) where
       (cases_Bool (bytes_eq key (bytes e.0)))
 
   -- a look-up finds a class that there is
-  pub lookup-known : (count : ℕ) (entries : List (K × ℕ)) (test : K → Bool) → AreEntries bytes count entries → IfSome (lookup test entries) (λ class. class < count)
+  pub lookup-known : (count : ℕ) (entries : List (K × ℕ)) (test : K → Bool) → AreEntries bytes count entries
+      → IfSome (lookup test entries) (λ class. class < count)
   lookup-known count [] test all = tt
   lookup-known count (e ∷ entries) test all =
       ⊎_elim
       (λ passes. subst (λ o. IfSome o (λ class. class < count)) (sym (cond-true (test e.0) (Some e.1) (lookup test entries) passes)) all.0.known)
-      (λ fails. subst (λ o. IfSome o (λ class. class < count)) (sym (cond-false (test e.0) (Some e.1) (lookup test entries) fails)) (lookup-known count entries test all.1))
+      (λ fails. subst (λ o. IfSome o (λ class. class < count))
+      (sym (cond-false (test e.0) (Some e.1) (lookup test entries) fails))
+      (lookup-known count entries test all.1))
       (cases_Bool (test e.0))
 
   -- each phrase has a token
-  pub phrases_in-HaveTokens : (count : ℕ) (spellings : List (List ℕ)) (entries : List (K × ℕ)) → AreEntries bytes count entries → HaveTokens (phrases_in bytes spellings entries)
+  pub phrases_in-HaveTokens : (count : ℕ) (spellings : List (List ℕ)) (entries : List (K × ℕ))
+      → AreEntries bytes count entries → HaveTokens (phrases_in bytes spellings entries)
   phrases_in-HaveTokens count spellings [] all = tt
   phrases_in-HaveTokens count spellings (e ∷ entries) all = (all.0.some, phrases_in-HaveTokens count spellings entries all.1)
 
   -- ---- what a list of phrases keeps
 
-  pub IsStored-class : (entries : List (K × ℕ)) (spellings : List (List ℕ)) (most_from : List ℕ → ℕ) (spelling : List ℕ) → IsStored bytes entries spellings most_from → IsStored bytes entries (spellings ++ spelling ∷ []) most_from
+  pub IsStored-class : (entries : List (K × ℕ)) (spellings : List (List ℕ)) (most_from : List ℕ → ℕ)
+      (spelling : List ℕ) → IsStored bytes entries spellings most_from
+      → IsStored bytes entries (spellings ++ spelling ∷ []) most_from
   IsStored-class entries spellings most_from spelling h = record {
-    entered = AreEntries-more (length spellings) (length (spellings ++ spelling ∷ [])) entries (omega (arith, length-append spellings (spelling ∷ []))) h.entered;
+    entered = AreEntries-more (length spellings) (length (spellings ++ spelling ∷ [])) entries
+        (omega (arith, length-append spellings (spelling ∷ []))) h.entered;
     bound = λ text. subst (λ words. longest_from words text ≤ most_from text) (sym (phrases_in-more spellings spelling entries h.entered)) (h.bound text);
     short = h.short;
   }
 
-  pub IsStored-raised : (entries : List (K × ℕ)) (spellings : List (List ℕ)) (first : List ℕ) (count : ℕ) (most_from raised : List ℕ → ℕ) → IsRaised first count most_from raised → IsStored bytes entries spellings most_from → IsStored bytes entries spellings raised
+  pub IsStored-raised : (entries : List (K × ℕ)) (spellings : List (List ℕ)) (first : List ℕ) (count : ℕ)
+      (most_from raised : List ℕ → ℕ) → IsRaised first count most_from raised
+      → IsStored bytes entries spellings most_from → IsStored bytes entries spellings raised
   IsStored-raised entries spellings first count most_from raised r h = record {
     entered = h.entered;
     bound = λ text. omega (arith, h.bound text, raised-above first count most_from raised r text);
     short = raised-short first count most_from raised r h.short;
   }
 
-  pub IsStored-entry : (entries : List (K × ℕ)) (spellings : List (List ℕ)) (most_from : List ℕ → ℕ) (k : K) (class : ℕ) → IsStored bytes entries spellings most_from → IsEntry (length spellings) (bytes k) class → ((text : List ℕ) → needed_for text (phrase_of spellings (bytes k) class) ≤ most_from text) → IsStored bytes (insert_entry same_key entries k class) spellings most_from
+  pub IsStored-entry : (entries : List (K × ℕ)) (spellings : List (List ℕ)) (most_from : List ℕ → ℕ) (k : K)
+      (class : ℕ) → IsStored bytes entries spellings most_from → IsEntry (length spellings) (bytes k) class
+      → ((text : List ℕ) → needed_for text (phrase_of spellings (bytes k) class) ≤ most_from text)
+      → IsStored bytes (insert_entry same_key entries k class) spellings most_from
   IsStored-entry entries spellings most_from k class h new needed = record {
     entered = AreEntries-insert (length spellings) entries k class h.entered new;
     bound = λ text.

@@ -24,10 +24,12 @@ texts_of-spanned (t ∷ ts) = ap (λ l. t.text ∷ l) (texts_of-spanned ts)
 
 -- the texts of tokens that are rewritten without phrases
 pub texts_of-rewritten : (ts : List Token) → map (λ t. t.text) (rewritten [] ts) ≡ texts_of (https_as_http (sign_rows ts))
-texts_of-rewritten ts = ap (λ l. map (λ t. t.text) (map spanned l)) (phrases_joined-none (https_as_http (sign_rows ts))) ∙ texts_of-spanned (https_as_http (sign_rows ts))
+texts_of-rewritten ts = ap (λ l. map (λ t. t.text) (map spanned l))
+    (phrases_joined-none (https_as_http (sign_rows ts))) ∙ texts_of-spanned (https_as_http (sign_rows ts))
 
 -- the texts of settled tokens
-pub texts_of-settled : (spellings : List (List ℕ)) (ts : List FinalToken) → map (λ t. (spanned_in spellings t).text) ts ≡ map (λ t. t.text) (map (spanned_in spellings) ts)
+pub texts_of-settled : (spellings : List (List ℕ)) (ts : List FinalToken)
+    → map (λ t. (spanned_in spellings t).text) ts ≡ map (λ t. t.text) (map (spanned_in spellings) ts)
 texts_of-settled spellings [] = refl
 texts_of-settled spellings (t ∷ ts) = ap (λ l. (spanned_in spellings t).text ∷ l) (texts_of-settled spellings ts)
 

@@ -21,13 +21,16 @@ get_behind (x ∷ xs) y d = get_behind xs y d
 
 map_alike : {A : Type 0} {B : Type 0} (f g : A → B) (xs : List A) → ((x : A) → Contains xs x → f x ≡ g x) → map f xs ≡ map g xs
 map_alike f g [] alike = refl
-map_alike f g (x ∷ xs) alike = ap₂ (λ y ys. y ∷ ys) (alike x (0, omega arith, refl)) (map_alike f g xs (λ y has. alike y (suc has.0, omega (arith, has.1), has.2)))
+map_alike f g (x ∷ xs) alike =
+    ap₂ (λ y ys. y ∷ ys) (alike x (0, omega arith, refl))
+    (map_alike f g xs (λ y has. alike y (suc has.0, omega (arith, has.1), has.2)))
 
 in_order-append : (ls ms : List (List ℕ)) → in_order (ls ++ ms) ≡ in_order ls ++ in_order ms
 in_order-append [] ms = refl
 in_order-append (l ∷ ls) ms = ap (λ r. l ++ r) (in_order-append ls ms) ∙ sym (append_assoc l (in_order ls) (in_order ms))
 
-module _ {A : Type 0} (d : A) (lines : List (List A)) (line : List A) (keys : List A) (heads line_numbers : List ℕ) (known : HasRead d lines line keys heads line_numbers) where
+module _ {A : Type 0} (d : A) (lines : List (List A)) (line : List A) (keys : List A) (heads line_numbers : List ℕ)
+    (known : HasRead d lines line keys heads line_numbers) where
   abbrev key : ℕ → A
   key i = get_or keys i d
 
@@ -40,7 +43,8 @@ module _ {A : Type 0} (d : A) (lines : List (List A)) (line : List A) (keys : Li
     classes = known.classes;
     as_many = known.as_many;
     distinct = known.distinct;
-    ordered = subst (λ l. AreInOrder l (length keys)) (append_assoc (in_order known.numbers) line_numbers (q ∷ [])) (again (in_order known.numbers ++ line_numbers) (length keys) q less known.ordered);
+    ordered = subst (λ l. AreInOrder l (length keys)) (append_assoc (in_order known.numbers) line_numbers (q ∷ []))
+        (again (in_order known.numbers ++ line_numbers) (length keys) q less known.ordered);
   }
 
   pub line_below : (x : ℕ) → Contains line_numbers x → x < length keys
@@ -72,7 +76,9 @@ module _ {A : Type 0} (d : A) (lines : List (List A)) (line : List A) (keys : Li
     read_new = record {
       numbers = known.numbers;
       named =
-          map_alike (map key') (map key) known.numbers (λ l there. map_alike key' key l (λ x has. let b = known.classes.numbered l x there has in stays_named x (omega (arith, known.as_many))))
+          map_alike (map key') (map key) known.numbers (λ l there.
+          map_alike key' key l (λ x has. let b = known.classes.numbered l x there has in
+          stays_named x (omega (arith, known.as_many))))
           ∙ known.named;
       line_named =
           map-append key' line_numbers (length keys ∷ [])
@@ -90,11 +96,14 @@ module _ {A : Type 0} (d : A) (lines : List (List A)) (line : List A) (keys : Li
         ]
       ];
       ordered = subst (AreInOrder (in_order known.numbers ++ (line_numbers ++ length keys ∷ []))) (sym longer)
-          (subst (λ l. AreInOrder l (length keys + 1)) (append_assoc (in_order known.numbers) line_numbers (length keys ∷ [])) (next_number (in_order known.numbers ++ line_numbers) (length keys) known.ordered));
+          (subst (λ l. AreInOrder l (length keys + 1))
+          (append_assoc (in_order known.numbers) line_numbers (length keys ∷ []))
+          (next_number (in_order known.numbers ++ line_numbers) (length keys) known.ordered));
     }
 
   -- the line ends, and its phrases become one class
-  pub read_line : (heads' : List ℕ) → length heads' ≡ length heads → AreHeads (known.numbers ++ line_numbers ∷ []) heads' → HasRead d (lines ++ line ∷ []) [] keys heads' []
+  pub read_line : (heads' : List ℕ) → length heads' ≡ length heads
+      → AreHeads (known.numbers ++ line_numbers ∷ []) heads' → HasRead d (lines ++ line ∷ []) [] keys heads' []
   read_line heads' same joined = record {
     numbers = known.numbers ++ line_numbers ∷ [];
     named = map-append (map key) known.numbers (line_numbers ∷ []) ∙ ap₂ (λ a b. a ++ b ∷ []) known.named known.line_named;
@@ -102,5 +111,8 @@ module _ {A : Type 0} (d : A) (lines : List (List A)) (line : List A) (keys : Li
     classes = joined;
     as_many = same ∙ known.as_many;
     distinct = known.distinct;
-    ordered = subst (λ l. AreInOrder l (length keys)) (ap (λ l. in_order known.numbers ++ l) (sym (append-nil line_numbers)) ∙ sym (in_order-append known.numbers (line_numbers ∷ [])) ∙ sym (append-nil (in_order (known.numbers ++ line_numbers ∷ [])))) known.ordered;
+    ordered = subst (λ l. AreInOrder l (length keys))
+        (ap (λ l. in_order known.numbers ++ l) (sym (append-nil line_numbers))
+        ∙ sym (in_order-append known.numbers (line_numbers ∷ []))
+        ∙ sym (append-nil (in_order (known.numbers ++ line_numbers ∷ [])))) known.ordered;
   }

@@ -7,13 +7,13 @@ use Rattle.std.proofs.lemmas.List.{length-map, map-append}
 use Rattle.lic_lines.specs.Texts.{groups, join_group}
 use Rattle.lic_lines.specs.Tokens.{Token, is_text, token_in, tokens_in}
 use Rattle.lic_lines.specs.declared.tokens.FirstToken.{FirstToken}
-use Rattle.lic_phrases.specs.Rewriting.{Phrase, SpannedText, spanned, is_sign, both_signs, sign_of_row, sign_rows, https_as_http, longest_phrase, count_behind, phrases_behind, phrases_joined, rewritten}
+use Rattle.lic_phrases.specs.Rewriting.{Phrase, SpannedText, spanned, is_sign, both_signs, sign_of_row, sign_rows, https_as_http, longest_phrase, count_behind, first_as, phrases_behind, phrases_joined, rewritten}
 use Rattle.lic_phrases.specs.Settling.{Kept, nothing_kept, IsShort, left_of, left_of_rows, GivesRows, Settles}
 use Rattle.lic_phrases.specs.Held.{held}
-use Rattle.lic_phrases.specs.PhraseLists.{PhraseList}
+use Rattle.lic_phrases.specs.PhraseLists.{PhraseList, HaveTokens, longest_from}
 use Rattle.lic_phrases.specs.Waiting.{spanned_in, GivesMore}
 use Rattle.lic_phrases.specs.declared.final_token.FinalToken.{FinalToken}
-use Rattle.lic_phrases.specs.declared.final_token.TokenText.TheVariants.{Own}
+use Rattle.lic_phrases.proofs.PhraseLemmas.{longest_phrase-none, StandWithin-from}
 use Rattle.lic_phrases.proofs.SignLemmas.{sign_rows-other}
 use Rattle.lic_phrases.proofs.AddressLemmas.{https_as_http-other, https_as_http-few}
 
@@ -24,8 +24,10 @@ length-join_group t [] = omega arith
 length-join_group t ([] ∷ gs) = omega arith
 length-join_group t ((u ∷ g) ∷ gs) =
     ⊎_elim
-    (λ joins. subst (λ l. length (flat_map sign_of_row l) ≤ 1 + length (flat_map sign_of_row ((u ∷ g) ∷ gs))) (sym (cond-true (both_signs t u) ((t ∷ u ∷ g) ∷ gs) ((t ∷ []) ∷ (u ∷ g) ∷ gs) joins)) (omega arith))
-    (λ alone. subst (λ l. length (flat_map sign_of_row l) ≤ 1 + length (flat_map sign_of_row ((u ∷ g) ∷ gs))) (sym (cond-false (both_signs t u) ((t ∷ u ∷ g) ∷ gs) ((t ∷ []) ∷ (u ∷ g) ∷ gs) alone)) (omega arith))
+    (λ joins. subst (λ l. length (flat_map sign_of_row l) ≤ 1 + length (flat_map sign_of_row ((u ∷ g) ∷ gs)))
+    (sym (cond-true (both_signs t u) ((t ∷ u ∷ g) ∷ gs) ((t ∷ []) ∷ (u ∷ g) ∷ gs) joins)) (omega arith))
+    (λ alone. subst (λ l. length (flat_map sign_of_row l) ≤ 1 + length (flat_map sign_of_row ((u ∷ g) ∷ gs)))
+    (sym (cond-false (both_signs t u) ((t ∷ u ∷ g) ∷ gs) ((t ∷ []) ∷ (u ∷ g) ∷ gs) alone)) (omega arith))
     (cases_Bool (both_signs t u))
 
 length-sign_rows : (ts : List Token) → length (sign_rows ts) ≤ length ts
@@ -69,7 +71,9 @@ length-held (Some t) = omega arith
 -- ---- one token more
 
 -- where little is kept, what is settled is nearly all
-pub Settles-short : (words : List Phrase) (taken : List Token) (settled : List SpannedText) (kept : Kept) → ((rest : List Token) → rewritten words (taken ++ rest) ≡ settled ++ left_of words kept rest) → IsShort kept → Settles words taken settled kept
+pub Settles-short : (words : List Phrase) (taken : List Token) (settled : List SpannedText) (kept : Kept)
+    → ((rest : List Token) → rewritten words (taken ++ rest) ≡ settled ++ left_of words kept rest) → IsShort kept
+    → Settles words taken settled kept
 Settles-short words taken settled kept goes_on short = record {
   goes_on = goes_on;
   short = short;
@@ -102,21 +106,33 @@ Settles-more words taken settled settled' kept kept' t rows before sign_eq gives
     short
 
 -- rows that are taken one after the other
-pub GivesRows-both : (words : List Phrase) (given given' given'' : List SpannedText) (kept kept' kept'' : Kept) (rows more : List Token) → GivesRows words given kept rows given' kept' → GivesRows words given' kept' more given'' kept'' → GivesRows words given kept (rows ++ more) given'' kept''
-GivesRows-both words given given' given'' kept kept' kept'' rows more first second = λ rest. ap (λ l. given ++ left_of_rows words kept l) (append_assoc rows more rest) ∙ first (more ++ rest) ∙ second rest
+pub GivesRows-both : (words : List Phrase) (given given' given'' : List SpannedText) (kept kept' kept'' : Kept)
+    (rows more : List Token) → GivesRows words given kept rows given' kept'
+    → GivesRows words given' kept' more given'' kept'' → GivesRows words given kept (rows ++ more) given'' kept''
+GivesRows-both words given given' given'' kept kept' kept'' rows more first second =
+    λ rest. ap (λ l. given ++ left_of_rows words kept l) (append_assoc rows more rest) ∙ first (more ++ rest)
+    ∙ second rest
 
 -- what was given before stays in front
-pub GivesRows-behind : (words : List Phrase) (front given given' : List SpannedText) (kept kept' : Kept) (rows : List Token) → GivesRows words given kept rows given' kept' → GivesRows words (front ++ given) kept rows (front ++ given') kept'
-GivesRows-behind words front given given' kept kept' rows gives = λ rest. behind_front front given given' (left_of_rows words kept (rows ++ rest)) (left_of_rows words kept' rest) (gives rest)
+pub GivesRows-behind : (words : List Phrase) (front given given' : List SpannedText) (kept kept' : Kept)
+    (rows : List Token) → GivesRows words given kept rows given' kept'
+    → GivesRows words (front ++ given) kept rows (front ++ given') kept'
+GivesRows-behind words front given given' kept kept' rows gives =
+    λ rest. behind_front front given given' (left_of_rows words kept (rows ++ rest)) (left_of_rows words kept' rest)
+    (gives rest)
 
 -- a token that is no `https` goes straight on where none waits before it
 pub GivesRows-plain : (list : PhraseList) (given given' : List FinalToken) (waiting waiting' : List FirstToken) (row : FirstToken) (sign : List Token) → is_text (codes "https") (token_in row) ≡ false → GivesMore list false given (waiting ++ row ∷ []) given' waiting'
-    → GivesRows list.phrases (map (spanned_in list.spellings) given) (record { sign = sign; address = []; phrase = tokens_in waiting }) (token_in row ∷ []) (map (spanned_in list.spellings) given') (record { sign = sign; address = []; phrase = tokens_in waiting' })
+    → GivesRows list.phrases (map (spanned_in list.spellings) given)
+    (record { sign = sign; address = []; phrase = tokens_in waiting }) (token_in row ∷ [])
+    (map (spanned_in list.spellings) given') (record { sign = sign; address = []; phrase = tokens_in waiting' })
 GivesRows-plain list given given' waiting waiting' row sign other more = λ rest.
     let old = map (spanned_in list.spellings) given in
     let behind = https_as_http rest in
     ap (λ l. old ++ map spanned (phrases_joined list.phrases (tokens_in waiting ++ l))) (https_as_http-other (token_in row) rest other)
-    ∙ ap (λ l. old ++ map spanned (phrases_joined list.phrases l)) (sym (append_assoc (tokens_in waiting) (token_in row ∷ []) behind) ∙ ap (λ l. l ++ behind) (sym (map-append token_in waiting (row ∷ []))))
+    ∙ ap (λ l. old ++ map spanned (phrases_joined list.phrases l))
+    (sym (append_assoc (tokens_in waiting) (token_in row ∷ []) behind)
+    ∙ ap (λ l. l ++ behind) (sym (map-append token_in waiting (row ∷ []))))
     ∙ more behind (λ e. absurd (false≢true e))
 
 pub Settles-new : (words : List Phrase) → Settles words [] [] nothing_kept
@@ -168,18 +184,18 @@ OnOk-from (Err e) P Q follows = tt
 -- ---- a token that is settled at once
 
 -- where nothing is kept back, and the token is no sign, no `https` and begins no phrase
-pub Settles-alone : (list : PhraseList) (token : FirstToken) (settled : List SpannedText) (taken : List Token)
-    → is_sign (token_in token) ≡ false → is_text (codes "https") (token_in token) ≡ false
-    → GivesMore list false [] (token ∷ []) (record { text = Own token.text; start = token.start; end = token.end } ∷ []) []
-    → Settles list.phrases taken settled nothing_kept
-    → Settles list.phrases (taken ++ token_in token ∷ []) (settled ++ spanned (token_in token) ∷ []) nothing_kept
-Settles-alone list token settled taken no_sign no_https more before =
-    let t = token_in token in
+pub Settles-alone : (words : List Phrase) (t : Token) (settled : List SpannedText) (taken : List Token)
+    → is_sign t ≡ false → is_text (codes "https") t ≡ false → HaveTokens words → longest_from words t.text ≤ 0
+    → Settles words taken settled nothing_kept
+    → Settles words (taken ++ t ∷ []) (settled ++ spanned t ∷ []) nothing_kept
+Settles-alone words t settled taken no_sign no_https some bound before =
     let one : List SpannedText = spanned t ∷ [] in
-    let given : FinalToken = record { text = Own token.text; start = token.start; end = token.end } in
-    Settles-more list.phrases taken settled (settled ++ one) nothing_kept nothing_kept t (t ∷ []) before
+    Settles-more words taken settled (settled ++ one) nothing_kept nothing_kept t (t ∷ []) before
     (λ rest. sign_rows-other t rest no_sign)
-    (subst (λ l. GivesRows list.phrases l nothing_kept (t ∷ []) (settled ++ one) nothing_kept) (append-nil settled)
-    (GivesRows-behind list.phrases settled [] one nothing_kept nothing_kept (t ∷ [])
-    (GivesRows-plain list [] (given ∷ []) [] [] token [] no_https more)))
+    (λ rest.
+    let behind = https_as_http rest in
+    let none : longest_phrase words (t ∷ behind) ≡ None = longest_phrase-none words (t ∷ behind) some (StandWithin-from 0 words t behind some bound) in
+    ap (λ l. settled ++ map spanned (phrases_joined words l)) (https_as_http-other t rest no_https)
+    ∙ ap (λ phrase. settled ++ map spanned (first_as phrase t behind ∷ phrases_behind words (count_behind phrase) behind)) none
+    ∙ sym (append_assoc settled one (left_of_rows words nothing_kept rest)))
     (record { sign = omega arith; address = omega arith; phrase = omega arith })

@@ -11,7 +11,10 @@ use Rattle.lic_phrases.proofs.GroupLemmas.{groups-head}
 abbrev reaching : Token → Token → Token
 reaching a b = record a { end = b.end }
 
-merge_groups : (a b : Token) (gs : List (List Token)) → both_signs a b ≡ true → ((y : Token) → both_signs (reaching a b) y ≡ both_signs b y) → flat_map sign_of_row (join_group both_signs a (join_group both_signs b gs)) ≡ flat_map sign_of_row (join_group both_signs (reaching a b) gs)
+merge_groups : (a b : Token) (gs : List (List Token)) → both_signs a b ≡ true
+    → ((y : Token) → both_signs (reaching a b) y ≡ both_signs b y)
+    → flat_map sign_of_row (join_group both_signs a (join_group both_signs b gs))
+    ≡ flat_map sign_of_row (join_group both_signs (reaching a b) gs)
 merge_groups a b [] signs same = ap (flat_map sign_of_row) (cond-true (both_signs a b) ((a ∷ b ∷ []) ∷ []) ((a ∷ []) ∷ (b ∷ []) ∷ []) signs)
 merge_groups a b ([] ∷ gs) signs same = ap (flat_map sign_of_row) (cond-true (both_signs a b) ((a ∷ b ∷ []) ∷ [] ∷ gs) ((a ∷ []) ∷ (b ∷ []) ∷ [] ∷ gs) signs)
 merge_groups a b ((y ∷ g) ∷ gs) signs same =
@@ -19,11 +22,15 @@ merge_groups a b ((y ∷ g) ∷ gs) signs same =
     (λ joins.
     ap (λ l. flat_map sign_of_row (join_group both_signs a l)) (cond-true (both_signs b y) ((b ∷ y ∷ g) ∷ gs) ((b ∷ []) ∷ (y ∷ g) ∷ gs) joins)
     ∙ ap (flat_map sign_of_row) (cond-true (both_signs a b) ((a ∷ b ∷ y ∷ g) ∷ gs) ((a ∷ []) ∷ (b ∷ y ∷ g) ∷ gs) signs)
-    ∙ ap (flat_map sign_of_row) (sym (cond-true (both_signs (reaching a b) y) ((reaching a b ∷ y ∷ g) ∷ gs) ((reaching a b ∷ []) ∷ (y ∷ g) ∷ gs) (same y ∙ joins))))
+    ∙ ap (flat_map sign_of_row) (sym
+    (cond-true (both_signs (reaching a b) y) ((reaching a b ∷ y ∷ g) ∷ gs) ((reaching a b ∷ []) ∷ (y ∷ g) ∷ gs)
+    (same y ∙ joins))))
     (λ alone.
     ap (λ l. flat_map sign_of_row (join_group both_signs a l)) (cond-false (both_signs b y) ((b ∷ y ∷ g) ∷ gs) ((b ∷ []) ∷ (y ∷ g) ∷ gs) alone)
     ∙ ap (flat_map sign_of_row) (cond-true (both_signs a b) ((a ∷ b ∷ []) ∷ (y ∷ g) ∷ gs) ((a ∷ []) ∷ (b ∷ []) ∷ (y ∷ g) ∷ gs) signs)
-    ∙ ap (flat_map sign_of_row) (sym (cond-false (both_signs (reaching a b) y) ((reaching a b ∷ y ∷ g) ∷ gs) ((reaching a b ∷ []) ∷ (y ∷ g) ∷ gs) (same y ∙ alone))))
+    ∙ ap (flat_map sign_of_row) (sym
+    (cond-false (both_signs (reaching a b) y) ((reaching a b ∷ y ∷ g) ∷ gs)
+    ((reaching a b ∷ []) ∷ (y ∷ g) ∷ gs) (same y ∙ alone))))
     (cases_Bool (both_signs b y))
 
 -- a sign and the sign behind it are as one that reaches over both

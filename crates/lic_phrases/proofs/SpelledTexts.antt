@@ -30,7 +30,8 @@ no_blank_inside [] rest known = known.0 refl
 no_blank_inside (c ∷ front) rest known = no_blank_inside front rest known.1
 
 -- a blank that stands behind a text without one
-blank_behind : (text tail front rest : List ℕ) → HasNoBlank text → text ++ tail ≡ front ++ 0x20 ∷ rest → (behind : List ℕ) × (front ≡ text ++ behind) × (tail ≡ behind ++ 0x20 ∷ rest)
+blank_behind : (text tail front rest : List ℕ) → HasNoBlank text → text ++ tail ≡ front ++ 0x20 ∷ rest
+    → (behind : List ℕ) × (front ≡ text ++ behind) × (tail ≡ behind ++ 0x20 ∷ rest)
 blank_behind [] tail front rest known same = (front, refl, same)
 blank_behind (c ∷ text) tail [] rest known same = absurd (known.0 (ap (λ l. get_or l 0 0) same))
 blank_behind (c ∷ text) tail (d ∷ front) rest known same =
@@ -49,7 +50,9 @@ ends_behind text behind utf8 word =
     (first_of_front (reverse (chars behind)) (reverse (chars text)) word)
 
 begins_before : (text behind : List ℕ) → IsUtf8 text → IsTrue (begins_in_word text) → IsTrue (begins_in_word (text ++ behind))
-begins_before text behind utf8 word = subst (λ l. IsTrue (first_is_word l)) (sym (chars-append text behind utf8)) (first_of_front (chars text) (chars behind) word)
+begins_before text behind utf8 word =
+    subst (λ l. IsTrue (first_is_word l)) (sym (chars-append text behind utf8))
+    (first_of_front (chars text) (chars behind) word)
 
 spelled_begins : (text : List ℕ) (texts : List (List ℕ)) → IsUtf8 text → IsTrue (begins_in_word text) → IsTrue (begins_in_word (spelled (text ∷ texts)))
 spelled_begins text [] utf8 word = word
@@ -61,8 +64,11 @@ blank_utf8 : IsUtf8 (0x20 ∷ [])
 blank_utf8 = subst IsUtf8 (encode_ascii 0x20 (omega arith)) (IsUtf8-encode 0x20 refl)
 
 -- the letters beside a blank that stands behind the first text
-beside_blank : (text next : List ℕ) (texts : List (List ℕ)) (rest : List ℕ) → IsUtf8 text → IsUtf8 next → IsTokenText (spelled (next ∷ texts)) → (parted : Bool) → (parted ≡ true → IsTrue (ends_in_word text) × IsTrue (begins_in_word next))
-    → (behind : List ℕ) → blank_if parted ++ spelled (next ∷ texts) ≡ behind ++ 0x20 ∷ rest → IsTrue (ends_in_word (text ++ behind)) × IsTrue (begins_in_word rest)
+beside_blank : (text next : List ℕ) (texts : List (List ℕ)) (rest : List ℕ) → IsUtf8 text → IsUtf8 next
+    → IsTokenText (spelled (next ∷ texts)) → (parted : Bool)
+    → (parted ≡ true → IsTrue (ends_in_word text) × IsTrue (begins_in_word next))
+    → (behind : List ℕ) → blank_if parted ++ spelled (next ∷ texts) ≡ behind ++ 0x20 ∷ rest
+    → IsTrue (ends_in_word (text ++ behind)) × IsTrue (begins_in_word rest)
 beside_blank text next texts rest utf8 next_utf8 later true words [] same = (
   subst (λ l. IsTrue (ends_in_word l)) (sym (append-nil text)) (words refl).0,
   subst (λ l. IsTrue (begins_in_word l)) (ap (drop 1) same) (spelled_begins next texts next_utf8 (words refl).1),
@@ -89,18 +95,22 @@ spelled_text text (next ∷ texts) solid utf8 =
       not_empty = omega (arith, length-append text tail, solid.0.0);
       blanks = λ front rest parts.
           let cut = blank_behind text tail front rest solid.0.1 parts in
-          let beside = beside_blank text next texts rest utf8.0 utf8.1.0 later (is_parted text next) (λ is. and_parts (ends_in_word text) (begins_in_word next) is) cut.0 cut.2 in
+          let beside = beside_blank text next texts rest utf8.0 utf8.1.0 later
+          (is_parted text next) (λ is. and_parts (ends_in_word text) (begins_in_word next) is) cut.0 cut.2 in
           (subst (λ l. IsTrue (ends_in_word l)) (sym cut.1) beside.0, beside.1);
     }
 
 -- the spelling of a phrase that has tokens
-pub phrase_spelling : {A : Type 0} (texts : List (String A)) (cs spelling : List ℕ) → texts_in texts ≡ phrase_texts cs → 0 < length texts → spelling ≡ spelled (texts_in texts) → IsTokenText spelling
+pub phrase_spelling : {A : Type 0} (texts : List (String A)) (cs spelling : List ℕ) → texts_in texts ≡ phrase_texts cs
+    → 0 < length texts → spelling ≡ spelled (texts_in texts) → IsTokenText spelling
 phrase_spelling [] cs spelling are some is = absurd (omega arith)
 phrase_spelling (text ∷ texts) cs spelling are some is =
-    subst IsTokenText (sym is) (spelled_text (string_bytes text) (texts_in texts) (subst AreSolid (sym are) (phrase_is_solid cs)) (texts_in-utf8 (text ∷ texts)))
+    subst IsTokenText (sym is) (spelled_text (string_bytes text) (texts_in texts)
+    (subst AreSolid (sym are) (phrase_is_solid cs)) (texts_in-utf8 (text ∷ texts)))
 
 -- the spellings of the heads of classes
-pub with_heads-texts : (phrases : List (List (List ℕ))) (spellings : List (List ℕ)) (heads : List ℕ) → HaveHeads phrases heads → length spellings ≡ length phrases → All IsTokenText spellings
+pub with_heads-texts : (phrases : List (List (List ℕ))) (spellings : List (List ℕ)) (heads : List ℕ)
+    → HaveHeads phrases heads → length spellings ≡ length phrases → All IsTokenText spellings
     → HaveTokenTexts (with_heads phrases spellings heads)
 with_heads-texts phrases spellings heads known as_many texts =
     All-from_get_or (λ p. IsTokenText p.spelling) (with_heads phrases spellings heads) no_phrase

@@ -22,9 +22,11 @@ pub key_of-more : (texts : List (List ℕ)) (k : ℕ) → k < length texts → k
 key_of-more [] k h = absurd (omega arith)
 key_of-more (t ∷ texts) zero h = append-nil (t ++ 0x20 ∷ [])
 key_of-more (t ∷ texts) (suc k) h =
-    ap (λ l. (t ++ 0x20 ∷ []) ++ l) (key_of-more texts k (omega arith)) ∙ sym (append_assoc (t ++ 0x20 ∷ []) (key_of (take k texts)) (get_or texts k [] ++ 0x20 ∷ []))
+    ap (λ l. (t ++ 0x20 ∷ []) ++ l) (key_of-more texts k (omega arith))
+    ∙ sym (append_assoc (t ++ 0x20 ∷ []) (key_of (take k texts)) (get_or texts k [] ++ 0x20 ∷ []))
 
-pub spelled-more : (texts : List (List ℕ)) (k : ℕ) → k < length texts → spelled (take (suc k) texts) ≡ spelled (take k texts) ++ (blank_if (is_parted_at texts k) ++ get_or texts k [])
+pub spelled-more : (texts : List (List ℕ)) (k : ℕ) → k < length texts
+    → spelled (take (suc k) texts) ≡ spelled (take k texts) ++ (blank_if (is_parted_at texts k) ++ get_or texts k [])
 spelled-more [] k h = absurd (omega arith)
 spelled-more (t ∷ texts) zero h = refl
 spelled-more (t ∷ []) (suc k) h = absurd (omega arith)
@@ -39,7 +41,8 @@ spelled-more (t ∷ u ∷ texts) (suc (suc k)) h =
 
 -- one more text of a key
 pub key_step : {A : Type 0} (texts : List (String A)) (i : ℕ) (item : String A) (before middle after : List ℕ) → i < length texts → item ≡ get_or texts i item
-    → before ≡ key_of (take i (texts_in texts)) → middle ≡ before ++ string_bytes item → after ≡ middle ++ 0x20 ∷ [] → after ≡ key_of (take (i + 1) (texts_in texts))
+    → before ≡ key_of (take i (texts_in texts)) → middle ≡ before ++ string_bytes item → after ≡ middle ++ 0x20 ∷ []
+    → after ≡ key_of (take (i + 1) (texts_in texts))
 key_step texts i item before middle after h is b m a =
     let text : string_bytes item ≡ get_or (texts_in texts) i [] = ap string_bytes is ∙ sym (text_at texts i item h) in
     let blank : List ℕ = 0x20 ∷ [] in
@@ -50,8 +53,11 @@ key_step texts i item before middle after h is b m a =
     ∙ ap (λ n. key_of (take n (texts_in texts))) (sym (add-one i))
 
 -- one more text of a spelling
-pub spelling_step : {A : Type 0} (texts : List (String A)) (i : ℕ) (item : String A) (parted : Bool) (before middle after : List ℕ) → i < length texts → item ≡ get_or texts i item
-    → parted ≡ is_parted_at (texts_in texts) i → before ≡ spelled (take i (texts_in texts)) → middle ≡ before ++ blank_if parted → after ≡ middle ++ string_bytes item → after ≡ spelled (take (i + 1) (texts_in texts))
+pub spelling_step : {A : Type 0} (texts : List (String A)) (i : ℕ) (item : String A) (parted : Bool)
+    (before middle after : List ℕ) → i < length texts → item ≡ get_or texts i item
+    → parted ≡ is_parted_at (texts_in texts) i → before ≡ spelled (take i (texts_in texts))
+    → middle ≡ before ++ blank_if parted → after ≡ middle ++ string_bytes item
+    → after ≡ spelled (take (i + 1) (texts_in texts))
 spelling_step texts i item parted before middle after h is p b m a =
     let text : string_bytes item ≡ get_or (texts_in texts) i [] = ap string_bytes is ∙ sym (text_at texts i item h) in
     a
@@ -61,7 +67,8 @@ spelling_step texts i item parted before middle after h is p b m a =
     ∙ ap (λ n. spelled (take n (texts_in texts))) (sym (add-one i))
 
 -- whether two neighbours are parted
-pub parted_neighbours : {A : Type 0} (texts : List (String A)) (place j : ℕ) (a b : String A) → j + 1 ≡ place → place < length texts → a ≡ get_or texts j a → b ≡ get_or texts place b
+pub parted_neighbours : {A : Type 0} (texts : List (String A)) (place j : ℕ) (a b : String A) → j + 1 ≡ place
+    → place < length texts → a ≡ get_or texts j a → b ≡ get_or texts place b
     → is_parted_at (texts_in texts) place ≡ is_parted (string_bytes a) (string_bytes b)
 parted_neighbours texts zero j a b e h is_a is_b = absurd (omega arith)
 parted_neighbours texts (suc k) j a b e h is_a is_b =

@@ -58,7 +58,8 @@ first (x ∷ flat) m (k, within, is) = elim (cases_eq x m) [
     before (suc j) later b e n = later.none j (omega arith) e
 
 module _ (keys : List (List (List ℕ))) (lines : List (List ℕ)) (heads : List ℕ) (known : AreHeads lines heads) (as_many : length heads ≡ length keys)
-    (distinct : (i j : ℕ) → i < length keys → j < length keys → get_or keys i [] ≡ get_or keys j [] → i ≡ j) (ordered : AreInOrder (in_order lines) (length keys)) where
+    (distinct : (i j : ℕ) → i < length keys → j < length keys → get_or keys i [] ≡ get_or keys j [] → i ≡ j)
+    (ordered : AreInOrder (in_order lines) (length keys)) where
   abbrev key : ℕ → List (List ℕ)
   key i = get_or keys i []
 
@@ -79,7 +80,12 @@ module _ (keys : List (List (List ℕ))) (lines : List (List ℕ)) (heads : List
       (omega (arith, as_many), omega (arith, as_many))
 
   on_down : (a b : ℕ) → OnOneLine lines a b → OnOneLine phrases (key a) (key b)
-  on_down a b (line, there, has_a, has_b) = (map key line, contains-map (map key) lines line there, contains-map key line a has_a, contains-map key line b has_b)
+  on_down a b (line, there, has_a, has_b) = (
+    map key line,
+    contains-map (map key) lines line there,
+    contains-map key line a has_a,
+    contains-map key line b has_b,
+  )
 
   on_up : (p x : List (List ℕ)) → OnOneLine phrases p x → (a : ℕ) × (b : ℕ) × OnOneLine lines a b × (key a ≡ p) × (key b ≡ x)
   on_up p x (pl, there, has_p, has_x) =
@@ -90,15 +96,19 @@ module _ (keys : List (List (List ℕ))) (lines : List (List ℕ)) (heads : List
 
   leads_down : (i j : ℕ) (xs : List ℕ) → Leads lines i xs j → Equivalent phrases (key i) (key j)
   leads_down i j [] e = subst (λ k. Equivalent phrases (key i) (key k)) e (equivalent_self phrases (key i))
-  leads_down i j (x ∷ xs) (one, rest) = equivalent_through phrases (key i) (key x) (key j) (equivalent_step phrases (key i) (key x) (on_down i x one)) (leads_down x j xs rest)
+  leads_down i j (x ∷ xs) (one, rest) =
+      equivalent_through phrases (key i) (key x) (key j) (equivalent_step phrases (key i) (key x) (on_down i x one))
+      (leads_down x j xs rest)
 
-  leads_up : (i j : ℕ) (p : List (List ℕ)) (xs : List (List (List ℕ))) (q : List (List ℕ)) → i < length keys → j < length keys → key i ≡ p → key j ≡ q → Leads phrases p xs q → Equivalent lines i j
+  leads_up : (i j : ℕ) (p : List (List ℕ)) (xs : List (List (List ℕ))) (q : List (List ℕ)) → i < length keys
+      → j < length keys → key i ≡ p → key j ≡ q → Leads phrases p xs q → Equivalent lines i j
   leads_up i j p [] q hi hj ep eq e = subst (λ k. Equivalent lines i k) (distinct i j hi hj (ep ∙ e ∙ sym eq)) (equivalent_self lines i)
   leads_up i j p (x ∷ xs) q hi hj ep eq (one, rest) =
       let up = on_up p x one in
       let n = numbered up.0 up.1 up.2 in
       let same : up.0 ≡ i = distinct up.0 i n.0 hi (up.3 ∙ sym ep) in
-      equivalent_through lines i up.1 j (equivalent_step lines i up.1 (subst (λ k. OnOneLine lines k up.1) same up.2)) (leads_up up.1 j x xs q n.1 hj up.4 eq rest)
+      equivalent_through lines i up.1 j (equivalent_step lines i up.1 (subst (λ k. OnOneLine lines k up.1) same up.2))
+      (leads_up up.1 j x xs q n.1 hj up.4 eq rest)
 
   -- two phrases have one class just where a chain of lines joins them
   pub class_from_chain : (i j : ℕ) → i < length keys → j < length keys → Equivalent phrases (key i) (key j) → get_or heads i 0 ≡ get_or heads j 0
@@ -138,11 +148,20 @@ module _ (keys : List (List (List ℕ))) (lines : List (List ℕ)) (heads : List
   words_are words d many each = record {
     all = λ p has.
         let x = contains-map_from key flat p (subst (λ l. Contains l p) (flat_of lines) has) in
-        let x_in : x.0 < length keys = subst (λ k. k < length keys) (get_any flat x.1.0 0 x.0 x.1.1 ∙ x.1.2) (ordered.below x.1.0 x.1.1) in
-        (get_or words x.0 d, (x.0, omega (arith, many), get_any words x.0 (get_or words x.0 d) d (omega (arith, many))), ap (λ (w : Phrase). w.texts) (each x.0 x_in) ∙ x.2);
+        let x_in : x.0 < length keys = subst (λ k. k < length keys) (get_any flat x.1.0 0 x.0 x.1.1 ∙ x.1.2) (ordered.below x.1.0 x.1.1) in (
+          get_or words x.0 d,
+          (
+            x.0,
+            omega (arith, many),
+            get_any words x.0 (get_or words x.0 d) d (omega (arith, many)),
+          ),
+          ap (λ (w : Phrase). w.texts) (each x.0 x_in) ∙ x.2,
+        );
     only = λ w has.
         let at = place_of w has in
-        subst (Contains (in_order phrases)) (ap (λ (v : Phrase). v.texts) (sym at.2)) (subst (λ l. Contains l (key at.0)) (sym (flat_of lines)) (contains-map key flat at.0 (ordered.all at.0 at.1)));
+        subst (Contains (in_order phrases)) (ap (λ (v : Phrase). v.texts) (sym at.2))
+        (subst (λ l. Contains l (key at.0)) (sym (flat_of lines))
+        (contains-map key flat at.0 (ordered.all at.0 at.1)));
     once = λ i j w hi hj same.
         let hi' : i < length keys = omega (arith, many) in
         let hj' : j < length keys = omega (arith, many) in
@@ -157,7 +176,8 @@ module _ (keys : List (List (List ℕ))) (lines : List (List ℕ)) (heads : List
     spellings = λ w has.
         let at = place_of w has in (
           key (get_or heads at.0 0),
-          subst (λ t. IsFirst (in_order phrases) (Equivalent phrases t) (key (get_or heads at.0 0))) (ap (λ (v : Phrase). v.texts) (sym at.2)) (head_is_first at.0 at.1),
+          subst (λ t. IsFirst (in_order phrases) (Equivalent phrases t) (key (get_or heads at.0 0)))
+              (ap (λ (v : Phrase). v.texts) (sym at.2)) (head_is_first at.0 at.1),
           ap (λ (v : Phrase). v.spelling) at.2,
         );
   }

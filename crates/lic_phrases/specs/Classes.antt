@@ -26,7 +26,8 @@ pub record IsFirst {A : Type 0} (xs : List A) (P : A → Type 0) (x : A) : Type 
 -- each phrase's class: the least phrase of the class, by number
 pub record AreHeads (lines : List (List ℕ)) (heads : List ℕ) : Type 0 where
   pub numbered : (line : List ℕ) (i : ℕ) → Contains lines line → Contains line i → i < length heads
-  pub same : (i j : ℕ) → i < length heads → j < length heads → slice_index heads i ≡ slice_index heads j → Equivalent lines i j
+  pub same : (i j : ℕ) → i < length heads → j < length heads → slice_index heads i ≡ slice_index heads j
+      → Equivalent lines i j
   pub back : (i j : ℕ) → OnOneLine lines i j → slice_index heads i ≡ slice_index heads j
   pub low : (i : ℕ) → i < length heads → slice_index heads i ≤ i
   pub own : (i : ℕ) → i < length heads → slice_index heads (slice_index heads i) ≡ slice_index heads i

@@ -20,7 +20,8 @@ spellings_in phrases = map (λ p. string_bytes p.spelling) phrases
 
 -- each phrase with the spelling of the phrase that heads its class
 abbrev pub with_heads : List (List (List ℕ)) → List (List ℕ) → List ℕ → List Phrase
-with_heads phrases spellings heads = map (λ p. record { texts = p.0; spelling = slice_index_or spellings p.1 [] }) (zip phrases heads)
+with_heads phrases spellings heads =
+    map (λ p. record { texts = p.0; spelling = slice_index_or spellings p.1 [] }) (zip phrases heads)
 
 -- The keys of these phrases, whose texts hold no blank, so that a key is of one phrase alone; each phrase's own spelling, which
 -- is the text of a token; and a class for each.
@@ -35,7 +36,8 @@ pub record AreListed {A : Type 0} (keys : List (String A)) (phrases : List Liste
 pub record HaveHeads (phrases : List (List (List ℕ))) (heads : List ℕ) : Type 0 where
   pub some : (i : ℕ) → i < length phrases → 0 < length (slice_index_or phrases i [])
   pub few : (i : ℕ) → i < length phrases → length (slice_index_or phrases i []) ≤ 8
-  pub distinct : (i j : ℕ) → i < length phrases → j < length phrases → slice_index_or phrases i [] ≡ slice_index_or phrases j [] → i ≡ j
+  pub distinct : (i j : ℕ) → i < length phrases → j < length phrases
+      → slice_index_or phrases i [] ≡ slice_index_or phrases j [] → i ≡ j
   pub low : (i : ℕ) → i < length phrases → slice_index heads i ≤ i
   pub as_many : length heads ≡ length phrases
 
@@ -43,19 +45,24 @@ pub record HaveHeads (phrases : List (List (List ℕ))) (heads : List ℕ) : Typ
 abbrev pub ReadsPhrase : List ListedPhrase → List ℕ → List ListedPhrase → List ℕ → List (List ℕ) → ℕ → Type 0
 ReadsPhrase old old_heads new new_heads phrase number =
     (lines : List (List (List (List ℕ)))) (line : List (List (List ℕ))) (numbers : List ℕ)
-    → HasRead [] lines line (phrases_in old) old_heads numbers → HasRead [] lines (line ++ phrase ∷ []) (phrases_in new) new_heads (numbers ++ number ∷ [])
+    → HasRead [] lines line (phrases_in old) old_heads numbers
+    → HasRead [] lines (line ++ phrase ∷ []) (phrases_in new) new_heads (numbers ++ number ∷ [])
 
 -- whatever lines were read before, one more is read
 abbrev pub ReadsLine : List ListedPhrase → List ℕ → List ListedPhrase → List ℕ → List (List (List ℕ)) → Type 0
 ReadsLine old old_heads new new_heads line =
-    (lines : List (List (List (List ℕ)))) → HasRead [] lines [] (phrases_in old) old_heads [] → HasRead [] (lines ++ line ∷ []) [] (phrases_in new) new_heads []
+    (lines : List (List (List (List ℕ)))) → HasRead [] lines [] (phrases_in old) old_heads []
+    → HasRead [] (lines ++ line ∷ []) [] (phrases_in new) new_heads []
 
 -- none of these phrases of a line is at fault, and so many stand before and behind them
 abbrev pub HasNoFault : List (List (List ℕ)) → ℕ → ℕ → Type 0
 HasNoFault line before behind =
-    (number : ℕ) (later : List (ℕ × List (List ℕ))) → fault_from before (map (λ phrase. (number, phrase)) line ++ later) ≡ fault_from behind later
+    (number : ℕ) (later : List (ℕ × List (List ℕ)))
+    → fault_from before (map (λ phrase. (number, phrase)) line ++ later) ≡ fault_from behind later
 
 -- the first of these phrases that is at fault has this cause
 abbrev pub HasFault : List (List (List ℕ)) → ℕ → WordsCause → Type 0
 HasFault line before cause =
-    (number : ℕ) (later : List (ℕ × List (List ℕ))) → fault_from before (map (λ phrase. (number, phrase)) line ++ later) ≡ Some (record { line = number; cause = cause })
+    (number : ℕ) (later : List (ℕ × List (List ℕ)))
+    → fault_from before (map (λ phrase. (number, phrase)) line ++ later)
+    ≡ Some (record { line = number; cause = cause })

@@ -32,11 +32,13 @@ begins_with text (first ∷ texts) = bytes_eq first text
 -- how many tokens the longest phrase has that begins with this text, or 0
 abbrev pub longest_from : List Phrase → List ℕ → ℕ
 longest_from [] text = 0
-longest_from (p ∷ words) text = if begins_with text p.texts then max (length p.texts) (longest_from words text) else longest_from words text
+longest_from (p ∷ words) text =
+    if begins_with text p.texts then max (length p.texts) (longest_from words text) else longest_from words text
 
 -- bounds on how many tokens a phrase has that begins with a text: at one text raised to a count of at most eight
 pub record IsRaised (first : List ℕ) (count : ℕ) (most_from raised : List ℕ → ℕ) : Type 0 where
-  pub at_text : (text : List ℕ) → raised text ≡ (if bytes_eq first text then max (most_from first) count else most_from text)
+  pub at_text : (text : List ℕ)
+      → raised text ≡ (if bytes_eq first text then max (most_from first) count else most_from text)
   pub few : count ≤ 8
 
 -- each phrase has a token

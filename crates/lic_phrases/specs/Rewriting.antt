@@ -67,7 +67,8 @@ longer p (Some q) = if nat_lt (length p.texts) (length q.texts) then q else p
 -- the longest phrase of the list, by number of tokens, that stands at the front
 abbrev pub longest_phrase : List Phrase → List Token → Option Phrase
 longest_phrase [] ts = None
-longest_phrase (p ∷ words) ts = if stands p.texts ts then Some (longer p (longest_phrase words ts)) else longest_phrase words ts
+longest_phrase (p ∷ words) ts =
+    if stands p.texts ts then Some (longer p (longest_phrase words ts)) else longest_phrase words ts
 
 -- how many tokens behind its first a phrase has
 abbrev pub count_behind : Option Phrase → ℕ

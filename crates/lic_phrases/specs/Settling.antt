@@ -31,7 +31,8 @@ left_of words kept rest = left_of_rows words kept (sign_rows (kept.sign ++ rest)
 
 -- The steps behind the first took these rows. They have given more, and the whole is the same, whatever rows follow.
 abbrev pub GivesRows : List Phrase → List SpannedText → Kept → List Token → List SpannedText → Kept → Type 0
-GivesRows words given kept rows given' kept' = (rest : List Token) → given ++ left_of_rows words kept (rows ++ rest) ≡ given' ++ left_of_rows words kept' rest
+GivesRows words given kept rows given' kept' =
+    (rest : List Token) → given ++ left_of_rows words kept (rows ++ rest) ≡ given' ++ left_of_rows words kept' rest
 
 -- Of the tokens taken so far these are settled, and the others come from what is kept, whatever tokens follow: so the
 -- settled ones begin the tokens of every text that begins so. Little is kept, and so at most 11 tokens of the text so far

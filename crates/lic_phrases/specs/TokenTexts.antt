@@ -7,7 +7,8 @@ use Rattle.lic_phrases.specs.Spelling.{begins_in_word, ends_in_word}
 -- other character.)
 pub record IsTokenText (text : List ℕ) : Type 0 where
   pub not_empty : 0 < length text
-  pub blanks : (front rest : List ℕ) → text ≡ front ++ 0x20 ∷ rest → IsTrue (ends_in_word front) × IsTrue (begins_in_word rest)
+  pub blanks : (front rest : List ℕ) → text ≡ front ++ 0x20 ∷ rest
+      → IsTrue (ends_in_word front) × IsTrue (begins_in_word rest)
 
 -- the spellings of phrases are texts of tokens
 abbrev pub HaveTokenTexts : List Phrase → Type 0

@@ -21,7 +21,8 @@ front_phrase words texts (suc n) = option_or (phrase_with words (take (suc n) te
 
 -- the phrase that was found in front of these tokens
 abbrev pub phrase_found : List (List ℕ) → List Token → Found → Phrase
-phrase_found spellings ts found = record { texts = take found.count (texts_of ts); spelling = slice_index_or spellings found.class [] }
+phrase_found spellings ts found =
+    record { texts = take found.count (texts_of ts); spelling = slice_index_or spellings found.class [] }
 
 -- ---- what is given
 
@@ -45,11 +46,15 @@ first_given spellings found (t ∷ ts) = spanned (first_as (option_map (phrase_f
 
 -- what was given, and what the waiting tokens give with these behind them
 abbrev pub given_and_left : PhraseList → List FinalToken → List FirstToken → List Token → List SpannedText
-given_and_left list given waiting rest = map (spanned_in list.spellings) given ++ map spanned (phrases_joined list.phrases (tokens_in waiting ++ rest))
+given_and_left list given waiting rest =
+    map (spanned_in list.spellings) given ++ map spanned (phrases_joined list.phrases (tokens_in waiting ++ rest))
 
 -- Tokens that waited were given, and the whole is the same, whatever tokens follow; at the end of the text none do.
-abbrev pub GivesMore : PhraseList → Bool → List FinalToken → List FirstToken → List FinalToken → List FirstToken → Type 0
-GivesMore list at_end given waiting given' waiting' = (rest : List Token) → (at_end ≡ true → rest ≡ []) → given_and_left list given waiting rest ≡ given_and_left list given' waiting' rest
+abbrev pub GivesMore : PhraseList → Bool → List FinalToken → List FirstToken → List FinalToken → List FirstToken
+    → Type 0
+GivesMore list at_end given waiting given' waiting' =
+    (rest : List Token) → (at_end ≡ true → rest ≡ [])
+    → given_and_left list given waiting rest ≡ given_and_left list given' waiting' rest
 
 -- the class of a text, if it is the spelling of one, is one of so many
 abbrev pub IsKnownText : ℕ → TokenText → Type 0

@@ -23,7 +23,8 @@ texts_of tokens = map (λ t. t.text) tokens
 
 -- the texts of the tokens of a phrase: where its characters stand has no effect, it has no lines, signs are joined and https is http, and no phrase is looked for
 abbrev pub phrase_texts : List ℕ → List (List ℕ)
-phrase_texts cs = texts_of (https_as_http (sign_rows (tokens_of_cells profile (map cell_of (without_dropped (unplaced cs))))))
+phrase_texts cs = texts_of (https_as_http
+    (sign_rows (tokens_of_cells profile (map cell_of (without_dropped (unplaced cs))))))
 
 -- ---- lines
 
@@ -96,8 +97,12 @@ out_of_memory = record { line = 0; cause = OutOfMemory }
 pub record AreWords (lines : List (List (List (List ℕ)))) (words : List Phrase) : Type 0 where
   pub all : (p : List (List ℕ)) → Contains (in_order lines) p → (w : Phrase) × Contains words w × (w.texts ≡ p)
   pub only : (w : Phrase) → Contains words w → Contains (in_order lines) w.texts
-  pub once : (i j : ℕ) (w : Phrase) → i < length words → j < length words → (slice_index_or words i w).texts ≡ (slice_index_or words j w).texts → i ≡ j
+  pub once : (i j : ℕ) (w : Phrase) → i < length words → j < length words
+      → (slice_index_or words i w).texts ≡ (slice_index_or words j w).texts → i ≡ j
   -- before each place of a word in the file there is one of each word that stands before it here
-  pub order : (i j k : ℕ) (w : Phrase) (p : List (List ℕ)) → i < j → j < length words → k < length (in_order lines) → slice_index_or (in_order lines) k p ≡ (slice_index_or words j w).texts
+  pub order : (i j k : ℕ) (w : Phrase) (p : List (List ℕ)) → i < j → j < length words → k < length (in_order lines)
+      → slice_index_or (in_order lines) k p ≡ (slice_index_or words j w).texts
       → (e : ℕ) × (e < k) × (slice_index_or (in_order lines) e p ≡ (slice_index_or words i w).texts)
-  pub spellings : (w : Phrase) → Contains words w → (first : List (List ℕ)) × IsFirst (in_order lines) (Equivalent lines w.texts) first × (w.spelling ≡ spelled first)
+  pub spellings : (w : Phrase) → Contains words w
+      → (first : List (List ℕ)) × IsFirst (in_order lines) (Equivalent lines w.texts) first
+      × (w.spelling ≡ spelled first)

@@ -35,7 +35,8 @@ fn begins_authority(tokens: &VecDeque<FirstToken>) -> bool
 
 /// Makes `http` of `https` where the tokens behind it begin with `:`, `/` and `/`.
 fn drop_secure(token: &mut FirstToken, behind: &VecDeque<FirstToken>)
-    ensures { token_in token.new ≡ without_secure (token_in token.old) (tokens_in behind.now.items) }
+    ensures { token_in token.new
+        ≡ without_secure (token_in token.old) (tokens_in behind.now.items) }
 {
     if is_https(token) && begins_authority(behind) {
         token.text = SmallString::short("http");

@@ -149,7 +149,8 @@ fn give_alone(token: FirstToken, output: &mut Vec<FinalToken>) -> Result<(), All
         → map (spanned_in spellings) output.new.items
         ≡ map (spanned_in spellings) output.old.items
         ++ first_given spellings None (token_in token ∷ [])) }
-    ensures known { (count : ℕ) → AreKnown count output.old.items → OnOk result (AreKnown count output.new.items) }
+    ensures known { (count : ℕ) → AreKnown count output.old.items
+        → OnOk result (AreKnown count output.new.items) }
 {
     output.push(FinalToken {
         text: TokenText::Own(token.text),

@@ -9,16 +9,14 @@ ghost use Rattle.lic_phrases.specs.TokenTexts.{IsTokenText};
 ghost use Rattle.lic_phrases.specs.WordLists.{fault_of_phrase, is_skipped, phrase_texts};
 
 use crate::fault::WordsCause;
+use crate::phrases::MAX_TOKENS;
 use crate::spelling::{begins_in_word, ends_in_word};
 use crate::tokens::phrase_tokens;
 use lic_kind::is_dropped;
 use std::alloc::{AllocError, Global};
 
-/// The most tokens of a phrase.
-const MOST_TOKENS: usize = 8;
-
 /// The most bytes of a phrase in canonical spelling.
-const MOST_BYTES: usize = 256;
+const MAX_BYTES: usize = 256;
 
 /// A phrase as it stands in a list.
 #[derive(Drop)]
@@ -44,11 +42,11 @@ pub(crate) fn listed(alloc: Global, phrase: &str) -> Result<ListedPhrase, WordsC
     if texts.is_empty() {
         return Err(WordsCause::EmptyPhrase);
     }
-    if texts.len() > MOST_TOKENS {
+    if texts.len() > MAX_TOKENS {
         return Err(WordsCause::PhraseTooLong);
     }
     let spelling = spelling(alloc, &texts)?;
-    if spelling.len() > MOST_BYTES {
+    if spelling.len() > MAX_BYTES {
         return Err(WordsCause::PhraseTooLong);
     }
     Ok(ListedPhrase { texts, spelling })

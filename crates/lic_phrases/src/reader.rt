@@ -20,7 +20,7 @@ use indexmap::IndexSet;
 use std::alloc::{AllocError, Global};
 
 /// The most phrases of a list, repeats counted.
-const MOST_PHRASES: usize = 4096;
+const MAX_PHRASES: usize = 4096;
 
 /// What is read of a list so far.
 #[derive(Drop)]
@@ -91,7 +91,7 @@ impl Reader {
             (fault_of self.old.count (phrase_texts (chars phrase.now)) ≡ Some cause)
             ⊎ (cause ≡ WordsCause.OutOfMemory)) }
     {
-        if self.count >= MOST_PHRASES {
+        if self.count >= MAX_PHRASES {
             return Err(WordsCause::TooManyPhrases);
         }
         let phrase = listed(alloc, phrase)?;

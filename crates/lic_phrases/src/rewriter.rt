@@ -88,21 +88,34 @@ impl Rewriter {
         self.take_row(phrases, token, output)
     }
 
-    /// Whether a token that is taken next is settled at once and as it is: none is kept back, and it is no sign, no `https` and
-    /// begins no phrase. It need not be pushed then.
+    /// Whether a token of this text that is taken next is settled at once and as it is: none is kept back, and it is no sign, no
+    /// `https` and begins no phrase. It need not be pushed then.
     #[inline(always)]
-    pub fn passes(&self, phrases: &Phrases, token: &FirstToken) -> bool
-        ensures { IsTrue result → (settled : List SpannedText) (taken : List Token)
+    pub fn lets_pass(&self, phrases: &Phrases, text: &str) -> bool
+        ensures { IsTrue result → (settled : List SpannedText) (taken : List Token) (token : Token)
+            → token.text ≡ text.now
             → Settles phrases.now.phrases taken settled self.now
-            → Settles phrases.now.phrases (taken ++ token_in token.now ∷ []) (settled ++ spanned (token_in token.now) ∷ []) self.now }
+            → Settles phrases.now.phrases (taken ++ token ∷ [])
+            (settled ++ spanned token ∷ []) self.now }
     {
         if self.sign.is_some() || !self.address.is_empty() || !self.waiting.is_empty() {
             return false;
         }
-        if is_sign(token) || is_https(token) {
+        if "copyright" == text || "https" == text {
             return false;
         }
-        phrases.most_from(token.text.as_str()) == 0
+        phrases.most_from(text) == 0
+    }
+
+    /// Whether `lets_pass` says so of the text of this token.
+    #[inline(always)]
+    pub fn passes(&self, phrases: &Phrases, token: &FirstToken) -> bool
+        ensures { IsTrue result → (settled : List SpannedText) (taken : List Token)
+            → Settles phrases.now.phrases taken settled self.now
+            → Settles phrases.now.phrases (taken ++ token_in token.now ∷ [])
+            (settled ++ spanned (token_in token.now) ∷ []) self.now }
+    {
+        self.lets_pass(phrases, token.text.as_str())
     }
 
     /// Ends the text: puts the tokens that were kept back at the end of the output. It is then

@@ -24,7 +24,8 @@ fn are_signs(first: &FirstToken, second: &FirstToken) -> bool
 /// of them is no sign, the kept one is settled.
 pub(crate) fn join_sign(kept: &mut Option<FirstToken>, next: &FirstToken) -> bool
     ensures joined { IsTrue result → (rest : List Token)
-        → sign_rows (held kept.old ++ token_in next.now ∷ rest) ≡ sign_rows (held kept.new ++ rest) }
+        → sign_rows (held kept.old ++ token_in next.now ∷ rest)
+        ≡ sign_rows (held kept.new ++ rest) }
     ensures apart { IsFalse result → (kept.new ≡ kept.old) × ((rest : List Token)
         → sign_rows (held kept.old ++ token_in next.now ∷ rest)
         ≡ held kept.old ++ sign_rows (token_in next.now ∷ rest)) }

@@ -64,7 +64,8 @@ fn rewritten(alloc: Global, tokens: Vec<FirstToken>) -> Result<Vec<FinalToken>, 
 /// The texts of these tokens, of which none stands for a class.
 fn texts_of(alloc: Global, tokens: &[FinalToken]) -> Result<Vec<String>, AllocError>
     requires { AreKnown 0 tokens.now }
-    ensures { IfOk result (λ texts. texts_in texts.items ≡ map (λ t. (spanned_in [] t).text) tokens.now) }
+    ensures { IfOk result (λ texts. texts_in texts.items
+        ≡ map (λ t. (spanned_in [] t).text) tokens.now) }
 {
     let phrases = Phrases::new(alloc);
     let mut texts = Vec::new(alloc);

@@ -33,7 +33,9 @@ returns-in_ok-push-in-Word-clause-tokens c =
     let token : FirstToken = record { text = string; start = c.args.at; end = c.args.at + n; after_blank = c.args.after_blank } in
     let rest = tokens_after rules false (placed (c.args.at + n) (drop n text)) in
     let all : n - 0 ≡ n = omega arith in
-    let letters : small_bytes string ≡ take n (map to_ascii_lowercase text) = c.in_ok-from_str-in-Word.ensures ∙ c.range.ensures.value ∙ ap (λ m. take m c.args.lowered.now) all ∙ ap (take n) c.requires.lowered in
+    let letters : small_bytes string ≡ take n (map to_ascii_lowercase text) =
+    c.in_ok-from_str-in-Word.ensures ∙ c.range.ensures.value ∙ ap (λ m. take m c.args.lowered.now) all
+    ∙ ap (take n) c.requires.lowered in
     ap (λ l. tokens_in l ++ rest) c.in_ok-push-in-Word.ensures.items
     ∙ ap (λ l. l ++ rest) (map-append token_in old (token ∷ []))
     ∙ append_assoc (tokens_in old) (token_in token ∷ []) rest

@@ -9,7 +9,8 @@ returns-then-is_whitespace c =
     let place = c.loop-place.place in
     record {
       within = omega arith;
-      place = sym (position_or_len_is is_whitespace text place 0 (omega arith) c.loop-place.invariant (λ lt. sym c.is_whitespace.ensures ∙ c.if-is_whitespace.true));
+      place = sym (position_or_len_is is_whitespace text place 0
+          (omega arith) c.loop-place.invariant (λ lt. sym c.is_whitespace.ensures ∙ c.if-is_whitespace.true));
     }
 
 pub returns : goal.returns
@@ -17,5 +18,6 @@ returns c =
     let text = c.args.line.now in
     record {
       within = omega arith;
-      place = sym (position_or_len_is is_whitespace text (length text) 0 (omega arith) (λ k lt. c.loop-place.invariant k (omega arith)) (λ lt. absurd (omega arith)));
+      place = sym (position_or_len_is is_whitespace text (length text) 0
+          (omega arith) (λ k lt. c.loop-place.invariant k (omega arith)) (λ lt. absurd (omega arith)));
     }

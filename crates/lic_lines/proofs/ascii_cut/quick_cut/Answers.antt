@@ -14,8 +14,12 @@ returns-clause-cut c =
     let left : take (length line - n) (drop n line) ≡ drop n line = take_rest line n in
     let item : 0 ≡ item_after_lead rules whole_line (drop n line) =
     sym (ap (item_length rules) (append-nil (drop n line) ∙ sym left) ∙ c.has_no_item.ensures c.if-not-has_no_item.false rules) in
-    let item' : 0 ≡ item_after_lead rules whole_line (drop (lead_length rules whole_line line) line) = item ∙ ap (λ m. item_after_lead rules whole_line (drop m line)) lead in
+    let item' : 0 ≡ item_after_lead rules whole_line (drop (lead_length rules whole_line line) line) =
+    item ∙ ap (λ m. item_after_lead rules whole_line (drop m line)) lead in
     let tail : c.in_ok-tail.tail ≡ tail_length rules whole_line (drop n line) = c.in_ok-tail.ensures.row ∙ tail_on rules whole_line (drop n line) _ left refl in
-    let tail' : c.in_ok-tail.tail ≡ tail_length rules whole_line (drop (item_after_lead rules whole_line (drop (lead_length rules whole_line line) line)) (drop (lead_length rules whole_line line) line)) =
+    let tail' : c.in_ok-tail.tail
+    ≡ tail_length rules whole_line
+    (drop (item_after_lead rules whole_line (drop (lead_length rules whole_line line) line))
+    (drop (lead_length rules whole_line line) line)) =
     tail ∙ ap₂ (λ k m. tail_length rules whole_line (drop k (drop m line))) item' lead in
     λ i. record { lead = lead i; item = item' i; tail = tail' i }

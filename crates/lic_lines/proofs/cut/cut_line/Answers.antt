@@ -24,7 +24,8 @@ returns-in_ok-tail-clause-cut c =
     let left = chars_of-rest (take (length line - c.if-part.lead) (drop c.if-part.lead line)) c.if-part-2.item ∙ ap (drop c.if-part-2.item) rest in
     let tail : c.in_ok-tail.tail ≡ tail_length rules part (drop c.if-part-2.item (drop c.if-part.lead text)) =
     c.in_ok-tail.ensures.row ∙ tail_on rules part (drop c.if-part-2.item (drop c.if-part.lead text)) _ left c.if-part-3.true in
-    let item' : c.if-part-2.item ≡ item_after_lead rules part (drop (lead_length rules part text) text) = item ∙ ap (λ n. item_after_lead rules part (drop n text)) lead in
+    let item' : c.if-part-2.item ≡ item_after_lead rules part (drop (lead_length rules part text) text) =
+    item ∙ ap (λ n. item_after_lead rules part (drop n text)) lead in
     let tail' = tail ∙ ap₂ (λ m n. tail_length rules part (drop m (drop n text))) item' lead in
     λ i. record { lead = lead i; item = item' i; tail = tail' i }
 
@@ -43,6 +44,11 @@ returns-else-part-3-clause-cut c =
       | then-part-2 w ↦ w.item-is ∙ w.item_length-item.ensures.item ∙ item_after_on rules part (drop c.if-part.lead text) _ rest w.if-part-2.true
       | else-part-2 w ↦ w.item-is ∙ item_after_off rules part (drop c.if-part.lead text) w.if-part-2.false
     ] in
-    let item' : c.if-part-2.item ≡ item_after_lead rules part (drop (lead_length rules part text) text) = item ∙ ap (λ n. item_after_lead rules part (drop n text)) lead in
-    let tail' : 0 ≡ tail_length rules part (drop (item_after_lead rules part (drop (lead_length rules part text) text)) (drop (lead_length rules part text) text)) = tail_off rules part (drop (item_after_lead rules part (drop (lead_length rules part text) text)) (drop (lead_length rules part text) text)) c.if-part-3.false in
+    let item' : c.if-part-2.item ≡ item_after_lead rules part (drop (lead_length rules part text) text) =
+    item ∙ ap (λ n. item_after_lead rules part (drop n text)) lead in
+    let tail' : 0 ≡ tail_length rules part
+    (drop (item_after_lead rules part (drop (lead_length rules part text) text))
+    (drop (lead_length rules part text) text)) =
+    tail_off rules part (drop (item_after_lead rules part (drop (lead_length rules part text) text))
+    (drop (lead_length rules part text) text)) c.if-part-3.false in
     λ i. record { lead = lead i; item = item' i; tail = tail' i }

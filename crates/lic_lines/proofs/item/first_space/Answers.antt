@@ -19,7 +19,9 @@ returns-then-is_whitespace c =
 
 pub loop-place-preserved : goal.loop-place-preserved
 loop-place-preserved c =
-    below_more _ _ c.loop-place.invariant (ap is_whitespace (get_or-map char_of c.args.text.now c.loop-place.place none 0 (omega arith)) ∙ sym c.if-is_whitespace.ensures)
+    below_more _ _ c.loop-place.invariant
+    (ap is_whitespace (get_or-map char_of c.args.text.now c.loop-place.place none 0 (omega arith))
+    ∙ sym c.if-is_whitespace.ensures)
 
 pub returns : goal.returns
 returns c =
@@ -27,5 +29,6 @@ returns c =
     let many : length text ≡ length c.args.text.now = length-map c.args.text.now char_of in
     record {
       within = omega arith;
-      place = sym (position_or_len_is is_whitespace text (length c.args.text.now) 0 (omega arith) (λ k lt. c.loop-place.invariant k (omega arith)) (λ lt. absurd (omega arith)));
+      place = sym (position_or_len_is is_whitespace text (length c.args.text.now) 0
+          (omega arith) (λ k lt. c.loop-place.invariant k (omega arith)) (λ lt. absurd (omega arith)));
     }

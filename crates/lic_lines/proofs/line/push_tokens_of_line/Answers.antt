@@ -18,7 +18,9 @@ returns c =
     let cut = c.in_ok-cut.cut in
     let from : c.len-from.result ≡ length old = c.len-from.ensures ∙ c.args.out.now.ok.0 in
     let told = c.in_ok-push_text.ensures in
-    let tokens : single_signs (stretch_tokens rules (take (length line - cut.tail - (cut.lead + cut.item)) (drop (cut.lead + cut.item) line))) ≡ line_tokens rules c.args.part line =
+    let tokens : single_signs (stretch_tokens rules
+    (take (length line - cut.tail - (cut.lead + cut.item)) (drop (cut.lead + cut.item) line)))
+    ≡ line_tokens rules c.args.part line =
     ap (λ l. single_signs (stretch_tokens rules l)) (left_of-range cut line) ∙ sym (tokens_of_cut rules cut line)
     ∙ ap (λ k. tokens_of_cells rules (cells_of_cut k line)) c.in_ok-cut.ensures.cut in
     c.join_single_signs.ensures

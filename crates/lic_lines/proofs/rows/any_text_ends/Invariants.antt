@@ -8,4 +8,6 @@ use Rattle.lic_lines.proofs.rows.any_text_ends.Given as goal
 
 -- none of the texts so far does
 abbrev pub invariant-loop-i : goal.invariant-loop-i
-invariant-loop-i l = list_any (λ t. ends_piece (bytes_eq (walked l.side t)) l.flags (walked l.side (chars_of l.line)) l.end) (take l.i (texts_of l.texts)) ≡ false
+invariant-loop-i l = list_any (λ t.
+    ends_piece (bytes_eq (walked l.side t)) l.flags (walked l.side (chars_of l.line)) l.end)
+    (take l.i (texts_of l.texts)) ≡ false

@@ -54,7 +54,8 @@ piece_ends-is_row-requires-clause-told c =
     let k = c.loop-k.k in
     let ts = side_repeated rules c.args.side in
     let known = c.loop-k.invariant in
-    let stepped : c.step_repeats.new.repeating ≡ map (repeat_ends flags line (k + 1)) ts = c.step_repeats.ensures ∙ ap (λ l. map (repeat_ends l line (k + 1)) ts) c.deref-in-loop-k.ensures.value in
+    let stepped : c.step_repeats.new.repeating ≡ map (repeat_ends flags line (k + 1)) ts =
+    c.step_repeats.ensures ∙ ap (λ l. map (repeat_ends l line (k + 1)) ts) c.deref-in-loop-k.ensures.value in
     let back = put_back c.loop-k.repeating.items c.step_repeats.new.repeating c.loop-k.repeating.len (omega (arith, c.loop-k.repeating.ok.0))
     (omega (arith, ap length stepped, length-map ts (repeat_ends flags line (k + 1)), ap length known.repeats, length-map ts (repeat_ends flags line k))) in
     c.any_set-repeated.ensures ∙ ap (list_any (λ (flag : Bool). flag)) (c.deref-in-loop-k-2.ensures.value ∙ back ∙ stepped)
@@ -79,8 +80,10 @@ loop-k-preserved c =
     let pushed : c.push-in-loop-k.new.self.items ≡ flags ++ b ∷ [] = c.in_ok-push-2.ensures.items in
     let value : b ≡ ends_piece p flags line (k + 1) = c.piece_ends-is_row.ensures ∙ ap (λ l. ends_piece p l line (k + 1)) c.deref-in-loop-k-3.ensures.value in
     let row : b ≡ test (k + 1) = value ∙ row_value p flags line (k + 1) known.rows (omega arith) (omega arith) within in
-    let front = front_push flags line (k + 1) first b (omega arith) (subst (λ l. IsRunFront l line (k + 1) first) c.deref.ensures.value c.run_front-first.ensures) in
-    let stepped : c.step_repeats.new.repeating ≡ map (repeat_ends flags line (k + 1)) ts = c.step_repeats.ensures ∙ ap (λ l. map (repeat_ends l line (k + 1)) ts) c.deref-in-loop-k.ensures.value in
+    let front = front_push flags line (k + 1) first b (omega arith)
+    (subst (λ l. IsRunFront l line (k + 1) first) c.deref.ensures.value c.run_front-first.ensures) in
+    let stepped : c.step_repeats.new.repeating ≡ map (repeat_ends flags line (k + 1)) ts =
+    c.step_repeats.ensures ∙ ap (λ l. map (repeat_ends l line (k + 1)) ts) c.deref-in-loop-k.ensures.value in
     record {
       count = omega (arith, ap length pushed, length-append flags (b ∷ []));
       rows = subst (λ l. AreRows p l line) (sym pushed) (rows_push p flags line (k + 1) b known.rows (omega arith) count within value);

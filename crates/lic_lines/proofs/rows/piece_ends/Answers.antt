@@ -16,9 +16,15 @@ returns c =
     let line = walked c.args.side (chars_of c.args.line.now) in
     let end = c.args.end in
     let separator : c.if-separators.separator ≡ (rules.separators && ends_piece is_separator flags line end) = elim c.if-separators.branch [
-      | then-separators w ↦ w.separator-is ∙ w.separator_ends-separator.ensures ∙ ap (λ b. b && ends_piece is_separator flags line end) (sym w.if-separators.true ∙ c.separators.ensures)
-      | else-separators w ↦ w.separator-is ∙ w.if-separators.false ∙ ap (λ b. b && ends_piece is_separator flags line end) (sym w.if-separators.false ∙ c.separators.ensures)
+      | then-separators w ↦ w.separator-is ∙ w.separator_ends-separator.ensures
+          ∙ ap (λ b. b && ends_piece is_separator flags line end) (sym w.if-separators.true ∙ c.separators.ensures)
+      | else-separators w ↦ w.separator-is ∙ w.if-separators.false
+          ∙ ap (λ b. b && ends_piece is_separator flags line end) (sym w.if-separators.false ∙ c.separators.ensures)
     ] in
-    let text = c.any_text_ends-text.ensures ∙ ap (list_any (λ (t : List ℕ). ends_piece (bytes_eq (walked c.args.side t)) flags line end)) c.side_texts.ensures in
-    let spaced = c.any_spaced_text_ends-spaced.ensures ∙ ap (list_any (λ (t : List ℕ). spaced_text_ends flags line end (walked c.args.side t))) c.side_spaced.ensures in
+    let text = c.any_text_ends-text.ensures
+    ∙ ap (list_any (λ (t : List ℕ). ends_piece
+    (bytes_eq (walked c.args.side t)) flags line end)) c.side_texts.ensures in
+    let spaced = c.any_spaced_text_ends-spaced.ensures
+    ∙ ap (list_any (λ (t : List ℕ). spaced_text_ends flags line end
+    (walked c.args.side t))) c.side_spaced.ensures in
     (λ i. ((c.space_ends-space.ensures i || separator i) || text i) || (spaced i || c.requires.told i)) ∙ sym (side_ends flags line end rules c.args.side)

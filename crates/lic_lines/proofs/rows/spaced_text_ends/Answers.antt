@@ -22,7 +22,8 @@ returns-then-len-before c =
     let line = walked c.args.side (chars_of c.args.line.now) in
     let many = length-walked_chars c.args.side c.args.line.now in
     let long = length-walked c.args.side c.args.text.now in
-    spaced_none c.args.flags.now line c.args.end (c.args.end - 1) (omega arith) (omega arith) (walked c.args.side c.args.text.now) (λ white fits flag. omega arith)
+    spaced_none c.args.flags.now line c.args.end (c.args.end - 1) (omega arith) (omega arith)
+    (walked c.args.side c.args.text.now) (λ white fits flag. omega arith)
 
 pub returns-then-not-flags-before : goal.returns-then-not-flags-before
 unfolding spaced_text_ends
@@ -31,7 +32,9 @@ returns-then-not-flags-before c =
     let many = length-walked_chars c.args.side c.args.line.now in
     let long : length c.args.text.now ≡ length (walked c.args.side c.args.text.now) = sym (length-walked c.args.side c.args.text.now) in
     spaced_none c.args.flags.now line c.args.end (c.args.end - 1) (omega arith) (omega arith) (walked c.args.side c.args.text.now)
-    (λ white fits flag. false≢true (sym (subst (λ n. slice_index_or c.args.flags.now (c.args.end - 1 - n) false ≡ false) long c.if-not-flags-before.true) ∙ flag))
+    (λ white fits flag. false≢true
+    (sym (subst (λ n. slice_index_or c.args.flags.now (c.args.end - 1 - n) false
+    ≡ false) long c.if-not-flags-before.true) ∙ flag))
 
 pub returns : goal.returns
 unfolding spaced_text_ends

@@ -9,5 +9,7 @@ abbrev pub invariant-loop-i : goal.invariant-loop-i
 invariant-loop-i l = record {
   count : length l.repeating ≡ length (texts_of l.texts);
   moved : (j : ℕ) → j < l.i → get_or l.repeating j false ≡ repeat_ends l.flags (reverse (chars_of l.line)) (l.k + 1) (slice_index_or (texts_of l.texts) j []);
-  still : (j : ℕ) → l.i ≤ j → j < length (texts_of l.texts) → get_or l.repeating j false ≡ repeat_ends l.flags (reverse (chars_of l.line)) l.k (slice_index_or (texts_of l.texts) j []);
+  still : (j : ℕ) → l.i ≤ j → j < length (texts_of l.texts)
+      → get_or l.repeating j false
+      ≡ repeat_ends l.flags (reverse (chars_of l.line)) l.k (slice_index_or (texts_of l.texts) j []);
 }

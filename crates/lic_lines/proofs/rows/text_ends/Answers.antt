@@ -10,7 +10,8 @@ pub returns-then-len-eq0 : goal.returns-then-len-eq0
 returns-then-len-eq0 c =
     let long = length-walked c.args.side c.args.text.now in
     let many = length-walked_chars c.args.side c.args.line.now in
-    text_ends-none c.args.flags.now (walked c.args.side (chars_of c.args.line.now)) c.args.end (walked c.args.side c.args.text.now) (omega arith) (λ some fits. omega arith)
+    text_ends-none c.args.flags.now (walked c.args.side (chars_of c.args.line.now)) c.args.end
+    (walked c.args.side c.args.text.now) (omega arith) (λ some fits. omega arith)
 
 pub returns-then-flags-end : goal.returns-then-flags-end
 returns-then-flags-end c =
@@ -30,5 +31,7 @@ returns-else-flags-end c =
     let text = walked c.args.side c.args.text.now in
     let many = length-walked_chars c.args.side c.args.line.now in
     let place : length c.args.text.now ≡ length text = sym (length-walked c.args.side c.args.text.now) in
-    c.if-flags-end.false ∙ sym (subst (λ n. slice_index_or c.args.flags.now (c.args.end - n) false ≡ false) place c.if-flags-end.false) ∙ text_ends-unflagged c.args.flags.now line c.args.end text (omega arith)
+    c.if-flags-end.false ∙ sym (subst (λ n. slice_index_or c.args.flags.now (c.args.end - n) false
+    ≡ false) place c.if-flags-end.false)
+    ∙ text_ends-unflagged c.args.flags.now line c.args.end text (omega arith)
     (subst (λ n. slice_index_or c.args.flags.now (c.args.end - n) false ≡ false) place c.if-flags-end.false)

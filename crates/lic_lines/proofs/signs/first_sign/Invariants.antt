@@ -7,7 +7,8 @@ abbrev pub invariant-loop-at : goal.invariant-loop-at
 invariant-loop-at l = record {
   after : l.fn.from ≤ l.at;
   within : l.at ≤ length l.tokens;
-  plain : tokens_in (take l.at l.tokens) ++ single_signs (tokens_in (drop l.at l.tokens)) ≡ tokens_in (take l.fn.from l.tokens) ++ single_signs (tokens_in (drop l.fn.from l.tokens));
+  plain : tokens_in (take l.at l.tokens) ++ single_signs (tokens_in (drop l.at l.tokens))
+      ≡ tokens_in (take l.fn.from l.tokens) ++ single_signs (tokens_in (drop l.fn.from l.tokens));
 }
 
 abbrev pub decreases-loop-at : goal.decreases-loop-at

@@ -8,4 +8,6 @@ pub returns-in-Front : goal.returns-in-Front
 returns-in-Front c = λ no. rw c.in-Front.is (none_of _ _ false (c.may_open_lead.ensures.lead no) (c.may_open_lead.ensures.lead_space no) refl)
 
 pub returns-in-End : goal.returns-in-End
-returns-in-End c = λ no. rw c.in-End.is (none_of _ _ _ (c.may_open_tail.ensures.tail no) (c.may_open_tail.ensures.tail_space no) (c.may_open_tail.ensures.tail_repeat no))
+returns-in-End c = λ no. rw c.in-End.is
+    (none_of _ _ _ (c.may_open_tail.ensures.tail no) (c.may_open_tail.ensures.tail_space no)
+    (c.may_open_tail.ensures.tail_repeat no))

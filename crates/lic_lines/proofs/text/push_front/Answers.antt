@@ -21,7 +21,9 @@ returns-in_ok-push-in-Word-clause-tokens c =
     ∙ ap (λ l. l ++ rest) (map-append token_in old (token ∷ []))
     ∙ append_assoc (tokens_in old) (token_in token ∷ []) rest
     ∙ ap (λ l. tokens_in old ++ (l ++ rest)) c.in_ok-word_token-in-Word.ensures
-    ∙ ap (λ l. tokens_in old ++ l) (words_row rules c.args.after_blank text n row.within (some_front _ text n c.requires (sym c.kind_of.ensures ∙ c.in-Word.is) row.stop) row.words row.stop)
+    ∙ ap (λ l. tokens_in old ++ l)
+    (words_row rules c.args.after_blank text n row.within
+    (some_front _ text n c.requires (sym c.kind_of.ensures ∙ c.in-Word.is) row.stop) row.words row.stop)
 
 pub returns-in_ok-blank_behind-in-Mark-clause-tokens : goal.returns-in_ok-blank_behind-in-Mark-clause-tokens
 returns-in_ok-blank_behind-in-Mark-clause-tokens c =

@@ -11,4 +11,5 @@ loop-cell-preserved c =
     let text = string_bytes c.loop-cell.text in
     let letters = encode_utf8_all (cell_letters (get_or c.args.cells.now i Blank)) in
     let rest = encode_utf8_all (letters_of (drop (i + 1) c.args.cells.now)) in
-    ap (λ l. l ++ rest) c.in_ok-push_letters.ensures ∙ append_assoc text letters rest ∙ ap (λ l. text ++ l) (sym (letters_more c.args.cells.now i c.loop-cell-test.true)) ∙ c.loop-cell.invariant
+    ap (λ l. l ++ rest) c.in_ok-push_letters.ensures ∙ append_assoc text letters rest
+    ∙ ap (λ l. text ++ l) (sym (letters_more c.args.cells.now i c.loop-cell-test.true)) ∙ c.loop-cell.invariant

@@ -10,7 +10,8 @@ returns-then-text-i c =
     let none : SourceChar = record { char = 0; start = 0; end = 0 } in
     bytes_eq-other c.args.text.now (chars_of c.args.part.now) (λ same.
     c.if-text-i.true
-    (get_or_read c.args.text.now c.loop-i.i _ (omega arith) c.index-text-i.is 0 ∙ ap (λ l. get_or l c.loop-i.i 0) same ∙ get_or-map char c.args.part.now c.loop-i.i none 0 (omega arith)))
+    (get_or_read c.args.text.now c.loop-i.i _ (omega arith) c.index-text-i.is 0 ∙ ap (λ l. get_or l c.loop-i.i 0) same
+    ∙ get_or-map char c.args.part.now c.loop-i.i none 0 (omega arith)))
 
 pub returns : goal.returns
 returns c =

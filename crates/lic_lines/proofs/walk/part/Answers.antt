@@ -15,5 +15,6 @@ returns-in-End c =
     let line = c.args.line.now in
     let many : length (chars_of line) ≡ length line = length-map line (λ (s : SourceChar). s.char) in
     rw c.in-End.is
-    (ap reverse (chars_of-range line (length line - c.args.to) (length line - c.args.from) ∙ ap (λ n. slice_range (chars_of line) (n - c.args.to) (n - c.args.from)) (sym many))
+    (ap reverse (chars_of-range line (length line - c.args.to) (length line - c.args.from)
+    ∙ ap (λ n. slice_range (chars_of line) (n - c.args.to) (n - c.args.from)) (sym many))
     ∙ reverse-range (chars_of line) c.args.from c.args.to c.requires.order (omega arith))

@@ -7,7 +7,8 @@ use Rattle.lic_norm.proofs.characters.push_bytes.Given as goal
 abbrev pub invariant-loop-place : goal.invariant-loop-place
 invariant-loop-place l = record {
   within : l.place ≤ length l.bytes;
-  added : l.characters.items ++ without_dropped (source_of (l.fn.at + l.place) (drop l.place l.bytes)) ≡ l.fn.characters.items ++ without_dropped (source_of l.fn.at l.bytes);
+  added : l.characters.items ++ without_dropped (source_of (l.fn.at + l.place) (drop l.place l.bytes))
+      ≡ l.fn.characters.items ++ without_dropped (source_of l.fn.at l.bytes);
 }
 
 abbrev pub decreases-loop-place : goal.decreases-loop-place

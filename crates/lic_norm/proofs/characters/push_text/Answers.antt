@@ -12,13 +12,22 @@ overflow_add-end c =
     let known = c.loop-char.invariant in
     let char = c.in-Some.char in
     let next = next_char known.0 char _ _ known.1 c.in-Some.ensures.steps.0 in
-    omega (arith, c.requires, known.2, ap (λ l. length (encode_utf8_all l)) next.all, length-append (encode_utf8 char) (encode_utf8_all next.others), length-encode char, c.width.ensures)
+    omega (
+      arith,
+      c.requires,
+      known.2,
+      ap (λ l. length (encode_utf8_all l)) next.all,
+      length-append (encode_utf8 char) (encode_utf8_all next.others),
+      length-encode char,
+      c.width.ensures,
+    )
 
 pub loop-char-init : goal.loop-char-init
 loop-char-init c =
     let text = c.args.text.now in
     let all = encodes-chars text c.utf8.text in
-    let rest : chars_rest c.into_iter-char-iterator.result ≡ text = ap chars_rest c.into_iter-char-iterator.ensures.into_iter_gives ∙ c.chars-char-items.ensures.rest in
+    let rest : chars_rest c.into_iter-char-iterator.result ≡ text =
+    ap chars_rest c.into_iter-char-iterator.ensures.into_iter_gives ∙ c.chars-char-items.ensures.rest in
     (chars text, all ∙ sym rest, ap (λ l. c.args.at + length l) all, refl)
 
 pub loop-char-preserved-in_ok-push : goal.loop-char-preserved-in_ok-push
@@ -33,10 +42,18 @@ loop-char-preserved-in_ok-push c =
     let pushed = c.in_ok-push.ensures.items in (
       others,
       next.left,
-      omega (arith, known.2, ap (λ l. length (encode_utf8_all l)) next.all, length-append (encode_utf8 char) (encode_utf8_all others), length-encode char, wide),
+      omega (
+        arith,
+        known.2,
+        ap (λ l. length (encode_utf8_all l)) next.all,
+        length-append (encode_utf8 char) (encode_utf8_all others),
+        length-encode char,
+        wide,
+      ),
       ap (λ l. l ++ without_dropped (placed (start + c.width.result) others)) pushed
           ∙ ap (λ n. (out ++ record { char = char; start = start; end = start + n } ∷ []) ++ without_dropped (placed (start + n) others)) wide
-          ∙ sym (kept out (record { char = char; start = start; end = start + len_utf8 char }) (placed (start + len_utf8 char) others) (sym c.is_kept.ensures ∙ c.if-is_kept.true))
+          ∙ sym (kept out (record { char = char; start = start; end = start + len_utf8 char })
+          (placed (start + len_utf8 char) others) (sym c.is_kept.ensures ∙ c.if-is_kept.true))
           ∙ ap (λ l. out ++ without_dropped (placed start l)) (sym next.all)
           ∙ known.3,
     )
@@ -52,9 +69,17 @@ loop-char-preserved c =
     let wide : c.width.result ≡ len_utf8 char = c.width.ensures in (
       others,
       next.left,
-      omega (arith, known.2, ap (λ l. length (encode_utf8_all l)) next.all, length-append (encode_utf8 char) (encode_utf8_all others), length-encode char, wide),
+      omega (
+        arith,
+        known.2,
+        ap (λ l. length (encode_utf8_all l)) next.all,
+        length-append (encode_utf8 char) (encode_utf8_all others),
+        length-encode char,
+        wide,
+      ),
       ap (λ n. out ++ without_dropped (placed (start + n) others)) wide
-          ∙ sym (left_out out (record { char = char; start = start; end = start + len_utf8 char }) (placed (start + len_utf8 char) others) (sym c.is_kept.ensures ∙ c.if-is_kept.false))
+          ∙ sym (left_out out (record { char = char; start = start; end = start + len_utf8 char })
+          (placed (start + len_utf8 char) others) (sym c.is_kept.ensures ∙ c.if-is_kept.false))
           ∙ ap (λ l. out ++ without_dropped (placed start l)) (sym next.all)
           ∙ known.3,
     )

@@ -14,4 +14,12 @@ returns-in-Some-clause-longest c =
 
 pub returns-in-None-clause-longest : goal.returns-in-None-clause-longest
 returns-in-None-clause-longest c d rest scalar parts =
-    absurd (omega (arith, c.in-None.ensures.steps.0, c.utf8_chunks.ensures.len, ap length parts, length-append (encode_utf8 d) rest, length-encode d, len_utf8_bounds d))
+    absurd (omega (
+      arith,
+      c.in-None.ensures.steps.0,
+      c.utf8_chunks.ensures.len,
+      ap length parts,
+      length-append (encode_utf8 d) rest,
+      length-encode d,
+      len_utf8_bounds d,
+    ))

@@ -28,26 +28,38 @@ loop-at-preserved c =
     let front = c.loop-at.has_front in
     let left : c.range_from.result.now ≡ drop at text = c.range_from.ensures.value in
     let there : IsCharBoundary (drop at text) n = subst (λ l. IsCharBoundary l n) left c.text_line_end.ensures.boundary in
-    let first : IsFirstLine (chars (take n (drop at text))) (drop n (drop at text)) = subst (λ l. IsFirstLine (chars (take n l)) (drop n l)) left c.text_line_end.ensures.line in
+    let first : IsFirstLine (chars (take n (drop at text))) (drop n (drop at text)) =
+    subst (λ l. IsFirstLine (chars (take n l)) (drop n l)) left c.text_line_end.ensures.line in
     let cut = line_and_rest text at n c.utf8.text known.boundary there first in
     let rest = drop (at + n) text in
     let here = c.in_ok-line.line.items in
-    let is : here ≡ without_dropped (unplaced (chars (slice_range text at (at + n)))) = c.in_ok-line.ensures ∙ ap (λ l. without_dropped (unplaced (chars l))) c.range.ensures.value in record {
+    let is : here ≡ without_dropped (unplaced (chars (slice_range text at (at + n)))) =
+    c.in_ok-line.ensures ∙ ap (λ l. without_dropped (unplaced (chars l))) c.range.ensures.value in record {
       cells = ap (λ l. l ++ piece_cells rules true before rest)
-          (c.in_ok-push_line.ensures.cells ∙ ap (λ l. c.loop-at.left.cells.items ++ l) (line_cells-is rules _ front before here _ _ c.deref.ensures.value c.deref-in-loop-at.ensures.value c.part_of-part.ensures))
+          (c.in_ok-push_line.ensures.cells
+          ∙ ap (λ l. c.loop-at.left.cells.items ++ l)
+          (line_cells-is rules _ front before here _ _ c.deref.ensures.value c.deref-in-loop-at.ensures.value c.part_of-part.ensures))
           ∙ append_assoc c.loop-at.left.cells.items _ (piece_cells rules true before rest)
-          ∙ ap (λ l. c.loop-at.left.cells.items ++ l) (sym (piece_cells-first rules front before (drop at text) (slice_range text at (at + n)) rest here cut.parts cut.utf8 cut.first is))
+          ∙ ap (λ l. c.loop-at.left.cells.items ++ l)
+          (sym (piece_cells-first rules front before (drop at text)
+          (slice_range text at (at + n)) rest here cut.parts cut.utf8 cut.first is))
           ∙ known.cells;
       tokens = ap (λ l. l ++ piece_tokens rules true before rest)
-          (c.in_ok-push_line.ensures.tokens ∙ ap (λ l. tokens_in c.loop-at.left.tokens.items ++ l) (line_tokens-is rules _ front before here _ _ c.deref.ensures.value c.deref-in-loop-at.ensures.value c.part_of-part.ensures))
+          (c.in_ok-push_line.ensures.tokens
+          ∙ ap (λ l. tokens_in c.loop-at.left.tokens.items ++ l)
+          (line_tokens-is rules _ front before here _ _ c.deref.ensures.value c.deref-in-loop-at.ensures.value c.part_of-part.ensures))
           ∙ append_assoc (tokens_in c.loop-at.left.tokens.items) _ (piece_tokens rules true before rest)
-          ∙ ap (λ l. tokens_in c.loop-at.left.tokens.items ++ l) (sym (piece_tokens-first rules front before (drop at text) (slice_range text at (at + n)) rest here cut.parts cut.utf8 cut.first is))
+          ∙ ap (λ l. tokens_in c.loop-at.left.tokens.items ++ l)
+          (sym (piece_tokens-first rules front before (drop at text)
+          (slice_range text at (at + n)) rest here cut.parts cut.utf8 cut.first is))
           ∙ known.tokens;
       boundary = IsCharBoundary-from_rest text at n known.boundary.0 there;
     }
 
 pub returns-clause-cells : goal.returns-clause-cells
-returns-clause-cells c = no_more_cells (rules_of c.args.rules.now) c.loop-at.has_front c.args.before c.args.text.now c.loop-at.at _ _ c.loop-at-test.false c.loop-at.invariant.cells
+returns-clause-cells c = no_more_cells
+    (rules_of c.args.rules.now) c.loop-at.has_front c.args.before c.args.text.now c.loop-at.at _ _ c.loop-at-test.false c.loop-at.invariant.cells
 
 pub returns-clause-tokens : goal.returns-clause-tokens
-returns-clause-tokens c = no_more_tokens (rules_of c.args.rules.now) c.loop-at.has_front c.args.before c.args.text.now c.loop-at.at _ _ c.loop-at-test.false c.loop-at.invariant.tokens
+returns-clause-tokens c = no_more_tokens
+    (rules_of c.args.rules.now) c.loop-at.has_front c.args.before c.args.text.now c.loop-at.at _ _ c.loop-at-test.false c.loop-at.invariant.tokens

@@ -8,8 +8,10 @@ use Rattle.lic_norm.proofs.pieces.left_of.Given as goal
 -- the list and the tokens of the lines so far, and those of the rest behind them
 abbrev pub invariant-loop-at : goal.invariant-loop-at
 invariant-loop-at l = record {
-  cells : l.left.cells.items ++ piece_cells (rules_of l.rules) l.has_front l.before (drop l.at l.text) ≡ piece_cells (rules_of l.rules) l.fn.at_line_start l.before l.text;
-  tokens : tokens_in l.left.tokens.items ++ piece_tokens (rules_of l.rules) l.has_front l.before (drop l.at l.text) ≡ piece_tokens (rules_of l.rules) l.fn.at_line_start l.before l.text;
+  cells : l.left.cells.items ++ piece_cells (rules_of l.rules) l.has_front l.before (drop l.at l.text)
+      ≡ piece_cells (rules_of l.rules) l.fn.at_line_start l.before l.text;
+  tokens : tokens_in l.left.tokens.items ++ piece_tokens (rules_of l.rules) l.has_front l.before (drop l.at l.text)
+      ≡ piece_tokens (rules_of l.rules) l.fn.at_line_start l.before l.text;
   boundary : IsCharBoundary l.text l.at;
 }
 

@@ -23,5 +23,7 @@ loop-k-preserved c =
     record {
       long = ap length now ∙ as_long old (get_or line 0 0) (get_or line c.loop-k.k 0) ∙ c.loop-k.invariant.long;
       within = omega arith;
-      joined = λ lines known. subst (AreHeads (lines ++ take (c.loop-k.k + 1) line ∷ [])) (sym now) (line_goes_on lines old line c.loop-k.k (omega arith) (omega arith) bound (c.loop-k.invariant.joined lines known));
+      joined = λ lines known. subst (AreHeads (lines ++ take (c.loop-k.k + 1) line ∷ [])) (sym now)
+          (line_goes_on lines old line c.loop-k.k (omega arith) (omega arith) bound
+          (c.loop-k.invariant.joined lines known));
     }

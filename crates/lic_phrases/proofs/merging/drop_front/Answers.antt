@@ -16,7 +16,9 @@ loop-preserved c =
     elim c.match-pop_front.branch [
       | in-Some w ↦
           let token = w.in-Some.token in
-          let parts = drop_head items c.pop_front.new.self.items n token inside (sym c.loop.invariant.left ∙ c.pop_front.ensures.items ∙ ap (λ o. option_to_list o ++ c.pop_front.new.self.items) w.in-Some.is) in
+          let parts = drop_head items c.pop_front.new.self.items n token inside
+          (sym c.loop.invariant.left ∙ c.pop_front.ensures.items
+          ∙ ap (λ o. option_to_list o ++ c.pop_front.new.self.items) w.in-Some.is) in
           record {
             left = parts.1 ∙ ap (λ k. drop k items) (sym (add-one n));
             ends = λ t same.
@@ -25,5 +27,11 @@ loop-preserved c =
                 ∙ sym (end_of_last-more t (tokens_in items) n (token_in token) (omega (arith, length-map items token_in)))
                 ∙ ap (λ k. end_of_last t (take k (tokens_in items))) (sym (add-one n));
           }
-      | in_default w ↦ absurd (omega (arith, (rw (none_from c.pop_front.result w.in_default.not-Some) at c.pop_front.ensures.cases).0, length-drop n items, ap length c.loop.invariant.left, inside))
+      | in_default w ↦ absurd (omega (
+        arith,
+        (rw (none_from c.pop_front.result w.in_default.not-Some) at c.pop_front.ensures.cases).0,
+        length-drop n items,
+        ap length c.loop.invariant.left,
+        inside,
+      ))
     ]

@@ -28,7 +28,10 @@ loop-n-preserved c =
     let many : n < length texts = omega (arith, length-map tokens (λ t. t.text), length-map items token_in, inside) in
     let keyed : c.push.new.self.items ≡ key_of (take (n + 1) texts) =
     c.in_ok-push.ensures.items
-    ∙ ap (λ l. l ++ 0xFF ∷ []) (c.in_ok-extend_from_slice.ensures.items ∙ ap₂ (λ a b. a ++ b) c.loop-n.invariant.keyed (c.as_bytes.ensures.value ∙ c.as_str.ensures ∙ sym (waiting_text items n c.index.result.now [] inside c.index.ensures)))
+    ∙ ap (λ l. l ++ 0xFF ∷ []) (c.in_ok-extend_from_slice.ensures.items
+    ∙ ap₂ (λ a b. a ++ b) c.loop-n.invariant.keyed
+    (c.as_bytes.ensures.value ∙ c.as_str.ensures
+    ∙ sym (waiting_text items n c.index.result.now [] inside c.index.ensures)))
     ∙ sym (key_of-more texts n [] many)
     ∙ ap (λ k. key_of (take k texts)) (sym (add-one n)) in
     let found_as : ℕ → Phrase = λ class. record { texts = take (n + 1) texts; spelling = slice_index_or spellings class [] } in
@@ -37,13 +40,17 @@ loop-n-preserved c =
     elim c.match-class_of.branch [
       | in-Some w ↦ record {
         keyed = keyed;
-        found = ap (option_map (phrase_found spellings tokens)) w.found-is ∙ front_phrase-some words texts n (n + 1) (found_as w.in-Some.class) (add-one n) (sym (ap (option_map found_as) w.in-Some.is) ∙ class);
+        found = ap (option_map (phrase_found spellings tokens)) w.found-is
+            ∙ front_phrase-some words texts n (n + 1) (found_as w.in-Some.class) (add-one n)
+            (sym (ap (option_map found_as) w.in-Some.is) ∙ class);
         within = subst (λ f. IfSome f (λ g. (0 < g.count) × (g.count ≤ n + 1))) (sym w.found-is) (omega arith, omega arith);
-        known = subst (λ f. IfSome f (λ g. g.class < length spellings)) (sym w.found-is) (subst (λ o. IfSome o (λ class. class < length spellings)) w.in-Some.is c.class_of.ensures.known);
+        known = subst (λ f. IfSome f (λ g. g.class < length spellings)) (sym w.found-is)
+            (subst (λ o. IfSome o (λ class. class < length spellings)) w.in-Some.is c.class_of.ensures.known);
       }
       | in_default w ↦ let none : c.class_of.result ≡ None = none_from c.class_of.result w.in_default.not-Some in record {
         keyed = keyed;
-        found = ap (option_map (phrase_found spellings tokens)) w.found-is ∙ c.loop-n.invariant.found ∙ front_phrase-none words texts n (n + 1) (add-one n) (sym (ap (option_map found_as) none) ∙ class);
+        found = ap (option_map (phrase_found spellings tokens)) w.found-is ∙ c.loop-n.invariant.found
+            ∙ front_phrase-none words texts n (n + 1) (add-one n) (sym (ap (option_map found_as) none) ∙ class);
         within = subst (λ f. IfSome f (λ g. (0 < g.count) × (g.count ≤ n + 1))) (sym w.found-is) (more c.loop-n.found n c.loop-n.invariant.within);
         known = subst (λ f. IfSome f (λ g. g.class < length spellings)) (sym w.found-is) c.loop-n.invariant.known;
       }

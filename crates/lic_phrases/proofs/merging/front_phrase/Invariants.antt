@@ -9,7 +9,8 @@ use Rattle.lic_phrases.proofs.merging.front_phrase.Given as goal
 abbrev pub invariant-loop-n : goal.invariant-loop-n
 invariant-loop-n l = record {
   keyed : l.key.items ≡ key_of (take l.n (texts_of (tokens_in l.waiting.items)));
-  found : option_map (phrase_found l.phrases.spellings (tokens_in l.waiting.items)) l.found ≡ front_phrase l.phrases.phrases (texts_of (tokens_in l.waiting.items)) l.n;
+  found : option_map (phrase_found l.phrases.spellings (tokens_in l.waiting.items)) l.found
+      ≡ front_phrase l.phrases.phrases (texts_of (tokens_in l.waiting.items)) l.n;
   within : IfSome l.found (λ f. (0 < f.count) × (f.count ≤ l.n));
   known : IfSome l.found (λ f. f.class < length l.phrases.spellings);
 }

@@ -15,9 +15,18 @@ loop-first-preserved c =
     let tokens = tokens_in items in
     let first = c.in-Some.first.now in
     let most : ℕ = c.most_from-most.result in
-    let bound : longest_from list.phrases (small_bytes first.text) ≤ most = subst (λ text. longest_from list.phrases text ≤ most) c.as_str.ensures c.most_from-most.ensures.bound in
+    let bound : longest_from list.phrases (small_bytes first.text) ≤ most =
+    subst (λ text. longest_from list.phrases text ≤ most) c.as_str.ensures c.most_from-most.ensures.bound in
     let known : (c.args.at_end ≡ true) ⊎ (most ≤ length items) =
-    elim c.else-not-at_end.branch [ else-not-at_end-via-then-not-at_end+else-len-most w ↦ inr (omega (arith, w.len.ensures, w.if-len-most.false)) | else-not-at_end-via-else-not-at_end w ↦ inl w.if-not-at_end.false ] in
+    elim c.else-not-at_end.branch [
+      | else-not-at_end-via-then-not-at_end+else-len-most w ↦ inr
+          (omega (
+            arith,
+            w.len.ensures,
+            w.if-len-most.false,
+          ))
+      | else-not-at_end-via-else-not-at_end w ↦ inl w.if-not-at_end.false
+    ] in
     let at_most : c.min.result ≡ min most (length items) = omega arith in
     let found : option_map (phrase_found list.spellings tokens) c.in_ok-found.found ≡ front_phrase list.phrases (texts_of tokens) (min most (length items)) =
     c.in_ok-found.ensures.found ∙ ap (front_phrase list.phrases (texts_of tokens)) at_most in

@@ -9,8 +9,10 @@ returns-then-ends_in_word c =
     let a = c.index-texts-place.result in
     let b = c.index-texts-place-then-ends_in_word.result in
     c.begins_in_word.ensures ∙ ap begins_in_word c.as_str-then-ends_in_word.ensures.value
-    ∙ both-true (ends_in_word (string_bytes a)) (begins_in_word (string_bytes b)) (ap ends_in_word (sym c.as_str.ensures.value) ∙ sym c.ends_in_word.ensures ∙ c.if-ends_in_word.true)
-    ∙ sym (parted_neighbours c.args.texts.now c.args.place (c.args.place - 1) a b (omega arith) c.requires c.index-texts-place.is c.index-texts-place-then-ends_in_word.is)
+    ∙ both-true (ends_in_word (string_bytes a)) (begins_in_word (string_bytes b))
+    (ap ends_in_word (sym c.as_str.ensures.value) ∙ sym c.ends_in_word.ensures ∙ c.if-ends_in_word.true)
+    ∙ sym (parted_neighbours c.args.texts.now c.args.place (c.args.place - 1) a b
+    (omega arith) c.requires c.index-texts-place.is c.index-texts-place-then-ends_in_word.is)
 
 pub returns-else-ends_in_word : goal.returns-else-ends_in_word
 returns-else-ends_in_word c =
@@ -19,5 +21,6 @@ returns-else-ends_in_word c =
     let a = c.index-texts-place.result in
     let b = get_or texts place a in
     c.ends_in_word.ensures ∙ ap ends_in_word c.as_str.ensures.value
-    ∙ both-false (ends_in_word (string_bytes a)) (begins_in_word (string_bytes b)) (ap ends_in_word (sym c.as_str.ensures.value) ∙ sym c.ends_in_word.ensures ∙ c.if-ends_in_word.false)
+    ∙ both-false (ends_in_word (string_bytes a)) (begins_in_word (string_bytes b))
+    (ap ends_in_word (sym c.as_str.ensures.value) ∙ sym c.ends_in_word.ensures ∙ c.if-ends_in_word.false)
     ∙ sym (parted_neighbours texts place (place - 1) a b (omega arith) c.requires c.index-texts-place.is (get_any texts place a b c.requires))

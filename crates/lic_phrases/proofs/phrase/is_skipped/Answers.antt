@@ -9,10 +9,12 @@ use Rattle.lic_phrases.proofs.phrase.is_skipped.Goals as goal
 
 pub returns-in-None : goal.returns-in-None
 returns-in-None c =
-    let found = find_from_yields_List (λ d. not (is_whitespace d || is_dropped d)) _ _ c.find.result c.find.ensures.ran (YieldsList-from_chars c.args.line.now c.utf8.line cc) (λ x b q k. search (rules, tests)) in
+    let found = find_from_yields_List (λ d. not (is_whitespace d || is_dropped d)) _ _ c.find.result c.find.ensures.ran
+    (YieldsList-from_chars c.args.line.now c.utf8.line cc) (λ x b q k. search (rules, tests)) in
     ap (λ o. option_map_or (λ d. d == 0x23) o true) (sym (ap (option_map (λ x. x)) c.in-None.is) ∙ found)
 
 pub returns-in-Some : goal.returns-in-Some
 returns-in-Some c =
-    let found = find_from_yields_List (λ d. not (is_whitespace d || is_dropped d)) _ _ c.find.result c.find.ensures.ran (YieldsList-from_chars c.args.line.now c.utf8.line cc) (λ x b q k. search (rules, tests)) in
+    let found = find_from_yields_List (λ d. not (is_whitespace d || is_dropped d)) _ _ c.find.result c.find.ensures.ran
+    (YieldsList-from_chars c.args.line.now c.utf8.line cc) (λ x b q k. search (rules, tests)) in
     ap (λ o. option_map_or (λ d. d == 0x23) o true) (sym (ap (option_map (λ x. x)) c.in-Some.is) ∙ found)

@@ -22,16 +22,32 @@ spelling_at listed k p here = mapped_at (λ (q : ListedPhrase). string_bytes q.s
 pub add-requires-clause-some : goal.add-requires-clause-some
 add-requires-clause-some c =
     let given = c.into_iter-phrase-iterator.ensures.into_iter_gives in
-    let turn = YieldsList-turn (YieldsList-from_vec {s = c.into_iter-phrase-iterator.result} c.args.listed.items given.0 (given.1 ∙ c.args.listed.ok.0)) c.loop-phrase.yielded c.loop-phrase.phrase-iterator c.loop-phrase.yielded_by c.next.result c.next.new.self c.in-Some.phrase c.in-Some.is c.next.ensures.steps in
+    let turn = YieldsList-turn (YieldsList-from_vec {s =
+    c.into_iter-phrase-iterator.result} c.args.listed.items given.0
+    (given.1 ∙ c.args.listed.ok.0)) c.loop-phrase.yielded c.loop-phrase.phrase-iterator c.loop-phrase.yielded_by c.next.result c.next.new.self c.in-Some.phrase c.in-Some.is c.next.ensures.steps in
     let here = texts_at c.args.listed.items (length c.loop-phrase.yielded) c.in-Some.phrase turn in
-    omega (arith, ap length c.deref.ensures.value, length-map c.in-Some.phrase.texts.items string_bytes, ap length here.1, c.requires.some (length c.loop-phrase.yielded) here.0)
+    omega (
+      arith,
+      ap length c.deref.ensures.value,
+      length-map c.in-Some.phrase.texts.items string_bytes,
+      ap length here.1,
+      c.requires.some (length c.loop-phrase.yielded) here.0,
+    )
 
 pub add-requires-clause-few : goal.add-requires-clause-few
 add-requires-clause-few c =
     let given = c.into_iter-phrase-iterator.ensures.into_iter_gives in
-    let turn = YieldsList-turn (YieldsList-from_vec {s = c.into_iter-phrase-iterator.result} c.args.listed.items given.0 (given.1 ∙ c.args.listed.ok.0)) c.loop-phrase.yielded c.loop-phrase.phrase-iterator c.loop-phrase.yielded_by c.next.result c.next.new.self c.in-Some.phrase c.in-Some.is c.next.ensures.steps in
+    let turn = YieldsList-turn (YieldsList-from_vec {s =
+    c.into_iter-phrase-iterator.result} c.args.listed.items given.0
+    (given.1 ∙ c.args.listed.ok.0)) c.loop-phrase.yielded c.loop-phrase.phrase-iterator c.loop-phrase.yielded_by c.next.result c.next.new.self c.in-Some.phrase c.in-Some.is c.next.ensures.steps in
     let here = texts_at c.args.listed.items (length c.loop-phrase.yielded) c.in-Some.phrase turn in
-    omega (arith, ap length c.deref.ensures.value, length-map c.in-Some.phrase.texts.items string_bytes, ap length here.1, c.requires.few (length c.loop-phrase.yielded) here.0)
+    omega (
+      arith,
+      ap length c.deref.ensures.value,
+      length-map c.in-Some.phrase.texts.items string_bytes,
+      ap length here.1,
+      c.requires.few (length c.loop-phrase.yielded) here.0,
+    )
 
 pub loop-phrase-preserved : goal.loop-phrase-preserved
 loop-phrase-preserved c =
@@ -44,7 +60,8 @@ loop-phrase-preserved c =
     let phrase = c.in-Some.phrase in
     let made : PhraseList = c.add_class.new.self in
     let given = c.into_iter-phrase-iterator.ensures.into_iter_gives in
-    let turn = YieldsList-turn (YieldsList-from_vec {s = c.into_iter-phrase-iterator.result} listed given.0 (given.1 ∙ c.args.listed.ok.0)) yielded c.loop-phrase.phrase-iterator c.loop-phrase.yielded_by c.next.result c.next.new.self phrase c.in-Some.is c.next.ensures.steps in
+    let turn = YieldsList-turn (YieldsList-from_vec {s = c.into_iter-phrase-iterator.result} listed given.0
+    (given.1 ∙ c.args.listed.ok.0)) yielded c.loop-phrase.phrase-iterator c.loop-phrase.yielded_by c.next.result c.next.new.self phrase c.in-Some.is c.next.ensures.steps in
     let here = texts_at listed (length yielded) phrase turn in
     let spelling = spelling_at listed (length yielded) phrase turn in
     let more : length (yielded ++ phrase ∷ []) ≡ length yielded + 1 = length-append yielded (phrase ∷ []) in
@@ -78,6 +95,13 @@ returns c =
     let words = with_heads phrases spellings c.args.heads.now in
     let yielded = c.loop-phrase.yielded in
     let given = c.into_iter-phrase-iterator.ensures.into_iter_gives in
-    let all = YieldsList-end (YieldsList-from_vec {s = c.into_iter-phrase-iterator.result} listed given.0 (given.1 ∙ c.args.listed.ok.0)) yielded c.loop-phrase.phrase-iterator c.loop-phrase.yielded_by c.next.result c.next.new.self c.in-None.is c.next.ensures.steps in
+    let all = YieldsList-end (YieldsList-from_vec {s = c.into_iter-phrase-iterator.result} listed given.0
+    (given.1 ∙ c.args.listed.ok.0)) yielded c.loop-phrase.phrase-iterator c.loop-phrase.yielded_by c.next.result c.next.new.self c.in-None.is c.next.ensures.steps in
     c.loop-phrase.invariant.words
-    ∙ take_all (length yielded) words (omega (arith, all.1, length-with_heads phrases spellings c.args.heads.now c.requires.as_many, length-map listed (λ (p : ListedPhrase). texts_in p.texts.items)))
+    ∙ take_all (length yielded) words
+    (omega (
+      arith,
+      all.1,
+      length-with_heads phrases spellings c.args.heads.now c.requires.as_many,
+      length-map listed (λ (p : ListedPhrase). texts_in p.texts.items),
+    ))

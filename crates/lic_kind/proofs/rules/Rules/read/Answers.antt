@@ -26,7 +26,8 @@ returns-in-Err-clause-refused c =
     let known = c.loop-line.invariant in
     let n = length c.loop-line.yielded in
     let line = c.in-Some.line.now in
-    let turn = YieldsList-turn (YieldsList-from_str_split 10 file (lit< tt) (cc) (cc) (cc)) c.loop-line.yielded _ c.loop-line.yielded_by _ _ c.in-Some.line c.in-Some.is c.next.ensures.steps in
+    let turn = YieldsList-turn (YieldsList-from_str_split 10 file (lit< tt) (cc) (cc)
+    (cc)) c.loop-line.yielded _ c.loop-line.yielded_by _ _ c.in-Some.line c.in-Some.is c.next.ensures.steps in
     let here = line_at file n line turn in
     let at : c.at.result ≡ fault_at (n + 1) c.in-Err.cause = c.at.ensures ∙ ap (λ k. fault_at (k + 1) c.in-Err.cause) known.number in
     let cause = cause_here (lines_of file) n (line_of line) c.loop-line.reader.count here.1 known.count in
@@ -40,26 +41,31 @@ loop-line-preserved c =
     let yielded = c.loop-line.yielded in
     let n = length yielded in
     let line = c.in-Some.line.now in
-    let turn = YieldsList-turn (YieldsList-from_str_split 10 file (lit< tt) (cc) (cc) (cc)) yielded _ c.loop-line.yielded_by _ _ c.in-Some.line c.in-Some.is c.next.ensures.steps in
+    let turn = YieldsList-turn (YieldsList-from_str_split 10 file (lit< tt) (cc) (cc)
+    (cc)) yielded _ c.loop-line.yielded_by _ _ c.in-Some.line c.in-Some.is c.next.ensures.steps in
     let here = line_at file n line turn in
     let more : length (yielded ++ c.in-Some.line ∷ []) ≡ n + 1 = length-append yielded (c.in-Some.line ∷ []) in
     record {
       can_next = tt;
       finite = tt;
       number = omega (arith, known.number, more);
-      count = next_count (lines_of file) n (line_of line) c.loop-line.reader.count c.read_line.new.self.count here.0 here.1 known.count c.in_default.ensures.count
+      count = next_count (lines_of file) n
+          (line_of line) c.loop-line.reader.count c.read_line.new.self.count here.0 here.1 known.count c.in_default.ensures.count
           ∙ ap (λ k. texts_before (take k (lines_of file))) (sym more);
       rules = next_rules (lines_of file) n (line_of line) _ _ here.0 here.1 known.rules c.in_default.ensures.rules
           ∙ ap (λ k. rules_in (take k (lines_of file))) (sym more);
       sound = subst (AreSound (lines_of file)) (sym more)
-          (sound_more (lines_of file) n known.sound (cause_here (lines_of file) n (line_of line) c.loop-line.reader.count here.1 known.count ∙ c.in_default.ensures.sound));
+          (sound_more (lines_of file) n known.sound
+          (cause_here (lines_of file) n (line_of line) c.loop-line.reader.count here.1 known.count
+          ∙ c.in_default.ensures.sound));
     }
 
 pub returns-clause-accepted : goal.returns-clause-accepted
 returns-clause-accepted c =
     let file = c.args.text.now in
     let n = length c.loop-line.yielded in
-    let all = YieldsList-end (YieldsList-from_str_split 10 file (lit< tt) (cc) (cc) (cc)) c.loop-line.yielded _ c.loop-line.yielded_by _ _ c.in-None.is c.next.ensures.steps in
+    let all = YieldsList-end (YieldsList-from_str_split 10 file (lit< tt) (cc) (cc)
+    (cc)) c.loop-line.yielded _ c.loop-line.yielded_by _ _ c.in-None.is c.next.ensures.steps in
     let behind : length (lines_of file) ≤ n = omega (arith, all.1, length-map (slice_split (λ b. b == 0x0A) file) line_of) in
     λ k within. c.loop-line.invariant.sound k (omega (arith, within, behind))
 
@@ -67,7 +73,8 @@ pub returns-clause-rules : goal.returns-clause-rules
 returns-clause-rules c =
     let file = c.args.text.now in
     let n = length c.loop-line.yielded in
-    let all = YieldsList-end (YieldsList-from_str_split 10 file (lit< tt) (cc) (cc) (cc)) c.loop-line.yielded _ c.loop-line.yielded_by _ _ c.in-None.is c.next.ensures.steps in
+    let all = YieldsList-end (YieldsList-from_str_split 10 file (lit< tt) (cc) (cc)
+    (cc)) c.loop-line.yielded _ c.loop-line.yielded_by _ _ c.in-None.is c.next.ensures.steps in
     let behind : length (lines_of file) ≤ n = omega (arith, all.1, length-map (slice_split (λ b. b == 0x0A) file) line_of) in
     let held : rules_of c.with.result ≡ rules_read c.loop-line.reader =
     c.with.ensures

@@ -6,5 +6,15 @@ use Rattle.lic_norm.proofs.feeder.Feeder.new.Goals as goal
 
 pub returns : goal.returns
 returns c =
-    let seen : LineRules → List ℕ → List TokenValue → FeederValue = λ rules bytes tokens. record { bytes = bytes; words = c.args.words.now; rules = rules; tokens = tokens; refused = None } in
-    ap₂ (seen (rules_of c.new-2.result.rules.now)) (c.new-2.ensures.source ∙ c.new.ensures.items) c.new-2.ensures.tokens ∙ ap (λ r. seen (rules_of r) [] []) c.new-2.ensures.rules
+    let seen : LineRules → List ℕ → List TokenValue → FeederValue =
+    λ rules bytes tokens. record {
+      bytes = bytes;
+      words = c.args.words.now;
+      rules = rules;
+      tokens =
+          tokens;
+      refused = None;
+    } in
+    ap₂ (seen (rules_of c.new-2.result.rules.now))
+    (c.new-2.ensures.source ∙ c.new.ensures.items) c.new-2.ensures.tokens
+    ∙ ap (λ r. seen (rules_of r) [] []) c.new-2.ensures.rules

@@ -15,6 +15,7 @@ returns-clause-taken c =
     let end = c.args.end in
     let rules = rules_of old.rules.now in
     let before = first_tokens_of rules 0 (take at source) in
-    subst (HasTaken c.take.new.self)
-    (ap (λ ts. before ++ ts) (c.in_ok-tokens.ensures ∙ ap (λ l. line_tokens_of rules at (slice_range l at end)) c.deref.ensures.value) ∙ one_more_line rules source at end known.read.lines known.order known.within known.line)
-    (c.in_ok-take.ensures.taken before known.read.taken)
+    subst (HasTaken c.take_line.new.rewriting)
+    (ap (λ l. before ++ line_tokens_of rules at (slice_range l at end)) c.deref.ensures.value
+    ∙ one_more_line rules source at end known.read.lines known.order known.within known.line)
+    (c.in_ok-take_line.ensures.taken before known.read.taken)

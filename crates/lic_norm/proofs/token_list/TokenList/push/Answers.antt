@@ -10,9 +10,11 @@ invariant_of-self-in_err-push c =
 
 pub invariant_of-self-2 : goal.invariant_of-self-2
 invariant_of-self-2 c =
-    AreWithin-pushed _ _ _ _ _ _ c.utf8.text c.in_ok-push_str.ensures.bytes c.in_ok-push.ensures.items (grind (arith, common_steps)) (grind (arith, common_steps)) c.self.invariant
+    AreWithin-pushed _ _ _ _ _ _ c.utf8.text c.in_ok-push_str.ensures.bytes c.in_ok-push.ensures.items
+    (grind (arith, common_steps)) (grind (arith, common_steps)) c.self.invariant
 
 pub returns : goal.returns
 returns c =
-    row_values-pushed _ _ _ _ _ _ c.utf8.text c.in_ok-push_str.ensures.bytes c.in_ok-push.ensures.items (grind (arith, common_steps)) (grind (arith, common_steps)) c.self.invariant
+    row_values-pushed _ _ _ _ _ _ c.utf8.text c.in_ok-push_str.ensures.bytes c.in_ok-push.ensures.items
+    (grind (arith, common_steps)) (grind (arith, common_steps)) c.self.invariant
     ∙ ap (λ (v : List TokenValue). v ++ (record { text = c.args.text.now; span = record { start = c.args.start; end = c.args.end } }) ∷ []) c.self.view_is

@@ -22,11 +22,14 @@ invariant_of-self-2 c =
     let back : key_texts key.items ≡ texts = ap key_texts is_key_of ∙ key_texts-key_of texts none in
     let as_many = length-map c.args.texts.now string_bytes in
     let known : c.args.class < length spellings = omega (arith, c.requires.known, ap (λ v. length v.spellings) c.self.view_is) in
-    let entry = IsEntry-key_of (length spellings) key.items texts c.args.class none is_key_of (omega (arith, as_many, c.requires.some)) (omega (arith, as_many, c.requires.few)) known in
+    let entry = IsEntry-key_of (length spellings) key.items texts c.args.class none is_key_of
+    (omega (arith, as_many, c.requires.some)) (omega (arith, as_many, c.requires.few)) known in
     let first = c.as_str.result.now in
     let count = length c.args.texts.now in
     let first_is : get_or (key_texts key.items) 0 first ≡ first =
-    ap (λ l. get_or l 0 first) back ∙ get_or-map string_bytes c.args.texts.now 0 c.index-texts-0.result first c.requires.some ∙ ap string_bytes (sym c.index-texts-0.is) ∙ sym c.as_str.ensures.value in
+    ap (λ l. get_or l 0 first) back
+    ∙ get_or-map string_bytes c.args.texts.now 0 c.index-texts-0.result first c.requires.some
+    ∙ ap string_bytes (sym c.index-texts-0.is) ∙ sym c.as_str.ensures.value in
     let raised = c.in_ok-raise.ensures.raised in
     subst (λ entries. IsStored (λ k. k.items) entries spellings new) (sym c.in_ok-insert.ensures.entries)
     (IsStored-entry (λ k. k.items) fields.classes.entries spellings new key c.args.class
@@ -45,11 +48,22 @@ returns-clause-added c =
     let back : key_texts key.items ≡ texts = ap key_texts is_key_of ∙ key_texts-key_of texts none in
     let as_many = length-map c.args.texts.now string_bytes in
     let known : c.args.class < length spellings = omega (arith, c.requires.known, ap (λ v. length v.spellings) c.self.view_is) in
-    let entry = IsEntry-key_of (length spellings) key.items texts c.args.class none is_key_of (omega (arith, as_many, c.requires.some)) (omega (arith, as_many, c.requires.few)) known in
+    let entry = IsEntry-key_of (length spellings) key.items texts c.args.class none is_key_of
+    (omega (arith, as_many, c.requires.some)) (omega (arith, as_many, c.requires.few)) known in
     let with_phrases : List Phrase → PhraseList = λ words. record { phrases = words; spellings = spellings } in
-    let with_texts : List (List ℕ) → PhraseList = λ l. record { phrases = with_added (phrases_in (λ k. k.items) spellings fields.classes.entries) (record { texts = l; spelling = slice_index_or spellings c.args.class [] }); spellings = spellings } in
-    let with_phrase : PhraseList → PhraseList = λ v. record v { phrases = with_added v.phrases (record { texts = texts; spelling = slice_index_or v.spellings c.args.class [] }) } in
+    let with_texts : List (List ℕ) → PhraseList =
+    λ l. record {
+      phrases = with_added (phrases_in (λ k. k.items) spellings fields.classes.entries)
+          (record { texts = l; spelling = slice_index_or spellings c.args.class [] });
+      spellings = spellings;
+    } in
+    let with_phrase : PhraseList → PhraseList =
+    λ v. record v {
+      phrases = with_added v.phrases
+          (record { texts = texts; spelling = slice_index_or v.spellings c.args.class [] });
+    } in
     ap (λ entries. with_phrases (phrases_in (λ k. k.items) spellings entries)) c.in_ok-insert.ensures.entries
-    ∙ ap with_phrases (phrases_in-insert (λ k. k.items) (length spellings) spellings fields.classes.entries key c.args.class c.self.invariant.entered entry.is_key)
+    ∙ ap with_phrases (phrases_in-insert (λ k. k.items)
+    (length spellings) spellings fields.classes.entries key c.args.class c.self.invariant.entered entry.is_key)
     ∙ ap with_texts back
     ∙ ap with_phrase c.self.view_is

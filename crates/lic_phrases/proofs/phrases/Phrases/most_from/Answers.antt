@@ -12,9 +12,13 @@ returns-clause-short c =
 pub returns-clause-some : goal.returns-clause-some
 returns-clause-some c =
     let spellings = map string_bytes c.self.inside.spellings.items in
-    subst (λ v. HaveTokens v.phrases) c.self.view_is (phrases_in-HaveTokens (λ k. k.items) (length spellings) spellings c.self.inside.classes.entries c.self.invariant.entered)
+    subst (λ v. HaveTokens v.phrases) c.self.view_is
+    (phrases_in-HaveTokens (λ k. k.items)
+    (length spellings) spellings c.self.inside.classes.entries c.self.invariant.entered)
 
 pub returns-then-is_empty-clause-some : goal.returns-then-is_empty-clause-some
 returns-then-is_empty-clause-some c =
     let spellings = map string_bytes c.self.inside.spellings.items in
-    subst (λ v. HaveTokens v.phrases) c.self.view_is (phrases_in-HaveTokens (λ k. k.items) (length spellings) spellings c.self.inside.classes.entries c.self.invariant.entered)
+    subst (λ v. HaveTokens v.phrases) c.self.view_is
+    (phrases_in-HaveTokens (λ k. k.items)
+    (length spellings) spellings c.self.inside.classes.entries c.self.invariant.entered)

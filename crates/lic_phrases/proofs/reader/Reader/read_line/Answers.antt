@@ -16,7 +16,9 @@ not_skipped line b is reads = sym (ap (λ s. if s then [] else split_phrases lin
 pub returns-then-is_skipped-clause-read : goal.returns-then-is_skipped-clause-read
 returns-then-is_skipped-clause-read c = λ lines before.
     let self = c.args.self.now in
-    subst (λ (l : List (List (List ℕ))). HasRead [] (lines ++ l ∷ []) [] (phrases_in self.phrases.items) self.heads.items []) (sym (skipped c.args.line.now c.is_skipped.result c.is_skipped.ensures c.if-is_skipped.true))
+    subst (λ (l : List (List (List ℕ))). HasRead [] (lines ++ l ∷ []) []
+    (phrases_in self.phrases.items) self.heads.items [])
+    (sym (skipped c.args.line.now c.is_skipped.result c.is_skipped.ensures c.if-is_skipped.true))
     (line_is_read lines [] (phrases_in self.phrases.items) self.heads.items self.heads.items [] before refl (λ ls h. h))
 
 pub returns-clause-sound : goal.returns-clause-sound

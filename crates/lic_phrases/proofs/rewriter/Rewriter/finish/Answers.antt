@@ -19,7 +19,8 @@ returns-clause-whole c =
     let between = map (spanned_in spellings) c.take_sign.new.output.items in
     let new = map (spanned_in spellings) c.give_known.new.output.items in
     let gathered : waiting ≡ kept'.phrase ++ kept'.address =
-    subst (λ k. waiting ≡ k.phrase ++ k.address) c.rewriter.view_is (ap tokens_in c.in_ok-append.ensures.items ∙ map-append token_in fields.waiting.items fields.address.items) in
+    subst (λ k. waiting ≡ k.phrase ++ k.address) c.rewriter.view_is
+    (ap tokens_in c.in_ok-append.ensures.items ∙ map-append token_in fields.waiting.items fields.address.items) in
     OnOk-both c.give_known.result _ _ _
     (λ more all. λ front taken before.
     Settles-end words taken (front ++ old) (front ++ between) (front ++ new) kept kept' waiting

@@ -39,10 +39,22 @@ returns-then-is_sign-clause-settles c = λ front taken before.
     let kept = c.take_sign.new.self in
     let inside = subst (Settles words taken (front ++ old)) (sym c.self.view_is) before in
     let apart = c.join_sign.ensures.apart c.if-join_sign.false in
-    let gives = subst (λ o. GivesRows words old (record { sign = held o; address = address; phrase = phrase }) (held o) new kept) apart.0 c.in_ok-take_sign.ensures.given in
-    let short : IsShort kept = c.in_ok-take_sign.ensures.short (record { sign = length-held c.join_sign.new.kept; address = inside.short.address; phrase = inside.short.phrase }) in
-    let last = subst (λ k. (front_gives : GivesRows words (front ++ old) (record { sign = sign; address = address; phrase = phrase }) sign (front ++ new) (record { sign = token ∷ []; address = k.address; phrase = k.phrase })) × IsShort (record { sign = token ∷ []; address = k.address; phrase = k.phrase })) (sym c.self-2.view_is)
-    (GivesRows-behind words front old new (record { sign = sign; address = address; phrase = phrase }) kept sign gives, record { sign = omega arith; address = short.address; phrase = short.phrase }) in
+    let gives = subst (λ o. GivesRows words old (record { sign = held o; address = address; phrase = phrase })
+    (held o) new kept) apart.0 c.in_ok-take_sign.ensures.given in
+    let short : IsShort kept = c.in_ok-take_sign.ensures.short
+    (record {
+      sign = length-held c.join_sign.new.kept;
+      address = inside.short.address;
+      phrase =
+          inside.short.phrase;
+    }) in
+    let last = subst (λ k. (front_gives : GivesRows words (front ++ old)
+    (record { sign = sign; address = address; phrase = phrase }) sign (front ++ new)
+    (record { sign = token ∷ []; address = k.address; phrase = k.phrase }))
+    × IsShort (record { sign = token ∷ []; address = k.address; phrase = k.phrase })) (sym c.self-2.view_is) (
+      GivesRows-behind words front old new (record { sign = sign; address = address; phrase = phrase }) kept sign gives,
+      record { sign = omega arith; address = short.address; phrase = short.phrase },
+    ) in
     Settles-more words taken (front ++ old) (front ++ new)
     (record { sign = sign; address = address; phrase = phrase })
     (record { sign = token ∷ []; address = tokens_in c.self-2.inside.address.items; phrase = tokens_in c.self-2.inside.waiting.items })
@@ -69,11 +81,18 @@ returns-clause-settles c =
     let none = c.take_row.ensures.sign ∙ c.in_ok-take_sign.ensures.sign in
     let other = sym c.is_sign.ensures ∙ c.if-is_sign.false in
     let apart = c.join_sign.ensures.apart c.if-join_sign.false in
-    let first = subst (λ o. GivesRows words old (record { sign = held o; address = address; phrase = phrase }) (held o) between kept) apart.0 c.in_ok-take_sign.ensures.given in
+    let first = subst (λ o. GivesRows words old (record { sign = held o; address = address; phrase = phrase })
+    (held o) between kept) apart.0 c.in_ok-take_sign.ensures.given in
     OnOk-both c.take_row.result _ _ _
     (λ second shorter. λ front taken before.
     let inside = subst (Settles words taken (front ++ old)) (sym c.self.view_is) before in
-    let short : IsShort kept = c.in_ok-take_sign.ensures.short (record { sign = length-held c.join_sign.new.kept; address = inside.short.address; phrase = inside.short.phrase }) in
+    let short : IsShort kept = c.in_ok-take_sign.ensures.short
+    (record {
+      sign = length-held c.join_sign.new.kept;
+      address = inside.short.address;
+      phrase =
+          inside.short.phrase;
+    }) in
     Settles-more words taken (front ++ old) (front ++ new)
     (record { sign = sign; address = address; phrase = phrase })
     kept'

@@ -23,7 +23,16 @@ returns-then-not-is_https-clause-given c =
     let empty : fields.address.items ≡ [] = empty_list fields.address.items (omega (arith, fields.address.ok.0)) in
     OnOk-one c.take_token.result _ _
     (λ more.
-    subst (λ k. GivesRows list.phrases old k (token_in row ∷ []) new (record { sign = sign; address = tokens_in fields.address.items; phrase = tokens_in waiting' })) c.self.view_is
-    (subst (λ l. GivesRows list.phrases old (record { sign = sign; address = tokens_in l; phrase = waiting }) (token_in row ∷ []) new (record { sign = sign; address = tokens_in l; phrase = tokens_in waiting' })) (sym empty)
-    (GivesRows-plain list c.args.output.now.items c.take_token.new.output.items fields.waiting.items waiting' row sign (sym c.is_https.ensures ∙ c.if-not-is_https.true) more)))
+    subst (λ k. GivesRows list.phrases old k (token_in row ∷ []) new
+    (record {
+      sign = sign;
+      address = tokens_in fields.address.items;
+      phrase =
+          tokens_in waiting';
+    })) c.self.view_is
+    (subst (λ l. GivesRows list.phrases old (record { sign = sign; address = tokens_in l; phrase = waiting })
+    (token_in row ∷ []) new (record { sign = sign; address = tokens_in l; phrase = tokens_in waiting' }))
+    (sym empty)
+    (GivesRows-plain list c.args.output.now.items c.take_token.new.output.items fields.waiting.items waiting' row sign
+    (sym c.is_https.ensures ∙ c.if-not-is_https.true) more)))
     c.take_token.ensures.given

@@ -1,0 +1,30 @@
+-- What tells that a text stands not in front of a way.
+use Rattle.std.proofs.Common.{◌≡◌, ◌≢◌, ℕ, zero, suc, ◌<◌, ◌&&◌, ◌||◌, ◌==◌, Bool, true, false, List, [], ◌∷◌, length, get_or, refl, sym, ap, ap₂, ◌∙◌, arith}
+use Rattle.std.specs.Char.{is_whitespace}
+use Rattle.std.proofs.lemmas.Bool.{cases_Bool, eqb-true, false≢true, and_right}
+use Rattle.lic_lines.specs.Walks.{stands_in, may_stand}
+use Rattle.lic_lines.proofs.SpaceRows.{or_off}
+
+pub stands_short : (way text : List ℕ) → length way < length text → stands_in way text ≡ false
+stands_short way [] short = absurd (omega arith)
+stands_short [] (c ∷ text) short = refl
+stands_short (d ∷ way) (c ∷ text) short = and_right (d == c) (stands_in way text) (stands_short way text (omega arith))
+
+pub stands_other : (way text : List ℕ) (i : ℕ) → i < length way → i < length text → get_or way i 0 ≢ get_or text i 0 → stands_in way text ≡ false
+stands_other [] text i within inside other = absurd (omega arith)
+stands_other (d ∷ way) [] i within inside other = absurd (omega arith)
+stands_other (d ∷ way) (c ∷ text) zero within inside other = ap (λ b. b && stands_in way text) (apart (d == c) refl)
+  where
+    apart : (b : Bool) → (d == c) ≡ b → (d == c) ≡ false
+    apart false is = is
+    apart true is = absurd (other (eqb-true d c is))
+stands_other (d ∷ way) (c ∷ text) (suc i) within inside other =
+    and_right (d == c) (stands_in way text) (stands_other way text i (omega arith) (omega arith) other)
+
+pub may_stand_none : (way text : List ℕ) → length text ≡ 0 → may_stand way text ≡ false
+may_stand_none way [] none = refl
+may_stand_none way (c ∷ text) none = absurd (omega arith)
+
+pub may_stand_off : (way text : List ℕ) → is_whitespace (get_or text 0 0) ≡ false → stands_in way text ≡ false → may_stand way text ≡ false
+may_stand_off way [] dark other = refl
+may_stand_off way (c ∷ text) dark other = or_off (is_whitespace c) (stands_in way (c ∷ text)) dark other

@@ -1,0 +1,21 @@
+use Rattle.std.proofs.Common.{◌≡◌, ◌∙◌, ◌++◌, ap, ap₂, take, drop, length, arith}
+use Rattle.lic_lines.specs.LineRules.{rules_of}
+use Rattle.lic_lines.specs.AsciiFronts.{ascii_tokens}
+use Rattle.lic_lines.specs.Tokens.{single_signs, tokens_in}
+use Rattle.lic_lines.proofs.TokenLemmas.{tokens_behind, take_old, drop_old}
+use Rattle.lic_lines.proofs.ascii.push_rest_of_ascii.Goals as goal
+
+pub join_single_signs-requires : goal.join_single_signs-requires
+join_single_signs-requires c =
+    omega (arith, c.len-from.ensures, c.args.out.now.ok.0, tokens_behind c.args.out.now.items c.push_text.new.out.items _ c.in_ok-push_text.ensures)
+
+pub returns : goal.returns
+returns c =
+    let old = c.args.out.now.items in
+    let pushed = c.push_text.new.out.items in
+    let from : c.len-from.result ≡ length old = c.len-from.ensures ∙ c.args.out.now.ok.0 in
+    let told = c.in_ok-push_text.ensures in
+    c.join_single_signs.ensures
+    ∙ ap (λ n. tokens_in (take n pushed) ++ single_signs (tokens_in (drop n pushed))) from
+    ∙ ap₂ (λ a b. a ++ single_signs b) (take_old old pushed _ told) (drop_old old pushed _ told)
+    ∙ ap (λ l. tokens_in old ++ ascii_tokens (rules_of c.args.rules.now) c.args.after_blank c.args.at l) c.as_bytes.ensures.value

@@ -1,0 +1,21 @@
+use Rattle.std.proofs.Common.{◌≡◌, ◌∙◌, length, drop, sym, length-drop, arith}
+use Rattle.std.proofs.lemmas.List.{get_or-drop}
+use Rattle.lic_lines.specs.Walks.{walked}
+use Rattle.lic_lines.proofs.StandingTexts.{stands_short, stands_other}
+use Rattle.lic_lines.proofs.Walking.{length-walked}
+use Rattle.lic_lines.proofs.ascii_texts.stands.Goals as goal
+
+pub returns-then-text-line : goal.returns-then-text-line
+returns-then-text-line c = λ _.
+    let way = walked c.args.side c.args.line.now in
+    stands_short (drop c.args.place way) (walked c.args.side c.args.text.now)
+    (omega (arith, length-drop c.args.place way, length-walked c.args.side c.args.line.now, length-walked c.args.side c.args.text.now, c.if-text-line.true))
+
+pub returns-then-byte_at-text_at : goal.returns-then-byte_at-text_at
+returns-then-byte_at-text_at c = λ _.
+    let way = walked c.args.side c.args.line.now in
+    let i = c.loop-i.i in
+    stands_other (drop c.args.place way) (walked c.args.side c.args.text.now) i
+    (omega (arith, length-drop c.args.place way, length-walked c.args.side c.args.line.now, length-walked c.args.side c.args.text.now))
+    (omega (arith, length-walked c.args.side c.args.text.now))
+    (λ same. c.if-byte_at-text_at.true (c.byte_at.ensures ∙ sym (get_or-drop c.args.place way i 0) ∙ same ∙ sym c.text_at.ensures))

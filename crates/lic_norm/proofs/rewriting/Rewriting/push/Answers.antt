@@ -1,0 +1,20 @@
+use Rattle.std.proofs.Common.{◌++◌, map, ap, sym, subst, ◌∙◌}
+use Rattle.lic_phrases.specs.Settling.{Settles}
+use Rattle.lic_phrases.specs.Waiting.{spanned_in}
+use Rattle.lic_norm.specs.Tokens.{reported}
+use Rattle.lic_norm.proofs.ReadingLemmas.{listed-more, nothing_waits}
+use Rattle.lic_norm.proofs.rewriting.Rewriting.push.Goals as goal
+
+pub returns-clause-taken : goal.returns-clause-taken
+returns-clause-taken c = λ taken has.
+    let self = c.args.self.now in
+    let words = self.phrases.now.phrases in
+    let texts = map (spanned_in self.phrases.now.spellings) in
+    let given = texts c.push.new.output.items in
+    let none = nothing_waits self.phrases.now.spellings has.settled self.settled.items c.requires in
+    record {
+      settled = has.settled ++ given;
+      settles = c.in_ok-push.ensures.settles has.settled taken (subst (λ l. Settles words taken l self.rewriter) (sym none) has.settles);
+      listed = listed-more has.settled given self.tokens _ has.listed
+          (c.in_ok-extend.ensures ∙ ap (λ l. self.tokens ++ map reported (texts l)) c.deref.ensures.value);
+    }
