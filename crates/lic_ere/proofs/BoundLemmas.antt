@@ -1,9 +1,8 @@
 -- The digits in front of a list of characters.
-use Rattle.std.proofs.Common.{◌≡◌, ℕ, suc, ◌+◌, ◌*◌, ◌<◌, min, true, List, [], ◌∷◌, length, get_or, drop, add-one, refl, ◌∙◌, arith}
+use Rattle.std.proofs.Common.{◌≡◌, ℕ, ◌+◌, ◌*◌, ◌<◌, min, Bool, true, false, ◌||◌, not, eqb, List, [], ◌∷◌, length, drop, ne_eqb, refl, sym, ap, ◌∙◌, arith}
 use Rattle.std.specs.Char.{digit_value, is_ascii_digit}
 use Rattle.std.specs.Str.Parse.{digits_value_after}
 use Rattle.std.proofs.lemmas.Bool.Decides.{nat_tests}
-use Rattle.std.proofs.Math.Seq.{drop-cons}
 use Rattle.lic_ere.specs.Located.{Located}
 use Rattle.lic_ere.specs.Bounds.{digits}
 
@@ -18,10 +17,23 @@ digits_same a b (c ∷ ds) same = digits_same (a * 10 + digit_value c) (b * 10 +
 digits_more : (x : Located) (rest : List Located) → digit_value x.1 < 10 → digits (x ∷ rest) ≡ x.1 ∷ digits rest
 digits_more x rest h = rw (is_digit x.1 h) refl
 
--- one more digit of a loop
-pub digits_turn : (rest : List Located) (i : ℕ) → i < length rest → digit_value (get_or rest i (0, 0)).1 < 10 → digits (drop i rest) ≡ (get_or rest i (0, 0)).1 ∷ digits (drop (i + 1) rest)
-digits_turn rest i lt h = rw (add-one, drop-cons rest i (0, 0)) (digits_more (get_or rest i (0, 0)) (drop (suc i) rest) h)
+-- one more digit in front
+pub digits_turn : (x : Located) (rest after : List Located) → rest ≡ x ∷ after → digit_value x.1 < 10 → digits rest ≡ x.1 ∷ digits after
+digits_turn x rest after all h = ap digits all ∙ digits_more x after h
+
+-- behind a digit there are some
+pub some_turn : (b total : Bool) (c : ℕ) (ds more : List ℕ) → ds ≡ c ∷ more → (b || not (eqb (length ds) 0)) ≡ total → true ≡ total
+some_turn true total c ds more is so_far = so_far
+some_turn false total c ds more is so_far =
+    let some : not (eqb (length (c ∷ more)) 0) ≡ true = ap not (ne_eqb (length (c ∷ more)) 0 (λ h. omega (arith, h))) in
+    sym some ∙ ap (λ (l : List ℕ). not (eqb (length l) 0)) (sym is) ∙ so_far
+
+-- what stands behind the digits, with one more of them
+pub rest_turn : (x : Located) (rest after total : List Located) (ds more : List ℕ) → rest ≡ x ∷ after → ds ≡ x.1 ∷ more
+    → drop (length ds) rest ≡ total → drop (length more) after ≡ total
+rest_turn x rest after total ds more all is so_far = sym (λ i. drop (length (is i)) (all i)) ∙ so_far
 
 -- the number so far, with one more digit
-pub number_turn : (v w d : ℕ) (c total : ℕ) (ds : List ℕ) → d ≡ digit_value c → w ≡ min (v * 10 + d) 65536 → min (digits_value_after 10 v (c ∷ ds)) 65536 ≡ total → min (digits_value_after 10 w ds) 65536 ≡ total
+pub number_turn : (v w d : ℕ) (c total : ℕ) (ds : List ℕ) → d ≡ digit_value c → w ≡ min (v * 10 + d) 65536
+    → min (digits_value_after 10 v (c ∷ ds)) 65536 ≡ total → min (digits_value_after 10 w ds) 65536 ≡ total
 number_turn v w d c total ds is said so_far = digits_same w (v * 10 + digit_value c) ds (omega arith) ∙ so_far

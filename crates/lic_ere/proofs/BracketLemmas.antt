@@ -18,7 +18,8 @@ behind front r = map_ok (λ x. (front ++ x.0, x.1)) r
 abbrev pub members_of : ℕ → Bool → List Located → Result (List Member × List Located) EreFault
 members_of place first rest = map_ok (with_rest rest) (members_at place first 0 rest)
 
-pub members-skipped : (place : ℕ) (first : Bool) (n : ℕ) (xs : List Located) → map_ok (with_rest xs) (members_at place first n xs) ≡ members_of place first (drop n xs)
+pub members-skipped : (place : ℕ) (first : Bool) (n : ℕ) (xs : List Located)
+    → map_ok (with_rest xs) (members_at place first n xs) ≡ members_of place first (drop n xs)
 unfolding members_at
 members-skipped place first zero xs = refl
 members-skipped place first (suc n) [] = refl
@@ -35,13 +36,17 @@ module _ (place : ℕ) (first : Bool) (x : Located) (after : List Located) (open
   unfolding members_at
   members-next = rw open_yet refl
 
-  next_turn : (r : Result (Member × ℕ) EreFault) (m : Member) (rest : List Located) → map_ok (with_rest after) r ≡ Ok (m, rest) → map_ok (with_rest (x ∷ after)) (next r) ≡ behind (m ∷ []) (members_of place false rest)
+  next_turn : (r : Result (Member × ℕ) EreFault) (m : Member) (rest : List Located)
+      → map_ok (with_rest after) r ≡ Ok (m, rest)
+      → map_ok (with_rest (x ∷ after)) (next r) ≡ behind (m ∷ []) (members_of place false rest)
   next_turn (Err e) m rest is = absurd cc
   next_turn (Ok t) m rest is =
       let one : t.0 ≡ m = ap (λ (r : Result (Member × List Located) EreFault). elim r [ Ok y ↦ y.0 | Err e ↦ m ]) is in
       let two : drop t.1 after ≡ rest = ap (λ (r : Result (Member × List Located) EreFault). elim r [ Ok y ↦ y.1 | Err e ↦ rest ]) is in
       map_ok-map_ok (with_rest (x ∷ after)) (λ ms. (t.0 ∷ ms.0, 1 + ms.1)) (members_at place false t.1 after)
-      ∙ map_ok-same (λ ms. with_rest (x ∷ after) (t.0 ∷ ms.0, 1 + ms.1)) (λ ms. (t.0 ∷ ms.0, drop ms.1 after)) (members_at place false t.1 after) (λ ms. ap (λ (l : List Located). (t.0 ∷ ms.0, l)) (sym (drop-drop ms.1 1 (x ∷ after))))
+      ∙ map_ok-same (λ ms. with_rest (x ∷ after) (t.0 ∷ ms.0, 1 + ms.1)) (λ ms. (t.0 ∷ ms.0, drop ms.1 after))
+      (members_at place false t.1 after) (λ ms.
+      ap (λ (l : List Located). (t.0 ∷ ms.0, l)) (sym (drop-drop ms.1 1 (x ∷ after))))
       ∙ sym (map_ok-map_ok (λ y. (t.0 ∷ y.0, y.1)) (with_rest after) (members_at place false t.1 after))
       ∙ ap (λ (r : Result (List Member × List Located) EreFault). behind (t.0 ∷ []) r) (members-skipped place false t.1 after)
       ∙ (λ i. behind (one i ∷ []) (members_of place false (two i)))
@@ -51,12 +56,15 @@ module _ (place : ℕ) (first : Bool) (x : Located) (after : List Located) (open
   next_fails (Err d) e is = ap (λ (r : Result (Member × List Located) EreFault). elim r [ Ok y ↦ Err e | Err f ↦ Err f ]) is
 
   -- one more member
-  pub members_turn : (rest : List Located) (m : Member) (others : List Located) → rest ≡ x ∷ after → map_ok (with_rest after) (member_at x after) ≡ Ok (m, others) → members_of place first rest ≡ behind (m ∷ []) (members_of place false others)
+  pub members_turn : (rest : List Located) (m : Member) (others : List Located) → rest ≡ x ∷ after
+      → map_ok (with_rest after) (member_at x after) ≡ Ok (m, others)
+      → members_of place first rest ≡ behind (m ∷ []) (members_of place false others)
   members_turn rest m others all is =
       ap (members_of place first) all ∙ ap (map_ok (with_rest (x ∷ after))) members-next ∙ next_turn (member_at x after) m others is
 
   -- a fault in a member
-  pub members_fail : (rest : List Located) (e : EreFault) → rest ≡ x ∷ after → map_ok (with_rest after) (member_at x after) ≡ Err e → members_of place first rest ≡ Err e
+  pub members_fail : (rest : List Located) (e : EreFault) → rest ≡ x ∷ after
+      → map_ok (with_rest after) (member_at x after) ≡ Err e → members_of place first rest ≡ Err e
   members_fail rest e all is =
       ap (members_of place first) all ∙ ap (map_ok (with_rest (x ∷ after))) members-next ∙ next_fails (member_at x after) e is
 
@@ -65,8 +73,10 @@ behind-behind front more (Ok x) = ap (λ l. Ok (l, x.1)) (append_assoc front mor
 behind-behind front more (Err e) = refl
 
 -- one more member of a loop, which has count members so far
-pub one_more : (place count counted : ℕ) (front now : List Member) (x : Located) (after rest : List Located) (m : Member) (others : List Located) (total : Result (List Member × List Located) EreFault)
-    → now ≡ front ++ m ∷ [] → counted ≡ count + 1 → closes (eqb count 0) x.1 ≡ false → rest ≡ x ∷ after → map_ok (with_rest after) (member_at x after) ≡ Ok (m, others)
+pub one_more : (place count counted : ℕ) (front now : List Member) (x : Located) (after rest : List Located)
+    (m : Member) (others : List Located) (total : Result (List Member × List Located) EreFault)
+    → now ≡ front ++ m ∷ [] → counted ≡ count + 1 → closes (eqb count 0) x.1 ≡ false → rest ≡ x ∷ after
+    → map_ok (with_rest after) (member_at x after) ≡ Ok (m, others)
     → behind front (members_of place (eqb count 0) rest) ≡ total → behind now (members_of place (eqb counted 0) others) ≡ total
 one_more place count counted front now x after rest m others total pushed more open_yet all is so_far =
     let some : eqb counted 0 ≡ false = grind (arith, nat_tests) in
@@ -80,11 +90,14 @@ pub closed : (place count : ℕ) (front : List Member) (x : Located) (after rest
     → closes (eqb count 0) x.1 ≡ true → rest ≡ x ∷ after → behind front (members_of place (eqb count 0) rest) ≡ total → total ≡ Ok (front, after)
 unfolding members_at
 closed place count front x after rest total closing all so_far =
-    sym so_far ∙ ap (λ (l : List Located). behind front (members_of place (eqb count 0) l)) all ∙ rw closing (ap (λ (l : List Member). Ok (l, after)) (append-nil front))
+    sym so_far ∙ ap (λ (l : List Located). behind front (members_of place (eqb count 0) l)) all
+    ∙ rw closing (ap (λ (l : List Member). Ok (l, after)) (append-nil front))
 
 -- the loop at a fault
-pub failed : (place count : ℕ) (front : List Member) (x : Located) (after rest : List Located) (e : EreFault) (total : Result (List Member × List Located) EreFault)
-    → closes (eqb count 0) x.1 ≡ false → rest ≡ x ∷ after → behind front (members_of place (eqb count 0) rest) ≡ total → map_ok (with_rest after) (member_at x after) ≡ Err e → total ≡ Err e
+pub failed : (place count : ℕ) (front : List Member) (x : Located) (after rest : List Located) (e : EreFault)
+    (total : Result (List Member × List Located) EreFault)
+    → closes (eqb count 0) x.1 ≡ false → rest ≡ x ∷ after → behind front (members_of place (eqb count 0) rest) ≡ total
+    → map_ok (with_rest after) (member_at x after) ≡ Err e → total ≡ Err e
 failed place count front x after rest e total open_yet all so_far is =
     sym so_far ∙ ap (behind front) (members_fail place (eqb count 0) x after open_yet rest e all is)
 

@@ -7,17 +7,19 @@ use Rattle.lic_ere.specs.declared.bounds.Bounds.{Bounds}
 use Rattle.lic_ere.specs.Signs.{close_paren}
 use Rattle.lic_ere.specs.Trees.{Tree, repeat, units_tree, choice_tree, letters_tree}
 use Rattle.lic_ere.specs.Faults.{◌>>=◌}
-use Rattle.lic_ere.specs.Located.{located}
-use Rattle.lic_ere.specs.Lexemes.{Lexeme, unit, sign, opening, closing, bar, anchor, lexemes}
+use Rattle.lic_ere.specs.Lexemes.{Lexeme, unit, sign, opening, closing, bar, anchor, Lexemes}
 use Rattle.lic_ere.specs.Reading as reading
 use Rattle.lic_ere.specs.Reading.{LastUnit, Level, new_level, units, with_unit, with_alternative, level_tree, State, max_depth, meet, finish, read_on, start, reading}
 use Rattle.lic_ere.specs.Grammar.{IsUnit, plain, group, closes_nothing, IsRow, no_unit, once, repeated, IsChoice, only, or, without_anchors, IsPattern}
+use Rattle.lic_ere.proofs.LexemeSpelling.{are_read}
 
 -- lexemes read from a level on
 abbrev pub run : Level → List Level → List (ℕ × Lexeme) → Result Tree EreFault
 run level outer ls = read_on (record { level = level; outer = outer }) ls None
 
-after_meet : (r : Result State EreFault) (ls ms : List (ℕ × Lexeme)) → ((s : State) → read_on s ls None ≡ read_on s ms None) → (r >>= λ s. read_on s ls None) ≡ (r >>= λ s. read_on s ms None)
+after_meet : (r : Result State EreFault) (ls ms : List (ℕ × Lexeme))
+    → ((s : State) → read_on s ls None ≡ read_on s ms None)
+    → (r >>= λ s. read_on s ls None) ≡ (r >>= λ s. read_on s ms None)
 after_meet (Ok s) ls ms same = same s
 after_meet (Err e) ls ms same = refl
 
@@ -46,20 +48,24 @@ unfolding read_on meet
 closing_runs place rest level [] e = refl
 closing_runs place rest level (o ∷ outer) e = absurd (omega arith)
 
-opening_runs : (place : ℕ) (ls : List (ℕ × Lexeme)) (level : Level) (outer : List Level) → length outer < 64 → run level outer ((place, opening) ∷ ls) ≡ run (new_level place) (level ∷ outer) ls
+opening_runs : (place : ℕ) (ls : List (ℕ × Lexeme)) (level : Level) (outer : List Level) → length outer < 64
+    → run level outer ((place, opening) ∷ ls) ≡ run (new_level place) (level ∷ outer) ls
 unfolding read_on meet
 opening_runs place ls level outer lt = let e : ltb (length outer) 64 ≡ true = grind (arith, nat_tests) in rw e refl
 
-closed_runs : (place : ℕ) (rest : List (ℕ × Lexeme)) (level o : Level) (outer : List Level) → run level (o ∷ outer) ((place, closing) ∷ rest) ≡ run (with_unit (level_tree level) o) outer rest
+closed_runs : (place : ℕ) (rest : List (ℕ × Lexeme)) (level o : Level) (outer : List Level)
+    → run level (o ∷ outer) ((place, closing) ∷ rest) ≡ run (with_unit (level_tree level) o) outer rest
 unfolding read_on meet
 closed_runs place rest level o outer = refl
 
-bar_runs : (place : ℕ) (rest : List (ℕ × Lexeme)) (level : Level) (outer : List Level) → run level outer ((place, bar) ∷ rest) ≡ run (with_alternative level) outer rest
+bar_runs : (place : ℕ) (rest : List (ℕ × Lexeme)) (level : Level) (outer : List Level)
+    → run level outer ((place, bar) ∷ rest) ≡ run (with_alternative level) outer rest
 unfolding read_on meet
 bar_runs place rest level outer = refl
 
 sign_runs : (place : ℕ) (b : Bounds) (t : Tree) (rest : List (ℕ × Lexeme)) (level : Level) (outer : List Level)
-    → run (with_unit t level) outer ((place, sign (Some b)) ∷ rest) ≡ run (record (with_unit t level) { last = reading.repeated (repeat t b.min b.max) }) outer rest
+    → run (with_unit t level) outer ((place, sign (Some b)) ∷ rest)
+    ≡ run (record (with_unit t level) { last = reading.repeated (repeat t b.min b.max) }) outer rest
 unfolding read_on meet
 sign_runs place b t rest level outer = refl
 
@@ -73,7 +79,8 @@ group_runs depth place end ls rest ts lt inner level outer e =
     ∙ closed_runs end rest ran.then level outer
     ∙ ap (λ t. run (with_unit t level) outer rest) ran.tree
 
-only_runs : (level : Level) (outer : List Level) (ls rest : List (ℕ × Lexeme)) (ts : List Tree) → units level ≡ [] → RanRow level outer ls rest ts → RanChoice level outer ls rest (units_tree ts ∷ [])
+only_runs : (level : Level) (outer : List Level) (ls rest : List (ℕ × Lexeme)) (ts : List Tree) → units level ≡ []
+    → RanRow level outer ls rest ts → RanChoice level outer ls rest (units_tree ts ∷ [])
 only_runs level outer ls rest ts fresh ran =
     record {
       then = ran.then;
@@ -81,7 +88,8 @@ only_runs level outer ls rest ts fresh ran =
       tree = λ i. choice_tree (ran.alternatives i ++ units_tree ((ran.units ∙ ap (λ us. us ++ ts) fresh) i) ∷ []);
     }
 
-or_runs : (level : Level) (outer : List Level) (ls more rest : List (ℕ × Lexeme)) (place : ℕ) (ts us : List Tree) → units level ≡ [] → (row : RanRow level outer ls ((place, bar) ∷ more) ts)
+or_runs : (level : Level) (outer : List Level) (ls more rest : List (ℕ × Lexeme)) (place : ℕ) (ts us : List Tree)
+    → units level ≡ [] → (row : RanRow level outer ls ((place, bar) ∷ more) ts)
     → RanChoice (with_alternative row.then) outer more rest us → RanChoice level outer ls rest (units_tree ts ∷ us)
 or_runs level outer ls more rest place ts us fresh row others =
     record {
@@ -95,19 +103,36 @@ or_runs level outer ls more rest place ts us fresh row others =
 mutual
   unit_runs : {depth : ℕ} {ls rest : List (ℕ × Lexeme)} {t : Tree} → IsUnit depth ls rest t → UnitRuns depth ls rest t
   unit_runs (plain {depth = d} {place = p} {t = t} {rest = r}) level outer e = plain_runs d p t r level outer e
-  unit_runs (group {depth = d} {place = p} {end = q} {ls = ls} {rest = rest} {ts = ts} lt inner) level outer e = group_runs d p q ls rest ts lt (choice_runs inner) level outer e
+  unit_runs (group {depth = d} {place = p} {end = q} {ls = ls} {rest = rest} {ts = ts} lt inner) level outer e =
+      group_runs d p q ls rest ts lt (choice_runs inner) level outer e
   unit_runs (closes_nothing {place = p} {rest = r}) level outer e = closing_runs p r level outer e
 
-  row_runs : {depth : ℕ} {ls rest : List (ℕ × Lexeme)} {ts : List Tree} → IsRow depth ls rest ts → (level : Level) (outer : List Level) → length outer ≡ depth → RanRow level outer ls rest ts
+  row_runs : {depth : ℕ} {ls rest : List (ℕ × Lexeme)} {ts : List Tree} → IsRow depth ls rest ts
+      → (level : Level) (outer : List Level) → length outer ≡ depth → RanRow level outer ls rest ts
   row_runs no_unit level outer e = record { then = level; runs = refl; alternatives = refl; units = sym (append-nil (units level)) }
   row_runs (once {t = t} {ts = ts} first others) level outer e =
       let ran = row_runs others (with_unit t level) outer e in
-      record { then = ran.then; runs = unit_runs first level outer e ∙ ran.runs; alternatives = ran.alternatives; units = ran.units ∙ append_assoc (units level) (t ∷ []) ts }
+      record {
+        then = ran.then;
+        runs = unit_runs first level outer e ∙ ran.runs;
+        alternatives =
+            ran.alternatives;
+        units = ran.units ∙ append_assoc (units level) (t ∷ []) ts;
+      }
   row_runs (repeated {place = p} {more = more} {t = t} {b = b} {ts = ts} first others) level outer e =
       let ran = row_runs others (record (with_unit t level) { last = reading.repeated (repeat t b.min b.max) }) outer e in
-      record { then = ran.then; runs = unit_runs first level outer e ∙ sign_runs p b t more level outer ∙ ran.runs; alternatives = ran.alternatives; units = ran.units ∙ append_assoc (units level) (repeat t b.min b.max ∷ []) ts }
+      record {
+        then = ran.then;
+        runs =
+            unit_runs first level outer e ∙ sign_runs p b t more level outer ∙ ran.runs;
+        alternatives =
+            ran.alternatives;
+        units = ran.units ∙ append_assoc (units level) (repeat t b.min b.max ∷ []) ts;
+      }
 
-  choice_runs : {depth : ℕ} {ls rest : List (ℕ × Lexeme)} {ts : List Tree} → IsChoice depth ls rest ts → (level : Level) (outer : List Level) → length outer ≡ depth → units level ≡ [] → RanChoice level outer ls rest ts
+  choice_runs : {depth : ℕ} {ls rest : List (ℕ × Lexeme)} {ts : List Tree} → IsChoice depth ls rest ts
+      → (level : Level) (outer : List Level) → length outer ≡ depth → units level ≡ []
+      → RanChoice level outer ls rest ts
   choice_runs (only {ls = ls} {rest = rest} {ts = ts} row) level outer e fresh = only_runs level outer ls rest ts fresh (row_runs row level outer e)
   choice_runs (or {place = p} {ls = ls} {more = more} {rest = rest} {ts = ts} {us = us} row others) level outer e fresh =
       let ran = row_runs row level outer e in
@@ -127,6 +152,6 @@ without_anchors_runs ((p, anchor) ∷ ls) s = without_anchors_runs ls s
 pub IsPattern-read : (pattern : List ℕ) (t : Tree) → IsPattern pattern t → reading pattern ≡ Ok t
 unfolding read_on
 IsPattern-read pattern t is =
-    let ls = (lexemes 0 (located pattern)).found in
     let ran = choice_runs is.choice (new_level 0) [] refl refl in
-    ap (read_on start ls) is.read ∙ sym (without_anchors_runs ls start) ∙ ran.runs ∙ ap (λ u. Ok u) (ran.tree ∙ sym is.tree)
+    ap (λ (ls : Lexemes). read_on start ls.found ls.fault) (are_read is.are)
+    ∙ sym (without_anchors_runs is.lexemes start) ∙ ran.runs ∙ ap (λ u. Ok u) (ran.tree ∙ sym is.tree)

@@ -4,6 +4,7 @@ pub mod BracketLemmas
 pub mod BracketSpelling
 pub mod Complete
 pub mod FaultLemmas
+pub mod LexemeSpelling
 pub mod LocatedLemmas
 pub mod ReadLemmas
 pub mod ReadingLemmas

@@ -11,9 +11,11 @@ use Rattle.lic_ere.proofs.FaultLemmas.{Gives-same}
 use Rattle.lic_ere.proofs.Complete.{IsPattern-read}
 use Rattle.lic_ere.proofs.Sound.{reading-IsPattern}
 
-pub is_found : (pattern : List ℕ) (result : Result Ere EreFault) → Gives tree_of result (reading pattern) → IfOk result (λ tree. IsPattern pattern (tree_of tree))
+pub is_found : (pattern : List ℕ) (result : Result Ere EreFault) → Gives tree_of result (reading pattern)
+    → IfOk result (λ tree. IsPattern pattern (tree_of tree))
 is_found pattern (Ok tree) given = reading-IsPattern pattern (tree_of tree) given
 is_found pattern (Err e) given = tt
 
-pub is_read : (pattern : List ℕ) (result : Result Ere EreFault) (tree : Tree) → IsPattern pattern tree → Gives tree_of result (reading pattern) → Gives tree_of result (Ok tree)
+pub is_read : (pattern : List ℕ) (result : Result Ere EreFault) (tree : Tree) → IsPattern pattern tree
+    → Gives tree_of result (reading pattern) → Gives tree_of result (Ok tree)
 is_read pattern result tree is given = Gives-same tree_of result (reading pattern) (Ok tree) (IsPattern-read pattern tree is) given

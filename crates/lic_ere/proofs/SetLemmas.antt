@@ -51,7 +51,8 @@ data Shows (c : ℕ) : Type 0 where
   space : is_ascii_uppercase c ≡ false → is_dash c ≡ false → is_quote c ≡ false → is_whitespace c ≡ true → image c ≡ 0x20 → Shows c
   other : is_ascii_uppercase c ≡ false → is_dash c ≡ false → is_quote c ≡ false → is_whitespace c ≡ false → image c ≡ c → Shows c
 
-by_tests : (c : ℕ) (a b d e : Bool) → is_ascii_uppercase c ≡ a → is_dash c ≡ b → is_quote c ≡ d → is_whitespace c ≡ e → image c ≡ cond a (c + 32) (cond b 0x2D (cond d 0x27 (cond e 0x20 c))) → Shows c
+by_tests : (c : ℕ) (a b d e : Bool) → is_ascii_uppercase c ≡ a → is_dash c ≡ b → is_quote c ≡ d → is_whitespace c ≡ e
+    → image c ≡ cond a (c + 32) (cond b 0x2D (cond d 0x27 (cond e 0x20 c))) → Shows c
 by_tests c true b d e ea eb ed ee is = upper ea is
 by_tests c false true d e ea eb ed ee is = dash ea eb is
 by_tests c false false true e ea eb ed ee is = quote ea eb ed is
@@ -78,15 +79,15 @@ shares_range m r h =
 meets_shared : (m : Member) (r : ℕ × ℕ) (c : ℕ) → m.first ≤ c → c ≤ m.last → is_in_range r.0 r.1 c ≡ true → meets m r ≡ true
 meets_shared m r c low high h = grind (arith, nat_tests)
 
-or_left : (a b : Bool) → a ≡ true → (a || b) ≡ true
+pub or_left : (a b : Bool) → a ≡ true → (a || b) ≡ true
 or_left true b h = refl
 or_left false b h = absurd (false≢true h)
 
-or_right : (a b : Bool) → b ≡ true → (a || b) ≡ true
+pub or_right : (a b : Bool) → b ≡ true → (a || b) ≡ true
 or_right true b h = refl
 or_right false b h = h
 
-or_cases : (a b : Bool) → (a || b) ≡ true → (a ≡ true) ⊎ (b ≡ true)
+pub or_cases : (a b : Bool) → (a || b) ≡ true → (a ≡ true) ⊎ (b ≡ true)
 or_cases true b h = inl refl
 or_cases false b h = inr h
 
@@ -155,14 +156,19 @@ space_origins c =
       | other u d q s is ↦ (λ h. absurd (false≢true (sym s ∙ h)), λ h. absurd (grind (arith, nat_tests)))
     ]
 
-from_ranges : (m : Member) (letter : ℕ) (ranges : List (ℕ × ℕ)) (test : ℕ → Bool) → ((c : ℕ) → in_ranges ranges c ≡ test c) → Origins letter test → Decides (meets_any m ranges) (HasImage m letter)
+from_ranges : (m : Member) (letter : ℕ) (ranges : List (ℕ × ℕ)) (test : ℕ → Bool)
+    → ((c : ℕ) → in_ranges ranges c ≡ test c) → Origins letter test → Decides (meets_any m ranges) (HasImage m letter)
 from_ranges m letter ranges test same origins = (
   λ h. let s = shares_any m ranges h in (s.0, s.1, s.2, (origins s.0).0 (sym (same s.0) ∙ s.3)),
   λ h. meets_any_shared m ranges h.0 h.1 h.2 (same h.0 ∙ (origins h.0).1 h.3),
 )
 
 alone : (m : Member) (c : ℕ) → Decides (meets m (c, c)) ((m.first ≤ c) × (c ≤ m.last))
-alone m c = (λ h. let s = shares_range m (c, c) h in let low : m.first ≤ c = grind (arith, nat_tests) in let high : c ≤ m.last = grind (arith, nat_tests) in (low, high), λ h. grind (arith, nat_tests))
+alone m c = (
+  λ h. let s = shares_range m (c, c) h in let low : m.first ≤ c = grind (arith, nat_tests) in
+      let high : c ≤ m.last = grind (arith, nat_tests) in (low, high),
+  λ h. grind (arith, nat_tests),
+)
 
 lower_no_dash : (c : ℕ) → is_ascii_lowercase c ≡ true → is_dash c ≡ true → ⊥
 unfolding is_dash is_quote
@@ -191,7 +197,8 @@ lower_image c l =
     ]
 
 -- a lower case letter is the image of itself and of its upper case letter
-lower_case : (m : Member) (letter : ℕ) → is_ascii_lowercase letter ≡ true → Decides (meets m (letter, letter) || meets m (letter - 32, letter - 32)) (HasImage m letter)
+lower_case : (m : Member) (letter : ℕ) → is_ascii_lowercase letter ≡ true
+    → Decides (meets m (letter, letter) || meets m (letter - 32, letter - 32)) (HasImage m letter)
 lower_case m letter l =
     let low : 97 ≤ letter = grind (arith, nat_tests) in
     let high : is_ascii_uppercase (letter - 32) ≡ true = grind (arith, nat_tests) in
@@ -202,7 +209,8 @@ lower_case m letter l =
       | dash u d e ↦ absurd (omega arith)
       | quote u d q e ↦ absurd (omega arith)
       | space u d q s e ↦ absurd (omega arith)
-      | other u d q s e ↦ (let same : c ≡ letter = omega arith in or_left _ (meets m (letter - 32, letter - 32)) ((alone m letter).1 (omega arith, omega arith)))
+      | other u d q s e ↦ (let same : c ≡ letter = omega arith in
+          or_left _ (meets m (letter - 32, letter - 32)) ((alone m letter).1 (omega arith, omega arith)))
     ] in (
       λ h. elim (or_cases (meets m (letter, letter)) (meets m (letter - 32, letter - 32)) h) [
         | inl e ↦ (let in_it = (alone m letter).0 e in (letter, in_it.0, in_it.1, lower_image letter l))
@@ -211,11 +219,11 @@ lower_case m letter l =
       λ h. back h.0 h.1 h.2 h.3 (shows h.0),
     )
 
-and_cases : (a b : Bool) → (a && b) ≡ true → (a ≡ true) × (b ≡ true)
+pub and_cases : (a b : Bool) → (a && b) ≡ true → (a ≡ true) × (b ≡ true)
 and_cases true b h = (refl, h)
 and_cases false b h = absurd (false≢true h)
 
-and_true : (a b : Bool) → a ≡ true → b ≡ true → (a && b) ≡ true
+pub and_true : (a b : Bool) → a ≡ true → b ≡ true → (a && b) ≡ true
 and_true true b h k = k
 and_true false b h k = absurd (false≢true h)
 
@@ -226,7 +234,9 @@ not_this : (letter n : ℕ) → (letter == n) ≡ false → letter ≡ n → ⊥
 not_this letter n f e = grind (arith, nat_tests)
 
 -- another letter is the image of itself alone, or of no character
-other_case : (m : Member) (letter : ℕ) → is_ascii_lowercase letter ≡ false → (letter == 0x2D) ≡ false → (letter == 0x27) ≡ false → (letter == 0x20) ≡ false → Decides (image letter == letter && meets m (letter, letter)) (HasImage m letter)
+other_case : (m : Member) (letter : ℕ) → is_ascii_lowercase letter ≡ false → (letter == 0x2D) ≡ false
+    → (letter == 0x27) ≡ false → (letter == 0x20) ≡ false
+    → Decides (image letter == letter && meets m (letter, letter)) (HasImage m letter)
 other_case m letter l d q s =
     let back : (c : ℕ) → m.first ≤ c → c ≤ m.last → image c ≡ letter → Shows c → (image letter == letter && meets m (letter, letter)) ≡ true =
     λ c first last is shown. elim shown [
@@ -234,14 +244,21 @@ other_case m letter l d q s =
       | dash u dd e ↦ absurd (not_this letter 0x2D d (sym is ∙ e))
       | quote u dd qq e ↦ absurd (not_this letter 0x27 q (sym is ∙ e))
       | space u dd qq ss e ↦ absurd (not_this letter 0x20 s (sym is ∙ e))
-      | other u dd qq ss e ↦ (let same : c ≡ letter = sym e ∙ is in and_true (image letter == letter) _ (eq-eqb _ _ (subst (λ x. image x ≡ letter) same is)) ((alone m letter).1 (omega arith, omega arith)))
+      | other u dd qq ss e ↦ (let same : c ≡ letter = sym e ∙ is in
+          and_true (image letter == letter) _ (eq-eqb _ _ (subst (λ x. image x ≡ letter) same is))
+          ((alone m letter).1 (omega arith, omega arith)))
     ] in (
-      λ h. let both = and_cases (image letter == letter) (meets m (letter, letter)) h in let in_it = (alone m letter).0 both.1 in (letter, in_it.0, in_it.1, eqb-true _ _ both.0),
+      λ h. let both = and_cases (image letter == letter) (meets m (letter, letter)) h in let in_it =
+          (alone m letter).0 both.1 in (letter, in_it.0, in_it.1, eqb-true _ _ both.0),
       λ h. back h.0 h.1 h.2 h.3 (shows h.0),
     )
 
 by_letter : (m : Member) (letter : ℕ) (a b d e : Bool) → is_ascii_lowercase letter ≡ a → (letter == 0x2D) ≡ b → (letter == 0x27) ≡ d → (letter == 0x20) ≡ e
-    → Decides (cond a (meets m (letter, letter) || meets m (letter - 32, letter - 32)) (cond b (meets_any m dashes) (cond d (meets_any m quotes) (cond e (meets_any m spaces) (image letter == letter && meets m (letter, letter)))))) (HasImage m letter)
+    → Decides (cond a (meets m (letter, letter) || meets m (letter - 32, letter - 32))
+    (cond b (meets_any m dashes)
+    (cond d (meets_any m quotes)
+    (cond e (meets_any m spaces) (image letter == letter && meets m (letter, letter))))))
+    (HasImage m letter)
 by_letter m letter true b d e ea eb ed ee = lower_case m letter ea
 by_letter m letter false true d e ea eb ed ee = rw (eqb-true _ _ eb) (from_ranges m 0x2D dashes is_dash in_dashes dash_origins)
 by_letter m letter false false true e ea eb ed ee = rw (eqb-true _ _ ed) (from_ranges m 0x27 quotes is_quote in_quotes quote_origins)

@@ -12,27 +12,37 @@ use Rattle.lic_ere.specs.Lexemes.{Lexeme, unit, sign, opening, closing, bar, anc
 use Rattle.lic_ere.specs.Reading as reading
 use Rattle.lic_ere.specs.Reading.{LastUnit, last_units, Level, new_level, units, with_unit, with_alternative, level_tree, repeat_last, State, max_depth, meet, finish, read_on, start, reading}
 use Rattle.lic_ere.specs.Grammar.{IsUnit, plain, group, closes_nothing, IsRow, no_unit, once, repeated, IsChoice, only, or, without_anchors, IsPattern}
+use Rattle.lic_ere.proofs.LexemeSpelling.{are_spelled}
 use Rattle.lic_ere.proofs.Complete.{run}
 
 -- the rest of a row, whose last unit so far may still get its sign
 data EndsRow (depth : ℕ) : LastUnit → List (ℕ × Lexeme) → List (ℕ × Lexeme) → List Tree → Type 0 where
   fresh : {ls rest : List (ℕ × Lexeme)} {ts : List Tree} → IsRow depth ls rest ts → EndsRow depth reading.no_unit ls rest ts
   kept : {t : Tree} {ls rest : List (ℕ × Lexeme)} {ts : List Tree} → IsRow depth ls rest ts → EndsRow depth (reading.single t) ls rest (t ∷ ts)
-  signed : {place : ℕ} {b : Bounds} {t : Tree} {more rest : List (ℕ × Lexeme)} {ts : List Tree} → IsRow depth more rest ts → EndsRow depth (reading.single t) ((place, sign (Some b)) ∷ more) rest (repeat t b.min b.max ∷ ts)
+  signed : {place : ℕ} {b : Bounds} {t : Tree} {more rest : List (ℕ × Lexeme)} {ts : List Tree}
+      → IsRow depth more rest ts → EndsRow depth (reading.single t) ((place, sign (Some b)) ∷ more) rest
+      (repeat t b.min b.max ∷ ts)
   settled : {t : Tree} {ls rest : List (ℕ × Lexeme)} {ts : List Tree} → IsRow depth ls rest ts → EndsRow depth (reading.repeated t) ls rest (t ∷ ts)
 
 -- the rest of a level, and all of its alternatives
 data EndsLevel (depth : ℕ) (level : Level) (ls rest : List (ℕ × Lexeme)) : List Tree → Type 0 where
   last_row : {ts : List Tree} → EndsRow depth level.last ls rest ts → EndsLevel depth level ls rest (level.alternatives ++ units_tree (level.before ++ ts) ∷ [])
-  more_rows : {place : ℕ} {more : List (ℕ × Lexeme)} {ts us : List Tree} → EndsRow depth level.last ls ((place, bar) ∷ more) ts → IsChoice depth more rest us → EndsLevel depth level ls rest (level.alternatives ++ units_tree (level.before ++ ts) ∷ us)
+  more_rows : {place : ℕ} {more : List (ℕ × Lexeme)} {ts us : List Tree}
+      → EndsRow depth level.last ls ((place, bar) ∷ more) ts → IsChoice depth more rest us
+      → EndsLevel depth level ls rest (level.alternatives ++ units_tree (level.before ++ ts) ∷ us)
 
 -- the rest of the pattern: of the innermost level, and behind its `)` of those round it
 abbrev Completes : Level → List Level → List (ℕ × Lexeme) → Tree → Type 0
 Completes level [] ls t = (us : List Tree) × EndsLevel 0 level ls [] us × (t ≡ choice_tree us)
-Completes level (o ∷ outer) ls t = (end : ℕ) × (rest : List (ℕ × Lexeme)) × (us : List Tree) × EndsLevel (suc (length outer)) level ls ((end, closing) ∷ rest) us × Completes (with_unit (choice_tree us) o) outer rest t
+Completes level (o ∷ outer) ls t =
+    (end : ℕ) × (rest : List (ℕ × Lexeme)) × (us : List Tree)
+    × EndsLevel (suc (length outer)) level ls ((end, closing) ∷ rest) us
+    × Completes (with_unit (choice_tree us) o) outer rest t
 
 -- what ends one level so ends another so
-Completes-map : (l m : Level) (outer : List Level) (ls ms : List (ℕ × Lexeme)) (t : Tree) → ((rest : List (ℕ × Lexeme)) (us : List Tree) → EndsLevel (length outer) l ls rest us → EndsLevel (length outer) m ms rest us) → Completes l outer ls t → Completes m outer ms t
+Completes-map : (l m : Level) (outer : List Level) (ls ms : List (ℕ × Lexeme)) (t : Tree)
+    → ((rest : List (ℕ × Lexeme)) (us : List Tree) → EndsLevel (length outer) l ls rest us
+    → EndsLevel (length outer) m ms rest us) → Completes l outer ls t → Completes m outer ms t
 Completes-map l m [] ls ms t change h = (h.0, change [] h.0 h.1, h.2)
 Completes-map l m (o ∷ outer) ls ms t change h = (h.0, h.1, h.2, change ((h.0, closing) ∷ h.1) h.2 h.3, h.4)
 
@@ -42,29 +52,43 @@ nothing_more depth (reading.single t) rest = kept no_unit
 nothing_more depth (reading.repeated t) rest = settled no_unit
 
 -- a row behind the last unit
-attach : (depth : ℕ) (last : LastUnit) (ls rest : List (ℕ × Lexeme)) (ts : List Tree) → IsRow depth ls rest ts → EndsRow depth last ls rest (last_units last ++ ts)
+attach : (depth : ℕ) (last : LastUnit) (ls rest : List (ℕ × Lexeme)) (ts : List Tree) → IsRow depth ls rest ts
+    → EndsRow depth last ls rest (last_units last ++ ts)
 attach depth reading.no_unit ls rest ts r = fresh r
 attach depth (reading.single t) ls rest ts r = kept r
 attach depth (reading.repeated t) ls rest ts r = settled r
 
 -- one unit, and the row behind it
-unit_row : (depth : ℕ) (last : LastUnit) (from ls rest : List (ℕ × Lexeme)) (u : Tree) (ts : List Tree) → IsUnit depth from ls u → EndsRow depth (reading.single u) ls rest ts → EndsRow depth last from rest (last_units last ++ ts)
+unit_row : (depth : ℕ) (last : LastUnit) (from ls rest : List (ℕ × Lexeme)) (u : Tree) (ts : List Tree)
+    → IsUnit depth from ls u → EndsRow depth (reading.single u) ls rest ts
+    → EndsRow depth last from rest (last_units last ++ ts)
 unit_row depth last from ls rest u ts is (kept {ts = us} r) = attach depth last from rest (u ∷ us) (once is r)
 unit_row depth last from ls rest u ts is (signed {b = b} {ts = us} r) = attach depth last from rest (repeat u b.min b.max ∷ us) (repeated is r)
 
 -- one unit, and the rest of its level
-unit_level : (depth : ℕ) (level : Level) (from ls : List (ℕ × Lexeme)) (u : Tree) → IsUnit depth from ls u → (rest : List (ℕ × Lexeme)) (us : List Tree) → EndsLevel depth (with_unit u level) ls rest us → EndsLevel depth level from rest us
+unit_level : (depth : ℕ) (level : Level) (from ls : List (ℕ × Lexeme)) (u : Tree) → IsUnit depth from ls u
+    → (rest : List (ℕ × Lexeme)) (us : List Tree) → EndsLevel depth (with_unit u level) ls rest us
+    → EndsLevel depth level from rest us
 unit_level depth level from ls u is rest us (last_row {ts = ts} r) =
-    subst (λ row. EndsLevel depth level from rest (level.alternatives ++ units_tree row ∷ [])) (sym (append_assoc level.before (last_units level.last) ts)) (last_row (unit_row depth level.last from ls rest u ts is r))
+    subst (λ row. EndsLevel depth level from rest (level.alternatives ++ units_tree row ∷ []))
+    (sym (append_assoc level.before (last_units level.last) ts))
+    (last_row (unit_row depth level.last from ls rest u ts is r))
 unit_level depth level from ls u is rest us (more_rows {place = p} {more = more} {ts = ts} {us = vs} r others) =
-    subst (λ row. EndsLevel depth level from rest (level.alternatives ++ units_tree row ∷ vs)) (sym (append_assoc level.before (last_units level.last) ts)) (more_rows (unit_row depth level.last from ls ((p, bar) ∷ more) u ts is r) others)
+    subst (λ row. EndsLevel depth level from rest (level.alternatives ++ units_tree row ∷ vs))
+    (sym (append_assoc level.before (last_units level.last) ts))
+    (more_rows (unit_row depth level.last from ls ((p, bar) ∷ more) u ts is r) others)
 
 -- a bar, and the rest of the level
-bar_level : (depth place : ℕ) (level : Level) (ls rest : List (ℕ × Lexeme)) (us : List Tree) → EndsLevel depth (with_alternative level) ls rest us → EndsLevel depth level ((place, bar) ∷ ls) rest us
+bar_level : (depth place : ℕ) (level : Level) (ls rest : List (ℕ × Lexeme)) (us : List Tree)
+    → EndsLevel depth (with_alternative level) ls rest us → EndsLevel depth level ((place, bar) ∷ ls) rest us
 bar_level depth place level ls rest us (last_row {ts = ts} (fresh r)) =
-    subst (EndsLevel depth level ((place, bar) ∷ ls) rest) (sym (append_assoc level.alternatives (units_tree (units level) ∷ []) (units_tree ts ∷ []))) (more_rows (nothing_more depth level.last ((place, bar) ∷ ls)) (only r))
+    subst (EndsLevel depth level ((place, bar) ∷ ls) rest)
+    (sym (append_assoc level.alternatives (units_tree (units level) ∷ []) (units_tree ts ∷ [])))
+    (more_rows (nothing_more depth level.last ((place, bar) ∷ ls)) (only r))
 bar_level depth place level ls rest us (more_rows {ts = ts} {us = vs} (fresh r) others) =
-    subst (EndsLevel depth level ((place, bar) ∷ ls) rest) (sym (append_assoc level.alternatives (units_tree (units level) ∷ []) (units_tree ts ∷ vs))) (more_rows (nothing_more depth level.last ((place, bar) ∷ ls)) (or r others))
+    subst (EndsLevel depth level ((place, bar) ∷ ls) rest)
+    (sym (append_assoc level.alternatives (units_tree (units level) ∷ []) (units_tree ts ∷ vs)))
+    (more_rows (nothing_more depth level.last ((place, bar) ∷ ls)) (or r others))
 
 -- a new level is a choice
 new_choice : (depth place : ℕ) (ls rest : List (ℕ × Lexeme)) (us : List Tree) → EndsLevel depth (new_level place) ls rest us → IsChoice depth ls rest us
@@ -100,7 +124,8 @@ unit_sound place u ls others level outer t e =
     (unit_level (length outer) level ((place, unit u) ∷ without_anchors ls) (without_anchors ls) u plain)
     (others (with_unit u level) outer t e)
 
-sign_by : (place from : ℕ) (b : Option Bounds) (last : LastUnit) (before alternatives : List Tree) (ls : List (ℕ × Lexeme)) → Sound ls → (outer : List Level) (t : Tree)
+sign_by : (place from : ℕ) (b : Option Bounds) (last : LastUnit) (before alternatives : List Tree)
+    (ls : List (ℕ × Lexeme)) → Sound ls → (outer : List Level) (t : Tree)
     → run (record { place = from; alternatives = alternatives; before = before; last = last }) outer ((place, sign b) ∷ ls) ≡ Ok t
     → Completes (record { place = from; alternatives = alternatives; before = before; last = last }) outer ((place, sign b) ∷ without_anchors ls) t
 unfolding read_on meet
@@ -162,7 +187,8 @@ sound ((place, closing) ∷ ls) = closing_sound place ls (sound ls)
 sound ((place, bar) ∷ ls) = bar_sound place ls (sound ls)
 sound ((place, anchor) ∷ ls) = anchor_sound place ls (sound ls)
 
-faulty_later : (r : Result State EreFault) (ls : List (ℕ × Lexeme)) (e : EreFault) (t : Tree) → ((s : State) → read_on s ls (Some e) ≡ Ok t → ⊥) → (r >>= λ u. read_on u ls (Some e)) ≡ Ok t → ⊥
+faulty_later : (r : Result State EreFault) (ls : List (ℕ × Lexeme)) (e : EreFault) (t : Tree)
+    → ((s : State) → read_on s ls (Some e) ≡ Ok t → ⊥) → (r >>= λ u. read_on u ls (Some e)) ≡ Ok t → ⊥
 faulty_later (Ok u) ls e t never is = never u is
 faulty_later (Err d) ls e t never is = absurd cc
 
@@ -175,8 +201,17 @@ faulty (l ∷ ls) s e t is = faulty_later (meet l.0 l.1 s) ls e t (λ u. faulty 
 pub reading-IsPattern : (pattern : List ℕ) (t : Tree) → reading pattern ≡ Ok t → IsPattern pattern t
 reading-IsPattern pattern t e = by_fault (lexemes 0 (located pattern)).fault refl e
   where
-    by_fault : (f : Option EreFault) → (lexemes 0 (located pattern)).fault ≡ f → read_on start (lexemes 0 (located pattern)).found f ≡ Ok t → IsPattern pattern t
+    by_fault : (f : Option EreFault) → (lexemes 0 (located pattern)).fault ≡ f
+        → read_on start (lexemes 0 (located pattern)).found f ≡ Ok t → IsPattern pattern t
     by_fault (Some f) is e = absurd (faulty (lexemes 0 (located pattern)).found start f t e)
     by_fault None is e =
         let all = sound (lexemes 0 (located pattern)).found (new_level 0) [] t e in
-        record { read = is; alternatives = all.0; choice = new_choice 0 0 _ [] all.0 all.1; tree = all.2 }
+        record {
+          lexemes = (lexemes 0 (located pattern)).found;
+          are =
+              are_spelled 0 (located pattern) is;
+          alternatives = all.0;
+          choice =
+              new_choice 0 0 _ [] all.0 all.1;
+          tree = all.2;
+        }

@@ -33,7 +33,8 @@ unfoldable pub upper_bound : ℕ → List Located → Option (Bounds × ℕ)
 upper_bound m [] = None
 upper_bound m (x ∷ rest) =
     if x.1 == close_brace then Some (record { min = m; max = None }, 1)
-    else option_and_then (λ n. option_map (further n.1) (closed_bounds m n.0 (drop n.1 (x ∷ rest)))) (number_at (x ∷ rest))
+    else option_and_then (λ n. option_map (further n.1) (closed_bounds m n.0 (drop n.1 (x ∷ rest))))
+    (number_at (x ∷ rest))
 
 -- behind m
 abbrev pub after_min : ℕ → List Located → Option (Bounds × ℕ)

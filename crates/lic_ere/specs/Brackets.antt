@@ -46,7 +46,8 @@ members_at place first skip [] = Err (fault_at place BracketNotClosed)
 members_at place first (suc skip) (x ∷ rest) = map_ok (further 1) (members_at place first skip rest)
 members_at place first zero (x ∷ rest) =
     let others : ℕ → Result (List Member × ℕ) EreFault = λ taken. members_at place false taken rest in
-    if closes first x.1 then Ok ([], 1) else (member_at x rest >>= λ m. map_ok (λ ms. (m.0 ∷ ms.0, 1 + ms.1)) (others m.1))
+    if closes first x.1 then Ok ([], 1) else
+    (member_at x rest >>= λ m. map_ok (λ ms. (m.0 ∷ ms.0, 1 + ms.1)) (others m.1))
 
 -- whether a `^` stands first, and how many characters it takes
 abbrev pub complement_at : List Located → Bool × ℕ
@@ -57,4 +58,5 @@ complement_at (x ∷ rest) = if x.1 == caret then (true, 1) else (false, 0)
 unfoldable pub bracket_at : ℕ → List Located → Result (Brackets × ℕ) EreFault
 bracket_at place rest =
     let sign : Bool × ℕ = complement_at rest in
-    map_ok (λ ms. (record { members = ms.0; complement = sign.0 }, sign.1 + ms.1)) (members_at place true 0 (drop sign.1 rest))
+    map_ok (λ ms. (record { members = ms.0; complement = sign.0 }, sign.1 + ms.1))
+    (members_at place true 0 (drop sign.1 rest))

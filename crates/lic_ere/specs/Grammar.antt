@@ -1,11 +1,12 @@
 -- The grammar of patterns, apart from how they are read: `.. ls rest ..` says that the lexemes ls begin so and go
 -- on with rest. Each lexeme stands beside its place.
-use Rattle.std.specs.Prelude.{◌≡◌, ℕ, suc, ◌<◌, List, [], ◌∷◌, Some, None}
+use Rattle.std.specs.Prelude.{◌≡◌, ℕ, suc, ◌<◌, List, [], ◌∷◌, Some}
 use Rattle.lic_ere.specs.declared.bounds.Bounds.{Bounds}
 use Rattle.lic_ere.specs.Signs.{close_paren}
 use Rattle.lic_ere.specs.Trees.{Tree, repeat, units_tree, choice_tree, letters_tree}
 use Rattle.lic_ere.specs.Located.{located}
-use Rattle.lic_ere.specs.Lexemes.{Lexeme, unit, sign, opening, closing, bar, anchor, lexemes}
+use Rattle.lic_ere.specs.Lexemes.{Lexeme, unit, sign, opening, closing, bar, anchor}
+use Rattle.lic_ere.specs.Spelling.{AreLexemes}
 use Rattle.lic_ere.specs.Reading.{max_depth}
 
 mutual
@@ -14,20 +15,29 @@ mutual
     -- `.`, a bracket or a character
     plain : {depth place : ℕ} {t : Tree} {rest : List (ℕ × Lexeme)} → IsUnit depth ((place, unit t) ∷ rest) rest t
     -- alternatives between parentheses
-    group : {depth place end : ℕ} {ls rest : List (ℕ × Lexeme)} {ts : List Tree} → depth < max_depth → IsChoice (suc depth) ls ((end, closing) ∷ rest) ts → IsUnit depth ((place, opening) ∷ ls) rest (choice_tree ts)
+    group : {depth place end : ℕ} {ls rest : List (ℕ × Lexeme)} {ts : List Tree} → depth < max_depth
+        → IsChoice (suc depth) ls ((end, closing) ∷ rest) ts
+        → IsUnit depth ((place, opening) ∷ ls) rest (choice_tree ts)
     -- a `)` outside of all groups is an ordinary character
-    closes_nothing : {place : ℕ} {rest : List (ℕ × Lexeme)} → IsUnit 0 ((place, closing) ∷ rest) rest (letters_tree close_paren)
+    closes_nothing : {place : ℕ} {rest : List (ℕ × Lexeme)}
+        → IsUnit 0 ((place, closing) ∷ rest) rest (letters_tree close_paren)
 
   -- units in a row, each with one repetition sign or with none
   pub data IsRow : ℕ → List (ℕ × Lexeme) → List (ℕ × Lexeme) → List Tree → Type 0 where
     no_unit : {depth : ℕ} {rest : List (ℕ × Lexeme)} → IsRow depth rest rest []
-    once : {depth : ℕ} {ls more rest : List (ℕ × Lexeme)} {t : Tree} {ts : List Tree} → IsUnit depth ls more t → IsRow depth more rest ts → IsRow depth ls rest (t ∷ ts)
-    repeated : {depth place : ℕ} {ls more rest : List (ℕ × Lexeme)} {t : Tree} {b : Bounds} {ts : List Tree} → IsUnit depth ls ((place, sign (Some b)) ∷ more) t → IsRow depth more rest ts → IsRow depth ls rest (repeat t b.min b.max ∷ ts)
+    once : {depth : ℕ} {ls more rest : List (ℕ × Lexeme)} {t : Tree} {ts : List Tree} → IsUnit depth ls more t
+        → IsRow depth more rest ts → IsRow depth ls rest (t ∷ ts)
+    repeated : {depth place : ℕ} {ls more rest : List (ℕ × Lexeme)} {t : Tree} {b : Bounds} {ts : List Tree}
+        → IsUnit depth ls ((place, sign (Some b)) ∷ more) t → IsRow depth more rest ts
+        → IsRow depth ls rest (repeat t b.min b.max ∷ ts)
 
   -- one row, or several with `|` between them
   pub data IsChoice : ℕ → List (ℕ × Lexeme) → List (ℕ × Lexeme) → List Tree → Type 0 where
-    only : {depth : ℕ} {ls rest : List (ℕ × Lexeme)} {ts : List Tree} → IsRow depth ls rest ts → IsChoice depth ls rest (units_tree ts ∷ [])
-    or : {depth place : ℕ} {ls more rest : List (ℕ × Lexeme)} {ts us : List Tree} → IsRow depth ls ((place, bar) ∷ more) ts → IsChoice depth more rest us → IsChoice depth ls rest (units_tree ts ∷ us)
+    only : {depth : ℕ} {ls rest : List (ℕ × Lexeme)} {ts : List Tree} → IsRow depth ls rest ts
+        → IsChoice depth ls rest (units_tree ts ∷ [])
+    or : {depth place : ℕ} {ls more rest : List (ℕ × Lexeme)} {ts us : List Tree}
+        → IsRow depth ls ((place, bar) ∷ more) ts → IsChoice depth more rest us
+        → IsChoice depth ls rest (units_tree ts ∷ us)
 
 -- the first `^` and the last `$` mean nothing
 abbrev pub without_anchors : List (ℕ × Lexeme) → List (ℕ × Lexeme)
@@ -41,7 +51,8 @@ without_anchors ((place, anchor) ∷ ls) = without_anchors ls
 
 -- all of the pattern, given as its bytes, is lexemes that are alternatives, and this is their tree
 pub record IsPattern (pattern : List ℕ) (t : Tree) : Type 0 where
-  pub read : (lexemes 0 (located pattern)).fault ≡ None
+  pub lexemes : List (ℕ × Lexeme)
+  pub are : AreLexemes (located pattern) lexemes
   pub alternatives : List Tree
-  pub choice : IsChoice 0 (without_anchors (lexemes 0 (located pattern)).found) [] alternatives
+  pub choice : IsChoice 0 (without_anchors lexemes) [] alternatives
   pub tree : t ≡ choice_tree alternatives

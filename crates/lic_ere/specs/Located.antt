@@ -1,6 +1,5 @@
 -- The characters of a pattern with their places.
 use Rattle.std.specs.Prelude.{ℕ, ◌+◌, List, [], ◌∷◌, drop, chars}
-use Rattle.std.specs.Borrow.{Bor}
 use Rattle.std.specs.Char.{len_utf8}
 
 -- the byte at which a character begins, and the character
@@ -23,7 +22,3 @@ further n x = (x.0, n + x.1)
 -- what is read, and the characters behind those that it takes
 abbrev pub with_rest : {A : Type 0} → List Located → A × ℕ → A × List Located
 with_rest rest x = (x.0, drop x.1 rest)
-
--- the same of what the code gives back, whose rest is a slice
-abbrev pub seen : {A : Type 0} → A × Bor (List Located) → A × List Located
-seen x = (x.0, x.1.now)

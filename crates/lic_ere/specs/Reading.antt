@@ -39,7 +39,12 @@ abbrev pub with_unit : Tree → Level → Level
 with_unit t l = record l { before = units l; last = single t }
 
 abbrev pub with_alternative : Level → Level
-with_alternative l = record l { alternatives = l.alternatives ++ units_tree (units l) ∷ []; before = []; last = no_unit }
+with_alternative l = record l {
+  alternatives = l.alternatives ++ units_tree (units l) ∷ [];
+  before = [];
+  last =
+      no_unit;
+}
 
 -- the tree of what was read
 abbrev pub level_tree : Level → Tree

@@ -1,11 +1,14 @@
 //! The bounds of a repetition.
-ghost use Rattle.std.specs.Prelude.{◌≡◌, ◌≤◌, List, Some, IfSome, min, length};
+ghost use Rattle.std.specs.Prelude.{◌≡◌, ◌==◌, List, Some, IfSome, not, min, length, drop};
 ghost use Rattle.std.specs.Str.Parse.{digits_value};
 ghost use Rattle.std.specs.Option.{option_map};
 ghost use Rattle.lic_ere.specs.Bounds.{digits, number_at, upper_bound, bounds_at};
-ghost use Rattle.lic_ere.specs.Located.{Located, seen, with_rest};
+ghost use Rattle.lic_ere.specs.Located.{Located, with_rest};
 ghost use Rattle.lic_ere.specs.Spelling.{IsBounds};
+ghost use Rattle.lic_ere.specs.Views.{left, seen};
 ghost use Rattle.lic_ere.specs.declared.bounds.Bounds.{Bounds};
+
+use crate::rest::Rest;
 
 /// How often: from `min` times to `max` times, or without end.
 #[derive(Clone, Copy, Debug)]
@@ -18,26 +21,26 @@ pub struct Bounds {
 const MAX_BOUND: u32 = 65_535;
 
 /// The bounds behind a `{`, and what stands behind their `}`.
-pub fn read_bounds(rest: &[(usize, char)]) -> Option<(Bounds, &[(usize, char)])>
+pub fn read_bounds(rest: Rest<'_>) -> Option<(Bounds, Rest<'_>)>
     // What is read is spelled so.
-    ensures found { IfSome result (λ x. IsBounds rest.now x.1.now x.0) }
+    ensures found { IfSome result (λ x. IsBounds (left rest.entry) (left x.1) x.0) }
     // What is spelled so is read.
-    ensures only { (b : Bounds) (end : List Located) → IsBounds rest.now end b
+    ensures only { (b : Bounds) (end : List Located) → IsBounds (left rest.entry) end b
         → option_map seen result ≡ Some (b, end) }
-    ensures exact { option_map seen result ≡ option_map (with_rest rest.now) (bounds_at rest.now) }
+    ensures exact { option_map seen result
+        ≡ option_map (with_rest (left rest.entry)) (bounds_at (left rest.entry)) }
 {
     bounds_behind(rest)
 }
 
 #[tactic(auto, unfolding(crate::specs::Bounds::bounds_at))]
-fn bounds_behind(rest: &[(usize, char)]) -> Option<(Bounds, &[(usize, char)])>
-    ensures { option_map seen result ≡ option_map (with_rest rest.now) (bounds_at rest.now) }
+fn bounds_behind(rest: Rest<'_>) -> Option<(Bounds, Rest<'_>)>
+    ensures { option_map seen result
+        ≡ option_map (with_rest (left rest.entry)) (bounds_at (left rest.entry)) }
 {
     let (min, rest) = number(rest)?;
-    let [(_, character), rest @ ..] = rest else {
-        return None;
-    };
-    match *character {
+    let ((_, character), rest) = rest.split_first()?;
+    match character {
         '}' => Some((
             Bounds {
                 min,
@@ -52,20 +55,17 @@ fn bounds_behind(rest: &[(usize, char)]) -> Option<(Bounds, &[(usize, char)])>
 
 /// The bounds behind the lower one and its comma.
 #[tactic(auto, unfolding(crate::specs::Bounds::upper_bound))]
-fn upper_bound(min: u32, rest: &[(usize, char)]) -> Option<(Bounds, &[(usize, char)])>
-    ensures { option_map seen result ≡ option_map (with_rest rest.now) (upper_bound min rest.now) }
+fn upper_bound(min: u32, rest: Rest<'_>) -> Option<(Bounds, Rest<'_>)>
+    ensures { option_map seen result
+        ≡ option_map (with_rest (left rest.entry)) (upper_bound min (left rest.entry)) }
 {
-    let [(_, character), after @ ..] = rest else {
-        return None;
-    };
-    if *character == '}' {
+    let ((_, character), after) = rest.split_first()?;
+    if character == '}' {
         return Some((Bounds { min, max: None }, after));
     }
     let (max, rest) = number(rest)?;
-    let [(_, character), rest @ ..] = rest else {
-        return None;
-    };
-    if *character == '}' && min <= max {
+    let ((_, character), rest) = rest.split_first()?;
+    if character == '}' && min <= max {
         Some((
             Bounds {
                 min,
@@ -80,30 +80,34 @@ fn upper_bound(min: u32, rest: &[(usize, char)]) -> Option<(Bounds, &[(usize, ch
 
 /// The number that the digits in front write, if it is a bound, and what stands behind them.
 #[tactic(auto, unfolding(crate::specs::Bounds::number_at))]
-fn number(rest: &[(usize, char)]) -> Option<(u32, &[(usize, char)])>
-    ensures { option_map seen result ≡ option_map (with_rest rest.now) (number_at rest.now) }
+fn number(rest: Rest<'_>) -> Option<(u32, Rest<'_>)>
+    ensures { option_map seen result
+        ≡ option_map (with_rest (left rest.entry)) (number_at (left rest.entry)) }
 {
-    let (value, count) = digits(rest);
-    if count == 0 || value > MAX_BOUND {
+    let (value, is_some, rest) = digits(rest);
+    if !is_some || value > MAX_BOUND {
         return None;
     }
-    Some((value, &rest[count..]))
+    Some((value, rest))
 }
 
-/// The number that the digits in front write, or 65,536 for a greater one, and how many they are.
-fn digits(rest: &[(usize, char)]) -> (u32, usize)
-    ensures value { result.0 ≡ min (digits_value 10 (digits rest.now)) 65536 }
-    ensures count { result.1 ≡ length (digits rest.now) }
-    ensures bound { result.1 ≤ length rest.now }
+/// The number that the digits in front write, or 65,536 for a greater one, whether there are some, and what stands
+/// behind them.
+fn digits(all: Rest<'_>) -> (u32, bool, Rest<'_>)
+    ensures value { result.0 ≡ min (digits_value 10 (digits (left all.entry))) 65536 }
+    ensures some { result.1 ≡ not (length (digits (left all.entry)) == 0) }
+    ensures rest { left result.2 ≡ drop (length (digits (left all.entry))) (left all.entry) }
 {
     let mut value: u32 = 0;
-    let mut count: usize = 0;
-    for (_, character) in rest {
+    let mut is_some = false;
+    let mut rest = all;
+    while let Some(((_, character), after)) = rest.split_first() {
         let Some(digit) = character.to_digit(10) else {
-            return (value, count);
+            return (value, is_some, rest);
         };
         value = (value * 10 + digit).min(MAX_BOUND + 1);
-        count += 1;
+        is_some = true;
+        rest = after;
     }
-    (value, count)
+    (value, is_some, rest)
 }

@@ -1,28 +1,30 @@
 //! Brackets.
 ghost use Rattle.std.specs.Prelude.{◌≡◌, ◌<◌, length, List, true, IfOk, Ok};
-ghost use Rattle.lic_ere.specs.Located.{Located, seen, with_rest};
+ghost use Rattle.lic_ere.specs.Located.{Located, with_rest};
 ghost use Rattle.lic_ere.specs.Sets.{Brackets};
 ghost use Rattle.lic_ere.specs.Spelling.{IsBracket};
 ghost use Rattle.lic_ere.specs.Faults.{Gives, map_ok};
 ghost use Rattle.lic_ere.specs.Brackets.{begins_extension, single_at, range_at, member_at, closes, members_at, complement_at, bracket_at};
+ghost use Rattle.lic_ere.specs.Views.{left, seen};
 
 use crate::class::{Class, Member};
 use crate::fault::{EreCause, EreFault};
+use crate::rest::Rest;
 use std::alloc::Global;
 
 /// Whether a `[` stands directly before `:`, `.` or `=`, which is no part of a set here.
-fn begins_extension(character: char, rest: &[(usize, char)]) -> bool
-    ensures { result ≡ begins_extension character rest.now }
+fn begins_extension(character: char, rest: Rest<'_>) -> bool
+    ensures { result ≡ begins_extension character (left rest.entry) }
 {
-    let [(_, next), ..] = rest else {
+    let Some(((_, next), _)) = rest.split_first() else {
         return false;
     };
-    character == '[' && matches!(*next, ':' | '.' | '=')
+    character == '[' && matches!(next, ':' | '.' | '=')
 }
 
 /// A member of one character.
-fn single(place: usize, character: char, rest: &[(usize, char)]) -> Result<Member, EreFault>
-    ensures { Gives (λ x. x) result (single_at (place, character) rest.now) }
+fn single(place: usize, character: char, rest: Rest<'_>) -> Result<Member, EreFault>
+    ensures { Gives (λ x. x) result (single_at (place, character) (left rest.entry)) }
 {
     if begins_extension(character, rest) {
         return Err(EreFault {
@@ -37,12 +39,8 @@ fn single(place: usize, character: char, rest: &[(usize, char)]) -> Result<Membe
 }
 
 /// A member from one character to another, each with its place.
-fn range(
-    first: (usize, char),
-    last: (usize, char),
-    rest: &[(usize, char)],
-) -> Result<Member, EreFault>
-    ensures { Gives (λ x. x) result (range_at first last rest.now) }
+fn range(first: (usize, char), last: (usize, char), rest: Rest<'_>) -> Result<Member, EreFault>
+    ensures { Gives (λ x. x) result (range_at first last (left rest.entry)) }
 {
     if last.1 < first.1 {
         return Err(EreFault {
@@ -64,17 +62,15 @@ fn range(
 
 /// The member that begins with a character, and what stands behind it.
 #[tactic(auto, unfolding(crate::specs::Brackets::member_at))]
-fn member(
-    first: (usize, char),
-    rest: &[(usize, char)],
-) -> Result<(Member, &[(usize, char)]), EreFault>
-    ensures { Gives seen result (map_ok (with_rest rest.now) (member_at first rest.now)) }
+fn member(first: (usize, char), rest: Rest<'_>) -> Result<(Member, Rest<'_>), EreFault>
+    ensures { Gives seen result
+        (map_ok (with_rest (left rest.entry)) (member_at first (left rest.entry))) }
 {
-    if let [(_, sign), last, after @ ..] = rest
-        && *sign == '-'
+    if let Some(((_, '-'), behind)) = rest.split_first()
+        && let Some((last, after)) = behind.split_first()
         && last.1 != ']'
     {
-        return Ok((range(first, *last, after)?, after));
+        return Ok((range(first, last, after)?, after));
     }
     Ok((single(first.0, first.1, rest)?, rest))
 }
@@ -87,12 +83,9 @@ fn closes(first: bool, character: char) -> bool
 }
 
 /// The members of the bracket that opens at a place, and what stands behind its `]`.
-fn members(
-    alloc: Global,
-    place: usize,
-    all: &[(usize, char)],
-) -> Result<(Vec<Member>, &[(usize, char)]), EreFault>
-    ensures { Gives (λ x. (x.0.items, x.1.now)) result (map_ok (with_rest all.now) (members_at place true 0 all.now)) }
+fn members(alloc: Global, place: usize, all: Rest<'_>) -> Result<(Vec<Member>, Rest<'_>), EreFault>
+    ensures { Gives (λ x. (x.0.items, left x.1)) result
+        (map_ok (with_rest (left all.entry)) (members_at place true 0 (left all.entry))) }
 {
     let mut members = Vec::new(alloc);
     let mut rest = all;
@@ -100,7 +93,7 @@ fn members(
         if closes(members.is_empty(), first.1) {
             return Ok((members, after));
         }
-        let (member, behind) = member(*first, after)?;
+        let (member, behind) = member(first, after)?;
         members.push(member)?;
         rest = behind;
     }
@@ -111,8 +104,9 @@ fn members(
 }
 
 /// Whether a `^` stands first, and what stands behind it.
-fn complement(rest: &[(usize, char)]) -> (bool, &[(usize, char)])
-    ensures { (result.0, result.1.now) ≡ with_rest rest.now (complement_at rest.now) }
+fn complement(rest: Rest<'_>) -> (bool, Rest<'_>)
+    ensures { (result.0, left result.1)
+        ≡ with_rest (left rest.entry) (complement_at (left rest.entry)) }
 {
     match rest.split_first() {
         Some((first, after)) if first.1 == '^' => (true, after),
@@ -121,16 +115,14 @@ fn complement(rest: &[(usize, char)]) -> (bool, &[(usize, char)])
 }
 
 /// The set that a bracket stands for which opens at a place, and what stands behind it.
-pub fn bracket(
-    alloc: Global,
-    place: usize,
-    rest: &[(usize, char)],
-) -> Result<(Class, &[(usize, char)]), EreFault>
+pub fn bracket(alloc: Global, place: usize, rest: Rest<'_>) -> Result<(Class, Rest<'_>), EreFault>
     // What is read is spelled so.
-    ensures found { IfOk result (λ x. IsBracket rest.now x.1.now x.0) }
+    ensures found { IfOk result (λ x. IsBracket (left rest.entry) (left x.1) x.0) }
     // What is spelled so is read, unless memory runs out.
-    ensures only { (b : Brackets) (end : List Located) → IsBracket rest.now end b → Gives seen result (Ok (b, end)) }
-    ensures exact { Gives seen result (map_ok (with_rest rest.now) (bracket_at place rest.now)) }
+    ensures only { (b : Brackets) (end : List Located) → IsBracket (left rest.entry) end b
+        → Gives seen result (Ok (b, end)) }
+    ensures exact { Gives seen result
+        (map_ok (with_rest (left rest.entry)) (bracket_at place (left rest.entry))) }
 {
     bracket_behind(alloc, place, rest)
 }
@@ -139,11 +131,13 @@ pub fn bracket(
 fn bracket_behind(
     alloc: Global,
     place: usize,
-    rest: &[(usize, char)],
-) -> Result<(Class, &[(usize, char)]), EreFault>
-    ensures { Gives seen result (map_ok (with_rest rest.now) (bracket_at place rest.now)) }
+    rest: Rest<'_>,
+) -> Result<(Class, Rest<'_>), EreFault>
+    ensures { Gives seen result
+        (map_ok (with_rest (left rest.entry)) (bracket_at place (left rest.entry))) }
 {
     let (complement, rest) = complement(rest);
-    let (members, rest) = members(alloc, place, rest)?;
-    Ok((Class::new(members, complement), rest))
+    let (mut members, rest) = members(alloc, place, rest)?;
+    members.shrink_to_fit();
+    Ok((Class::new(alloc, members, complement)?, rest))
 }

@@ -14,11 +14,17 @@ pub struct Member {
     pub last: char,
 }
 
-/// The set of letters that a bracket stands for.
+/// What a bracket says.
 #[derive(Debug, Drop)]
-pub struct Class {
+struct Bracket {
     members: Vec<Member>,
     complement: bool,
+}
+
+/// The set of letters that a bracket stands for. It is behind a box, since it stands in trees beside smaller values.
+#[derive(Debug, Drop)]
+pub struct Class {
+    bracket: Box<Bracket>,
 }
 
 impl Model for Class {
@@ -26,19 +32,29 @@ impl Model for Class {
 
     ghost Value = { Brackets };
 
-    ghost view = { λ c. record { members = c.members.items; complement = c.complement } };
+    ghost view = { λ c. record {
+      members = c.bracket.value.members.items;
+      complement = c.bracket.value.complement;
+    } };
 }
 
 impl Class {
     /// What a bracket says.
-    pub(crate) fn new(members: Vec<Member>, complement: bool) -> Class
-        ensures members { result.members ≡ members.items }
-        ensures complement { result.complement ≡ complement }
+    pub(crate) fn new(
+        alloc: Global,
+        members: Vec<Member>,
+        complement: bool,
+    ) -> Result<Class, AllocError>
+        ensures members { IfOk result (λ class. class.members ≡ members.items) }
+        ensures complement { IfOk result (λ class. class.complement ≡ complement) }
     {
-        Class {
+        let bracket = Bracket {
             members,
             complement,
-        }
+        };
+        Ok(Class {
+            bracket: Box::new(alloc, bracket)?,
+        })
     }
 
     /// The same set once more.
@@ -48,10 +64,8 @@ impl Class {
     pub fn copy(&self, alloc: Global) -> Result<Class, AllocError>
         ensures { IfOk result (λ copy. copy ≡ self.now) }
     {
-        Ok(Class {
-            members: Vec::from_slice(alloc, &self.members)?,
-            complement: self.complement,
-        })
+        let members = Vec::from_slice(alloc, &self.bracket.members)?;
+        Class::new(alloc, members, self.bracket.complement)
     }
 
     /// Whether the letter is in the set: some character of the bracket has it as its image, or, behind
@@ -61,8 +75,12 @@ impl Class {
         // The same as a test.
         ensures value { result ≡ is_in self.now letter }
     {
-        let named = any_has_image(&self.members, letter);
-        if self.complement { !named } else { named }
+        let named = any_has_image(&self.bracket.members, letter);
+        if self.bracket.complement {
+            !named
+        } else {
+            named
+        }
     }
 }
 

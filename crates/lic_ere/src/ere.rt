@@ -1,6 +1,9 @@
 //! Patterns as trees.
+ghost use Rattle.std.specs.Prelude.{◌≡◌, map, IfOk};
 
 use crate::class::Class;
+use std::alloc::{AllocError, Global};
+use std::mem::size_of;
 
 /// A pattern as a tree.
 #[derive(Debug, Drop)]
@@ -25,29 +28,50 @@ pub enum Ere {
     },
 }
 
+/// A pattern of a million bytes has up to a million of them.
+const _: () = prove!(size_of::<Ere>() == 32);
+
+/// A list of at most so many trees is moved to a place of its own size, since the rest of its place, given back alone,
+/// is too small to be of use.
+const SHORT: usize = 64;
+
+/// The same trees with no room to spare.
+fn fitted(alloc: Global, trees: Vec<Ere>) -> Result<Vec<Ere>, AllocError>
+    ensures { IfOk result (λ fitted. fitted.items ≡ trees.items) }
+{
+    let mut trees = trees;
+    if trees.len() > SHORT {
+        trees.shrink_to_fit();
+        return Ok(trees);
+    }
+    let mut fitted = Vec::with_capacity(alloc, trees.len())?;
+    fitted.append(&mut trees)?;
+    Ok(fitted)
+}
+
 impl Ere {
-    ghost use Rattle.std.specs.Prelude.{◌≡◌, map};
     ghost use Rattle.lic_ere.specs.Trees.{tree_of, units_tree, choice_tree};
 
     /// Units in a row: one stands by itself, and none is the empty word.
-    pub(crate) fn row(mut units: Vec<Ere>) -> Ere
-        ensures { tree_of result ≡ units_tree (map tree_of units.items) }
+    pub(crate) fn row(alloc: Global, mut units: Vec<Ere>) -> Result<Ere, AllocError>
+        ensures { IfOk result (λ row. tree_of row ≡ units_tree (map tree_of units.items)) }
     {
         match units.len() {
-            0 => Ere::Empty,
-            1 => units.remove(0),
-            _ => Ere::Cat(units),
+            0 => Ok(Ere::Empty),
+            1 => Ok(units.remove(0)),
+            _ => Ok(Ere::Cat(fitted(alloc, units)?)),
         }
     }
 
     /// Alternatives: one stands by itself.
-    pub(crate) fn choice(mut alternatives: Vec<Ere>) -> Ere
-        ensures { tree_of result ≡ choice_tree (map tree_of alternatives.items) }
+    pub(crate) fn choice(alloc: Global, mut alternatives: Vec<Ere>) -> Result<Ere, AllocError>
+        ensures { IfOk result (λ choice. tree_of choice
+            ≡ choice_tree (map tree_of alternatives.items)) }
     {
         match alternatives.len() {
-            0 => Ere::Empty,
-            1 => alternatives.remove(0),
-            _ => Ere::Alt(alternatives),
+            0 => Ok(Ere::Empty),
+            1 => Ok(alternatives.remove(0)),
+            _ => Ok(Ere::Alt(fitted(alloc, alternatives)?)),
         }
     }
 }

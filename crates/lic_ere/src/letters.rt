@@ -11,9 +11,9 @@ pub fn letters(alloc: Global, character: char) -> Result<Ere, AllocError>
     ensures { IfOk result (λ unit. tree_of unit ≡ letters_tree character) }
 {
     let spelling = spell(alloc, character)?;
-    let mut units = Vec::new(alloc);
+    let mut units = Vec::with_capacity(alloc, spelling.as_slice().len())?;
     for letter in spelling.as_slice() {
         units.push(Ere::Char(*letter))?;
     }
-    Ok(Ere::row(units))
+    Ere::row(alloc, units)
 }

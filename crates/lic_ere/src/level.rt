@@ -65,7 +65,8 @@ impl Level {
         place: usize,
         bounds: Option<Bounds>,
     ) -> Result<(), EreFault>
-        ensures { Gives (λ _. level_of self.new) result (with_sign place bounds (level_of self.old)) }
+        ensures { Gives (λ _. level_of self.new) result
+            (with_sign place bounds (level_of self.old)) }
     {
         let cause = match mem::replace(&mut self.last, LastUnit::None) {
             LastUnit::None => EreCause::NothingToRepeat,
@@ -91,7 +92,7 @@ impl Level {
             LastUnit::None => {}
             LastUnit::Single(last) | LastUnit::Repeated(last) => units.push(last)?,
         }
-        self.alternatives.push(Ere::row(units))?;
+        self.alternatives.push(Ere::row(alloc, units)?)?;
         Ok(())
     }
 
@@ -101,6 +102,6 @@ impl Level {
     {
         let mut level = self;
         level.end_row(alloc)?;
-        Ok(Ere::choice(level.alternatives))
+        Ere::choice(alloc, level.alternatives)
     }
 }

@@ -1,16 +1,17 @@
 //! Lexemes: what a pattern is made of.
 ghost use Rattle.std.specs.Prelude.{◌≡◌, Some};
 ghost use Rattle.lic_ere.specs.Bounds.{bounds_at};
-ghost use Rattle.lic_ere.specs.Located.{seen, with_rest};
+ghost use Rattle.lic_ere.specs.Located.{with_rest};
 ghost use Rattle.lic_ere.specs.Faults.{Gives, map_ok};
 ghost use Rattle.lic_ere.specs.Lexemes.{means_nothing, anchor_at, escaped_at, counted_sign, sign, bounds, lexeme_at};
-ghost use Rattle.lic_ere.specs.Views.{lexeme_of};
+ghost use Rattle.lic_ere.specs.Views.{left, lexeme_of};
 
 use crate::bounds::{Bounds, read_bounds};
 use crate::brackets::bracket;
 use crate::ere::Ere;
 use crate::fault::{EreCause, EreFault};
 use crate::letters::letters;
+use crate::rest::Rest;
 use std::alloc::Global;
 
 /// What stands at one place of a pattern.
@@ -31,15 +32,16 @@ pub enum Lexeme {
 }
 
 /// Whether a character is a `^` that stands first or a `$` that stands last.
-fn means_nothing(place: usize, character: char, rest: &[(usize, char)]) -> bool
-    ensures { result ≡ means_nothing (place, character) rest.now }
+fn means_nothing(place: usize, character: char, rest: Rest<'_>) -> bool
+    ensures { result ≡ means_nothing (place, character) (left rest.entry) }
 {
     (character == '^' && place == 0) || (character == '$' && rest.is_empty())
 }
 
 /// A `^` or a `$`.
-fn anchor(place: usize, character: char, rest: &[(usize, char)]) -> Result<Lexeme, EreFault>
-    ensures { Gives (λ x. (lexeme_of x, 0)) result (anchor_at (place, character) rest.now) }
+fn anchor(place: usize, character: char, rest: Rest<'_>) -> Result<Lexeme, EreFault>
+    ensures { Gives (λ x. (lexeme_of x, 0)) result
+        (anchor_at (place, character) (left rest.entry)) }
 {
     if means_nothing(place, character, rest) {
         Ok(Lexeme::Anchor)
@@ -52,12 +54,9 @@ fn anchor(place: usize, character: char, rest: &[(usize, char)]) -> Result<Lexem
 }
 
 /// What a `\` at a place begins, and what stands behind it.
-fn escaped(
-    alloc: Global,
-    place: usize,
-    rest: &[(usize, char)],
-) -> Result<(Lexeme, &[(usize, char)]), EreFault>
-    ensures { Gives (λ x. (lexeme_of x.0, x.1.now)) result (map_ok (with_rest rest.now) (escaped_at place rest.now)) }
+fn escaped(alloc: Global, place: usize, rest: Rest<'_>) -> Result<(Lexeme, Rest<'_>), EreFault>
+    ensures { Gives (λ x. (lexeme_of x.0, left x.1)) result
+        (map_ok (with_rest (left rest.entry)) (escaped_at place (left rest.entry))) }
 {
     let Some((next, after)) = rest.split_first() else {
         return Err(EreFault {
@@ -75,8 +74,9 @@ fn escaped(
 }
 
 /// What a `{` begins, and what stands behind it.
-fn counted(rest: &[(usize, char)]) -> (Lexeme, &[(usize, char)])
-    ensures { (lexeme_of result.0, result.1.now) ≡ with_rest rest.now (counted_sign (bounds_at rest.now)) }
+fn counted(rest: Rest<'_>) -> (Lexeme, Rest<'_>)
+    ensures { (lexeme_of result.0, left result.1)
+        ≡ with_rest (left rest.entry) (counted_sign (bounds_at (left rest.entry))) }
 {
     match read_bounds(rest) {
         Some((bounds, after)) => (Lexeme::Sign(Some(bounds)), after),
@@ -97,9 +97,10 @@ pub fn next_lexeme(
     alloc: Global,
     place: usize,
     character: char,
-    rest: &[(usize, char)],
-) -> Result<(Lexeme, &[(usize, char)]), EreFault>
-    ensures { Gives (λ x. (lexeme_of x.0, x.1.now)) result (map_ok (with_rest rest.now) (lexeme_at (place, character) rest.now)) }
+    rest: Rest<'_>,
+) -> Result<(Lexeme, Rest<'_>), EreFault>
+    ensures { Gives (λ x. (lexeme_of x.0, left x.1)) result
+        (map_ok (with_rest (left rest.entry)) (lexeme_at (place, character) (left rest.entry))) }
 {
     match character {
         '.' => Ok((Lexeme::Unit(Ere::Any), rest)),

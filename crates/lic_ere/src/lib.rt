@@ -6,11 +6,13 @@ mod brackets;
 mod class;
 mod ere;
 mod fault;
+pub mod laws;
 mod letters;
 mod level;
 mod lexeme;
 mod reader;
 mod reading;
+mod rest;
 
 pub use class::Class;
 pub use ere::Ere;

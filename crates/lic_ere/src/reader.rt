@@ -53,7 +53,8 @@ impl Reader {
 
     /// A `)`.
     fn close(&mut self, alloc: Global) -> Result<(), AllocError>
-        ensures { OnOk result (state_of self.new ≡ close_group (state_of self.old).level (state_of self.old).outer) }
+        ensures { OnOk result (state_of self.new
+            ≡ close_group (state_of self.old).level (state_of self.old).outer) }
     {
         let unit = match self.outer.pop() {
             None => letters(alloc, ')')?,
@@ -65,7 +66,8 @@ impl Reader {
     /// One more lexeme, which begins at a place.
     #[tactic(auto, unfolding(crate::specs::Reading::meet))]
     pub fn meet(&mut self, alloc: Global, place: usize, lexeme: Lexeme) -> Result<(), EreFault>
-        ensures { Gives (λ _. state_of self.new) result (meet place (lexeme_of lexeme) (state_of self.old)) }
+        ensures { Gives (λ _. state_of self.new) result
+            (meet place (lexeme_of lexeme) (state_of self.old)) }
     {
         match lexeme {
             Lexeme::Unit(unit) => self.level.push(unit)?,

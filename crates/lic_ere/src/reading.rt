@@ -1,32 +1,26 @@
 //! Reading a pattern from left to right.
 ghost use Rattle.std.specs.Prelude.{◌≡◌, IfOk, Ok};
-ghost use Rattle.lic_ere.specs.Located.{located};
 ghost use Rattle.lic_ere.specs.Trees.{Tree, tree_of};
 ghost use Rattle.lic_ere.specs.Faults.{Gives};
 ghost use Rattle.lic_ere.specs.Grammar.{IsPattern};
 ghost use Rattle.lic_ere.specs.Reading.{start, read_from, reading};
+ghost use Rattle.lic_ere.specs.Views.{left};
 
 use crate::ere::Ere;
 use crate::fault::EreFault;
 use crate::lexeme::next_lexeme;
 use crate::reader::Reader;
-use std::alloc::{AllocError, Global};
-
-/// The characters of a pattern, each with the byte at which it begins.
-fn located(alloc: Global, pattern: &str) -> Result<Vec<(usize, char)>, AllocError>
-    ensures { IfOk result (λ all. all.items ≡ located pattern.now) }
-{
-    pattern.char_indices().collect(alloc)
-}
+use crate::rest::Rest;
+use std::alloc::Global;
 
 /// Reads characters, the whole of a pattern.
-fn read_all(alloc: Global, all: &[(usize, char)]) -> Result<Ere, EreFault>
-    ensures { Gives tree_of result (read_from start all.now) }
+fn read_all(alloc: Global, all: Rest<'_>) -> Result<Ere, EreFault>
+    ensures { Gives tree_of result (read_from start (left all.entry)) }
 {
     let mut reader = Reader::new(alloc);
     let mut rest = all;
     while let Some((first, after)) = rest.split_first() {
-        let (place, character) = *first;
+        let (place, character) = first;
         let (lexeme, behind) = next_lexeme(alloc, place, character, after)?;
         reader.meet(alloc, place, lexeme)?;
         rest = behind;
@@ -44,6 +38,5 @@ pub fn read(alloc: Global, pattern: &str) -> Result<Ere, EreFault>
     // Which tree, or which fault it is, unless memory runs out.
     ensures exact { Gives tree_of result (reading pattern.now) }
 {
-    let characters = located(alloc, pattern)?;
-    read_all(alloc, &characters)
+    read_all(alloc, Rest::new(pattern))
 }

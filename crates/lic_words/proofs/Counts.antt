@@ -5,7 +5,6 @@ use Rattle.std.proofs.lemmas.List.Recursion.{is_count_by}
 use Rattle.lic_words.specs.Words.{Word, blank}
 use Rattle.lic_words.specs.Letters.{letters_in}
 use Rattle.lic_words.specs.Spelling.{gapped_from}
-use Rattle.lic_words.proofs.Rows.{gapped_from-blank, gapped_from-letter}
 
 one_more : (b : Bool) (n : ℕ) → (if b then n else suc n) ≡ cond (not b) (1 + n) n
 one_more true n = refl

@@ -32,7 +32,9 @@ IsTidy-mirrored w t = record {
   not_first = λ v e. t.not_last (reverse v) (sym (reverse-reverse w) ∙ ap reverse e ∙ reverse-append (blank ∷ []) v);
   not_last = λ u e. t.not_first (reverse u) (sym (reverse-reverse w) ∙ ap reverse e ∙ reverse-append u (blank ∷ []));
   not_two = λ u v e. t.not_two (reverse v) (reverse u)
-      (sym (reverse-reverse w) ∙ ap reverse e ∙ reverse-append u (blank ∷ blank ∷ v) ∙ ap (λ x. x ++ reverse u) (reverse-append (blank ∷ blank ∷ []) v) ∙ append_assoc (reverse v) (blank ∷ blank ∷ []) (reverse u));
+      (sym (reverse-reverse w) ∙ ap reverse e ∙ reverse-append u (blank ∷ blank ∷ v)
+      ∙ ap (λ x. x ++ reverse u) (reverse-append (blank ∷ blank ∷ []) v)
+      ∙ append_assoc (reverse v) (blank ∷ blank ∷ []) (reverse u));
 }
 
 pub Language-mirrored : (e : Expression) (w : Word) → Language e w → Language (mirrored e) (reverse w)
@@ -49,4 +51,6 @@ Language-mirrored (tidy a) w (h, t) = (Language-mirrored a w h, IsTidy-mirrored 
 
 pub mirrored-Language : (e : Expression) (w : Word) → Language (mirrored e) (reverse w) → Language e w
 mirrored-Language e w h =
-    subst (λ x. Language e x) (reverse-reverse w) (subst (λ x. Language x (reverse (reverse w))) (mirrored-mirrored e) (Language-mirrored (mirrored e) (reverse w) h))
+    subst (λ x. Language e x) (reverse-reverse w)
+    (subst (λ x. Language x (reverse (reverse w))) (mirrored-mirrored e)
+    (Language-mirrored (mirrored e) (reverse w) h))

@@ -25,7 +25,8 @@ module _ (last : ℕ) (apart : Bool) (bs front : List ℕ) (c : ℕ) (scalar : I
     turned-last-blank = ap (last_letter last) split ∙ last_letter-blank last apart c (reverse (chars front)) (eq-eqb c blank gap)
 
   module _ (letter : c ≡ blank → ⊥) where
-    pub turned-letters-letter : gapped_from last apart (reverse (chars bs)) ≡ (gap_of apart (is_word last && is_word c), c) ∷ gapped_from c false (reverse (chars front))
+    pub turned-letters-letter : gapped_from last apart (reverse (chars bs))
+        ≡ (gap_of apart (is_word last && is_word c), c) ∷ gapped_from c false (reverse (chars front))
     turned-letters-letter = ap (gapped_from last apart) split ∙ gapped_from-letter last apart c (reverse (chars front)) (ne_eqb c blank letter)
 
     pub turned-last-letter : last_letter last (reverse (chars bs)) ≡ last_letter c (reverse (chars front))

@@ -73,7 +73,8 @@ written_whole : (t w : Word) → HasNone t → (before behind : ℕ) × (w ≡ b
 written_whole [] w h (n, m, e) =
     (n + m, e ∙ append_assoc (blanks n) [] (blanks m) ∙ replicate-append-replicate n m blank)
 written_whole (c ∷ t) w h (n, m, e) =
-    subst (λ x. Spells x ((c ∷ t) ∷ [])) (sym (e ∙ append_assoc (blanks n) (c ∷ t) (blanks m))) (written_behind_gap blank c t [] h n (blanks m) (free_before c n) (m, refl))
+    subst (λ x. Spells x ((c ∷ t) ∷ [])) (sym (e ∙ append_assoc (blanks n) (c ∷ t) (blanks m)))
+    (written_behind_gap blank c t [] h n (blanks m) (free_before c n) (m, refl))
 
 pub Spells-whole : (t w : Word) → HasNone t → Spells w (t ∷ []) ↔ ((before behind : ℕ) × (w ≡ blanks before ++ t ++ blanks behind))
 Spells-whole t w h = (whole t w h, written_whole t w h)

@@ -62,7 +62,8 @@ Behind-reversed [] w e = ap reverse e
 Behind-reversed (p ∷ rest) w (n, a, v, e, s) =
     let whole = End-snoc (reverse rest) (reverse v) p.0 p.1 n (Behind-reversed rest v s) a in
     let word : reverse w ≡ reverse v ++ blanks n ++ p.1 ∷ [] =
-    ap reverse e ∙ reverse-append (p.1 ∷ []) (blanks n ++ v) ∙ ap (λ t. t ++ p.1 ∷ []) (reverse-append (blanks n) v ∙ ap (λ t. reverse v ++ t) (reverse-blanks n)) in
+    ap reverse e ∙ reverse-append (p.1 ∷ []) (blanks n ++ v)
+    ∙ ap (λ t. t ++ p.1 ∷ []) (reverse-append (blanks n) v ∙ ap (λ t. reverse v ++ t) (reverse-blanks n)) in
     let row : reverse (p ∷ rest) ≡ reverse rest ++ p ∷ [] = reverse-append (p ∷ []) rest in
     rw (row, word) whole
 
@@ -163,7 +164,9 @@ head-apart c (d ∷ xs) = elim (cases_Bool (d == blank)) [
   | inr e ↦ rw e (ap (λ b. gap_of true b) (and-turned (is_word c) (is_word d)))
 ]
 
-head-is : (c : ℕ) (xs : List ℕ) → head_gap (gapped_from c false xs) ≡ gap_of (apart_after true (reverse xs)) (is_word (last_letter blank (reverse xs)) && is_word c)
+head-is : (c : ℕ) (xs : List ℕ)
+    → head_gap (gapped_from c false xs)
+    ≡ gap_of (apart_after true (reverse xs)) (is_word (last_letter blank (reverse xs)) && is_word c)
 head-is c [] = sym (gap-behind_blank c)
 head-is c (d ∷ xs) =
     let gap : apart_after true (reverse (d ∷ xs)) ≡ (d == blank) = ap (λ s. apart_after true s) (reverse-append (d ∷ []) xs) ∙ apart-snoc true (reverse xs) d in
@@ -182,7 +185,10 @@ gapped-reversed (c ∷ xs) = elim (cases_Bool (c == blank)) [
   | inr e ↦
       let F : List (Gap × ℕ) = gapped_from c false xs in
       ap (λ s. gapped_from blank true s) (reverse-append (c ∷ []) xs) ∙ gapped-snoc blank true (reverse xs) c e
-      ∙ ap (λ s. s ++ (gap_of (apart_after true (reverse xs)) (is_word (last_letter blank (reverse xs)) && is_word c), c) ∷ []) (gapped-reversed xs ∙ ap reverse (behind-any blank c true false xs))
+      ∙ ap (λ s. s ++ (
+        gap_of (apart_after true (reverse xs)) (is_word (last_letter blank (reverse xs)) && is_word c),
+        c,
+      ) ∷ []) (gapped-reversed xs ∙ ap reverse (behind-any blank c true false xs))
       ∙ ap (λ g. mirror F ++ (g, c) ∷ []) (sym (head-is c xs))
       ∙ sym (mirror-cons (gap_of true (is_word blank && is_word c), c) F) ∙ rw e refl
 ]
@@ -201,7 +207,9 @@ row-turned (t ∷ ts) =
     ∙ append_assoc (row_of (turned ts)) (blank ∷ reverse t) (blank ∷ [])
     ∙ sym (append_assoc (row_of (turned ts)) (blank ∷ []) (reverse t ++ blank ∷ []))
     ∙ ap (λ s. s ++ (reverse t ++ blank ∷ [])) (row-turned ts)
-    ∙ ap (λ s. blank ∷ s) (sym (append_assoc (reverse (row_of ts)) (reverse t) (blank ∷ [])) ∙ ap (λ s. s ++ blank ∷ []) (sym (reverse-append t (row_of ts))) ∙ sym (reverse-append (blank ∷ []) (t ++ row_of ts)))
+    ∙ ap (λ s. blank ∷ s) (sym (append_assoc (reverse (row_of ts)) (reverse t) (blank ∷ []))
+    ∙ ap (λ s. s ++ blank ∷ []) (sym (reverse-append t (row_of ts)))
+    ∙ sym (reverse-append (blank ∷ []) (t ++ row_of ts)))
 
 gapped-at_blank : (ts : List (List ℕ)) → gapped_from blank true (row_of ts) ≡ gapped ts
 gapped-at_blank [] = refl

@@ -1,9 +1,9 @@
 //! Laws of the definitions, each the contract of a function that does nothing.
 
-ghost use Rattle.std.specs.Prelude.{◌≡◌, ◌≢◌, ◌≤◌, ◌↔◌, ◌++◌, ◌∷◌, [], ◌==◌, ℕ, List, All, IsTrue, map, not, reverse};
+ghost use Rattle.std.specs.Prelude.{◌≡◌, ◌≢◌, ◌≤◌, ◌↔◌, ◌++◌, ◌∷◌, [], ◌==◌, ℕ, List, All, IsTrue, Option, Some, None, map, not, replicate, reverse};
 ghost use Rattle.std.specs.List.{concat, filter};
 ghost use Rattle.lic_words.specs.Describing.{IsDescribed};
-ghost use Rattle.lic_words.specs.Expressions.{Expression, Language, alt, cat_all, empty, letters};
+ghost use Rattle.lic_words.specs.Expressions.{Expression, Language, alt, alt_all, cat_all, empty, letter, letters, repeat, tidy};
 ghost use Rattle.lic_words.specs.Letters.{is_word};
 ghost use Rattle.lic_words.specs.Mirrors.{mirrored, turned};
 ghost use Rattle.lic_words.specs.Spelling.{Spells};
@@ -30,6 +30,36 @@ pub fn rows_together_stand_for_both()
 pub fn optional_twice_is_optional()
     ensures { (a : Expression) (w : List ℕ)
         → Language (alt empty (cat_all (alt empty a ∷ []))) w ↔ Language (alt empty a) w }
+{}
+
+/// A letter so many times stands for the letter as often as the bounds say, and for nothing else.
+pub fn repetitions_stay_within_their_bounds()
+    ensures between { (c min max n : ℕ)
+        → Language (repeat min (Some max) (letter c)) (replicate n c) ↔ ((min ≤ n) × (n ≤ max)) }
+    ensures at_least { (c min n : ℕ)
+        → Language (repeat min None (letter c)) (replicate n c) ↔ (min ≤ n) }
+    ensures only { (c min : ℕ) (max : Option ℕ) (w : List ℕ)
+        → Language (repeat min max (letter c)) w → (n : ℕ) × (w ≡ replicate n c) }
+{}
+
+/// Alternatives stand for what any of them stands for.
+pub fn alternatives_stand_for_each_of_them()
+    ensures { (xs : List Expression) (w : List ℕ) → Language (alt_all xs) w
+        ↔ ((front back : List Expression) × (a : Expression) × (xs ≡ front ++ a ∷ back)
+        × Language a w) }
+{}
+
+/// No tidy word has a blank first, a blank last, or two blanks together.
+pub fn tidy_words_have_no_loose_blanks()
+    ensures first { (a : Expression) (v : List ℕ) → ¬ (Language (tidy a) (blank ∷ v)) }
+    ensures last { (a : Expression) (u : List ℕ) → ¬ (Language (tidy a) (u ++ blank ∷ [])) }
+    ensures two { (a : Expression) (u v : List ℕ) → ¬ (Language (tidy a) (u ++ blank ∷ blank ∷ v)) }
+{}
+
+/// A word with no blank is tidy.
+pub fn words_without_blanks_are_tidy()
+    ensures { (a : Expression) (w : List ℕ) → All (λ c. c ≢ blank) w
+        → Language (tidy a) w ↔ Language a w }
 {}
 
 /// No expression describes the empty list of tokens.
@@ -61,14 +91,17 @@ pub fn a_token_is_written_whole()
 
 /// Where two tokens with no blank meet in letters of words, a blank at least is written between them.
 pub fn words_stand_apart()
-    ensures { (t u : List ℕ) (a b : ℕ) (w : List ℕ) → All (λ c. c ≢ blank) t → All (λ c. c ≢ blank) u → IsTrue (is_word a) → IsTrue (is_word b)
+    ensures { (t u : List ℕ) (a b : ℕ) (w : List ℕ) → All (λ c. c ≢ blank) t
+        → All (λ c. c ≢ blank) u → IsTrue (is_word a) → IsTrue (is_word b)
         → Spells w ((t ++ a ∷ []) ∷ (b ∷ u) ∷ [])
-        ↔ ((before between behind : ℕ) × (1 ≤ between) × (w ≡ blanks before ++ (t ++ a ∷ []) ++ blanks between ++ (b ∷ u) ++ blanks behind)) }
+        ↔ ((before between behind : ℕ) × (1 ≤ between)
+        × (w ≡ blanks before ++ (t ++ a ∷ []) ++ blanks between ++ (b ∷ u) ++ blanks behind)) }
 {}
 
 /// A blank within a token is a gap as between two tokens.
 pub fn a_blank_within_a_token_is_a_gap()
-    ensures { (t u w : List ℕ) (ts : List (List ℕ)) → Spells w ((t ++ blank ∷ u) ∷ ts) ↔ Spells w (t ∷ u ∷ ts) }
+    ensures { (t u w : List ℕ) (ts : List (List ℕ))
+        → Spells w ((t ++ blank ∷ u) ∷ ts) ↔ Spells w (t ∷ u ∷ ts) }
 {}
 
 /// What an expression stands for is, read from the end, what the mirrored expression stands for.
@@ -83,5 +116,6 @@ pub fn spellings_are_read_from_the_end()
 
 /// What an expression describes is, read from the end, what the mirrored expression describes.
 pub fn lists_are_read_from_the_end()
-    ensures { (e : Expression) (ts : List (List ℕ)) → IsDescribed (mirrored e) (turned ts) ↔ IsDescribed e ts }
+    ensures { (e : Expression) (ts : List (List ℕ))
+        → IsDescribed (mirrored e) (turned ts) ↔ IsDescribed e ts }
 {}

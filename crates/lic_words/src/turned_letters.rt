@@ -21,7 +21,8 @@ impl<'a> TurnedLetters<'a> {
 
     /// The letters of a token, read from its end behind the letter `last`. `is_apart` says that a gap stands there already.
     pub fn new(token: &'a str, last: char, is_apart: bool) -> TurnedLetters<'a>
-        ensures letters { turned_letters_left result ≡ gapped_from last is_apart (reverse (chars token.now)) }
+        ensures letters { turned_letters_left result
+            ≡ gapped_from last is_apart (reverse (chars token.now)) }
         ensures last { turned_last_in result ≡ last_letter last (reverse (chars token.now)) }
     {
         TurnedLetters {

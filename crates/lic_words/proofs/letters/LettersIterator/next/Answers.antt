@@ -36,7 +36,9 @@ returns-then-letter-ne32-clause-steps c =
     sym c.chars-chars.ensures.rest ∙ c.in_ok-letter.ensures.steps.0 ∙ ap (λ r. encode_utf8 letter ++ r) (sym c.as_str-self.ensures) in
     let words : (is_word last && is_word letter) ≡ (c.is_word.result && c.is_word-then-letter-ne32.result) =
     rw (c.is_word.ensures, c.is_word-then-letter-ne32.ensures) refl in
-    let given : letters_left c.args.self.now ≡ (gap_of apart (c.is_word.result && c.is_word-then-letter-ne32.result), letter) ∷ gapped_from letter false (chars rest) =
+    let given : letters_left c.args.self.now
+    ≡ (gap_of apart (c.is_word.result && c.is_word-then-letter-ne32.result), letter)
+    ∷ gapped_from letter false (chars rest) =
     sym inv.letters ∙ letters-letter last apart bs rest letter inv.text came c.if-letter-ne32.true
     ∙ ap {B = List (Gap × ℕ)} (λ b. (gap_of apart b, letter) ∷ gapped_from letter false (chars rest)) words in
     record {
@@ -53,7 +55,8 @@ returns-then-letter-ne32-clause-goes c =
     let rest : List ℕ = c.as_str-self.result.now in
     let came : bs ≡ encode_utf8 letter ++ rest =
     sym c.chars-chars.ensures.rest ∙ c.in_ok-letter.ensures.steps.0 ∙ ap (λ r. encode_utf8 letter ++ r) (sym c.as_str-self.ensures) in
-    let given = ap length (sym inv.letters ∙ letters-letter c.loop-letter.self.last c.loop-letter.self.is_apart bs rest letter inv.text came c.if-letter-ne32.true) in
+    let given = ap length (sym inv.letters
+    ∙ letters-letter c.loop-letter.self.last c.loop-letter.self.is_apart bs rest letter inv.text came c.if-letter-ne32.true) in
     record { on = λ _. (tt, tt, omega (arith, given)); keeps = tt; rests = λ _. tt }
 
 pub loop-letter-preserved : goal.loop-letter-preserved

@@ -39,7 +39,9 @@ returns-then-letter-ne32-clause-steps c =
     sym c.chars-chars.ensures.rest ∙ c.in_ok-letter.ensures.steps ∙ ap (λ r. r ++ encode_utf8 letter) (sym c.as_str-self.ensures) in
     let words : (is_word last && is_word letter) ≡ (c.is_word.result && c.is_word-then-letter-ne32.result) =
     rw (c.is_word.ensures, c.is_word-then-letter-ne32.ensures) refl in
-    let given : turned_letters_left c.args.self.now ≡ (gap_of apart (c.is_word.result && c.is_word-then-letter-ne32.result), letter) ∷ gapped_from letter false (reverse (chars front)) =
+    let given : turned_letters_left c.args.self.now
+    ≡ (gap_of apart (c.is_word.result && c.is_word-then-letter-ne32.result), letter)
+    ∷ gapped_from letter false (reverse (chars front)) =
     sym inv.letters ∙ turned-letters-letter last apart bs front letter scalar c.as_str-self.utf8 came c.if-letter-ne32.true
     ∙ ap {B = List (Gap × ℕ)} (λ b. (gap_of apart b, letter) ∷ gapped_from letter false (reverse (chars front))) words in
     record {
@@ -56,7 +58,8 @@ returns-then-letter-ne32-clause-goes c =
     let scalar : IsScalar letter = cc in
     let came : bs ≡ front ++ encode_utf8 letter =
     sym c.chars-chars.ensures.rest ∙ c.in_ok-letter.ensures.steps ∙ ap (λ r. r ++ encode_utf8 letter) (sym c.as_str-self.ensures) in
-    let given = ap length (sym inv.letters ∙ turned-letters-letter c.loop-letter.self.last c.loop-letter.self.is_apart bs front letter scalar c.as_str-self.utf8 came c.if-letter-ne32.true) in
+    let given = ap length (sym inv.letters
+    ∙ turned-letters-letter c.loop-letter.self.last c.loop-letter.self.is_apart bs front letter scalar c.as_str-self.utf8 came c.if-letter-ne32.true) in
     record { on = λ _. (tt, tt, omega (arith, given)); keeps = tt; rests = λ _. tt }
 
 pub loop-letter-preserved : goal.loop-letter-preserved
