@@ -9,12 +9,15 @@ use Rattle.lic_ere.specs.Located.{Located, further, with_rest}
 use Rattle.lic_markup.specs.Faults.{fault_at, told, told_cause, Fails, Gives, map_ok}
 
 -- a reading that fails wherever another does fails with it
-pub Fails-with : {A B : Type 0} (cause : MarkupCause) (place : ℕ) (r : Result A MarkupFault) (s : Result B MarkupFault) → ((e : MarkupFault) → r ≡ Err e → s ≡ Err e) → Fails cause place r → Fails cause place s
+pub Fails-with : {A B : Type 0} (cause : MarkupCause) (place : ℕ) (r : Result A MarkupFault) (s : Result B MarkupFault)
+    → ((e : MarkupFault) → r ≡ Err e → s ≡ Err e) → Fails cause place r → Fails cause place s
 Fails-with OutOfMemory place r s along h = h
 Fails-with cause place r s along h = along (fault_at place cause) h
 
 -- the exit by `?` of a reader that failed
-pub Gives-err : {X A B : Type 0} (view : X → B) (result : Result X MarkupFault) (e : MarkupFault) (r : Result A MarkupFault) (s : Result B MarkupFault) → IsErrAnd result (λ f. f ≡ e) → ((d : MarkupFault) → r ≡ Err d → s ≡ Err d) → Fails e.cause e.place r → Gives view result s
+pub Gives-err : {X A B : Type 0} (view : X → B) (result : Result X MarkupFault) (e : MarkupFault)
+    (r : Result A MarkupFault) (s : Result B MarkupFault) → IsErrAnd result (λ f. f ≡ e)
+    → ((d : MarkupFault) → r ≡ Err d → s ≡ Err d) → Fails e.cause e.place r → Gives view result s
 Gives-err view (Ok x) e r s left along h = absurd left
 Gives-err view (Err f) e r s left along h = subst (λ (d : MarkupFault). Fails d.cause d.place s) (sym left) (Fails-with e.cause e.place r s along h)
 
@@ -40,7 +43,9 @@ pub behind-behind : {A B : Type 0} (front more : List A) (r : Result (List A × 
 behind-behind front more (Ok x) = ap (λ l. Ok (l, x.1)) (append_assoc front more x.0)
 behind-behind front more (Err e) = refl
 
-Fails-told_cause : (A : Type 0) (cause : MarkupCause) (place : ℕ) → Fails {Y = A} (told_cause cause (fault_at place cause)).cause (told_cause cause (fault_at place cause)).place (Err (fault_at place cause))
+Fails-told_cause : (A : Type 0) (cause : MarkupCause) (place : ℕ)
+    → Fails {Y = A} (told_cause cause (fault_at place cause)).cause (told_cause cause (fault_at place cause)).place
+    (Err (fault_at place cause))
 Fails-told_cause A OutOfMemory place = refl
 Fails-told_cause A _ place = refl
 

@@ -13,7 +13,8 @@ use Rattle.lic_markup.proofs.FaultLemmas.{map_ok-same, map_ok-map_ok, with_rest-
 use Rattle.lic_markup.proofs.RuleLemmas.{read}
 
 -- what stands behind a reading is no longer than what it was read from
-pub read-shorter : {A : Type 0} (rest : List Located) (r : Result (A × ℕ) MarkupFault) (a : A) (after : List Located) → read rest r ≡ Ok (a, after) → length after ≤ length rest
+pub read-shorter : {A : Type 0} (rest : List Located) (r : Result (A × ℕ) MarkupFault) (a : A) (after : List Located)
+    → read rest r ≡ Ok (a, after) → length after ≤ length rest
 read-shorter {A = A} rest (Ok y) a after is =
     let two : drop y.1 rest ≡ after = ap (λ (r : Result (A × List Located) MarkupFault). elim r [ Ok z ↦ z.1 | Err e ↦ after ]) is in
     omega (arith, ap length two, length-drop y.1 rest)
@@ -33,7 +34,8 @@ module _ (rule : ℕ) (tag : Tag) where
       ∙ map_ok-same (λ y. with_rest (x ∷ xs) (further 1 y)) (with_rest xs) (fields_at rule tag values n xs) (λ y. with_rest-further 1 (x ∷ xs) y)
       ∙ fields-skipped values n xs
 
-  pub fields-end : (values : Values) (rest : List Located) (x : Located) (after : List Located) → rest ≡ x ∷ after → begins_with_two greater rest ≡ true → fields_of values rest ≡ Ok (values, drop 2 rest)
+  pub fields-end : (values : Values) (rest : List Located) (x : Located) (after : List Located) → rest ≡ x ∷ after
+      → begins_with_two greater rest ≡ true → fields_of values rest ≡ Ok (values, drop 2 rest)
   unfolding fields_at
   fields-end values rest x after is found =
       let here : begins_with_two greater (x ∷ after) ≡ true = ap (begins_with_two greater) (sym is) ∙ found in
@@ -43,13 +45,17 @@ module _ (rule : ℕ) (tag : Tag) where
     abbrev next : Result (Values × ℕ) MarkupFault → Result (Values × ℕ) MarkupFault
     next r = map_ok (further 1) (r >>= λ y. fields_at rule tag y.0 (spaces after + y.1) after)
 
-    fields-next : begins_with_two greater (x ∷ after) ≡ false → begins_with semicolon (x ∷ after) ≡ true → fields_at rule tag values 0 (x ∷ after) ≡ next (field_or_none rule tag values (trim_front after))
+    fields-next : begins_with_two greater (x ∷ after) ≡ false → begins_with semicolon (x ∷ after) ≡ true
+        → fields_at rule tag values 0 (x ∷ after) ≡ next (field_or_none rule tag values (trim_front after))
     unfolding fields_at
     fields-next one two =
-        ap (λ b. cond b (Ok (values, 2)) (cond (begins_with semicolon (x ∷ after)) (next (field_or_none rule tag values (trim_front after))) (Err (fault_at rule NotClosed)))) one
+        ap (λ b. cond b (Ok (values, 2))
+        (cond (begins_with semicolon (x ∷ after)) (next (field_or_none rule tag values (trim_front after)))
+        (Err (fault_at rule NotClosed)))) one
         ∙ ap (λ b. cond b (next (field_or_none rule tag values (trim_front after))) (Err (fault_at rule NotClosed))) two
 
-    next_turn : (r : Result (Values × ℕ) MarkupFault) (more : Values) (behind : List Located) → read (trim_front after) r ≡ Ok (more, behind) → read (x ∷ after) (next r) ≡ fields_of more behind
+    next_turn : (r : Result (Values × ℕ) MarkupFault) (more : Values) (behind : List Located)
+        → read (trim_front after) r ≡ Ok (more, behind) → read (x ∷ after) (next r) ≡ fields_of more behind
     next_turn (Err e) more behind is = absurd cc
     next_turn (Ok y) more behind is =
         let one : y.0 ≡ more = ap (λ (r : Result (Values × List Located) MarkupFault). elim r [ Ok z ↦ z.0 | Err e ↦ more ]) is in
@@ -65,24 +71,40 @@ module _ (rule : ℕ) (tag : Tag) where
     next_fails (Err d) e is = ap (λ (r : Result (Values × List Located) MarkupFault). elim r [ Ok z ↦ Err e | Err f ↦ Err f ]) is
 
     -- one more field
-    pub fields_turn : (rest front : List Located) (more : Values) (behind : List Located) (total : Result (Values × List Located) MarkupFault) → rest ≡ x ∷ after → front ≡ trim_front after → begins_with_two greater rest ≡ false → begins_with semicolon rest ≡ true → read front (field_or_none rule tag values front) ≡ Ok (more, behind) → fields_of values rest ≡ total → fields_of more behind ≡ total
+    pub fields_turn : (rest front : List Located) (more : Values) (behind : List Located)
+        (total : Result (Values × List Located) MarkupFault) → rest ≡ x ∷ after → front ≡ trim_front after
+        → begins_with_two greater rest ≡ false → begins_with semicolon rest ≡ true
+        → read front (field_or_none rule tag values front) ≡ Ok (more, behind) → fields_of values rest ≡ total
+        → fields_of more behind ≡ total
     fields_turn rest front more behind total is trimmed one two got so_far =
-        sym (ap (read (x ∷ after)) (fields-next (ap (begins_with_two greater) (sym is) ∙ one) (ap (begins_with semicolon) (sym is) ∙ two)) ∙ next_turn _ more behind (ap (λ (l : List Located). read l (field_or_none rule tag values l)) (sym trimmed) ∙ got))
+        sym (ap (read (x ∷ after)) (fields-next (ap (begins_with_two greater) (sym is) ∙ one)
+        (ap (begins_with semicolon) (sym is) ∙ two))
+        ∙ next_turn _ more behind (ap (λ (l : List Located). read l (field_or_none rule tag values l))
+        (sym trimmed) ∙ got))
         ∙ ap (fields_of values) (sym is) ∙ so_far
 
     -- a fault in a field
-    pub fields_fail : (rest front : List Located) (e : MarkupFault) → rest ≡ x ∷ after → front ≡ trim_front after → begins_with_two greater rest ≡ false → begins_with semicolon rest ≡ true → read front (field_or_none rule tag values front) ≡ Err e → fields_of values rest ≡ Err e
+    pub fields_fail : (rest front : List Located) (e : MarkupFault) → rest ≡ x ∷ after → front ≡ trim_front after
+        → begins_with_two greater rest ≡ false → begins_with semicolon rest ≡ true
+        → read front (field_or_none rule tag values front) ≡ Err e → fields_of values rest ≡ Err e
     fields_fail rest front e is trimmed one two got =
-        ap (fields_of values) is ∙ ap (read (x ∷ after)) (fields-next (ap (begins_with_two greater) (sym is) ∙ one) (ap (begins_with semicolon) (sym is) ∙ two)) ∙ next_fails _ e (ap (λ (l : List Located). read l (field_or_none rule tag values l)) (sym trimmed) ∙ got)
+        ap (fields_of values) is ∙ ap (read (x ∷ after))
+        (fields-next (ap (begins_with_two greater) (sym is) ∙ one) (ap (begins_with semicolon) (sym is) ∙ two))
+        ∙ next_fails _ e (ap (λ (l : List Located). read l (field_or_none rule tag values l)) (sym trimmed) ∙ got)
 
   -- neither `;` nor `>>`
-  pub fields-refused : (values : Values) (rest : List Located) (x : Located) (after : List Located) → rest ≡ x ∷ after → begins_with_two greater rest ≡ false → begins_with semicolon rest ≡ false → fields_of values rest ≡ Err (fault_at rule NotClosed)
+  pub fields-refused : (values : Values) (rest : List Located) (x : Located) (after : List Located) → rest ≡ x ∷ after
+      → begins_with_two greater rest ≡ false → begins_with semicolon rest ≡ false
+      → fields_of values rest ≡ Err (fault_at rule NotClosed)
   unfolding fields_at
   fields-refused values rest x after is one two =
       let first : begins_with_two greater (x ∷ after) ≡ false = ap (begins_with_two greater) (sym is) ∙ one in
       let second : begins_with semicolon (x ∷ after) ≡ false = ap (begins_with semicolon) (sym is) ∙ two in
       ap (fields_of values) is
-      ∙ ap (λ b. read (x ∷ after) (cond b (Ok (values, 2)) (cond (begins_with semicolon (x ∷ after)) (next values x after (field_or_none rule tag values (trim_front after))) (Err (fault_at rule NotClosed))))) first
+      ∙ ap (λ b. read (x ∷ after) (cond b (Ok (values, 2))
+      (cond (begins_with semicolon (x ∷ after))
+      (next values x after (field_or_none rule tag values (trim_front after)))
+      (Err (fault_at rule NotClosed))))) first
       ∙ ap (λ b. read (x ∷ after) (cond b (next values x after (field_or_none rule tag values (trim_front after))) (Err (fault_at rule NotClosed)))) second
 
   pub fields-open : (values : Values) (rest : List Located) → length rest ≡ 0 → fields_of values rest ≡ Err (fault_at rule NotClosed)

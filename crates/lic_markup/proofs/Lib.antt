@@ -12,3 +12,11 @@ pub mod PieceLemmas
 pub mod PlaceLemmas
 pub mod PlainLemmas
 pub mod ReadingLemmas
+pub mod Spelled
+pub mod TagSpelled
+pub mod RuleSpelled
+pub mod CutSpelled
+pub mod LineSpelled
+pub mod PartSpelled
+pub mod TemplateSpelled
+pub mod FaultSpelled

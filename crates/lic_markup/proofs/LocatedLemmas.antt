@@ -15,9 +15,12 @@ abbrev shown : CharIndices → List Located
 shown s = located_from (char_indices_offset s) (chars (char_indices_rest s))
 
 shown_none : (s t : CharIndices) → IsUtf8 (char_indices_rest s) → char_indices_steps s None t → length (shown s) ≡ 0
-shown_none s t text step = ap (λ (bs : List ℕ). length (located_from (char_indices_offset s) (chars bs))) (nil_from_length (char_indices_rest s) step.0) ∙ ap (λ (cs : List ℕ). length (located_from (char_indices_offset s) cs)) chars-nil
+shown_none s t text step = ap (λ (bs : List ℕ). length (located_from (char_indices_offset s) (chars bs)))
+    (nil_from_length (char_indices_rest s) step.0)
+    ∙ ap (λ (cs : List ℕ). length (located_from (char_indices_offset s) cs)) chars-nil
 
-shown_some : (s : CharIndices) (x : Located) (t : CharIndices) → IsUtf8 (char_indices_rest s) → char_indices_steps s (Some x) t → IsUtf8 (char_indices_rest t) × (shown s ≡ x ∷ shown t)
+shown_some : (s : CharIndices) (x : Located) (t : CharIndices) → IsUtf8 (char_indices_rest s)
+    → char_indices_steps s (Some x) t → IsUtf8 (char_indices_rest t) × (shown s ≡ x ∷ shown t)
 shown_some s x t text step =
     let next : char_indices_offset s + len_utf8 x.1 ≡ char_indices_offset t = omega (arith, step.2, length-encode x.1) in (
       IsUtf8-past_char (char_indices_rest s) (char_indices_rest t) x.1 text step.1,
@@ -26,4 +29,6 @@ shown_some s x t text step =
     )
 
 pub YieldsList-from_char_indices : (s : CharIndices) → IsUtf8 (char_indices_rest s) → YieldsList char_indices_steps (λ x. x) s (shown s)
-YieldsList-from_char_indices s text = YieldsList-from_shown_while char_indices_steps (λ x. x) shown (λ t. IsUtf8 (char_indices_rest t)) shown_none shown_some s text
+YieldsList-from_char_indices s text =
+    YieldsList-from_shown_while char_indices_steps (λ x. x) shown (λ t.
+    IsUtf8 (char_indices_rest t)) shown_none shown_some s text

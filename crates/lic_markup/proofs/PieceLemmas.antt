@@ -36,7 +36,9 @@ blank_alone after_blank ((Word s ∷ group) ∷ rest) = refl
 
 no_tokens : (after_blank : Bool) (cells : List Cell) → list_all is_blank cells ≡ true → tokens_from after_blank (groups both_words cells) ≡ []
 no_tokens after_blank [] all = refl
-no_tokens after_blank (Blank ∷ cells) all = blank_alone after_blank (groups both_words cells) ∙ no_tokens true cells (and_parts true (list_all is_blank cells) all).1
+no_tokens after_blank (Blank ∷ cells) all =
+    blank_alone after_blank (groups both_words cells)
+    ∙ no_tokens true cells (and_parts true (list_all is_blank cells) all).1
 no_tokens after_blank (Mark s ∷ cells) all = absurd (true≢false (sym all))
 no_tokens after_blank (Word s ∷ cells) all = absurd (true≢false (sym all))
 
@@ -58,16 +60,22 @@ module _ (rules : LineRules) (words : List Phrase) (at_line_start : Bool) (befor
   chars-edge : (b : Bool) (text : List ℕ) → IsUtf8 text → chars (text ++ blank_if b) ≡ chars text ++ blank_if b
   chars-edge b text utf8 =
       chars-append text (blank_if b) utf8
-      ∙ ap (λ l. chars text ++ l) (ap chars (sym (append-nil (blank_if b))) ∙ chars-blank_if b [] ∙ ap (λ l. blank_if b ++ l) chars-nil ∙ append-nil (blank_if b))
+      ∙ ap (λ l. chars text ++ l) (ap chars (sym (append-nil (blank_if b))) ∙ chars-blank_if b []
+      ∙ ap (λ l. blank_if b ++ l) chars-nil ∙ append-nil (blank_if b))
 
-  edges_spell : (a b : Bool) (ts : List (List ℕ)) → (ts ≡ [] → ⊥) → All IsUtf8 ts → All IsTokenText ts → Spells (chars ((blank_if a ++ spelled ts) ++ blank_if b)) (map chars ts)
+  edges_spell : (a b : Bool) (ts : List (List ℕ)) → (ts ≡ [] → ⊥) → All IsUtf8 ts → All IsTokenText ts
+      → Spells (chars ((blank_if a ++ spelled ts) ++ blank_if b)) (map chars ts)
   edges_spell a b ts some utf8 token =
       subst (λ w. Spells w (map chars ts))
-      (sym (chars-edge b (blank_if a ++ spelled ts) (IsUtf8-append (blank_if a) (spelled ts) (blank_if-utf8 a) (spelled-utf8 ts utf8)) ∙ ap (λ l. l ++ blank_if b) (chars-blank_if a (spelled ts))))
+      (sym (chars-edge b (blank_if a ++ spelled ts)
+      (IsUtf8-append (blank_if a) (spelled ts) (blank_if-utf8 a) (spelled-utf8 ts utf8))
+      ∙ ap (λ l. l ++ blank_if b) (chars-blank_if a (spelled ts))))
       (with_behind b (blank_if a ++ chars (spelled ts)) (map chars ts) (with_before a (chars (spelled ts)) (map chars ts) (spelled_spells ts some utf8 token)))
 
   -- the letters of a piece spell its tokens
-  pub piece_spells : (piece_texts rules words at_line_start before piece ≡ [] → ⊥) → All IsUtf8 (piece_texts rules words at_line_start before piece) → All IsTokenText (piece_texts rules words at_line_start before piece) →
+  pub piece_spells : (piece_texts rules words at_line_start before piece ≡ [] → ⊥)
+      → All IsUtf8 (piece_texts rules words at_line_start before piece)
+      → All IsTokenText (piece_texts rules words at_line_start before piece) →
       Spells (chars (piece_of rules words at_line_start before piece)) (map chars (piece_texts rules words at_line_start before piece))
   unfolding piece_of
   piece_spells some utf8 token =
@@ -85,8 +93,11 @@ still_some [] some none = some refl
 still_some (t ∷ ts) some none = absurd (omega (arith, ap length none))
 
 -- so a text with these letters describes them
-pub piece_described : (rules : LineRules) (words : List Phrase) (at_line_start : Bool) (before : Next) (piece : List ℕ) (text : String Global) → string_bytes text ≡ piece_of rules words at_line_start before piece →
-    (piece_texts rules words at_line_start before piece ≡ [] → ⊥) → All IsUtf8 (piece_texts rules words at_line_start before piece) → All IsTokenText (piece_texts rules words at_line_start before piece) →
+pub piece_described : (rules : LineRules) (words : List Phrase) (at_line_start : Bool) (before : Next) (piece : List ℕ)
+    (text : String Global) → string_bytes text ≡ piece_of rules words at_line_start before piece →
+    (piece_texts rules words at_line_start before piece ≡ [] → ⊥)
+    → All IsUtf8 (piece_texts rules words at_line_start before piece)
+    → All IsTokenText (piece_texts rules words at_line_start before piece) →
     IsDescribed (part_words (Text text)) (map chars (piece_texts rules words at_line_start before piece))
 piece_described rules words at_line_start before piece text is some utf8 token =
     let ts = piece_texts rules words at_line_start before piece in

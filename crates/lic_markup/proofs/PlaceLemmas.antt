@@ -42,7 +42,9 @@ module _ {A : Type 0} (f : A → A) (together : A → A → Bool) (same : (x y :
   groups-map [] = refl
   groups-map (x ∷ xs) = ap (join_group together (f x)) (groups-map xs) ∙ group-map x (groups together xs)
 
-flat-map : {A B : Type 0} (f : A → A) (g : B → B) (k : List A → List B) → ((run : List A) → k (map f run) ≡ map g (k run)) → (runs : List (List A)) → flat_map k (map (map f) runs) ≡ map g (flat_map k runs)
+flat-map : {A B : Type 0} (f : A → A) (g : B → B) (k : List A → List B)
+    → ((run : List A) → k (map f run) ≡ map g (k run)) → (runs : List (List A))
+    → flat_map k (map (map f) runs) ≡ map g (flat_map k runs)
 flat-map f g k each [] = refl
 flat-map f g k each (run ∷ runs) = ap₂ (λ xs ys. xs ++ ys) (each run) (flat-map f g k each runs) ∙ sym (map-append g (k run) (flat_map k runs))
 
@@ -160,9 +162,12 @@ bare-joined (Blank ∷ run) = refl
 bare-joined (Word s ∷ run) = refl
 bare-joined (Mark s ∷ run) = ap (λ n. Mark (record { char = s.char; start = 0; end = n }) ∷ []) (bare-end run)
 
-bare-separators : (separators : Bool) (cells : List Cell) → (if separators then without_separators (map bare_cell cells) else map bare_cell cells) ≡ map bare_cell (if separators then without_separators cells else cells)
+bare-separators : (separators : Bool) (cells : List Cell)
+    → (if separators then without_separators (map bare_cell cells) else map bare_cell cells)
+    ≡ map bare_cell (if separators then without_separators cells else cells)
 bare-separators true cells =
-    ap (flat_map without_separator) (groups-map bare_cell same_mark bare-same_mark cells) ∙ flat-map bare_cell bare_cell without_separator bare-separator (groups same_mark cells)
+    ap (flat_map without_separator) (groups-map bare_cell same_mark bare-same_mark cells)
+    ∙ flat-map bare_cell bare_cell without_separator bare-separator (groups same_mark cells)
 bare-separators false cells = refl
 
 bare-runs : (rules : LineRules) (cells : List Cell) → runs_joined rules (map bare_cell cells) ≡ map bare_cell (runs_joined rules cells)
@@ -184,7 +189,8 @@ bare-letters (Blank ∷ group) = bare-letters group
 bare-letters (Mark s ∷ group) = ap (λ l. spell s.char ++ l) (bare-letters group)
 bare-letters (Word s ∷ group) = ap (λ l. spell s.char ++ l) (bare-letters group)
 
-bare-token : (after_blank : Bool) (s : SourceChar) (group : List Cell) → token_of after_blank (bare s) (map bare_cell group) ≡ bare_token (token_of after_blank s group)
+bare-token : (after_blank : Bool) (s : SourceChar) (group : List Cell)
+    → token_of after_blank (bare s) (map bare_cell group) ≡ bare_token (token_of after_blank s group)
 bare-token after_blank s group =
     ap₂ (λ l n. let t : Token = record { text = encode_utf8_all l; start = 0; end = n; after_blank = after_blank } in t) (bare-letters group) (bare-end group)
 
@@ -303,7 +309,8 @@ reported-texts : (ts : List SpannedText) → map (λ t. t.text) (map reported ts
 reported-texts [] = refl
 reported-texts (t ∷ ts) = ap (λ l. t.text ∷ l) (reported-texts ts)
 
-piece-whole : (rules : LineRules) (piece : List ℕ) → piece_cells rules true LineEnd piece ≡ map bare_cell (runs_joined rules (cells_of rules (placed 0 (chars piece))))
+piece-whole : (rules : LineRules) (piece : List ℕ)
+    → piece_cells rules true LineEnd piece ≡ map bare_cell (runs_joined rules (cells_of rules (placed 0 (chars piece))))
 unfolding piece_cells
 piece-whole rules piece =
     let text = placed 0 (chars piece) in
@@ -311,11 +318,13 @@ piece-whole rules piece =
     ap (λ t. runs_joined rules (cells_of_lines rules true LineEnd (lines_of (without_dropped t)))) (sym (bare-placed 0 (chars piece)))
     ∙ ap (λ t. runs_joined rules (cells_of_lines rules true LineEnd (lines_of t))) (bare-kept text)
     ∙ ap (λ ls. runs_joined rules (cells_of_lines rules true LineEnd ls)) (bare-lines (without_dropped text))
-    ∙ ap (runs_joined rules) (cells-whole rules (map (map bare) lines) ∙ flat-map bare bare_cell (line_cells rules whole_line) (bare-line rules whole_line) lines)
+    ∙ ap (runs_joined rules) (cells-whole rules (map (map bare) lines)
+    ∙ flat-map bare bare_cell (line_cells rules whole_line) (bare-line rules whole_line) lines)
     ∙ bare-runs rules (cells_of rules text)
 
 -- a piece that is whole lines has the tokens of the text that it is
-pub piece_texts-whole : (rules : LineRules) (words : List Phrase) (piece : List ℕ) → IsUtf8 piece → piece_texts rules words true LineEnd piece ≡ map (λ t. t.text) (tokens_of rules words piece)
+pub piece_texts-whole : (rules : LineRules) (words : List Phrase) (piece : List ℕ) → IsUtf8 piece
+    → piece_texts rules words true LineEnd piece ≡ map (λ t. t.text) (tokens_of rules words piece)
 unfolding piece_tokens first_tokens_of
 piece_texts-whole rules words piece utf8 =
     let cells = runs_joined rules (cells_of rules (placed 0 (chars piece))) in

@@ -43,7 +43,8 @@ one_piece piece place (c ∷ cs) none =
     let x : Located = (place, c) in
     let rest = located_from (place + len_utf8 c) cs in
     let two = neither (c == less) (list_any (λ c. c == less) cs) none in
-    sym (cut_plain [] (elements piece 0 (x ∷ rest)) piece (piece ++ x ∷ []) x rest (x ∷ rest) refl refl (ap (option_map (with_rest rest)) (no_tag x rest two.0)) refl)
+    sym (cut_plain [] (elements piece 0 (x ∷ rest)) piece (piece ++ x ∷ []) x rest (x ∷ rest) refl refl
+    (ap (option_map (with_rest rest)) (no_tag x rest two.0)) refl)
     ∙ one_piece (piece ++ x ∷ []) (place + len_utf8 c) cs two.1
     ∙ ap (λ l. text l ∷ []) (append_assoc piece (x ∷ []) rest)
 
@@ -58,7 +59,8 @@ encoded-no_mark (c ∷ cs) none =
     let rest = encodes cs in
     let long : 0 < length here = omega (arith, length-encode c, len_utf8_bounds c) in
     let other : (c == less) ≡ false =
-    ne_eqb c less (λ is. none 0 (omega (arith, length-append here rest)) (ap (λ l. get_or (l ++ rest) 0 0) (ap encode_utf8 is ∙ encode_ascii less (lit< tt)))) in
+    ne_eqb c less (λ is. none 0 (omega (arith, length-append here rest))
+    (ap (λ l. get_or (l ++ rest) 0 0) (ap encode_utf8 is ∙ encode_ascii less (lit< tt)))) in
     let more : list_any (λ c. c == less) cs ≡ false =
     encoded-no_mark cs (λ k within at. none (length here + k) (omega (arith, length-append here rest)) (get_or-append-add here rest k 0 ∙ at)) in
     ap (λ b. b || list_any (λ c. c == less) cs) other ∙ more
@@ -67,7 +69,9 @@ encoded-no_mark (c ∷ cs) none =
 pub whole_piece : (bytes : List ℕ) → IsUtf8 bytes → IsFirstByte (is_byte less) bytes None → elements [] 0 (located bytes) ≡ text (located bytes) ∷ []
 whole_piece bytes utf8 none =
     one_piece [] 0 (chars bytes)
-    (encoded-no_mark (chars bytes) (subst HasNoMark (sym (encodes-chars bytes utf8)) (λ k within at. none k (omega arith) within (eq-eqb (get_or bytes k 0) less at))))
+    (encoded-no_mark (chars bytes)
+    (subst HasNoMark (sym (encodes-chars bytes utf8)) (λ k within at.
+    none k (omega arith) within (eq-eqb (get_or bytes k 0) less at))))
 
 -- the characters of a text write it
 text_of-located : (place : ℕ) (cs : List ℕ) → text_of (located_from place cs) ≡ encodes cs
@@ -92,7 +96,9 @@ accepted : (long : Bool) (read : Result Reading MarkupFault) (r : Reading) → (
 accepted true read r h = absurd (no_ok (fault_at 0 TooLong) r h)
 accepted false read r h = h
 
-accepted_parts : (token heavy : Bool) (x r : Reading) → (if not token then Err (fault_at 0 NoLetter) else (if heavy then Err (fault_at 0 TooHeavy) else Ok x)) ≡ Ok r → (token ≡ true) × (x ≡ r)
+accepted_parts : (token heavy : Bool) (x r : Reading)
+    → (if not token then Err (fault_at 0 NoLetter) else (if heavy then Err (fault_at 0 TooHeavy) else Ok x)) ≡ Ok r
+    → (token ≡ true) × (x ≡ r)
 accepted_parts false heavy x r h = absurd (no_ok (fault_at 0 NoLetter) r h)
 accepted_parts true true x r h = absurd (no_ok (fault_at 0 TooHeavy) r h)
 accepted_parts true false x r h = (refl, same_ok x r h)
@@ -102,15 +108,20 @@ one_part [] h = absurd cc
 one_part (c ∷ cs) h = refl
 
 module _ (rules : LineRules) (words : List Phrase) where
-  read_one : (all : List Located) → read_elements rules words (text all ∷ []) ≡ whole (with_letters (piece_of rules words true LineEnd (text_of all)) (new_level 0)).parts (text_of all)
+  read_one : (all : List Located)
+      → read_elements rules words (text all ∷ [])
+      ≡ whole (with_letters (piece_of rules words true LineEnd (text_of all)) (new_level 0)).parts (text_of all)
   unfolding read_on meet
-  read_one all = ap (λ follows. whole (with_letters (piece_of rules words true follows (text_of all)) (new_level 0)).parts (text_of all)) (line_end (ends_line all))
+  read_one all = ap (λ follows.
+      whole (with_letters (piece_of rules words true follows (text_of all)) (new_level 0)).parts (text_of all))
+      (line_end (ends_line all))
     where
       line_end : (ends : Bool) → (if ends then LineEnd else LineEnd) ≡ LineEnd
       line_end true = refl
       line_end false = refl
 
-  pub plain_parts : (template : List ℕ) (r : Reading) → IsUtf8 template → list_any (λ c. c == less) (chars template) ≡ false → reading rules words template ≡ Ok r →
+  pub plain_parts : (template : List ℕ) (r : Reading) → IsUtf8 template
+      → list_any (λ c. c == less) (chars template) ≡ false → reading rules words template ≡ Ok r →
       r.parts ≡ letters (piece_of rules words true LineEnd template) ∷ []
   plain_parts template r utf8 none read =
       let parts : List ℕ → List Node = λ t. (with_letters (piece_of rules words true LineEnd t) (new_level 0)).parts in

@@ -13,15 +13,18 @@ use Rattle.lic_markup.specs.Reading.{State, meet, finish, read_on}
 use Rattle.lic_markup.specs.Views.{placed_of}
 
 -- the last item is the first of the reversed list
-placed-last : (items front : List (coded.Element × Next)) (p : coded.Element × Next) → items ≡ front ++ p ∷ [] → map placed_of (reverse items) ≡ placed_of p ∷ map placed_of (reverse front)
+placed-last : (items front : List (coded.Element × Next)) (p : coded.Element × Next) → items ≡ front ++ p ∷ []
+    → map placed_of (reverse items) ≡ placed_of p ∷ map placed_of (reverse front)
 placed-last items front p is = ap (λ (l : List (coded.Element × Next)). map placed_of (reverse l)) is ∙ ap (map placed_of) (reverse-append front (p ∷ []))
 
 module _ (rules : LineRules) (words : List Phrase) (s : State) where
-  read-next : (e : Element × Next) (es : List (Element × Next)) → read_on rules words s (e ∷ es) ≡ (meet rules words e.0 e.1 s >>= λ t. read_on rules words t es)
+  read-next : (e : Element × Next) (es : List (Element × Next))
+      → read_on rules words s (e ∷ es) ≡ (meet rules words e.0 e.1 s >>= λ t. read_on rules words t es)
   unfolding read_on
   read-next e es = refl
 
-  module _ (items front : List (coded.Element × Next)) (p : coded.Element × Next) (total : Result Reading MarkupFault) (is : items ≡ front ++ p ∷ []) (so_far : read_on rules words s (map placed_of (reverse items)) ≡ total) where
+  module _ (items front : List (coded.Element × Next)) (p : coded.Element × Next) (total : Result Reading MarkupFault)
+      (is : items ≡ front ++ p ∷ []) (so_far : read_on rules words s (map placed_of (reverse items)) ≡ total) where
     here : (meet rules words (placed_of p).0 p.1 s >>= λ t. read_on rules words t (map placed_of (reverse front))) ≡ total
     here = sym (ap (read_on rules words s) (placed-last items front p is) ∙ read-next (placed_of p) (map placed_of (reverse front))) ∙ so_far
 

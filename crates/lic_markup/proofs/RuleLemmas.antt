@@ -24,7 +24,9 @@ pub take_turn : (all : List Located) (n : ℕ) (x : Located) (after : List Locat
 take_turn [] zero x after is = absurd cc
 take_turn [] (suc n) x after is = absurd cc
 take_turn (y ∷ ys) zero x after is = ap (λ (l : List Located). elim l [ [] ↦ [] | z ∷ zs ↦ z ∷ [] ]) is
-take_turn (y ∷ ys) (suc n) x after is = ap (λ m. take m (y ∷ ys)) (add-one (suc n)) ∙ ap (λ l. y ∷ l) (ap (λ m. take m ys) (sym (add-one n)) ∙ take_turn ys n x after is)
+take_turn (y ∷ ys) (suc n) x after is =
+    ap (λ m. take m (y ∷ ys)) (add-one (suc n))
+    ∙ ap (λ l. y ∷ l) (ap (λ m. take m ys) (sym (add-one n)) ∙ take_turn ys n x after is)
 
 pub drop_turn : (all : List Located) (n : ℕ) (x : Located) (after : List Located) → drop n all ≡ x ∷ after → drop (n + 1) all ≡ after
 drop_turn all n x after is = sym (drop-drop 1 n all) ∙ ap (drop 1) is
@@ -40,13 +42,18 @@ abbrev pub read : {A : Type 0} → List Located → Result (A × ℕ) MarkupFaul
 read rest r = map_ok (with_rest rest) r
 
 -- a reader that takes one character more
-pub one_more-read : (x : Located) (after : List Located) (r : Result (List Located × ℕ) MarkupFault) → read (x ∷ after) (map_ok (one_more x) r) ≡ behind (x ∷ []) (read after r)
+pub one_more-read : (x : Located) (after : List Located) (r : Result (List Located × ℕ) MarkupFault)
+    → read (x ∷ after) (map_ok (one_more x) r) ≡ behind (x ∷ []) (read after r)
 one_more-read x after (Ok y) = ap (λ (l : List Located). Ok (x ∷ y.0, l)) (sym (drop-drop y.1 1 (x ∷ after)))
 one_more-read x after (Err e) = refl
 
 -- a loop that has passed the characters in front, where a reader takes one more
-pub pass : (all : List Located) (n : ℕ) (x : Located) (after : List Located) (rest : List Located) (scan next : List Located → Result (List Located × ℕ) MarkupFault) (total : Result (List Located × List Located) MarkupFault)
-    → rest ≡ x ∷ after → rest ≡ drop n all → scan (x ∷ after) ≡ map_ok (one_more x) (next after) → behind (take n all) (read rest (scan rest)) ≡ total → behind (take (n + 1) all) (read after (next after)) ≡ total
+pub pass : (all : List Located) (n : ℕ) (x : Located) (after : List Located) (rest : List Located)
+    (scan next : List Located → Result (List Located × ℕ) MarkupFault)
+    (total : Result (List Located × List Located) MarkupFault)
+    → rest ≡ x ∷ after → rest ≡ drop n all → scan (x ∷ after) ≡ map_ok (one_more x) (next after)
+    → behind (take n all) (read rest (scan rest)) ≡ total
+    → behind (take (n + 1) all) (read after (next after)) ≡ total
 pass all n x after rest scan next total is at turn so_far =
     ap (λ (l : List Located). behind l (read after (next after))) (take_turn all n x after (sym at ∙ is))
     ∙ behind-behind (take n all) (x ∷ []) (read after (next after))
@@ -55,34 +62,42 @@ pass all n x after rest scan next total is at turn so_far =
     ∙ so_far
 
 -- the loop where the reader stops
-pub stop : (all : List Located) (n : ℕ) (rest behind_it : List Located) (r : Result (List Located × ℕ) MarkupFault) (taken : ℕ) (total : Result (List Located × List Located) MarkupFault)
+pub stop : (all : List Located) (n : ℕ) (rest behind_it : List Located) (r : Result (List Located × ℕ) MarkupFault)
+    (taken : ℕ) (total : Result (List Located × List Located) MarkupFault)
     → r ≡ Ok ([], taken) → drop taken rest ≡ behind_it → behind (take n all) (read rest r) ≡ total → total ≡ Ok (take n all, behind_it)
 stop all n rest behind_it r taken total is others so_far =
     sym so_far ∙ ap (λ (s : Result (List Located × ℕ) MarkupFault). behind (take n all) (read rest s)) is
     ∙ (λ i. Ok (append-nil (take n all) i, others i))
 
 -- the loop where the reader refuses
-pub refuse : (front rest : List Located) (r : Result (List Located × ℕ) MarkupFault) (e : MarkupFault) (total : Result (List Located × List Located) MarkupFault)
+pub refuse : (front rest : List Located) (r : Result (List Located × ℕ) MarkupFault) (e : MarkupFault)
+    (total : Result (List Located × List Located) MarkupFault)
     → r ≡ Err e → behind front (read rest r) ≡ total → total ≡ Err e
 refuse front rest r e total is so_far = sym so_far ∙ ap (λ (s : Result (List Located × ℕ) MarkupFault). behind front (read rest s)) is
 
 -- ---- names
 
-pub name-ends : (rule start : ℕ) (rest : List Located) (x : Located) (after : List Located) → rest ≡ x ∷ after → begins_with equals rest ≡ true → name_at rule start rest ≡ Ok ([], 1)
+pub name-ends : (rule start : ℕ) (rest : List Located) (x : Located) (after : List Located) → rest ≡ x ∷ after
+    → begins_with equals rest ≡ true → name_at rule start rest ≡ Ok ([], 1)
 unfolding name_at
 name-ends rule start rest x after is found =
     let here : begins_with equals (x ∷ after) ≡ true = ap (begins_with equals) (sym is) ∙ found in
     ap (name_at rule start) is ∙ rw here refl
 
-pub name-refused : (rule start : ℕ) (rest : List Located) (x : Located) (after : List Located) → rest ≡ x ∷ after → begins_with equals rest ≡ false → at_end rest ≡ true → name_at rule start rest ≡ Err (fault_at start NoEquals)
+pub name-refused : (rule start : ℕ) (rest : List Located) (x : Located) (after : List Located) → rest ≡ x ∷ after
+    → begins_with equals rest ≡ false → at_end rest ≡ true → name_at rule start rest ≡ Err (fault_at start NoEquals)
 unfolding name_at
 name-refused rule start rest x after is other found =
     let one : begins_with equals (x ∷ after) ≡ false = ap (begins_with equals) (sym is) ∙ other in
     let two : at_end (x ∷ after) ≡ true = ap at_end (sym is) ∙ found in
-    ap (name_at rule start) is ∙ ap (λ b. cond b (Ok ([], 1)) (cond (at_end (x ∷ after)) (Err (fault_at start NoEquals)) (map_ok (one_more x) (name_at rule start after)))) one
+    ap (name_at rule start) is ∙ ap (λ b.
+    cond b (Ok ([], 1)) (cond (at_end (x ∷ after)) (Err (fault_at start NoEquals))
+    (map_ok (one_more x) (name_at rule start after)))) one
     ∙ ap (λ b. cond b (Err (fault_at start NoEquals)) (map_ok (one_more x) (name_at rule start after))) two
 
-pub name-goes_on : (rule start : ℕ) (rest : List Located) (x : Located) (after : List Located) → rest ≡ x ∷ after → begins_with equals rest ≡ false → at_end rest ≡ false → name_at rule start (x ∷ after) ≡ map_ok (one_more x) (name_at rule start after)
+pub name-goes_on : (rule start : ℕ) (rest : List Located) (x : Located) (after : List Located) → rest ≡ x ∷ after
+    → begins_with equals rest ≡ false → at_end rest ≡ false
+    → name_at rule start (x ∷ after) ≡ map_ok (one_more x) (name_at rule start after)
 unfolding name_at
 name-goes_on rule start rest x after is other further =
     let one : begins_with equals (x ∷ after) ≡ false = ap (begins_with equals) (sym is) ∙ other in
@@ -97,13 +112,15 @@ name-open rule start (x ∷ rest) none = absurd (omega arith)
 
 -- ---- values
 
-pub quoted-ends : (rule : ℕ) (rest : List Located) (x : Located) (after : List Located) → rest ≡ x ∷ after → ends_quoted rest ≡ true → quoted_at rule rest ≡ Ok ([], 1)
+pub quoted-ends : (rule : ℕ) (rest : List Located) (x : Located) (after : List Located) → rest ≡ x ∷ after
+    → ends_quoted rest ≡ true → quoted_at rule rest ≡ Ok ([], 1)
 unfolding quoted_at
 quoted-ends rule rest x after is found =
     let here : ends_quoted (x ∷ after) ≡ true = ap ends_quoted (sym is) ∙ found in
     ap (quoted_at rule) is ∙ ap (λ b. cond b (Ok ([], 1)) (map_ok (one_more x) (quoted_at rule after))) here
 
-pub quoted-goes_on : (rule : ℕ) (rest : List Located) (x : Located) (after : List Located) → rest ≡ x ∷ after → ends_quoted rest ≡ false → quoted_at rule (x ∷ after) ≡ map_ok (one_more x) (quoted_at rule after)
+pub quoted-goes_on : (rule : ℕ) (rest : List Located) (x : Located) (after : List Located) → rest ≡ x ∷ after
+    → ends_quoted rest ≡ false → quoted_at rule (x ∷ after) ≡ map_ok (one_more x) (quoted_at rule after)
 unfolding quoted_at
 quoted-goes_on rule rest x after is other =
     let here : ends_quoted (x ∷ after) ≡ false = ap ends_quoted (sym is) ∙ other in
@@ -114,13 +131,16 @@ unfolding quoted_at
 quoted-open rule [] none = refl
 quoted-open rule (x ∷ rest) none = absurd (omega arith)
 
-pub plain-ends : (rule : ℕ) (escaped : Bool) (rest : List Located) (x : Located) (after : List Located) → rest ≡ x ∷ after → ends_plain escaped rest ≡ true → plain_at rule escaped rest ≡ Ok ([], 0)
+pub plain-ends : (rule : ℕ) (escaped : Bool) (rest : List Located) (x : Located) (after : List Located)
+    → rest ≡ x ∷ after → ends_plain escaped rest ≡ true → plain_at rule escaped rest ≡ Ok ([], 0)
 unfolding plain_at
 plain-ends rule escaped rest x after is found =
     let here : ends_plain escaped (x ∷ after) ≡ true = ap (ends_plain escaped) (sym is) ∙ found in
     ap (plain_at rule escaped) is ∙ ap (λ b. cond b (Ok ([], 0)) (map_ok (one_more x) (plain_at rule (eqb x.1 backslash) after))) here
 
-pub plain-goes_on : (rule : ℕ) (escaped : Bool) (rest : List Located) (x : Located) (after : List Located) → rest ≡ x ∷ after → ends_plain escaped rest ≡ false → plain_at rule escaped (x ∷ after) ≡ map_ok (one_more x) (plain_at rule (eqb x.1 backslash) after)
+pub plain-goes_on : (rule : ℕ) (escaped : Bool) (rest : List Located) (x : Located) (after : List Located)
+    → rest ≡ x ∷ after → ends_plain escaped rest ≡ false
+    → plain_at rule escaped (x ∷ after) ≡ map_ok (one_more x) (plain_at rule (eqb x.1 backslash) after)
 unfolding plain_at
 plain-goes_on rule escaped rest x after is other =
     let here : ends_plain escaped (x ∷ after) ≡ false = ap (ends_plain escaped) (sym is) ∙ other in

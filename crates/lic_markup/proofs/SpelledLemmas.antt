@@ -44,8 +44,11 @@ letters_spell last false [] v row starts on s = s
 letters_spell last true [] v row starts on s = absurd (true≢false (sym (starts refl)))
 letters_spell last apart (c ∷ t) v row starts on s = by_letter (λ l a. letters_spell l a t v row) (c == blank) refl apart starts
   where
-    by_letter : ((l : ℕ) (a : Bool) → (a ≡ true → first_is_word t ≡ true) → GoesOn t → SpellsGapped v (gapped_from (last_letter l t) false row) → SpellsGapped (blank_if a ++ (t ++ v)) (gapped_from l a (t ++ row))) →
-        (b : Bool) → (c == blank) ≡ b → (a : Bool) → (a ≡ true → first_is_word (c ∷ t) ≡ true) → SpellsGapped (blank_if a ++ ((c ∷ t) ++ v)) (gapped_from last a ((c ∷ t) ++ row))
+    by_letter : ((l : ℕ) (a : Bool) → (a ≡ true → first_is_word t ≡ true) → GoesOn t
+        → SpellsGapped v (gapped_from (last_letter l t) false row)
+        → SpellsGapped (blank_if a ++ (t ++ v)) (gapped_from l a (t ++ row))) →
+        (b : Bool) → (c == blank) ≡ b → (a : Bool) → (a ≡ true → first_is_word (c ∷ t) ≡ true)
+        → SpellsGapped (blank_if a ++ ((c ∷ t) ++ v)) (gapped_from last a ((c ∷ t) ++ row))
     by_letter more true h true first = absurd (true≢false (sym h ∙ word_no_blank c (first refl)))
     by_letter more true h false first =
         let is : c ≡ blank = eqb-true c blank h in
@@ -57,7 +60,8 @@ letters_spell last apart (c ∷ t) v row starts on s = by_letter (λ l a. letter
         more c false (λ e. absurd (true≢false (sym e))) on.1 (subst (λ l. SpellsGapped v (gapped_from l false row)) (last_letter-letter last false c t h) s) in
         rw (gapped_from-letter last a c (t ++ row) h) (gap a (is_word last && is_word c) later)
       where
-        gap : (a both : Bool) → SpellsGapped (t ++ v) (gapped_from c false (t ++ row)) → SpellsGapped (blank_if a ++ ((c ∷ t) ++ v)) ((gap_of a both, c) ∷ gapped_from c false (t ++ row))
+        gap : (a both : Bool) → SpellsGapped (t ++ v) (gapped_from c false (t ++ row))
+            → SpellsGapped (blank_if a ++ ((c ∷ t) ++ v)) ((gap_of a both, c) ∷ gapped_from c false (t ++ row))
         gap false both later = (0, refl, t ++ v, refl, later)
         gap true false later = (1, tt, t ++ v, refl, later)
         gap true true later = (1, omega arith, t ++ v, refl, later)
@@ -68,7 +72,8 @@ token_spells : (last d : ℕ) (t v row : List ℕ) → (d == blank) ≡ false �
 token_spells last d t v row h on s =
     rw (gapped_from-letter last true d (t ++ row) h) (gap (is_word last && is_word d) (letters_spell d false t v row (λ e. absurd (true≢false (sym e))) on s))
   where
-    gap : (both : Bool) → SpellsGapped (t ++ v) (gapped_from d false (t ++ row)) → SpellsGapped (blank_if both ++ ((d ∷ t) ++ v)) ((gap_of true both, d) ∷ gapped_from d false (t ++ row))
+    gap : (both : Bool) → SpellsGapped (t ++ v) (gapped_from d false (t ++ row))
+        → SpellsGapped (blank_if both ++ ((d ∷ t) ++ v)) ((gap_of true both, d) ∷ gapped_from d false (t ++ row))
     gap false later = (0, tt, t ++ v, refl, later)
     gap true later = (1, omega arith, t ++ v, refl, later)
 
@@ -91,7 +96,8 @@ ends d (e ∷ t) on = by_letter (λ l. ends l t on.1) (e == blank) refl
     behind_blank [] word = absurd (true≢false (sym word))
     behind_blank (f ∷ t) word = last_kept e f t ∙ sym (last_kept d f t)
 
-    by_letter : ((l : ℕ) → first_is_word (reverse (l ∷ t)) ≡ is_word (last_letter l t)) → (b : Bool) → (e == blank) ≡ b → first_is_word (reverse (d ∷ e ∷ t)) ≡ is_word (last_letter d (e ∷ t))
+    by_letter : ((l : ℕ) → first_is_word (reverse (l ∷ t)) ≡ is_word (last_letter l t)) → (b : Bool) → (e == blank) ≡ b
+        → first_is_word (reverse (d ∷ e ∷ t)) ≡ is_word (last_letter d (e ∷ t))
     by_letter more true h = last_kept d e t ∙ behind_blank t (on.0 (eqb-true e blank h)) ∙ more d ∙ ap is_word (sym (last_letter-blank d false e t h))
     by_letter more false h = last_kept d e t ∙ more e ∙ ap is_word (sym (last_letter-letter d false e t h))
 
@@ -118,7 +124,8 @@ rows_spell last (d ∷ t) (u ∷ us) row rows =
 
 joined_spells : (t : List ℕ) (ts : List (List ℕ)) → IsRow t → AreRows ts → Spells (joined (t ∷ ts)) (t ∷ ts)
 joined_spells t ts row rows =
-    subst (λ b. SpellsGapped (blank_if (b && first_is_word t) ++ joined (t ∷ ts)) (gapped_from blank true (t ++ row_of ts))) blank_no_word (rows_spell blank t ts row rows)
+    subst (λ b. SpellsGapped (blank_if (b && first_is_word t) ++ joined (t ∷ ts))
+    (gapped_from blank true (t ++ row_of ts))) blank_no_word (rows_spell blank t ts row rows)
 
 -- ---- texts in UTF-8
 
@@ -148,7 +155,8 @@ chars-spelled [] all = chars-nil
 chars-spelled (t ∷ []) all = refl
 chars-spelled (t ∷ u ∷ ts) all =
     chars-append t (blank_if (is_parted t u) ++ spelled (u ∷ ts)) (All-head IsUtf8 t (u ∷ ts) all)
-    ∙ ap (λ l. chars t ++ l) (chars-blank_if (is_parted t u) (spelled (u ∷ ts)) ∙ ap (λ l. blank_if (is_parted t u) ++ l) (chars-spelled (u ∷ ts) (All-tail IsUtf8 t (u ∷ ts) all)))
+    ∙ ap (λ l. chars t ++ l) (chars-blank_if (is_parted t u) (spelled (u ∷ ts))
+    ∙ ap (λ l. blank_if (is_parted t u) ++ l) (chars-spelled (u ∷ ts) (All-tail IsUtf8 t (u ∷ ts) all)))
 
 -- ---- texts of tokens
 
@@ -174,7 +182,8 @@ token_row text utf8 token = IsRow-each (chars text) some first each
     back = encodes-chars text utf8
 
     some : chars text ≡ [] → ⊥
-    some none = let e : length text ≡ 0 = ap length (sym back ∙ ap encodes none) in let more : 0 < length text = token.not_empty in absurd (omega (arith, e, more))
+    some none = let e : length text ≡ 0 = ap length (sym back ∙ ap encodes none) in let more : 0 < length text =
+        token.not_empty in absurd (omega (arith, e, more))
 
     cut : (f r : List ℕ) → chars text ≡ f ++ blank ∷ r → text ≡ encodes f ++ 0x20 ∷ encodes r
     cut f r e = sym back ∙ ap encodes e ∙ encodes-append f (blank ∷ r) ∙ ap (λ l. encodes f ++ (l ++ encodes r)) (encode_ascii blank (lit< tt))

@@ -7,5 +7,8 @@ pub mod Lines
 pub mod Weights
 pub mod Parts
 pub mod Reading
+pub mod Markup
+pub mod Templates
+pub mod FirstFaults
 pub mod Meaning
 pub mod Views

@@ -56,4 +56,5 @@ part_words part = node_words (part_of part)
 
 -- the texts of the tokens that are read from a piece of a template's text
 abbrev pub piece_texts : LineRules → List Phrase → Bool → Next → List ℕ → List (List ℕ)
-piece_texts rules words at_line_start before piece = map (λ t. t.text) (rewritten words (piece_tokens rules at_line_start before piece))
+piece_texts rules words at_line_start before piece =
+    map (λ t. t.text) (rewritten words (piece_tokens rules at_line_start before piece))

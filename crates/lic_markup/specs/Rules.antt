@@ -34,7 +34,8 @@ tag_of word =
 unfoldable pub tag_at : Located → List Located → Option (Tag × ℕ)
 tag_at x rest =
     let word : List Located = word_at (drop 1 rest) in
-    (if x.1 == less && begins_with less rest then option_map (λ tag. (tag, 1 + length word)) (tag_of (text_of word)) else None)
+    (if x.1 == less && begins_with less rest then option_map (λ tag. (tag, 1 + length word))
+    (tag_of (text_of word)) else None)
 
 -- ---- fields
 
@@ -124,7 +125,8 @@ field_at rule start tag values rest =
     let field : Field = field_of tag (text_of (trim_end name.0)) in
     let behind : List Located = drop name.1 rest in
     (if has_value field values then Err (fault_at start FieldTwice)
-    else map_ok (λ value. (with_value field value.0 values, name.1 + (spaces behind + value.1))) (value_at rule (trim_front behind)))
+    else map_ok (λ value. (with_value field value.0 values, name.1 + (spaces behind + value.1)))
+    (value_at rule (trim_front behind)))
 
 -- behind a `;`: white space, and then a field, or none where `;`, `>>` or the end of the text follows
 abbrev pub field_or_none : ℕ → Tag → Values → List Located → Result (Values × ℕ) MarkupFault
@@ -138,9 +140,11 @@ unfoldable pub fields_at : ℕ → Tag → Values → ℕ → List Located → R
 fields_at rule tag values skip [] = Err (fault_at rule NotClosed)
 fields_at rule tag values (suc skip) (x ∷ rest) = map_ok (further 1) (fields_at rule tag values skip rest)
 fields_at rule tag values zero (x ∷ rest) =
-    let others : Values × ℕ → Result (Values × ℕ) MarkupFault = λ read. fields_at rule tag read.0 (spaces rest + read.1) rest in
+    let others : Values × ℕ → Result (Values × ℕ) MarkupFault =
+    λ read. fields_at rule tag read.0 (spaces rest + read.1) rest in
     if begins_with_two greater (x ∷ rest) then Ok (values, 2)
-    else (if begins_with semicolon (x ∷ rest) then map_ok (further 1) (field_or_none rule tag values (trim_front rest) >>= others)
+    else (if begins_with semicolon (x ∷ rest) then map_ok (further 1)
+    (field_or_none rule tag values (trim_front rest) >>= others)
     else Err (fault_at rule NotClosed))
 
 -- ---- rules

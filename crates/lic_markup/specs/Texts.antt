@@ -1,5 +1,5 @@
 -- Characters of a template with their places: white space at the ends, and the text that they write.
-use Rattle.std.specs.Prelude.{ℕ, ◌+◌, ◌==◌, ◌&&◌, Bool, false, List, [], ◌∷◌, ◌++◌, drop, if◌then◌else◌}
+use Rattle.std.specs.Prelude.{ℕ, ◌+◌, ◌==◌, ◌&&◌, Bool, true, false, List, [], ◌∷◌, ◌++◌, drop, if◌then◌else◌}
 use Rattle.std.specs.Char.{is_whitespace, encode_utf8}
 use Rattle.lic_ere.specs.Located.{Located}
 use Rattle.lic_markup.specs.Signs.{backslash, semicolon}
@@ -42,6 +42,22 @@ kept_before x (y ∷ rest) = x ∷ y ∷ rest
 abbrev pub trim_end : List Located → List Located
 trim_end [] = []
 trim_end (x ∷ rest) = kept_before x (trim_end rest)
+
+-- all of these characters are white space
+abbrev pub are_spaces : List Located → Bool
+are_spaces [] = true
+are_spaces (x ∷ rest) = is_whitespace x.1 && are_spaces rest
+
+-- the first of these characters is white space
+abbrev pub begins_in_space : List Located → Bool
+begins_in_space [] = false
+begins_in_space (x ∷ rest) = is_whitespace x.1
+
+-- the last of these characters is white space
+abbrev pub ends_in_space : List Located → Bool
+ends_in_space [] = false
+ends_in_space (x ∷ []) = is_whitespace x.1
+ends_in_space (x ∷ y ∷ rest) = ends_in_space (y ∷ rest)
 
 -- each backslash directly before a semicolon taken out
 abbrev pub unescaped : List Located → List Located

@@ -43,8 +43,11 @@ fn push_rule<'a>(
     tag: Tag,
     rest: &'a [(usize, char)],
 ) -> Result<Option<&'a [(usize, char)]>, AllocError>
-    ensures found { OnOk result (map element_of found.new.items ≡ map element_of found.old.items ++ element_read (rule_at place tag rest.now) ∷ []) }
-    ensures behind { IfOk result (λ behind. option_map (λ x. x.now) behind ≡ behind_rule rest.now (rule_at place tag rest.now)) }
+    ensures found { OnOk result
+        (map element_of found.new.items
+        ≡ map element_of found.old.items ++ element_read (rule_at place tag rest.now) ∷ []) }
+    ensures behind { IfOk result (λ behind. option_map (λ x. x.now) behind
+        ≡ behind_rule rest.now (rule_at place tag rest.now)) }
 {
     match read_rule(alloc, place, tag, rest) {
         Ok((rule, behind)) => {

@@ -66,7 +66,8 @@ impl Values {
         field: Field,
         value: &[(usize, char)],
     ) -> Result<(), AllocError>
-        ensures { OnOk result (values_of self.new ≡ with_value field value.now (values_of self.old)) }
+        ensures { OnOk result (values_of self.new
+            ≡ with_value field value.now (values_of self.old)) }
     {
         match field {
             Field::Name => self.name = Some(unescaped(alloc, value)?),
@@ -107,7 +108,8 @@ fn name(
     start: usize,
     all: &[(usize, char)],
 ) -> Result<(&[(usize, char)], &[(usize, char)]), MarkupFault>
-    ensures { Gives (λ x. (x.0.now, x.1.now)) result (map_ok (with_rest all.now) (name_at rule start all.now)) }
+    ensures { Gives (λ x. (x.0.now, x.1.now)) result
+        (map_ok (with_rest all.now) (name_at rule start all.now)) }
 {
     let mut count = 0;
     let mut rest = all;
@@ -145,7 +147,8 @@ fn quoted(
     rule: usize,
     all: &[(usize, char)],
 ) -> Result<(&[(usize, char)], &[(usize, char)]), MarkupFault>
-    ensures { Gives (λ x. (x.0.now, x.1.now)) result (map_ok (with_rest all.now) (quoted_at rule all.now)) }
+    ensures { Gives (λ x. (x.0.now, x.1.now)) result
+        (map_ok (with_rest all.now) (quoted_at rule all.now)) }
 {
     let mut count = 0;
     let mut rest = all;
@@ -174,7 +177,8 @@ fn plain(
     rule: usize,
     all: &[(usize, char)],
 ) -> Result<(&[(usize, char)], &[(usize, char)]), MarkupFault>
-    ensures { Gives (λ x. (x.0.now, x.1.now)) result (map_ok (with_rest all.now) (plain_at rule false all.now)) }
+    ensures { Gives (λ x. (x.0.now, x.1.now)) result
+        (map_ok (with_rest all.now) (plain_at rule false all.now)) }
 {
     let mut count = 0;
     let mut escaped = false;
@@ -199,7 +203,8 @@ fn value(
     rule: usize,
     rest: &[(usize, char)],
 ) -> Result<(&[(usize, char)], &[(usize, char)]), MarkupFault>
-    ensures { Gives (λ x. (x.0.now, x.1.now)) result (map_ok (with_rest rest.now) (value_at rule rest.now)) }
+    ensures { Gives (λ x. (x.0.now, x.1.now)) result
+        (map_ok (with_rest rest.now) (value_at rule rest.now)) }
 {
     if begins_with(rest, '"') {
         return quoted(rule, &rest[1..]);
@@ -219,7 +224,8 @@ fn read_field<'a>(
     values: &mut Values,
     rest: &'a [(usize, char)],
 ) -> Result<&'a [(usize, char)], MarkupFault>
-    ensures { Gives (λ x. (values_of values.new, x.now)) result (map_ok (with_rest rest.now) (field_at rule start tag (values_of values.old) rest.now)) }
+    ensures { Gives (λ x. (values_of values.new, x.now)) result
+        (map_ok (with_rest rest.now) (field_at rule start tag (values_of values.old) rest.now)) }
 {
     let (name, behind) = name(rule, start, rest)?;
     let name = text_of(alloc, trim_end(name))?;
@@ -243,7 +249,8 @@ fn field_or_none<'a>(
     values: &mut Values,
     rest: &'a [(usize, char)],
 ) -> Result<&'a [(usize, char)], MarkupFault>
-    ensures { Gives (λ x. (values_of values.new, x.now)) result (map_ok (with_rest rest.now) (field_or_none rule tag (values_of values.old) rest.now)) }
+    ensures { Gives (λ x. (values_of values.new, x.now)) result
+        (map_ok (with_rest rest.now) (field_or_none rule tag (values_of values.old) rest.now)) }
 {
     let [(start, _), ..] = rest else {
         return Ok(rest);
@@ -261,7 +268,8 @@ pub fn fields(
     tag: Tag,
     all: &[(usize, char)],
 ) -> Result<(Values, &[(usize, char)]), MarkupFault>
-    ensures { Gives (λ x. (values_of x.0, x.1.now)) result (map_ok (with_rest all.now) (fields_at rule tag no_values 0 all.now)) }
+    ensures { Gives (λ x. (values_of x.0, x.1.now)) result
+        (map_ok (with_rest all.now) (fields_at rule tag no_values 0 all.now)) }
 {
     let mut values = Values::none();
     let mut rest = all;

@@ -1,10 +1,11 @@
 //! Laws of what parts of templates stand for, each the contract of a function that does nothing.
 ghost use Rattle.std.specs.Prelude.{◌≡◌, ◌↔◌, ◌++◌, ◌∷◌, [], ◌==◌, ℕ, Bool, true, false, not};
-ghost use Rattle.std.specs.Prelude.{List, Vec, String, Ok, All, chars, map};
+ghost use Rattle.std.specs.Prelude.{List, Vec, String, Ok, Err, All, chars, map};
 ghost use Rattle.std.specs.Global.{Global};
 ghost use Rattle.std.specs.List.{concat, filter, list_any};
 ghost use Rattle.std.specs.Str.{IsUtf8};
 ghost use Rattle.std.specs.String.{string_bytes};
+ghost use Rattle.lic_ere.specs.Located.{Located, located};
 ghost use Rattle.lic_lines.specs.LineRules.{LineRules};
 ghost use Rattle.lic_phrases.specs.Rewriting.{Phrase};
 ghost use Rattle.lic_phrases.specs.TokenTexts.{HaveTokenTexts, IsTokenText};
@@ -18,15 +19,21 @@ ghost use Rattle.lic_words.specs.Words.{Cat, blank};
 ghost use Rattle.lic_markup.specs.declared.part.Part.{Part};
 ghost use Rattle.lic_markup.specs.declared.part.Part.TheVariants.{Text, Optional};
 ghost use Rattle.lic_markup.specs.Signs.{less};
+ghost use Rattle.lic_markup.specs.declared.fault.MarkupFault.{MarkupFault};
+ghost use Rattle.lic_markup.specs.Elements.{Element};
+ghost use Rattle.lic_markup.specs.FirstFaults.{IsFaultOf};
 ghost use Rattle.lic_markup.specs.Parts.{Reading, letters, part_of};
 ghost use Rattle.lic_markup.specs.Reading.{reading};
+ghost use Rattle.lic_markup.specs.Texts.{are_spaces, begins_in_space, ends_in_space, trim_end, trim_front};
+ghost use Rattle.lic_markup.specs.Templates.{AreElements, IsTemplate, original_of};
 ghost use Rattle.lic_markup.specs.Meaning.{parts_words, part_words, piece_texts};
 
 /// Parts in a row stand for a word of the first of them and then one of the others.
 pub fn parts_in_a_row_stand_for_both()
     ensures { (xs ys : List Part) (w : List ℕ)
         → Language (parts_words (map part_of (xs ++ ys))) w
-        ↔ Cat (Language (parts_words (map part_of xs))) (Language (parts_words (map part_of ys))) w }
+        ↔ Cat (Language (parts_words (map part_of xs)))
+        (Language (parts_words (map part_of ys))) w }
 {}
 
 /// An optional part that has only an optional part stands for what that part does.
@@ -45,21 +52,26 @@ pub fn a_text_describes_its_letters_alone()
 /// A text with the letters of a piece describes the tokens that are read from the piece, with the same
 /// facts of its lines, the same line rules and the same words, where these have the texts of tokens, in UTF-8.
 pub fn a_text_describes_the_tokens_of_its_piece()
-    ensures { (rules : LineRules) (words : List Phrase) (at_line_start : Bool) (before : Next) (piece : List ℕ)
-        → (text : String Global) → string_bytes text ≡ piece_of rules words at_line_start before piece
+    ensures { (rules : LineRules) (words : List Phrase) (at_line_start : Bool) (before : Next)
+        (piece : List ℕ)
+        → (text : String Global)
+        → string_bytes text ≡ piece_of rules words at_line_start before piece
         → ¬ (piece_texts rules words at_line_start before piece ≡ [])
         → All IsUtf8 (piece_texts rules words at_line_start before piece)
         → All IsTokenText (piece_texts rules words at_line_start before piece)
-        → IsDescribed (part_words (Text text)) (map chars (piece_texts rules words at_line_start before piece)) }
+        → IsDescribed (part_words (Text text))
+        (map chars (piece_texts rules words at_line_start before piece)) }
 {}
 
 /// A text with the letters of a source in UTF-8, taken as whole lines, describes the tokens of that source.
 pub fn a_text_describes_its_source()
     ensures { (rules : LineRules) (words : List Phrase) (source : List ℕ) (text : String Global)
-        → HaveTokenTexts words → IsUtf8 source → string_bytes text ≡ piece_of rules words true LineEnd source
+        → HaveTokenTexts words → IsUtf8 source
+        → string_bytes text ≡ piece_of rules words true LineEnd source
         → ¬ (tokens_of rules words source ≡ [])
         → All IsUtf8 (map (λ t. t.text) (tokens_of rules words source))
-        → IsDescribed (part_words (Text text)) (map (λ t. chars t.text) (tokens_of rules words source)) }
+        → IsDescribed (part_words (Text text))
+        (map (λ t. chars t.text) (tokens_of rules words source)) }
 {}
 
 /// An accepted template without rules is one text, which has the letters of the whole template as a piece.
@@ -68,4 +80,39 @@ pub fn a_template_without_rules_is_one_text()
         → IsUtf8 template → list_any (λ c. c == less) (chars template) ≡ false
         → reading rules words template ≡ Ok read
         → read.parts ≡ letters (piece_of rules words true LineEnd template) ∷ [] }
+{}
+
+/// The fault that a template is refused by is the one that decides: that it is too long; else the first rule at fault; else,
+/// behind the last rule, that a part is open, that no piece gives a token, that the template is too heavy.
+pub fn a_template_is_refused_by_the_fault_that_decides()
+    ensures { (rules : LineRules) (words : List Phrase) (template : List ℕ) (e : MarkupFault)
+        → reading rules words template ≡ Err e → IsFaultOf rules words template e }
+{}
+
+/// A text says one thing at most as a template of the markup.
+pub fn a_template_says_one_thing()
+    ensures { (rules : LineRules) (words : List Phrase) (template : List ℕ) (one other : Reading)
+        → IsTemplate rules words template one → IsTemplate rules words template other
+        → one ≡ other }
+{}
+
+/// The original text of an accepted template is its text with the optional rules taken out and each variable replaced by its
+/// original value.
+pub fn the_original_text_is_the_text_without_its_rules()
+    ensures { (rules : LineRules) (words : List Phrase) (template : List ℕ) (read : Reading)
+        → reading rules words template ≡ Ok read
+        → (elements : List Element) × AreElements (located template) elements
+        × (read.original ≡ original_of elements) }
+{}
+
+/// What is taken off the front of a text is white space, and all of it.
+pub fn white_space_is_taken_off_the_front()
+    ensures { (text : List Located) → (space : List Located) × (text ≡ space ++ trim_front text)
+        × (are_spaces space ≡ true) × (begins_in_space (trim_front text) ≡ false) }
+{}
+
+/// What is taken off the end of a text is white space, and all of it.
+pub fn white_space_is_taken_off_the_end()
+    ensures { (text : List Located) → (space : List Located) × (text ≡ trim_end text ++ space)
+        × (are_spaces space ≡ true) × (ends_in_space (trim_end text) ≡ false) }
 {}

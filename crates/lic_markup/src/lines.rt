@@ -82,7 +82,8 @@ pub fn ends_line(piece: &[(usize, char)]) -> bool
 
 /// Each element with what follows it in its line, the last element first.
 pub fn with_next(alloc: Global, elements: Vec<Element>) -> Result<Vec<(Element, Next)>, AllocError>
-    ensures { IfOk result (λ placed. map placed_of (reverse placed.items) ≡ lines.with_next (map element_of elements.items)) }
+    ensures { IfOk result (λ placed. map placed_of (reverse placed.items)
+        ≡ lines.with_next (map element_of elements.items)) }
 {
     let mut elements = elements;
     let mut placed = Vec::new(alloc);

@@ -38,7 +38,11 @@ impl Model for Template {
 
     ghost coded = { Prim.hlevel (codes, e.the_row.coded) };
 
-    ghost view = { λ t. record { parts = t.parts.items; weight = t.weight; original = string_bytes t.original } };
+    ghost view = { λ t. record {
+      parts = t.parts.items;
+      weight = t.weight;
+      original = string_bytes t.original;
+    } };
 }
 
 impl Template {

@@ -49,7 +49,8 @@ impl Level {
 
     /// Adds the letters of a piece of text as a part; none are no part.
     fn push_letters(&mut self, letters: String) -> Result<(), AllocError>
-        ensures { OnOk result (level_of self.new ≡ reading.with_letters (string_bytes letters) (level_of self.old)) }
+        ensures { OnOk result (level_of self.new
+            ≡ reading.with_letters (string_bytes letters) (level_of self.old)) }
     {
         if !letters.is_empty() {
             self.parts.push(Part::Text(letters))?;
@@ -115,7 +116,9 @@ impl Reader {
         characters: &[(usize, char)],
         follows: Next,
     ) -> Result<(), AllocError>
-        ensures { OnOk result (state_of self.new ≡ reading.meet_text (rules_of rules.now) words.now characters.now follows (state_of self.old)) }
+        ensures { OnOk result (state_of self.new
+            ≡ reading.meet_text (rules_of rules.now) words.now characters.now follows
+            (state_of self.old)) }
     {
         let next = if ends_line(characters) {
             Next::LineEnd
@@ -139,7 +142,9 @@ impl Reader {
         place: usize,
         pattern: String,
     ) -> Result<(), MarkupFault>
-        ensures { Gives (λ _. state_of self.new) result (reading.meet_variable (string_bytes name) (string_bytes original) place (patterns.reading (string_bytes pattern)) (state_of self.old)) }
+        ensures { Gives (λ _. state_of self.new) result
+            (reading.meet_variable (string_bytes name) (string_bytes original) place
+            (patterns.reading (string_bytes pattern)) (state_of self.old)) }
     {
         let ere = match read(alloc, &pattern) {
             Ok(ere) => ere,
@@ -157,7 +162,8 @@ impl Reader {
 
     /// The begin of an optional part at a place.
     fn begin(&mut self, alloc: Global, place: usize) -> Result<(), MarkupFault>
-        ensures { Gives (λ _. state_of self.new) result (reading.meet_begin place (state_of self.old)) }
+        ensures { Gives (λ _. state_of self.new) result
+            (reading.meet_begin place (state_of self.old)) }
     {
         if self.outer.len() >= MAX_DEPTH {
             return Err(MarkupFault {
@@ -172,7 +178,9 @@ impl Reader {
 
     /// The end of an optional part at a place.
     fn end(&mut self, place: usize) -> Result<(), MarkupFault>
-        ensures { Gives (λ _. state_of self.new) result (reading.meet_end place (state_of self.old).level (state_of self.old).outer (state_of self.old)) }
+        ensures { Gives (λ _. state_of self.new) result
+            (reading.meet_end place (state_of self.old).level (state_of self.old).outer
+            (state_of self.old)) }
     {
         let Some(outer) = self.outer.pop() else {
             return Err(MarkupFault {
@@ -195,7 +203,9 @@ impl Reader {
         element: Element,
         follows: Next,
     ) -> Result<(), MarkupFault>
-        ensures { Gives (λ _. state_of self.new) result (reading.meet (rules_of rules.now) words.now (element_of element) follows (state_of self.old)) }
+        ensures { Gives (λ _. state_of self.new) result
+            (reading.meet (rules_of rules.now) words.now (element_of element) follows
+            (state_of self.old)) }
     {
         match element {
             Element::Text(characters) => self.text(alloc, rules, words, &characters, follows)?,
@@ -216,7 +226,8 @@ impl Reader {
 
     /// Behind the last element.
     pub fn finish(self) -> Result<Template, MarkupFault>
-        ensures exact { Gives template_of result (reading.finish (state_of self).level (state_of self).outer (state_of self).original) }
+        ensures exact { Gives template_of result
+            (reading.finish (state_of self).level (state_of self).outer (state_of self).original) }
         ensures weighed { IfOk result (λ t. t.weight ≡ weight_of t.parts) }
         ensures light { IfOk result (λ t. t.weight ≤ 131072) }
         ensures some_token { IfOk result (λ t. GiveToken t.parts) }
@@ -233,7 +244,8 @@ impl Reader {
 
 /// The template of these parts, unless it has no token or is too heavy.
 fn whole(parts: Vec<Part>, original: String) -> Result<Template, MarkupFault>
-    ensures exact { Gives template_of result (reading.whole (map part_of parts.items) (string_bytes original)) }
+    ensures exact { Gives template_of result
+        (reading.whole (map part_of parts.items) (string_bytes original)) }
     ensures weighed { IfOk result (λ t. t.weight ≡ weight_of t.parts) }
     ensures light { IfOk result (λ t. t.weight ≤ 131072) }
     ensures some_token { IfOk result (λ t. GiveToken t.parts) }

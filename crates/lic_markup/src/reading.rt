@@ -1,9 +1,10 @@
 //! Reading a template.
-ghost use Rattle.std.specs.Prelude.{◌≡◌, ◌≤◌, IfOk, map, reverse};
+ghost use Rattle.std.specs.Prelude.{◌≡◌, ◌≤◌, IfOk, Ok, map, reverse};
 ghost use Rattle.lic_kind.specs.LineRules.{rules_of};
 ghost use Rattle.lic_markup.specs.Faults.{Gives};
-ghost use Rattle.lic_markup.specs.Parts.{GiveToken, template_of, weight_of};
+ghost use Rattle.lic_markup.specs.Parts.{GiveToken, Reading, template_of, weight_of};
 ghost use Rattle.lic_markup.specs.Reading.{start, read_on, reading};
+ghost use Rattle.lic_markup.specs.Templates.{IsTemplate};
 ghost use Rattle.lic_markup.specs.Views.{placed_of};
 
 use crate::elements::{Element, pieces_and_rules};
@@ -26,7 +27,8 @@ fn read_elements(
     words: &Words,
     elements: Vec<(Element, Next)>,
 ) -> Result<Template, MarkupFault>
-    ensures exact { Gives template_of result (read_on (rules_of rules.now) words.now start (map placed_of (reverse elements.items))) }
+    ensures exact { Gives template_of result
+        (read_on (rules_of rules.now) words.now start (map placed_of (reverse elements.items))) }
     ensures weighed { IfOk result (λ t. t.weight ≡ weight_of t.parts) }
     ensures light { IfOk result (λ t. t.weight ≤ 131072) }
     ensures some_token { IfOk result (λ t. GiveToken t.parts) }
@@ -47,6 +49,12 @@ pub fn read_template(
     words: &Words,
     rules: &Rules,
 ) -> Result<Template, MarkupFault>
+    // What is read is a template in this markup, and says what was read of it.
+    ensures found { IfOk result (λ t.
+        IsTemplate (rules_of rules.now) words.now text.now (template_of t)) }
+    // What a template in this markup says is read, unless memory runs out.
+    ensures only { (says : Reading) → IsTemplate (rules_of rules.now) words.now text.now says
+        → Gives template_of result (Ok says) }
     // The parts, the weight and the original text, or the fault that decides, unless memory runs out.
     ensures exact { Gives template_of result (reading (rules_of rules.now) words.now text.now) }
     // What a template weighs and holds, whatever was read.

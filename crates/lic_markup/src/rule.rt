@@ -63,7 +63,8 @@ pub fn read_rule(
     tag: Tag,
     rest: &[(usize, char)],
 ) -> Result<(Rule, &[(usize, char)]), MarkupFault>
-    ensures { Gives (λ x. (rule_of x.0, x.1.now)) result (map_ok (with_rest rest.now) (rules.rule_at place tag rest.now)) }
+    ensures { Gives (λ x. (rule_of x.0, x.1.now)) result
+        (map_ok (with_rest rest.now) (rules.rule_at place tag rest.now)) }
 {
     let (values, behind) = fields(alloc, place, tag, trim_front(rest))?;
     Ok((complete(place, tag, values)?, behind))

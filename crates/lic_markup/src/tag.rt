@@ -57,7 +57,8 @@ pub fn read_tag(
     first: (usize, char),
     rest: &[(usize, char)],
 ) -> Result<Option<(Tag, &[(usize, char)])>, AllocError>
-    ensures { IfOk result (λ found. option_map (λ x. (x.0, x.1.now)) found ≡ option_map (with_rest rest.now) (tag_at first rest.now)) }
+    ensures { IfOk result (λ found. option_map (λ x. (x.0, x.1.now)) found
+        ≡ option_map (with_rest rest.now) (tag_at first rest.now)) }
 {
     if first.1 != '<' || !begins_with(rest, '<') {
         return Ok(None);

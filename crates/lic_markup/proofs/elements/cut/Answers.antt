@@ -20,10 +20,15 @@ returns-in_default-3 c =
     let r = rule_at x.0 c.in-Some-2.tag c.in-Some-2.behind.now in
     let F = map element_of c.loop-first.found.items in
     let now : map element_of c.push_rule.new.found.items ≡ (F ++ text c.loop-first.piece.items ∷ []) ++ element_read r ∷ [] =
-    c.in_ok-behind.ensures.found ∙ ap (λ (es : List Element). es ++ element_read r ∷ []) (ap (map element_of) c.in_ok-push-2.ensures.items ∙ map-append element_of c.loop-first.found.items (Text c.replace.result ∷ []) ∙ ap (λ v. F ++ text v.items ∷ []) c.replace.ensures.value) in
+    c.in_ok-behind.ensures.found ∙ ap (λ (es : List Element). es ++ element_read r ∷ [])
+    (ap (map element_of) c.in_ok-push-2.ensures.items
+    ∙ map-append element_of c.loop-first.found.items (Text c.replace.result ∷ [])
+    ∙ ap (λ v. F ++ text v.items ∷ []) c.replace.ensures.value) in
     let all = cut_rule F _ _ c.loop-first.piece.items x c.in-Some.after.now c.loop-first.rest.now c.in-Some-2.tag c.in-Some-2.behind.now c.in-Some.ensures.cases.0 (some_there _ _ (c.in-Some-2.tag, c.in-Some-2.behind) _ c.in-Some-2.is c.in_ok-tag.ensures) now c.loop-first.invariant in
     let E = map element_of c.push_rule.new.found.items in
-    sym (append-nil E) ∙ ap (λ (es : List Element). E ++ es) (sym (others-none c.in-Some-2.behind.now r (none_there _ _ _ c.in_default-3.not-Some c.in_ok-behind.ensures.behind))) ∙ all
+    sym (append-nil E) ∙ ap (λ (es : List Element). E ++ es)
+    (sym (others-none c.in-Some-2.behind.now r
+    (none_there _ _ _ c.in_default-3.not-Some c.in_ok-behind.ensures.behind))) ∙ all
 
 pub loop-first-preserved : goal.loop-first-preserved
 loop-first-preserved c =
@@ -31,12 +36,17 @@ loop-first-preserved c =
     let r = rule_at x.0 c.in-Some-2.tag c.in-Some-2.behind.now in
     let F = map element_of c.loop-first.found.items in
     let now : map element_of c.push_rule.new.found.items ≡ (F ++ text c.loop-first.piece.items ∷ []) ++ element_read r ∷ [] =
-    c.in_ok-behind.ensures.found ∙ ap (λ (es : List Element). es ++ element_read r ∷ []) (ap (map element_of) c.in_ok-push-2.ensures.items ∙ map-append element_of c.loop-first.found.items (Text c.replace.result ∷ []) ∙ ap (λ v. F ++ text v.items ∷ []) c.replace.ensures.value) in
+    c.in_ok-behind.ensures.found ∙ ap (λ (es : List Element). es ++ element_read r ∷ [])
+    (ap (map element_of) c.in_ok-push-2.ensures.items
+    ∙ map-append element_of c.loop-first.found.items (Text c.replace.result ∷ [])
+    ∙ ap (λ v. F ++ text v.items ∷ []) c.replace.ensures.value) in
     let all = cut_rule F _ _ c.loop-first.piece.items x c.in-Some.after.now c.loop-first.rest.now c.in-Some-2.tag c.in-Some-2.behind.now c.in-Some.ensures.cases.0 (some_there _ _ (c.in-Some-2.tag, c.in-Some-2.behind) _ c.in-Some-2.is c.in_ok-tag.ensures) now c.loop-first.invariant in
     let E = map element_of c.push_rule.new.found.items in
     let none : c.replace.new.dest.items ≡ [] = ap (λ v. v.items) c.replace.ensures.after ∙ c.new.ensures.items in
     ap (λ (p : List Located). E ++ elements p 0 c.in-Some-3.behind.now) none
-    ∙ ap (λ (es : List Element). E ++ es) (sym (others-some c.in-Some-2.behind.now c.in-Some-3.behind.now r (some_there _ _ c.in-Some-3.behind _ c.in-Some-3.is c.in_ok-behind.ensures.behind))) ∙ all
+    ∙ ap (λ (es : List Element). E ++ es)
+    (sym (others-some c.in-Some-2.behind.now c.in-Some-3.behind.now r
+    (some_there _ _ c.in-Some-3.behind _ c.in-Some-3.is c.in_ok-behind.ensures.behind))) ∙ all
 
 pub returns : goal.returns
 returns c =

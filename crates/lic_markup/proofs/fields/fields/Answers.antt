@@ -18,22 +18,30 @@ returns-then-begins_with_two c =
 pub returns-then-not-begins_with : goal.returns-then-not-begins_with
 returns-then-not-begins_with c =
     sym c.loop-after.invariant
-    ∙ fields-refused c.args.rule c.args.tag (values_of c.loop-after.values) c.loop-after.rest.now _ _ c.in-Some.ensures.cases.0 (sym c.begins_with_two.ensures ∙ c.if-begins_with_two.false) (sym c.begins_with.ensures ∙ c.if-not-begins_with.true)
+    ∙ fields-refused c.args.rule c.args.tag
+    (values_of c.loop-after.values) c.loop-after.rest.now _ _ c.in-Some.ensures.cases.0
+    (sym c.begins_with_two.ensures ∙ c.if-begins_with_two.false)
+    (sym c.begins_with.ensures ∙ c.if-not-begins_with.true)
 
 pub returns-in_err-rest : goal.returns-in_err-rest
 returns-in_err-rest c =
     Gives-err _ _ _ _ _ c.from_residual.ensures.1
-    (λ e is. sym c.loop-after.invariant ∙ fields_fail c.args.rule c.args.tag (values_of c.loop-after.values) _ _ c.loop-after.rest.now c.trim_front.result.now e c.in-Some.ensures.cases.0 c.trim_front.ensures (sym c.begins_with_two.ensures ∙ c.if-begins_with_two.false) (sym c.begins_with.ensures ∙ c.if-not-begins_with.false) is)
+    (λ e is. sym c.loop-after.invariant
+    ∙ fields_fail c.args.rule c.args.tag
+    (values_of c.loop-after.values) _ _ c.loop-after.rest.now c.trim_front.result.now e c.in-Some.ensures.cases.0 c.trim_front.ensures (sym c.begins_with_two.ensures ∙ c.if-begins_with_two.false) (sym c.begins_with.ensures ∙ c.if-not-begins_with.false) is)
     c.in_err-rest.ensures
 
 pub loop-after-preserved : goal.loop-after-preserved
 loop-after-preserved c =
-    fields_turn c.args.rule c.args.tag (values_of c.loop-after.values) _ _ c.loop-after.rest.now c.trim_front.result.now _ _ _ c.in-Some.ensures.cases.0 c.trim_front.ensures (sym c.begins_with_two.ensures ∙ c.if-begins_with_two.false) (sym c.begins_with.ensures ∙ c.if-not-begins_with.false) c.in_ok-rest.ensures c.loop-after.invariant
+    fields_turn c.args.rule c.args.tag
+    (values_of c.loop-after.values) _ _ c.loop-after.rest.now c.trim_front.result.now _ _ _ c.in-Some.ensures.cases.0 c.trim_front.ensures (sym c.begins_with_two.ensures ∙ c.if-begins_with_two.false) (sym c.begins_with.ensures ∙ c.if-not-begins_with.false) c.in_ok-rest.ensures c.loop-after.invariant
 
 pub loop-after-smaller : goal.loop-after-smaller
 loop-after-smaller c =
     let front = c.trim_front.result.now in
-    let one : length c.in_ok-rest.rest.now ≤ length front = read-shorter front (field_or_none c.args.rule c.args.tag (values_of c.loop-after.values) front) _ _ c.in_ok-rest.ensures in
+    let one : length c.in_ok-rest.rest.now ≤ length front =
+    read-shorter front (field_or_none c.args.rule c.args.tag
+    (values_of c.loop-after.values) front) _ _ c.in_ok-rest.ensures in
     let two : length front ≤ length c.in-Some.after.now = trim_front-shorter _ _ c.trim_front.ensures in
     omega (arith, one, two, ap length c.in-Some.ensures.cases.0)
 

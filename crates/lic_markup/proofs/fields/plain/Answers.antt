@@ -6,7 +6,9 @@ use Rattle.lic_markup.proofs.fields.plain.Goals as goal
 
 pub returns-then-ends_plain : goal.returns-then-ends_plain
 returns-then-ends_plain c =
-    stop c.args.all.now c.loop-first.count _ c.loop-first.rest.now _ 0 _ (plain-ends c.args.rule c.loop-first.escaped _ _ _ c.in-Some.ensures.cases.0 (sym c.ends_plain.ensures ∙ c.if-ends_plain.true)) refl c.loop-first.invariant.so_far
+    stop c.args.all.now c.loop-first.count _ c.loop-first.rest.now _ 0 _
+    (plain-ends c.args.rule c.loop-first.escaped _ _ _ c.in-Some.ensures.cases.0
+    (sym c.ends_plain.ensures ∙ c.if-ends_plain.true)) refl c.loop-first.invariant.so_far
 
 pub loop-first-preserved : goal.loop-first-preserved
 loop-first-preserved c =
@@ -18,7 +20,10 @@ loop-first-preserved c =
     record {
       at = sym (drop_turn all n _ _ (sym at ∙ is));
       within = omega (arith, drop_within all n _ _ (sym at ∙ is));
-      so_far = pass all n x _ _ (plain_at c.args.rule c.loop-first.escaped) (plain_at c.args.rule (eqb x.1 backslash)) _ is at (plain-goes_on c.args.rule c.loop-first.escaped _ x _ is (sym c.ends_plain.ensures ∙ c.if-ends_plain.false)) c.loop-first.invariant.so_far;
+      so_far = pass all n x _ _ (plain_at c.args.rule c.loop-first.escaped)
+          (plain_at c.args.rule (eqb x.1 backslash)) _ is at
+          (plain-goes_on c.args.rule c.loop-first.escaped _ x _ is
+          (sym c.ends_plain.ensures ∙ c.if-ends_plain.false)) c.loop-first.invariant.so_far;
     }
 
 pub returns : goal.returns

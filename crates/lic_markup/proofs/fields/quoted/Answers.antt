@@ -6,7 +6,9 @@ use Rattle.lic_markup.proofs.fields.quoted.Goals as goal
 pub returns-then-ends_quoted : goal.returns-then-ends_quoted
 returns-then-ends_quoted c =
     let is = c.in-Some.ensures.cases.0 in
-    stop c.args.all.now c.loop-after.count _ c.in-Some.after.now _ 1 _ (quoted-ends c.args.rule _ _ _ is (sym c.ends_quoted.ensures ∙ c.if-ends_quoted.true)) (ap (drop 1) is) c.loop-after.invariant.so_far
+    stop c.args.all.now c.loop-after.count _ c.in-Some.after.now _ 1 _
+    (quoted-ends c.args.rule _ _ _ is (sym c.ends_quoted.ensures ∙ c.if-ends_quoted.true))
+    (ap (drop 1) is) c.loop-after.invariant.so_far
 
 pub loop-after-preserved : goal.loop-after-preserved
 loop-after-preserved c =
@@ -17,7 +19,9 @@ loop-after-preserved c =
     record {
       at = sym (drop_turn all n _ _ (sym at ∙ is));
       within = omega (arith, drop_within all n _ _ (sym at ∙ is));
-      so_far = pass all n _ _ _ (quoted_at c.args.rule) (quoted_at c.args.rule) _ is at (quoted-goes_on c.args.rule _ _ _ is (sym c.ends_quoted.ensures ∙ c.if-ends_quoted.false)) c.loop-after.invariant.so_far;
+      so_far = pass all n _ _ _ (quoted_at c.args.rule) (quoted_at c.args.rule) _ is at
+          (quoted-goes_on c.args.rule _ _ _ is
+          (sym c.ends_quoted.ensures ∙ c.if-ends_quoted.false)) c.loop-after.invariant.so_far;
     }
 
 pub returns : goal.returns

@@ -19,7 +19,8 @@ texts tokens = map (λ t. t.text) tokens
 all_texts : (tokens : List TokenValue) → AreTokenTexts tokens → All IsTokenText (texts tokens)
 all_texts [] all = All-nil IsTokenText
 all_texts (t ∷ tokens) all =
-    All-cons IsTokenText t.text (texts tokens) (All-head (λ u. IsTokenText u.text) t tokens all) (all_texts tokens (All-tail (λ u. IsTokenText u.text) t tokens all))
+    All-cons IsTokenText t.text (texts tokens) (All-head (λ u. IsTokenText u.text) t tokens all)
+    (all_texts tokens (All-tail (λ u. IsTokenText u.text) t tokens all))
 
 some_texts : (tokens : List TokenValue) → (tokens ≡ [] → ⊥) → texts tokens ≡ [] → ⊥
 some_texts [] some none = some refl

@@ -14,5 +14,6 @@ returns c =
     let rest : char_indices_rest s ≡ bytes = c.char_indices.ensures.rest in
     let offset : char_indices_offset s ≡ 0 = c.char_indices.ensures.offset in
     let all = YieldsList-from_char_indices s (subst IsUtf8 (sym rest) c.utf8.text) in
-    let same : located_from (char_indices_offset s) (chars (char_indices_rest s)) ≡ located_from 0 (chars bytes) = λ i. located_from (offset i) (chars (rest i)) in
+    let same : located_from (char_indices_offset s) (chars (char_indices_rest s)) ≡ located_from 0 (chars bytes) =
+    λ i. located_from (offset i) (chars (rest i)) in
     items_from_collect _ c.collect.ensures.ran (subst (λ xs. YieldsList char_indices_steps (λ x. x) s xs) same all)

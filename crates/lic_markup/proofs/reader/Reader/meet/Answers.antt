@@ -11,4 +11,7 @@ pub returns-in-Refused : goal.returns-in-Refused
 unfolding meet
 returns-in-Refused c =
     let f = c.told_again.result in
-    subst (λ (e : Element). Fails f.cause f.place (meet (rules_of c.args.rules.now) c.args.words.now (element_of e) c.args.follows (state_of c.args.self.now))) (sym c.in-Refused.is) (Fails-told State c.in-Refused.fault f c.told_again.ensures)
+    subst (λ (e : Element). Fails f.cause f.place
+    (meet (rules_of c.args.rules.now) c.args.words.now (element_of e) c.args.follows
+    (state_of c.args.self.now))) (sym c.in-Refused.is)
+    (Fails-told State c.in-Refused.fault f c.told_again.ensures)

@@ -1,0 +1,168 @@
+-- The pieces and rules that a template is cut into are those of the markup.
+use Rattle.std.proofs.Common.{◌≡◌, ℕ, zero, suc, ◌+◌, List, [], ◌∷◌, ◌++◌, drop, Option, Some, None, Result, Ok, Err, refl, sym, ap, subst, ◌∙◌, append_assoc, append-nil}
+use Rattle.std.proofs.lemmas.List.{drop-drop}
+use Rattle.lic_ere.specs.Located.{Located, further}
+use Rattle.lic_markup.specs.declared.tag.Tag.{Tag}
+use Rattle.lic_markup.specs.declared.fault.MarkupFault.{MarkupFault}
+use Rattle.lic_markup.specs.Texts.{place_of}
+use Rattle.lic_markup.specs.Faults.{map_ok}
+use Rattle.lic_markup.specs.Rules.{Rule, tag_at, rule_at}
+use Rattle.lic_markup.specs.Elements.{Element, text, rule, refused, and_then, elements}
+use Rattle.lic_markup.specs.Markup.{IsRule, BeginsRule}
+use Rattle.lic_markup.specs.Templates.{HasNoRule, AreElements, last, further as one_further}
+use Rattle.lic_markup.proofs.RuleLemmas.{read}
+use Rattle.lic_markup.proofs.ElementLemmas.{step, elements-step, elements-skipped, elements-end}
+use Rattle.lic_markup.proofs.TagSpelled.{there, tag_spelled, tag_read}
+use Rattle.lic_markup.proofs.Spelled.{got, empty_no, head_same, tail_same, read_was}
+use Rattle.lic_markup.proofs.RuleSpelled.{rule_spelled, rule_read}
+
+-- ---- where a rule begins
+
+none_is_some : {A : Type 0} (x : A) → None ≡ there x → ⊥
+none_is_some x e = cc
+
+begins_none : (x : Located) (rest : List Located) → tag_at x rest ≡ None → BeginsRule (x ∷ rest) → ⊥
+begins_none x rest none begins =
+    let was = tag_read (x ∷ rest) begins.0 begins.1 begins.2 in
+    none_is_some (begins.1, was.taken)
+    (sym none ∙ (λ i. tag_at (head_same x was.first rest was.after was.all i) (tail_same x was.first rest was.after was.all i)) ∙ was.read)
+
+none_begins : (x : Located) (rest : List Located) → (BeginsRule (x ∷ rest) → ⊥) → tag_at x rest ≡ None
+none_begins x rest never = by_tag (tag_at x rest) refl
+  where
+    by_tag : (o : Option (Tag × ℕ)) → tag_at x rest ≡ o → o ≡ None
+    by_tag None is = refl
+    by_tag (Some t) is = absurd (never (drop t.1 rest, t.0, tag_spelled x rest t.0 t.1 is))
+
+no_rule-nil : (behind : List Located) → HasNoRule [] behind
+no_rule-nil behind before x after e = absurd (empty_no before x after e)
+
+no_rule-cons : (x : Located) (piece behind : List Located) → (BeginsRule (x ∷ (piece ++ behind)) → ⊥) → HasNoRule piece behind → HasNoRule (x ∷ piece) behind
+no_rule-cons x piece behind never more [] y after e begins = never (subst BeginsRule (ap (λ (l : List Located). l ++ behind) (sym e)) begins)
+no_rule-cons x piece behind never more (z ∷ before) y after e begins = more before y after (tail_same x z piece (before ++ y ∷ after) e) begins
+
+no_rule-tail : (x : Located) (piece behind : List Located) → HasNoRule (x ∷ piece) behind → HasNoRule piece behind
+no_rule-tail x piece behind none before y after e = none (x ∷ before) y after (ap (λ l. x ∷ l) e)
+
+-- ---- a piece that grows at its front
+
+onto : List Located → List Element → List Element
+onto front [] = []
+onto front (text piece ∷ es) = text (front ++ piece) ∷ es
+onto front (rule r ∷ es) = rule r ∷ es
+onto front (refused e ∷ es) = refused e ∷ es
+
+onto-onto : (one two : List Located) (es : List Element) → onto one (onto two es) ≡ onto (one ++ two) es
+unfolding onto
+onto-onto one two [] = refl
+onto-onto one two (text piece ∷ es) = ap (λ p. text p ∷ es) (sym (append_assoc one two piece))
+onto-onto one two (rule r ∷ es) = refl
+onto-onto one two (refused e ∷ es) = refl
+
+step-onto : (piece : List Located) (x : Located) (rest : List Located) (t : Option (Tag × ℕ))
+    → ((p : List Located) → elements p 0 rest ≡ onto p (elements [] 0 rest))
+    → step piece x rest t ≡ onto piece (step [] x rest t)
+unfolding onto
+step-onto piece x rest None others =
+    others (piece ++ x ∷ []) ∙ sym (onto-onto piece (x ∷ []) (elements [] 0 rest)) ∙ ap (onto piece) (sym (others (x ∷ [])))
+step-onto piece x rest (Some t) others =
+    ap (λ p. text p ∷ and_then (map_ok (further t.1) (rule_at x.0 t.0 (drop t.1 rest))) (λ taken.
+    elements [] taken rest)) (sym (append-nil piece))
+
+elements-onto : (xs piece : List Located) → elements piece 0 xs ≡ onto piece (elements [] 0 xs)
+unfolding onto
+elements-onto [] piece = elements-end piece [] refl ∙ ap (λ p. text p ∷ []) (sym (append-nil piece)) ∙ ap (onto piece) (sym (elements-end [] [] refl))
+elements-onto (x ∷ xs) piece =
+    elements-step piece x xs ∙ step-onto piece x xs (tag_at x xs) (elements-onto xs) ∙ ap (onto piece) (sym (elements-step [] x xs))
+
+-- ---- what is cut is spelled
+
+-- no rule is refused
+unfoldable pub NotRefused : List Element → Type 0
+NotRefused [] = Unit {0}
+NotRefused (text piece ∷ es) = NotRefused es
+NotRefused (rule r ∷ es) = NotRefused es
+NotRefused (refused e ∷ es) = ⊥
+
+not_refused-onto : (front : List Located) (es : List Element) → NotRefused (onto front es) → NotRefused es
+unfolding onto NotRefused
+not_refused-onto front [] h = tt
+not_refused-onto front (text piece ∷ es) h = h
+not_refused-onto front (rule r ∷ es) h = h
+not_refused-onto front (refused e ∷ es) h = h
+
+grow : (x : Located) {cs : List Located} {es : List Element} → (BeginsRule (x ∷ cs) → ⊥) → AreElements cs es → AreElements (x ∷ cs) (onto (x ∷ []) es)
+unfolding onto
+grow x never (last {piece = piece} none) = last (no_rule-cons x piece [] (λ begins. never (subst (λ l. BeginsRule (x ∷ l)) (append-nil piece) begins)) none)
+grow x never (one_further {piece = piece} {behind = behind} is none r others) =
+    one_further (ap (λ l. x ∷ l) is) (no_rule-cons x piece behind (λ begins. never (subst (λ l. BeginsRule (x ∷ l)) (sym is) begins)) none) r others
+
+-- the rules and pieces that are cut, from behind some characters
+abbrev Cut : List Located → Type 0
+Cut xs = (n : ℕ) → NotRefused (elements [] n xs) → AreElements (drop n xs) (elements [] n xs)
+
+plain_cut : (x : Located) (xs : List Located) → tag_at x xs ≡ None → Cut xs → NotRefused (elements (x ∷ []) 0 xs)
+    → AreElements (x ∷ xs) (elements (x ∷ []) 0 xs)
+plain_cut x xs none others h =
+    let same : elements (x ∷ []) 0 xs ≡ onto (x ∷ []) (elements [] 0 xs) = elements-onto xs (x ∷ []) in
+    subst (AreElements (x ∷ xs)) (sym same) (grow x (begins_none x xs none) (others 0 (not_refused-onto (x ∷ []) (elements [] 0 xs) (subst NotRefused same h))))
+
+rule_cut : (x : Located) (xs : List Located) (tag : Tag) (n : ℕ) → tag_at x xs ≡ Some (tag, n) → Cut xs
+    → (r : Result (Rule × ℕ) MarkupFault) → rule_at x.0 tag (drop n xs) ≡ r
+    → NotRefused (text [] ∷ and_then (map_ok (further n) r) (λ taken. elements [] taken xs))
+    → AreElements (x ∷ xs) (text [] ∷ and_then (map_ok (further n) r) (λ taken. elements [] taken xs))
+unfolding NotRefused
+rule_cut x xs tag n is others (Err e) was h = absurd h
+rule_cut x xs tag n is others (Ok y) was h =
+    let rest : List Located = drop (n + y.1) xs in
+    let spelled : IsRule (x ∷ xs) rest y.0 =
+    rule_spelled x.0 tag (x ∷ xs) (drop n xs) rest y.0 refl (tag_spelled x xs tag n is)
+    (ap (read (drop n xs)) was ∙ ap (λ (l : List Located). got y.0 l) (drop-drop y.1 n xs)) in
+    one_further refl (no_rule-nil (x ∷ xs)) spelled (others (n + y.1) h)
+
+tag_cut : (x : Located) (xs : List Located) (t : Option (Tag × ℕ)) → tag_at x xs ≡ t → Cut xs
+    → NotRefused (step [] x xs t) → AreElements (x ∷ xs) (step [] x xs t)
+tag_cut x xs None is others h = plain_cut x xs is others h
+tag_cut x xs (Some t) is others h = rule_cut x xs t.0 t.1 is others (rule_at x.0 t.0 (drop t.1 xs)) refl h
+
+cut : (xs : List Located) → Cut xs
+unfolding elements
+cut [] zero h = last (no_rule-nil [])
+cut [] (suc n) h = last (no_rule-nil [])
+cut (x ∷ xs) (suc n) h = cut xs n h
+cut (x ∷ xs) zero h = tag_cut x xs (tag_at x xs) refl (cut xs) h
+
+pub elements_spelled : (cs : List Located) → NotRefused (elements [] 0 cs) → AreElements cs (elements [] 0 cs)
+elements_spelled cs h = cut cs 0 h
+
+-- ---- what is spelled is cut so
+
+plain_elements : (piece behind front : List Located) → HasNoRule piece behind → elements front 0 (piece ++ behind) ≡ elements (front ++ piece) 0 behind
+plain_elements [] behind front none = ap (λ (p : List Located). elements p 0 behind) (sym (append-nil front))
+plain_elements (x ∷ piece) behind front none =
+    elements-step front x (piece ++ behind)
+    ∙ ap (step front x (piece ++ behind)) (none_begins x (piece ++ behind) (none [] x piece refl))
+    ∙ plain_elements piece behind (front ++ x ∷ []) (no_rule-tail x piece behind none)
+    ∙ ap (λ (p : List Located). elements p 0 behind) (append_assoc front (x ∷ []) piece)
+
+rule_elements : (piece behind rest : List Located) (r : Rule) → IsRule behind rest r → elements piece 0 behind ≡ text piece ∷ rule r ∷ elements [] 0 rest
+rule_elements piece behind rest r is =
+    let one = rule_read is in
+    let two = tag_read behind one.behind one.tag one.is in
+    let three = read_was one.behind (rule_at (place_of behind) one.tag one.behind) r rest one.read in
+    let gives : rule_at two.first.0 one.tag (drop two.taken two.after) ≡ Ok (r, three.0) =
+    (λ i. rule_at (place_of (sym two.all i)) one.tag (two.rest i)) ∙ three.1 in
+    ap (elements piece 0) two.all
+    ∙ elements-step piece two.first two.after
+    ∙ ap (step piece two.first two.after) two.read
+    ∙ ap (λ (m : Result (Rule × ℕ) MarkupFault). text piece ∷ and_then (map_ok (further two.taken) m) (λ taken. elements [] taken two.after)) gives
+    ∙ ap (λ es. text piece ∷ rule r ∷ es)
+    (elements-skipped [] (two.taken + three.0) two.after
+    ∙ ap (elements [] 0) (sym (drop-drop three.0 two.taken two.after) ∙ ap (λ (l : List Located). drop three.0 l) two.rest ∙ three.2))
+
+pub elements_cut : {cs : List Located} {es : List Element} → AreElements cs es → elements [] 0 cs ≡ es
+elements_cut (last {piece = piece} none) =
+    ap (elements [] 0) (sym (append-nil piece)) ∙ plain_elements piece [] [] none ∙ elements-end piece [] refl
+elements_cut (one_further {piece = piece} {behind = behind} {rest = rest} {r = r} is none spelled others) =
+    ap (elements [] 0) is ∙ plain_elements piece behind [] none ∙ rule_elements piece behind rest r spelled
+    ∙ ap (λ es. text piece ∷ rule r ∷ es) (elements_cut others)

@@ -1,0 +1,74 @@
+-- Which fault decides where a template is refused: that it is too long; else the first rule at fault, from the left; else, behind
+-- the last rule, that an optional part is open; that no piece gives a token; that the template is too heavy.
+use Rattle.std.specs.Prelude.{◌≡◌, ℕ, suc, ◌<◌, ◌≤◌, true, false, List, [], ◌∷◌, ◌++◌, length, Err}
+use Rattle.lic_ere.specs.Grammar.{IsPattern}
+use Rattle.lic_ere.specs.Located.{Located, located}
+use Rattle.lic_ere.specs.Reading as ere
+use Rattle.lic_ere.specs.Trees.{Tree}
+use Rattle.lic_ere.specs.declared.fault.EreFault.{EreFault}
+use Rattle.lic_lines.specs.LineRules.{LineRules}
+use Rattle.lic_phrases.specs.Rewriting.{Phrase}
+use Rattle.lic_markup.specs.declared.fault.MarkupFault.{MarkupFault}
+use Rattle.lic_markup.specs.declared.fault.MarkupCause.TheVariants.{EndWithoutBegin, NotEnded, TooDeep, TooHeavy, NoLetter, TooLong}
+use Rattle.lic_markup.specs.Faults.{fault_at}
+use Rattle.lic_markup.specs.Rules as rules
+use Rattle.lic_markup.specs.Elements.{Element, text, rule, refused, elements}
+use Rattle.lic_markup.specs.Parts.{Node, row, row_weight, row_has_token}
+use Rattle.lic_markup.specs.Reading.{max_depth, max_length, max_weight, told}
+use Rattle.lic_markup.specs.Templates.{Item, AreItems, AreParts}
+
+-- None of these elements is at fault, and they lead from so many open optional parts to so many.
+pub data AreSound : ℕ → List Element → ℕ → Type 0 where
+  none : {depth : ℕ} → AreSound depth [] depth
+  piece : {depth end : ℕ} {cs : List Located} {es : List Element} → AreSound depth es end
+      → AreSound depth (text cs ∷ es) end
+  variable : {depth end place : ℕ} {name original pattern : List ℕ} {tree : Tree} {es : List Element}
+      → IsPattern pattern tree → AreSound depth es end
+      → AreSound depth (rule (rules.variable name original place pattern) ∷ es) end
+  begin : {depth end place : ℕ} {es : List Element} → depth < max_depth → AreSound (suc depth) es end
+      → AreSound depth (rule (rules.begin place) ∷ es) end
+  finish : {depth end place : ℕ} {es : List Element} → AreSound depth es end
+      → AreSound (suc depth) (rule (rules.finish place) ∷ es) end
+
+-- an element at fault, with so many optional parts open
+pub data IsAtFault : ℕ → Element → MarkupFault → Type 0 where
+  -- a rule that cannot be read, by its first fault
+  unreadable : {depth : ℕ} {e : MarkupFault} → IsAtFault depth (refused e) e
+  bad_pattern : {depth place : ℕ} {name original pattern : List ℕ} {e : EreFault} → ere.reading pattern ≡ Err e
+      → IsAtFault depth (rule (rules.variable name original place pattern)) (told place e)
+  too_deep : {depth place : ℕ} → max_depth ≤ depth → IsAtFault depth (rule (rules.begin place)) (fault_at place TooDeep)
+  no_begin : {place : ℕ} → IsAtFault 0 (rule (rules.finish place)) (fault_at place EndWithoutBegin)
+
+-- These elements lead from so many open optional parts to so many, however deep, and end none that is not counted.
+pub data Lead : ℕ → List Element → ℕ → Type 0 where
+  nowhere : {open_parts : ℕ} → Lead open_parts [] open_parts
+  on : {open_parts end : ℕ} {cs : List Located} {es : List Element} → Lead open_parts es end
+      → Lead open_parts (text cs ∷ es) end
+  over : {open_parts end place : ℕ} {name original pattern : List ℕ} {es : List Element} → Lead open_parts es end
+      → Lead open_parts (rule (rules.variable name original place pattern) ∷ es) end
+  into : {open_parts end place : ℕ} {es : List Element} → Lead (suc open_parts) es end
+      → Lead open_parts (rule (rules.begin place) ∷ es) end
+  out : {open_parts end place : ℕ} {es : List Element} → Lead open_parts es end
+      → Lead (suc open_parts) (rule (rules.finish place) ∷ es) end
+
+-- the fault that decides among these elements
+pub data IsFirstFault (line_rules : LineRules) (words : List Phrase) (es : List Element) : MarkupFault → Type 0 where
+  at_rule : {before : List Element} (after : List Element) {x : Element} {depth : ℕ} {e : MarkupFault}
+      → es ≡ before ++ x ∷ after → AreSound 0 before depth → IsAtFault depth x e
+      → IsFirstFault line_rules words es e
+  -- the innermost open part: behind its begin each part that begins is ended
+  not_ended : (before : List Element) {behind : List Element} {place depth : ℕ}
+      → es ≡ before ++ rule (rules.begin place) ∷ behind → AreSound 0 es (suc depth) → Lead 0 behind 0
+      → IsFirstFault line_rules words es (fault_at place NotEnded)
+  no_token : {items : List Item} {ns : List Node} → AreItems line_rules words [] es items → AreParts 0 items ns
+      → row_has_token (row ns) ≡ false
+      → IsFirstFault line_rules words es (fault_at 0 NoLetter)
+  too_heavy : {items : List Item} {ns : List Node} → AreItems line_rules words [] es items → AreParts 0 items ns
+      → row_has_token (row ns) ≡ true → max_weight < row_weight (row ns)
+      → IsFirstFault line_rules words es (fault_at 0 TooHeavy)
+
+-- the fault that decides of a template, given as its bytes
+pub data IsFaultOf (line_rules : LineRules) (words : List Phrase) (template : List ℕ) : MarkupFault → Type 0 where
+  too_long : max_length < length template → IsFaultOf line_rules words template (fault_at 0 TooLong)
+  otherwise : {e : MarkupFault} → length template ≤ max_length
+      → IsFirstFault line_rules words (elements [] 0 (located template)) e → IsFaultOf line_rules words template e
