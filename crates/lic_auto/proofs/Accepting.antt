@@ -67,5 +67,7 @@ module _ (run : Run) (numbers : List ℕ) (ts : List (List ℕ)) (s : StandsAmon
   some_described n r b inside there passed accepts =
       let (known, is) = slice_get-some (templates_of run.chosen) run.runs.items n r (sym same_count) there in
       let decided : is_described (words_of known) ts ≡ true =
-      ∥∥₁_elim (s.live n known r inside is there) (Bool-set _ _) (λ stands. is_described_complete (words_of known) ts (accepts (words_of known) ts stands passed)) in
+      ∥∥₁_elim (s.live n known r inside is there)
+      (Bool-set _ _) (λ stands. is_described_complete (words_of known) ts
+      (accepts (words_of known) ts stands passed)) in
       (known, is, is_described_sound (words_of known) ts decided)

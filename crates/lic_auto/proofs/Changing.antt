@@ -11,7 +11,8 @@ use Rattle.lic_marks.specs.declared.node.Node.{Node}
 use Rattle.lic_auto.specs.Changes.{AreChangedAt, AreKeptOf}
 
 -- an element that stands there
-pub slice_get-some : {X Y : Type 0} → (xs : List X) (ys : List Y) (k : ℕ) (y : Y) → length ys ≡ length xs → slice_get ys k ≡ Some y → (x : X) × (slice_get xs k ≡ Some x)
+pub slice_get-some : {X Y : Type 0} → (xs : List X) (ys : List Y) (k : ℕ) (y : Y) → length ys ≡ length xs
+    → slice_get ys k ≡ Some y → (x : X) × (slice_get xs k ≡ Some x)
 slice_get-some [] ys k y same h = absurd (omega (arith, slice_get_within ys k y h))
 slice_get-some (x ∷ xs) [] k y same h = absurd (omega (arith, slice_get_within [] k y h))
 slice_get-some (x ∷ xs) (z ∷ ys) zero y same h = (x, refl)

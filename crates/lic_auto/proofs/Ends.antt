@@ -27,7 +27,8 @@ turned-take : (n : ℕ) (ts : List (List ℕ)) → n ≤ length ts → turned (t
 turned-take n ts within =
     let parts : turned ts ≡ turned (drop n ts) ++ turned (take n ts) = ap turned (sym (take-append-drop n ts)) ∙ turned-append (take n ts) (drop n ts) in
     let size : length (turned (drop n ts)) ≡ length ts - n = length-turned (drop n ts) ∙ length-drop n ts in
-    sym (drop-append_seam (turned (drop n ts)) (turned (take n ts))) ∙ ap (λ k. drop k (turned (drop n ts) ++ turned (take n ts))) size ∙ ap (drop (length ts - n)) (sym parts)
+    sym (drop-append_seam (turned (drop n ts)) (turned (take n ts)))
+    ∙ ap (λ k. drop k (turned (drop n ts) ++ turned (take n ts))) size ∙ ap (drop (length ts - n)) (sym parts)
 
 module _ (e : Expression) (ts : List (List ℕ)) where
   -- some beginning is described

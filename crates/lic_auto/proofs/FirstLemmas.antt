@@ -86,7 +86,8 @@ pub front_of_cat : (rs : List Core) (w : Word) → WordsOf (cat_all rs) w → Wo
 front_of_cat [] w h = h
 front_of_cat (r ∷ rs) w (x, y, p, q, e) = inr (x, y, p, front_of_cat rs y q, e)
 
-pub Begins-alt_cons : (r : Core) (rs : List Core) (head : List ℕ) → Begins (WordsOf (alt_all (r ∷ rs))) head → Begins (WordsOf r) head ⊎ Begins (WordsOf (alt_all rs)) head
+pub Begins-alt_cons : (r : Core) (rs : List Core) (head : List ℕ) → Begins (WordsOf (alt_all (r ∷ rs))) head
+    → Begins (WordsOf r) head ⊎ Begins (WordsOf (alt_all rs)) head
 Begins-alt_cons r rs head (w, more, inl v, some, is) = inl (w, more, v, some, is)
 Begins-alt_cons r rs head (w, more, inr v, some, is) = inr (w, more, v, some, is)
 
@@ -148,7 +149,8 @@ pub HasBlanks-one_letter : (d : ℕ) → HasBlanks (WordsOf (one (λ c. c == d))
 HasBlanks-one_letter d (w, v, no_head) = (w, one_letter d w v, no_head)
 
 -- letters in a row that each pass
-pub Begins-up_to : (passes : ℕ → Bool) (count : ℕ) (head : List ℕ) → Begins (WordsOf (any_front (replicate count (one passes)))) head → Begins (WordsOf (one passes)) head
+pub Begins-up_to : (passes : ℕ → Bool) (count : ℕ) (head : List ℕ)
+    → Begins (WordsOf (any_front (replicate count (one passes)))) head → Begins (WordsOf (one passes)) head
 Begins-up_to passes zero head b = absurd (Begins-front_nil head b)
 Begins-up_to passes (suc count) head b =
     elim (Begins-front_cons (one passes) (replicate count (one passes)) head b) [
@@ -156,7 +158,8 @@ Begins-up_to passes (suc count) head b =
       | inr (here, later) ↦ Begins-up_to passes count head later
     ]
 
-pub Begins-copies : (passes : ℕ → Bool) (count : ℕ) (head : List ℕ) → Begins (WordsOf (cat_all (replicate count (one passes)))) head → Begins (WordsOf (one passes)) head
+pub Begins-copies : (passes : ℕ → Bool) (count : ℕ) (head : List ℕ)
+    → Begins (WordsOf (cat_all (replicate count (one passes)))) head → Begins (WordsOf (one passes)) head
 Begins-copies passes count head (w, more, v, some, is) = Begins-up_to passes count head (w, more, front_of_cat (replicate count (one passes)) w v, some, is)
 
 pub HasBlanks-copies : (passes : ℕ → Bool) (count : ℕ) → HasBlanks (WordsOf (cat_all (replicate (suc count) (one passes)))) → HasBlanks (WordsOf (one passes))

@@ -65,7 +65,9 @@ module _ (templates : List Known) (numbers : List ℕ) (up : IsRising numbers (l
                 (
                   known,
                   there,
-                  untruncated_end (mirrored (words_of known)) ts (∥∥₁_map (stand place known s there here) (λ seeks. (answers (mirrored (words_of known)) ts seeks).0 accepts)),
+                  untruncated_end (mirrored (words_of known)) ts
+                      (∥∥₁_map (stand place known s there here) (λ seeks.
+                      (answers (mirrored (words_of known)) ts seeks).0 accepts)),
                 ),
               ))
               (Contains-push_cases found number n h),

@@ -165,14 +165,18 @@ module _ (rs rest : List Core) (r : Core) (old now new : Firsts) where
 pub RowSoFar-end : (rs : List Core) (old now : Firsts) → RowSoFar rs [] old now → GathersRow rs old now true
 RowSoFar-end rs old now so_far = record {
   kept = so_far.kept;
-  begins = λ q utf8 b. ⊎_elim (λ (first : IsFirst Forward now q). first) (λ (none : Begins (WordsOf (any_front [])) (chars q)). absurd (Begins-front_nil (chars q) none)) (so_far.begins q utf8 b);
+  begins = λ q utf8 b. ⊎_elim (λ (first : IsFirst Forward now q). first) (λ
+      (none : Begins (WordsOf (any_front [])) (chars q)). absurd (Begins-front_nil (chars q) none))
+      (so_far.begins q utf8 b);
   blanks = λ h. refl;
 }
 
 pub EachSoFar-end : (rs : List Core) (any : Bool) (old now : Firsts) → EachSoFar rs [] any old now → Gathers (alt_all rs) old now any
 EachSoFar-end rs any old now so_far = record {
   kept = so_far.kept;
-  begins = λ q utf8 b. ⊎_elim (λ (first : IsFirst Forward now q). first) (λ (none : Begins (WordsOf (alt_all [])) (chars q)). absurd (Begins-alt_nil (chars q) none)) (so_far.begins q utf8 b);
+  begins = λ q utf8 b. ⊎_elim (λ (first : IsFirst Forward now q). first) (λ
+      (none : Begins (WordsOf (alt_all [])) (chars q)). absurd (Begins-alt_nil (chars q) none))
+      (so_far.begins q utf8 b);
   blanks = λ h. ⊎_elim (λ (is : IsTrue any). is) (λ (none : HasBlanks (WordsOf (alt_all []))). absurd (HasBlanks-alt_nil none)) (so_far.blanks h);
 }
 
@@ -187,7 +191,8 @@ pub Gathers-any : (r : Core) (old new : Firsts) → new.any ≡ true → Gathers
 Gathers-any r old new any = record { kept = λ q h. inl any; begins = λ q utf8 b. inl any; blanks = λ h. refl }
 
 -- a text with a letter
-pub Gathers-text_some : (text letters : List ℕ) (old new : Firsts) → IsBehindBlanks letters text → AddsHead letters old new → Gathers (cat_all (letter_cores text)) old new false
+pub Gathers-text_some : (text letters : List ℕ) (old new : Firsts) → IsBehindBlanks letters text
+    → AddsHead letters old new → Gathers (cat_all (letter_cores text)) old new false
 Gathers-text_some text letters old new behind adds = record {
   kept = adds.kept;
   begins = λ q utf8 b.
@@ -206,7 +211,8 @@ pub Gathers-text_none : (text : List ℕ) (firsts : Firsts) → head_of text ≡
 Gathers-text_none text firsts none = Gathers-blanks (cat_all (letter_cores text)) firsts (λ head b. (Begins-letters text head b).0 none)
 
 -- a letter is a text of one letter
-pub Gathers-letter : (d : ℕ) (old new : Firsts) (passes : Bool) → Gathers (cat_all (letter_cores (d ∷ []))) old new passes → Gathers (one (λ c. c == d)) old new passes
+pub Gathers-letter : (d : ℕ) (old new : Firsts) (passes : Bool)
+    → Gathers (cat_all (letter_cores (d ∷ []))) old new passes → Gathers (one (λ c. c == d)) old new passes
 Gathers-letter d old new passes g = record {
   kept = g.kept;
   begins = λ q utf8 b. g.begins q utf8 (Begins-one_letter d (chars q) b);
@@ -217,13 +223,17 @@ Gathers-letter d old new passes g = record {
 
 -- the head is the same whatever stands behind the letters
 module _ (letters head : List ℕ) (old new : Firsts) (text : String Global) (known : (more : List ℕ) → head_of (letters ++ more) ≡ head)
-    (spelled : string_bytes text ≡ encodes head) (same : new.any ≡ old.any) (same_letters : new.letters.items ≡ old.letters.items) (more_heads : new.heads.items ≡ old.heads.items ++ text ∷ []) where
+    (spelled : string_bytes text ≡ encodes head) (same : new.any ≡ old.any)
+    (same_letters : new.letters.items ≡ old.letters.items)
+    (more_heads : new.heads.items ≡ old.heads.items ++ text ∷ []) where
   texts_more : map string_bytes new.heads.items ≡ map string_bytes old.heads.items ++ string_bytes text ∷ []
   texts_more = ap (map string_bytes) more_heads ∙ map-append string_bytes old.heads.items (text ∷ [])
 
   IsFirst-kept : (q : List ℕ) → IsFirst Forward old q → IsFirst Forward new q
   IsFirst-kept q (inl any) = inl (same ∙ any)
-  IsFirst-kept q (inr (inl there)) = inr (inl (subst (λ xs. Contains xs q) (sym texts_more) (Contains-append_left (map string_bytes old.heads.items) (string_bytes text ∷ []) q there)))
+  IsFirst-kept q (inr (inl there)) =
+      inr (inl (subst (λ xs. Contains xs q) (sym texts_more)
+      (Contains-append_left (map string_bytes old.heads.items) (string_bytes text ∷ []) q there)))
   IsFirst-kept q (inr (inr there)) = inr (inr (subst (λ xs. Contains (map string_bytes xs) (letter_of Forward q)) (sym same_letters) there))
 
   pub AddsHead-known : AddsHead letters old new
@@ -246,7 +256,9 @@ module _ (letters : List ℕ) (old new : Firsts) (text : String Global) (begins 
   IsFirst-kept_heads q (inl any) = inl (same ∙ any)
   IsFirst-kept_heads q (inr (inl there)) = inr (inl (subst (λ xs. Contains (map string_bytes xs) q) (sym same_heads) there))
   IsFirst-kept_heads q (inr (inr there)) =
-      inr (inr (subst (λ xs. Contains xs (letter_of Forward q)) (sym letters_more) (Contains-append_left (map string_bytes old.letters.items) (string_bytes text ∷ []) (letter_of Forward q) there)))
+      inr (inr (subst (λ xs. Contains xs (letter_of Forward q)) (sym letters_more)
+      (Contains-append_left (map string_bytes old.letters.items) (string_bytes text ∷ [])
+      (letter_of Forward q) there)))
 
   pub AddsHead-letter : AddsHead letters old new
   AddsHead-letter = record {

@@ -80,7 +80,8 @@ back-text text utf8 (cs, spelled, none) =
     subst (λ ds. front_of (reverse ds) ≡ reverse ds) (chars_from_encodes cs text utf8 spelled) (front-none_pass (reverse cs) (NonePass-reverse cs none))
 
 -- a text that ends in letters of words, up to a letter of none
-pub back-text_until : (text : List ℕ) (i j d : ℕ) → IsUtf8 text → IsCharBoundary text i → IsCharBoundary text j → NoCharPasses is_other (drop j text) → is_word d ≡ false →
+pub back-text_until : (text : List ℕ) (i j d : ℕ) → IsUtf8 text → IsCharBoundary text i → IsCharBoundary text j
+    → NoCharPasses is_other (drop j text) → is_word d ≡ false →
     drop i text ≡ encode d ++ drop j text → front_of (reverse (chars text)) ≡ reverse (chars (drop j text))
 back-text_until text i j d utf8 cut cut_behind none other split =
     let front = take i text in

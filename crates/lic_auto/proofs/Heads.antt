@@ -115,7 +115,8 @@ head-append_letters (c ∷ x) y some = by_letter (head-append_letters x y) (c ==
 -- ---- the head of a word that spells tokens
 
 -- behind a letter of a word, what is spelled after a gap begins with no letter of a word
-at_gap : (last n d : ℕ) (u : Word) → is_word last ≡ true → (b : Bool) → is_word d ≡ b → Allows (gap_of true (is_word last && is_word d)) n → front_of (blanks n ++ d ∷ u) ≡ []
+at_gap : (last n d : ℕ) (u : Word) → is_word last ≡ true → (b : Bool) → is_word d ≡ b
+    → Allows (gap_of true (is_word last && is_word d)) n → front_of (blanks n ++ d ∷ u) ≡ []
 at_gap last (suc n) d u is b h allows = front-blank (blanks n ++ d ∷ u)
 at_gap last zero d u is false h allows = front-other d u h
 at_gap last zero d u is true h allows = let some : 1 ≤ 0 = rw (is, h) at allows in absurd (omega arith)
@@ -140,7 +141,8 @@ front-spelled last (d ∷ row) v is s = by_letter (front-spelled d row) (d == bl
     by_kind rest u more true k = front-word d u k ∙ ap (λ x. d ∷ x) (rest u k more) ∙ sym (front-word d row k)
     by_kind rest u more false k = front-other d u k ∙ sym (front-other d row k)
 
-    by_letter : ((u : Word) → is_word d ≡ true → SpellsGapped u (gapped_from d false row) → front_of u ≡ front_of row) → (b : Bool) → (d == blank) ≡ b → front_of v ≡ front_of (d ∷ row)
+    by_letter : ((u : Word) → is_word d ≡ true → SpellsGapped u (gapped_from d false row) → front_of u ≡ front_of row)
+        → (b : Bool) → (d == blank) ≡ b → front_of v ≡ front_of (d ∷ row)
     by_letter rest true h =
         let same : is_word d ≡ false = ap is_word (eqb-true d blank h) ∙ is_word-blank in
         front-behind_gap last row v is (subst (SpellsGapped v) (gapped_from-blank last false d row h) s) ∙ sym (front-other d row same)
@@ -153,13 +155,15 @@ front-row [] = refl
 front-row (t ∷ ts) = front-blank (t ++ row_of ts)
 
 -- the head of a word that spells tokens is that of the first token
-pub head-spelled : (w : Word) (c : ℕ) (letters : List ℕ) (more : List (List ℕ)) → c ≢ blank → Spells w ((c ∷ letters) ∷ more) → head_of w ≡ head_of (c ∷ letters)
+pub head-spelled : (w : Word) (c : ℕ) (letters : List ℕ) (more : List (List ℕ)) → c ≢ blank
+    → Spells w ((c ∷ letters) ∷ more) → head_of w ≡ head_of (c ∷ letters)
 head-spelled w c letters more letter s =
     let h : (c == blank) ≡ false = ne_eqb c blank letter in
     let (n, allows, v, is, rest) = subst (SpellsGapped w) (gapped_from-letter blank true c (letters ++ row_of more) h) s in
     ap head_of is ∙ head-blanks n (c ∷ v) ∙ by_kind h v rest (is_word c) refl
   where
-    by_kind : (c == blank) ≡ false → (v : Word) → SpellsGapped v (gapped_from c false (letters ++ row_of more)) → (b : Bool) → is_word c ≡ b → head_of (c ∷ v) ≡ head_of (c ∷ letters)
+    by_kind : (c == blank) ≡ false → (v : Word) → SpellsGapped v (gapped_from c false (letters ++ row_of more))
+        → (b : Bool) → is_word c ≡ b → head_of (c ∷ v) ≡ head_of (c ∷ letters)
     by_kind h v rest true k =
         head-word c v h k ∙ front-word c v k
         ∙ ap (λ x. c ∷ x) (front-spelled c (letters ++ row_of more) v k rest ∙ front-append letters (row_of more) (front-row more))
@@ -169,7 +173,8 @@ head-spelled w c letters more letter s =
 -- ---- where a head ends
 
 -- the letters of words in front, up to a letter that is of no word
-pub front-until : (text : Word) (n : ℕ) → n < length text → ((k d : ℕ) → k < n → is_word (get_or text k d) ≡ true) → ((d : ℕ) → is_word (get_or text n d) ≡ false) →
+pub front-until : (text : Word) (n : ℕ) → n < length text → ((k d : ℕ) → k < n → is_word (get_or text k d) ≡ true)
+    → ((d : ℕ) → is_word (get_or text n d) ≡ false) →
     (more : Word) → front_of (text ++ more) ≡ take n text
 front-until [] n inside all stop more = absurd (omega arith)
 front-until (c ∷ text) zero inside all stop more = front-other c (text ++ more) (stop c)
@@ -191,16 +196,19 @@ module _ (text : Word) (begins : BeginsWithLetter text) where
       let same : x ≡ c = cc in
       ne_eqb x blank (λ is. letter (sym same ∙ is))
 
-pub head-begun_other : (text : Word) → BeginsWithLetter text → (d : ℕ) → is_word (get_or text 0 d) ≡ false → (more : Word) → head_of (text ++ more) ≡ take 1 text
+pub head-begun_other : (text : Word) → BeginsWithLetter text → (d : ℕ) → is_word (get_or text 0 d) ≡ false
+    → (more : Word) → head_of (text ++ more) ≡ take 1 text
 head-begun_other [] (c, rest, letter, e) d other more = absurd (cc)
 head-begun_other (x ∷ xs) begins d other more = head-other x (xs ++ more) (first_is (x ∷ xs) begins x xs refl) other
 
-pub head-begun_word : (text : Word) → BeginsWithLetter text → (d : ℕ) → is_word (get_or text 0 d) ≡ true → (more : Word) → head_of (text ++ more) ≡ front_of (text ++ more)
+pub head-begun_word : (text : Word) → BeginsWithLetter text → (d : ℕ) → is_word (get_or text 0 d) ≡ true
+    → (more : Word) → head_of (text ++ more) ≡ front_of (text ++ more)
 head-begun_word [] (c, rest, letter, e) d word more = absurd (cc)
 head-begun_word (x ∷ xs) begins d word more = head-word x (xs ++ more) (first_is (x ∷ xs) begins x xs refl) word
 
 -- a text from its first letter on
-pub behind_blanks : (text : Word) (i : ℕ) → i < length text → ((k d : ℕ) → k < i → get_or text k d ≡ blank) → ((d : ℕ) → get_or text i d ≢ blank) → IsBehindBlanks (drop i text) text
+pub behind_blanks : (text : Word) (i : ℕ) → i < length text → ((k d : ℕ) → k < i → get_or text k d ≡ blank)
+    → ((d : ℕ) → get_or text i d ≢ blank) → IsBehindBlanks (drop i text) text
 behind_blanks [] i inside all here = absurd (omega arith)
 behind_blanks (c ∷ text) zero inside all here = record { begins = (c, text, here c, refl); head = λ more. refl }
 behind_blanks (c ∷ text) (suc i) inside all here =

@@ -35,7 +35,8 @@ pub Adds-none : (number : ℕ) (index : Index) (texts : List ℕ → Type 0) →
 Adds-none number index texts none = record { reads = refl; kept = λ q k h. h; rising = λ q r. r; added = λ q h. absurd (none q h) }
 
 -- some texts, and then some others
-pub Adds-then : (P Q R : List ℕ → Type 0) (number : ℕ) (a b c : Index) → Adds P number a b → Adds Q number b c → ((q : List ℕ) → R q → P q ⊎ Q q) → Adds R number a c
+pub Adds-then : (P Q R : List ℕ → Type 0) (number : ℕ) (a b c : Index) → Adds P number a b → Adds Q number b c
+    → ((q : List ℕ) → R q → P q ⊎ Q q) → Adds R number a c
 Adds-then P Q R number a b c first second either = record {
   reads = second.reads ∙ first.reads;
   kept = λ q k h. second.kept q k (first.kept q k h);
@@ -47,7 +48,8 @@ pub Adds-fewer : (P Q : List ℕ → Type 0) (number : ℕ) (a b : Index) → Ad
 Adds-fewer P Q number a b adds less = record { reads = adds.reads; kept = adds.kept; rising = adds.rising; added = λ q h. adds.added q (less q h) }
 
 -- where each list grows
-pub Adds-from : (P : List ℕ → Type 0) (number : ℕ) (a b : Index) → b.direction ≡ a.direction → ((q : List ℕ) → GrowsIf (P q) number (listed a q) (listed b q)) → Adds P number a b
+pub Adds-from : (P : List ℕ → Type 0) (number : ℕ) (a b : Index) → b.direction ≡ a.direction
+    → ((q : List ℕ) → GrowsIf (P q) number (listed a q) (listed b q)) → Adds P number a b
 Adds-from P number a b reads grows = record {
   reads = reads;
   kept = λ q. (grows q).kept;
@@ -78,10 +80,12 @@ pub place_for-within : (index : Index) (q : List ℕ) (k : ℕ) → place_for in
 place_for-within index q k is =
     ⊎_elim
     (λ (own : get_by_text index.places q ≡ Some k). omega (arith, index.in_range q k own, index.lists.ok))
-    (λ (by_letter : get_by_text index.places (letter_of index.direction q) ≡ Some k). omega (arith, index.in_range (letter_of index.direction q) k by_letter, index.lists.ok))
+    (λ (by_letter : get_by_text index.places (letter_of index.direction q) ≡ Some k). omega
+    (arith, index.in_range (letter_of index.direction q) k by_letter, index.lists.ok))
     (either_place (get_by_text index.places q) (get_by_text index.places (letter_of index.direction q)) k is)
 
-same_place : (old new : Index) → ((q : List ℕ) → get_by_text new.places q ≡ get_by_text old.places q) → new.direction ≡ old.direction → (q : List ℕ) → place_for new q ≡ place_for old q
+same_place : (old new : Index) → ((q : List ℕ) → get_by_text new.places q ≡ get_by_text old.places q)
+    → new.direction ≡ old.direction → (q : List ℕ) → place_for new q ≡ place_for old q
 same_place old new places reads q =
     ap (λ d. place_or (get_by_text new.places q) (get_by_text new.places (letter_of d q))) reads
     ∙ ap (λ o. place_or o (get_by_text new.places (letter_of old.direction q))) (places q)
@@ -106,18 +110,22 @@ letter_of-letter d letter q utf8 is =
     ap (λ xs. encodes (take 1 (ordered d xs))) (sym (chars_from_encodes cs letter utf8 is)) ∙ ap encodes (take_one_read d (ordered d (chars q))) ∙ is
 
 -- one more tree
-pub IsIndexOf-push : (d : Direction) (old new : Index) (trees : List Node) (tree : Node) (firsts : Firsts) → IsIndexOf d old trees → Adds (IsFirst old.direction firsts) (length trees) old new →
+pub IsIndexOf-push : (d : Direction) (old new : Index) (trees : List Node) (tree : Node) (firsts : Firsts)
+    → IsIndexOf d old trees → Adds (IsFirst old.direction firsts) (length trees) old new →
     ((q : List ℕ) → IsUtf8 q → HasHead (WordsOf (core_of tree)) (ordered d (chars q)) → IsFirst d firsts q) → length (trees ++ tree ∷ []) ≡ length trees + 1 →
     IsIndexOf d new (trees ++ tree ∷ [])
 IsIndexOf-push d old new trees tree firsts is adds covers size = record {
   reads = adds.reads ∙ is.reads;
-  rising = λ q. subst (IsRising (listed new q)) (sym size) (adds.rising q (IsRising-more (listed old q) (length trees) (length trees + 1) (is.rising q) (omega arith)));
+  rising = λ q. subst (IsRising (listed new q)) (sym size)
+      (adds.rising q (IsRising-more (listed old q) (length trees) (length trees + 1) (is.rising q) (omega arith)));
   rest = λ q k t utf8 there gone begins.
       ⊎_elim
       (λ (before : slice_get trees k ≡ Some t). is.rest q k t utf8 before (λ h. gone (adds.kept q k h)) begins)
       (λ (last : (k ≡ length trees) × (tree ≡ t)).
       gone (subst (Contains (listed new q)) (sym last.0)
-      (adds.added q (subst (λ e. IsFirst e firsts q) (sym is.reads) (covers q utf8 (subst (λ x. HasHead (WordsOf (core_of x)) (ordered d (chars q))) (sym last.1) begins))))))
+      (adds.added q (subst (λ e. IsFirst e firsts q) (sym is.reads)
+      (covers q utf8 (subst (λ x. HasHead (WordsOf (core_of x)) (ordered d (chars q)))
+      (sym last.1) begins))))))
       (slice_get-push trees tree k t there);
 }
 
@@ -128,13 +136,18 @@ items_of lists = map (λ list. list.items) lists
 -- one list of many grows
 pub one_grows : (number place : ℕ) (lists : List (Vec ℕ Global)) (list : Vec ℕ Global) → place < length lists →
     Grows number (get_or (items_of lists) place []) list.items → (k : ℕ) → k < length lists →
-    (get_or (items_of (set lists place list)) k [] ≡ get_or (items_of lists) k []) ⊎ Grows number (get_or (items_of lists) k []) (get_or (items_of (set lists place list)) k [])
+    (get_or (items_of (set lists place list)) k [] ≡ get_or (items_of lists) k [])
+    ⊎ Grows number (get_or (items_of lists) k []) (get_or (items_of (set lists place list)) k [])
 one_grows number place lists list within grows k inside =
-    let here : get_or (items_of (set lists place list)) k [] ≡ (get_or (set lists place list) k list).items = get_or-map (λ l. l.items) (set lists place list) k list [] (omega (arith, length-set lists place list)) in
+    let here : get_or (items_of (set lists place list)) k [] ≡ (get_or (set lists place list) k list).items =
+    get_or-map (λ l. l.items) (set lists place list) k list [] (omega (arith, length-set lists place list)) in
     ⊎_elim
     (λ (same : k ≡ place).
-    let is : (get_or (set lists place list) k list).items ≡ list.items = ap (λ l. l.items) (ap (λ j. get_or (set lists place list) j list) same ∙ get_or-set_same lists place list list within) in
-    inr (subst (Grows number (get_or (items_of lists) k [])) (sym (here ∙ is)) (subst (λ j. Grows number (get_or (items_of lists) j []) list.items) (sym same) grows)))
+    let is : (get_or (set lists place list) k list).items ≡ list.items =
+    ap (λ l. l.items) (ap (λ j. get_or (set lists place list) j list) same
+    ∙ get_or-set_same lists place list list within) in
+    inr (subst (Grows number (get_or (items_of lists) k [])) (sym (here ∙ is))
+    (subst (λ j. Grows number (get_or (items_of lists) j []) list.items) (sym same) grows)))
     (λ (apart : k ≢ place).
     inl (here ∙ ap (λ l. l.items) (get_or-set_other lists place k list list apart) ∙ sym (get_or-map (λ l. l.items) lists k list [] inside)))
     (cases_eq k place)
@@ -159,7 +172,8 @@ module _ (R : ℕ → List ℕ → List ℕ → Type 0) (n : ℕ) (old now : Lis
   done_more done grows j h =
       ⊎_elim
       (λ (same : j ≡ n).
-      subst (λ i. R i (get_or (items_of old) i []) (get_or (items_of (set now n list)) i [])) (sym same) (subst (R n (get_or (items_of old) n [])) (sym this_list) grows))
+      subst (λ i. R i (get_or (items_of old) i []) (get_or (items_of (set now n list)) i [])) (sym same)
+      (subst (R n (get_or (items_of old) n [])) (sym this_list) grows))
       (λ (apart : j ≢ n). subst (R j (get_or (items_of old) j [])) (sym (other_list j apart)) (done j (omega arith)))
       (cases_eq j n)
 
@@ -181,7 +195,8 @@ Adds-all number old new places reads lists others =
         subst (λ x. Grows number x (listed new q)) (sym was) (subst (Grows number old.others.items) (sym now) others)
     grows q (Some k) is =
         let was : listed old q ≡ get_or (items_of old.lists.items) k [] = ap (list_at old.lists.items old.others.items) is in
-        let now : listed new q ≡ get_or (items_of new.lists.items) k [] = ap (list_at new.lists.items new.others.items) (same_place old new places reads q ∙ is) in
+        let now : listed new q ≡ get_or (items_of new.lists.items) k [] =
+        ap (list_at new.lists.items new.others.items) (same_place old new places reads q ∙ is) in
         let within : k < length old.lists.items = place_for-within old q k is in
         subst (λ x. Grows number x (listed new q)) (sym was) (subst (Grows number (get_or (items_of old.lists.items) k [])) (sym now) (lists k within))
 
@@ -191,12 +206,16 @@ placed index q k is = ap (λ o. place_or o (get_by_text index.places (letter_of 
 -- the list of one head grows, and perhaps that of others with it
 pub Adds-one : (number : ℕ) (head : List ℕ) (place : ℕ) (old mid new : Index) (list : Vec ℕ Global) → ((q : List ℕ) → listed mid q ≡ listed old q) →
     get_by_text mid.places head ≡ Some place → Grows number (get_or (items_of mid.lists.items) place []) list.items →
-    ((q : List ℕ) → get_by_text new.places q ≡ get_by_text mid.places q) → mid.direction ≡ old.direction → new.direction ≡ mid.direction → new.lists.items ≡ set mid.lists.items place list → new.others.items ≡ mid.others.items →
+    ((q : List ℕ) → get_by_text new.places q ≡ get_by_text mid.places q) → mid.direction ≡ old.direction
+    → new.direction ≡ mid.direction → new.lists.items ≡ set mid.lists.items place list
+    → new.others.items ≡ mid.others.items →
     Adds (λ q. q ≡ head) number old new
 Adds-one number head place old mid new list before there grows places mid_reads reads lists others = record {
   reads = reads ∙ mid_reads;
-  kept = λ q k h. ⊎_elim (λ (same : listed new q ≡ listed old q). subst (λ xs. Contains xs k) (sym same) h) (λ (more : Grows number (listed old q) (listed new q)). more.kept k h) (either q);
-  rising = λ q r. ⊎_elim (λ (same : listed new q ≡ listed old q). subst (λ xs. IsRising xs (number + 1)) (sym same) r) (λ (more : Grows number (listed old q) (listed new q)). more.rising r) (either q);
+  kept = λ q k h. ⊎_elim (λ (same : listed new q ≡ listed old q). subst (λ xs. Contains xs k) (sym same) h) (λ
+      (more : Grows number (listed old q) (listed new q)). more.kept k h) (either q);
+  rising = λ q r. ⊎_elim (λ (same : listed new q ≡ listed old q). subst (λ xs. IsRising xs (number + 1))
+      (sym same) r) (λ (more : Grows number (listed old q) (listed new q)). more.rising r) (either q);
   added = λ q is. subst (λ d. Contains (listed new d) number) (sym is) (subst (λ xs. Contains xs number) (sym here) grows.added);
 }
   where
@@ -205,7 +224,9 @@ Adds-one number head place old mid new list before there grows places mid_reads 
 
     here : listed new head ≡ list.items
     here =
-        ap (list_at new.lists.items new.others.items) (same_place mid new places reads head ∙ placed mid head place there) ∙ ap (λ xs. get_or (items_of xs) place []) lists
+        ap (list_at new.lists.items new.others.items)
+        (same_place mid new places reads head ∙ placed mid head place there)
+        ∙ ap (λ xs. get_or (items_of xs) place []) lists
         ∙ get_or-map (λ l. l.items) (set mid.lists.items place list) place list [] (omega (arith, length-set mid.lists.items place list, within))
         ∙ ap (λ l. l.items) (get_or-set_same mid.lists.items place list list within)
 
@@ -234,22 +255,28 @@ Adds-one number head place old mid new list before there grows places mid_reads 
 
 -- the lists of all heads that begin with a letter grow
 pub Adds-letter : (number : ℕ) (letter : List ℕ) (place : ℕ) (old mid new : Index) → IsUtf8 letter → ((q : List ℕ) → listed mid q ≡ listed old q) →
-    get_by_text mid.places letter ≡ Some place → ((q : List ℕ) → get_by_text new.places q ≡ get_by_text mid.places q) → mid.direction ≡ old.direction → new.direction ≡ mid.direction →
-    ((k : ℕ) → k < length mid.lists.items → GrowsIf (get_or (map string_bytes mid.letters.items) k [] ≡ letter) number (get_or (items_of mid.lists.items) k []) (get_or (items_of new.lists.items) k [])) →
+    get_by_text mid.places letter ≡ Some place → ((q : List ℕ) → get_by_text new.places q ≡ get_by_text mid.places q)
+    → mid.direction ≡ old.direction → new.direction ≡ mid.direction →
+    ((k : ℕ) → k < length mid.lists.items
+    → GrowsIf (get_or (map string_bytes mid.letters.items) k [] ≡ letter) number
+    (get_or (items_of mid.lists.items) k []) (get_or (items_of new.lists.items) k [])) →
     new.others.items ≡ mid.others.items → Adds (λ q. letter_of old.direction q ≡ letter) number old new
 Adds-letter number letter place old mid new utf8 before there places mid_reads reads lists others =
     Adds-from (λ q. letter_of old.direction q ≡ letter) number old new (reads ∙ mid_reads)
     (λ q. subst (λ xs. GrowsIf (letter_of old.direction q ≡ letter) number xs (listed new q)) (before q)
-    (subst (λ d. GrowsIf (letter_of d q ≡ letter) number (listed mid q) (listed new q)) mid_reads (grows q (get_by_text mid.places q) (get_by_text mid.places (letter_of mid.direction q)) refl refl)))
+    (subst (λ d. GrowsIf (letter_of d q ≡ letter) number (listed mid q) (listed new q)) mid_reads
+    (grows q (get_by_text mid.places q) (get_by_text mid.places (letter_of mid.direction q)) refl refl)))
   where
     some_none : (k : ℕ) → Some k ≡ None → ⊥
     some_none k e = cc
 
-    by_place : (q : List ℕ) (k : ℕ) → place_for mid q ≡ Some k → (letter_of mid.direction q ≡ letter → get_or (map string_bytes mid.letters.items) k [] ≡ letter) →
+    by_place : (q : List ℕ) (k : ℕ) → place_for mid q ≡ Some k
+        → (letter_of mid.direction q ≡ letter → get_or (map string_bytes mid.letters.items) k [] ≡ letter) →
         GrowsIf (letter_of mid.direction q ≡ letter) number (listed mid q) (listed new q)
     by_place q k is lettered =
         let was : listed mid q ≡ get_or (items_of mid.lists.items) k [] = ap (list_at mid.lists.items mid.others.items) is in
-        let now : listed new q ≡ get_or (items_of new.lists.items) k [] = ap (list_at new.lists.items new.others.items) (same_place mid new places reads q ∙ is) in
+        let now : listed new q ≡ get_or (items_of new.lists.items) k [] =
+        ap (list_at new.lists.items new.others.items) (same_place mid new places reads q ∙ is) in
         let more = lists k (place_for-within mid q k is) in
         record {
           kept = λ n h. subst (λ xs. Contains xs n) (sym now) (more.kept n (subst (λ xs. Contains xs n) was h));
@@ -266,7 +293,8 @@ Adds-letter number letter place old mid new utf8 before there places mid_reads r
     grows q None None is by_letter =
         let none : place_for mid q ≡ None = ap (λ o. place_or o (get_by_text mid.places (letter_of mid.direction q))) is ∙ by_letter in
         GrowsIf-not (letter_of mid.direction q ≡ letter) number (listed mid q) (listed new q)
-        (ap (list_at new.lists.items new.others.items) (same_place mid new places reads q ∙ none) ∙ others ∙ sym (ap (list_at mid.lists.items mid.others.items) none))
+        (ap (list_at new.lists.items new.others.items) (same_place mid new places reads q ∙ none) ∙ others
+        ∙ sym (ap (list_at mid.lists.items mid.others.items) none))
         (λ h. absurd (some_none place (sym there ∙ ap (get_by_text mid.places) (sym h) ∙ by_letter)))
 
 -- one function or the other, by the result of a call
@@ -308,7 +336,8 @@ module _ (lists : List (Vec ℕ Global)) (old new : List ℕ → Option ℕ) (he
         get_or-map (λ l. l.items) (lists ++ list ∷ []) (length lists) list [] (omega (arith, length_push lists list))
         ∙ ap (λ l. l.items) (get_or_push lists list list (length lists) refl)
 
-    by_letter : (q : List ℕ) (b : Bool) → bytes_eq head (letter_of d q) ≡ b → list_at (lists ++ list ∷ []) others (new (letter_of d q)) ≡ list_at lists others (old (letter_of d q))
+    by_letter : (q : List ℕ) (b : Bool) → bytes_eq head (letter_of d q) ≡ b
+        → list_at (lists ++ list ∷ []) others (new (letter_of d q)) ≡ list_at lists others (old (letter_of d q))
     by_letter q true h =
         let is : head ≡ letter_of d q = (bytes_eq-Decides head (letter_of d q)).0 h in
         let none : old (letter_of d q) ≡ None = ap old (sym is) ∙ fresh in
@@ -331,7 +360,9 @@ module _ (lists : List (Vec ℕ Global)) (old new : List ℕ → Option ℕ) (he
     by_text q false h =
         ap (λ o. list_at (lists ++ list ∷ []) others (place_or o (new (letter_of d q)))) (found_before q h) ∙ by_own q (old q) refl
 
-    pub listed-more : (q : List ℕ) → list_at (lists ++ list ∷ []) others (place_or (new q) (new (letter_of d q))) ≡ list_at lists others (place_or (old q) (old (letter_of d q)))
+    pub listed-more : (q : List ℕ)
+        → list_at (lists ++ list ∷ []) others (place_or (new q) (new (letter_of d q)))
+        ≡ list_at lists others (place_or (old q) (old (letter_of d q)))
     listed-more q = by_text q (bytes_eq head q) refl
 
 -- the first letter of the head whose list came last
@@ -352,7 +383,8 @@ module _ (letters more : List (List ℕ)) (n : ℕ) (old new : List ℕ → Opti
           kept place (in_range q place was) ∙ before q place was
 
 -- the letters of the first lists
-pub taken_letters : (letters : List (String Global)) (n k : ℕ) → k < n → get_or (map string_bytes (take n letters)) k [] ≡ get_or (map string_bytes letters) k []
+pub taken_letters : (letters : List (String Global)) (n k : ℕ) → k < n
+    → get_or (map string_bytes (take n letters)) k [] ≡ get_or (map string_bytes letters) k []
 taken_letters letters zero k h = absurd (omega arith)
 taken_letters [] (suc n) k h = refl
 taken_letters (x ∷ xs) (suc n) zero h = refl

@@ -40,7 +40,9 @@ AreJoined-end n joined xs ys first second j none also k = (
   λ h. j.sound k (inl h),
   λ w. ⊎_elim (λ (h : Contains joined k). h)
       (λ (left : Contains xs k ⊎ Contains ys k).
-      absurd (⊎_elim (λ (h : Contains xs k). let (i, inside, is) = h in omega (arith, inside, none)) (λ (h : Contains ys k). let (i, inside, is) = h in omega (arith, inside, also)) left))
+      absurd (⊎_elim (λ (h : Contains xs k). let (i, inside, is) = h in
+      omega (arith, inside, none)) (λ (h : Contains ys k). let (i, inside, is) = h in
+      omega (arith, inside, also)) left))
       (j.complete k w),
 )
 

@@ -27,14 +27,16 @@ AllHaveWords-count [] (e ∷ es) all = absurd all
 AllHaveWords-count (t ∷ trees) [] all = absurd all
 AllHaveWords-count (t ∷ trees) (e ∷ es) all = ap suc (AllHaveWords-count trees es all.1)
 
-measured_at : (trees : List Node) (es : List Expression) → AllHaveWords trees es → (k : ℕ) (tree : Node) → slice_get trees k ≡ Some tree → IsTrue (is_measured tree)
+measured_at : (trees : List Node) (es : List Expression) → AllHaveWords trees es → (k : ℕ) (tree : Node)
+    → slice_get trees k ≡ Some tree → IsTrue (is_measured tree)
 measured_at [] es all k tree there = absurd (none-some tree there)
 measured_at (t ∷ trees) [] all k tree there = absurd all
 measured_at (t ∷ trees) (e ∷ es) all zero tree there = subst (λ n. IsTrue (is_measured n)) (same_Some t tree there) all.0.measured
 measured_at (t ∷ trees) (e ∷ es) all (suc k) tree there = measured_at trees es all.1 k tree there
 
 -- the tree of one template
-tree_at : (d : Direction) (set : List Known) (trees : List Node) → AllHaveWords trees (map (read d) (map words_of set)) → (k : ℕ) (known : Known) (tree : Node) →
+tree_at : (d : Direction) (set : List Known) (trees : List Node) → AllHaveWords trees (map (read d) (map words_of set))
+    → (k : ℕ) (known : Known) (tree : Node) →
     slice_get set k ≡ Some known → slice_get trees k ≡ Some tree → HasWords (Language (read d (words_of known))) tree
 tree_at d [] trees all k known tree here there = absurd (none-some known here)
 tree_at d (s ∷ set) [] all k known tree here there = absurd all
@@ -43,7 +45,8 @@ tree_at d (s ∷ set) (t ∷ trees) all zero known tree here there =
     (subst (λ s. HasWords (Language (read d (words_of s))) t) (same_Some s known here) all.0)
 tree_at d (s ∷ set) (t ∷ trees) all (suc k) known tree here there = tree_at d set trees all.1 k known tree here there
 
-pub HaveTheirTrees-from_trees : (d : Direction) (set : List Known) (trees : List Node) → AllHaveWords trees (map (read d) (map words_of set)) → HaveTheirTrees d set trees
+pub HaveTheirTrees-from_trees : (d : Direction) (set : List Known) (trees : List Node)
+    → AllHaveWords trees (map (read d) (map words_of set)) → HaveTheirTrees d set trees
 HaveTheirTrees-from_trees d set trees all = record {
   count = AllHaveWords-count trees (map (read d) (map words_of set)) all ∙ length-map (map words_of set) (read d) ∙ length-map set words_of;
   measured = λ k tree there. measured_at trees (map (read d) (map words_of set)) all k tree there;

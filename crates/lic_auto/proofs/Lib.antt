@@ -16,6 +16,7 @@ pub mod WordSets
 pub mod Rows
 pub mod Weightless
 pub mod Repetitions
+pub mod Texts
 pub mod Trees
 pub mod Copies
 pub mod Taken

@@ -32,7 +32,8 @@ Found templates numbers places ts n = (place : ℕ) × Contains places place × 
     × ((known : Known) × (slice_get (picked templates numbers) place ≡ Some known) × DescribesEnd (mirrored (words_of known)) ts)
 
 module _ (templates : List Known) (numbers : List ℕ) (up : IsRising numbers (length templates)) (places : List ℕ) (ts : List (List ℕ)) (n : ℕ) where
-  pub live-found : ((k : ℕ) → Contains places k → k < length numbers) → Found templates numbers places (turned ts) n → Contains numbers n × IsLive templates ts n
+  pub live-found : ((k : ℕ) → Contains places k → k < length numbers) → Found templates numbers places (turned ts) n
+      → Contains numbers n × IsLive templates ts n
   live-found within (place, among, is, (known, there, described)) =
       let inside : place < length numbers = within place among in
       let here : slice_get templates n ≡ Some known = ap (slice_get templates) (sym is) ∙ sym (picked-at templates numbers up.below place inside) ∙ there in
@@ -44,7 +45,8 @@ module _ (templates : List Known) (numbers : List ℕ) (up : IsRising numbers (l
       AllSeek (picked templates numbers) seekers (turned ts) → Contains numbers n × IsLive templates ts n → Found templates numbers places (turned ts) n
   found-live seekers size quiet stand ((place, inside, is), (known, here, m, described)) =
       let value : get_or numbers place 0 ≡ n = get_or_default numbers place 0 n inside ∙ is in
-      let there : slice_get (picked templates numbers) place ≡ Some known = picked-at templates numbers up.below place inside ∙ ap (slice_get templates) value ∙ here in
+      let there : slice_get (picked templates numbers) place ≡ Some known =
+      picked-at templates numbers up.below place inside ∙ ap (slice_get templates) value ∙ here in
       let ends : DescribesEnd (mirrored (words_of known)) (turned ts) = end-from_beginning (words_of known) ts m described in
       ⊎_elim
       (λ (among : Contains places place). (place, among, value, (known, there, ends)))
@@ -59,7 +61,9 @@ module _ (templates : List Known) (numbers seen : List ℕ) (ts : List (List ℕ
 
   -- what is found up to a place is found before it, or there
   pub Found-cases : Found templates numbers (seen ++ place ∷ []) ts n → Found templates numbers seen ts n
-      ⊎ ((get_or numbers place 0 ≡ n) × ((known : Known) × (slice_get (picked templates numbers) place ≡ Some known) × DescribesEnd (mirrored (words_of known)) ts))
+      ⊎ ((get_or numbers place 0 ≡ n)
+      × ((known : Known) × (slice_get (picked templates numbers) place ≡ Some known)
+      × DescribesEnd (mirrored (words_of known)) ts))
   Found-cases (at, among, is, (known, there, described)) =
       ⊎_elim
       (λ (before : Contains seen at). inl (at, before, is, (known, there, described)))

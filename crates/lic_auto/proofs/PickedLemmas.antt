@@ -106,10 +106,12 @@ module _ (set : List Known) (all : List ℕ) (rising : IsRising all (length set)
 pub IsLeastDescribing-of : (set : List Known) (numbers : List ℕ) (ts : List (List ℕ)) (from : ℕ) (r : Option ℕ) → IsLeastOf set numbers ts from r →
     OthersFail set numbers ts → IsLeastDescribing set ts from r
 IsLeastDescribing-of set numbers ts from None least others = λ end k known late less there.
-    ⊎_elim (λ (inside : Contains numbers k). least end k known inside late less there) (λ (gone : ¬ (Contains numbers k)). others k known gone there) (contains_or_not numbers k)
+    ⊎_elim (λ (inside : Contains numbers k). least end k known inside late less there) (λ
+    (gone : ¬ (Contains numbers k)). others k known gone there) (contains_or_not numbers k)
 IsLeastDescribing-of set numbers ts from (Some n) (inside, late, is, none) others = (
   late,
   is,
   λ k known late' less there.
-      ⊎_elim (λ (within : Contains numbers k). none k known within late' less there) (λ (gone : ¬ (Contains numbers k)). others k known gone there) (contains_or_not numbers k),
+      ⊎_elim (λ (within : Contains numbers k). none k known within late' less there) (λ
+      (gone : ¬ (Contains numbers k)). others k known gone there) (contains_or_not numbers k),
 )

@@ -77,7 +77,8 @@ choice_without P Q b is same = AreSame-trans (AreSame-sym (Either-none_left P)) 
 
 -- ---- a choice of patterns
 
-alternatives-push : (es : List Expression) (e : Expression) → AreSame (Language (words.alt_all (es ++ e ∷ []))) (Either (Language (words.alt_all es)) (Language e))
+alternatives-push : (es : List Expression) (e : Expression)
+    → AreSame (Language (words.alt_all (es ++ e ∷ []))) (Either (Language (words.alt_all es)) (Language e))
 alternatives-push [] e = AreSame-trans (Either-none (Language e)) (AreSame-sym (Either-none_left (Language e)))
 alternatives-push (d ∷ es) e =
     AreSame-trans (Either-same (AreSame-refl (Language d)) (alternatives-push es e))

@@ -109,7 +109,8 @@ row_read Backward [] [] all = AreSame-refl (Language words.empty)
 row_read Backward [] (e ∷ es) all = absurd all
 row_read Backward (n ∷ ns) [] all = absurd all
 row_read Backward (n ∷ ns) (e ∷ es) all =
-    subst (λ rs. AreSame (WordsOf (cat_all rs)) (Language (words.cat (mirrored (words.cat_all es)) (mirrored e)))) (sym (reverse-cons (core_of n) (map core_of ns)))
+    subst (λ rs. AreSame (WordsOf (cat_all rs)) (Language (words.cat (mirrored (words.cat_all es)) (mirrored e))))
+    (sym (reverse-cons (core_of n) (map core_of ns)))
     (AreSame-trans (cat_all-push (reverse (map core_of ns)) (core_of n)) (Cat-same (row_read Backward ns es all.1) all.0.words))
 
 -- a compiled row, a choice and a compiled repetition of a pattern
@@ -122,7 +123,8 @@ module _ (d : Direction) (ere : Ere) (subs : Vec Ere Global) (ns : List Node) (a
 pub compiled_choice : (d : Direction) (ere : Ere) (subs : Vec Ere Global) → ere ≡ Alt subs →
     AreSame (Language (words.alt_all (map (read d) (map pattern_words subs.items)))) (Language (read d (pattern_words ere)))
 compiled_choice d ere subs e =
-    language_same (read-alt_all d (map pattern_words subs.items) ∙ ap (read d) (choice_words-list subs.items ∙ sym (ap tree_words (ap tree_of e ∙ tree_of-Alt subs))))
+    language_same (read-alt_all d (map pattern_words subs.items)
+    ∙ ap (read d) (choice_words-list subs.items ∙ sym (ap tree_words (ap tree_of e ∙ tree_of-Alt subs))))
 
 pub compiled_repetition : (d : Direction) (ere : Ere) (body : Box Ere Global) (min : ℕ) (max : Option ℕ) (node : Node) → ere ≡ Repeat body min max →
     HasWords (Language (read d (pattern_words body.value))) node → AreSame (Repeats (WordsOf (core_of node)) min max) (Language (read d (pattern_words ere)))
@@ -155,6 +157,7 @@ text_read Backward (c ∷ cs) =
 pub letters_compiled : (d : Direction) (cs items : List ℕ) (node : Node) → items ≡ ordered d cs → IsBuilt (cat_all (letter_cores items)) node →
     HasWords (Language (read d (words.letters cs))) node
 letters_compiled d cs items node same built = record {
-  words = subst (λ r. AreSame (WordsOf r) (Language (read d (words.letters cs)))) (sym (built.stands ∙ ap (λ x. cat_all (letter_cores x)) same)) (text_read d cs);
+  words = subst (λ r. AreSame (WordsOf r) (Language (read d (words.letters cs))))
+      (sym (built.stands ∙ ap (λ x. cat_all (letter_cores x)) same)) (text_read d cs);
   measured = built.measured;
 }

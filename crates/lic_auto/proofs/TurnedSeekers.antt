@@ -16,7 +16,8 @@ use Rattle.lic_auto.proofs.PickedLemmas.{contains_or_not}
 use Rattle.lic_auto.proofs.Walking.{slice_get-push}
 
 module _ (templates : List Known) (old new : List Seeker) where
-  pub HaveMirrors-changed : (changes : ℕ → Seeker → Seeker → Type 0) (places : List ℕ) → AreTurned changes places old new → HaveMirrors templates old → HaveMirrors templates new
+  pub HaveMirrors-changed : (changes : ℕ → Seeker → Seeker → Type 0) (places : List ℕ)
+      → AreTurned changes places old new → HaveMirrors templates old → HaveMirrors templates new
   HaveMirrors-changed changes places m mirrors = λ k known b is there.
       let (a, was) = slice_get-some old new k b m.count there in
       ∥∥₁_map (mirrors k known a is was) (λ words. subst (λ t. HasWordsOf (core_of t) (mirrored (words_of known))) (sym (m.trees k a b was there)) words)
@@ -43,7 +44,8 @@ module _ (templates : List Known) (old new : List Seeker) where
         let calm : IsQuiet a = quiet k a (λ h. out ((both k).1 (inl h))) was in
         let none : NoneBegins (mirrored (words_of known)) (reverse token) = rest k known is (λ h. out ((both k).1 (inr h))) in
         ∥∥₁_elim (stand k known a is was) ∥∥₁_prop (λ s.
-        subst (λ x. ∥ Seeks x (mirrored (words_of known)) (ts ++ reverse token ∷ []) ∥₁) (sym same) (calm.skips (mirrored (words_of known)) ts (reverse token) s none)))
+        subst (λ x. ∥ Seeks x (mirrored (words_of known)) (ts ++ reverse token ∷ []) ∥₁) (sym same)
+        (calm.skips (mirrored (words_of known)) ts (reverse token) s none)))
         (contains_or_not places k)
 
     -- and those that are not kept are quiet then

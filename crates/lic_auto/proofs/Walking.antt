@@ -55,7 +55,8 @@ OthersDescribeNone-more set such numbers ts token others = λ k known among h is
     others k known among h is (token ∷ more) (subst (IsDescribed (words_of known)) (append_assoc ts (token ∷ []) more) described)
 
 -- an element of a list with one more at its end
-pub slice_get-push : {X : Type 0} → (xs : List X) (x : X) (k : ℕ) (y : X) → slice_get (xs ++ x ∷ []) k ≡ Some y → (slice_get xs k ≡ Some y) ⊎ ((k ≡ length xs) × (x ≡ y))
+pub slice_get-push : {X : Type 0} → (xs : List X) (x : X) (k : ℕ) (y : X) → slice_get (xs ++ x ∷ []) k ≡ Some y
+    → (slice_get xs k ≡ Some y) ⊎ ((k ≡ length xs) × (x ≡ y))
 slice_get-push [] x zero y h = inr (refl, same_Some x y h)
 slice_get-push [] x (suc k) y h = absurd (none-some y h)
 slice_get-push (z ∷ xs) x zero y h = inl h
@@ -83,7 +84,8 @@ pub record IsAfter (set : List Known) (such : ℕ → Type 0) (runs : List Run) 
 
 module _ (set : List Known) (such : ℕ → Type 0) (numbers : List ℕ) (token : List ℕ) where
   pub IsBefore-begun : (old new : List Run) → AreChanged Resets numbers old new → HaveTrees set old →
-      ((k : ℕ) (known : Known) → ¬ (Contains numbers k) → slice_get set k ≡ Some known → (more : List (List ℕ)) → ¬ (IsDescribed (words_of known) (token ∷ more))) →
+      ((k : ℕ) (known : Known) → ¬ (Contains numbers k) → slice_get set k ≡ Some known → (more : List (List ℕ))
+      → ¬ (IsDescribed (words_of known) (token ∷ more))) →
       IsBefore set such new numbers [] token
   IsBefore-begun old new begun trees others = record {
     stand = AllStand-reset set numbers old new begun trees;

@@ -28,6 +28,8 @@ IsLive set ts k = (known : Known) × (slice_get set k ≡ Some known) × (n : �
 -- A list of tokens that the machine stands for: each seeker stands for the list from its end, and the numbers that are kept as live
 -- are those of the live templates.
 pub record StandsBehind (back : Back) (ts : List (List ℕ)) : Type 0 where
-  pub seekers : (place : ℕ) (known : Known) (seeker : Seeker) → slice_get (templates_of back.chosen) place ≡ Some known → slice_get back.seekers.items place ≡ Some seeker
+  pub seekers : (place : ℕ) (known : Known) (seeker : Seeker) → slice_get (templates_of back.chosen) place ≡ Some known
+      → slice_get back.seekers.items place ≡ Some seeker
       → ∥ Seeks seeker (mirrored (words_of known)) (turned ts) ∥₁
-  pub live : (k : ℕ) → Contains (take back.live_count back.live.items) k ↔ (Contains (numbers_behind back) k × IsLive (set_behind back) ts k)
+  pub live : (k : ℕ) → Contains (take back.live_count back.live.items) k
+      ↔ (Contains (numbers_behind back) k × IsLive (set_behind back) ts k)

@@ -11,7 +11,8 @@ use Rattle.lic_auto.specs.declared.first.Firsts.{Firsts}
 -- any head can begin a word, or this text is among them, or its first letter as it is read
 abbrev pub IsFirst : Direction → Firsts → List ℕ → Type 0
 IsFirst direction firsts text =
-    IsTrue firsts.any ⊎ (Contains (map string_bytes firsts.heads.items) text ⊎ Contains (map string_bytes firsts.letters.items) (letter_of direction text))
+    IsTrue firsts.any ⊎ (Contains (map string_bytes firsts.heads.items) text
+    ⊎ Contains (map string_bytes firsts.letters.items) (letter_of direction text))
 
 -- the text of the head of these letters is added, whatever stands behind them
 pub record AddsHead (letters : List ℕ) (old new : Firsts) : Type 0 where

@@ -25,7 +25,8 @@ place_or (Some place) other = Some place
 place_or None other = other
 
 abbrev pub place_for : Index → List ℕ → Option ℕ
-place_for index text = place_or (get_by_text index.places text) (get_by_text index.places (letter_of index.direction text))
+place_for index text = place_or (get_by_text index.places text)
+    (get_by_text index.places (letter_of index.direction text))
 
 -- the numbers that the index names for the text of a head
 abbrev pub listed : Index → List ℕ → List ℕ
@@ -36,7 +37,8 @@ listed index text = list_at index.lists.items index.others.items (place_for inde
 pub record IsIndexOf (direction : Direction) (index : Index) (trees : List Node) : Type 0 where
   pub reads : index.direction ≡ direction
   pub rising : (text : List ℕ) → IsRising (listed index text) (length trees)
-  pub rest : (text : List ℕ) (k : ℕ) (tree : Node) → IsUtf8 text → slice_get trees k ≡ Some tree → ¬ (Contains (listed index text) k)
+  pub rest : (text : List ℕ) (k : ℕ) (tree : Node) → IsUtf8 text → slice_get trees k ≡ Some tree
+      → ¬ (Contains (listed index text) k)
       → ¬ (HasHead (WordsOf (core_of tree)) (ordered direction (chars text)))
 
 -- the number is named for these texts now, and what was named is

@@ -30,7 +30,8 @@ pub record StandsAmong (run : Run) (numbers : List ℕ) (ts : List (List ℕ)) :
   pub some : (k : ℕ) → Contains numbers k → Contains (numbers_of run) k
   pub live : AllStand (templates_of run.chosen) run.runs.items (live_of run) ts
   pub within : (place : ℕ) → Contains (live_of run) place → HasNumberOf run numbers place
-  pub others : run.has_begun ≡ true → OthersDescribeNone (templates_of run.chosen) (HasNumberOf run numbers) (live_of run) ts
+  pub others : run.has_begun ≡ true
+      → OthersDescribeNone (templates_of run.chosen) (HasNumberOf run numbers) (live_of run) ts
 
 -- a list of tokens that a run stands for, among all of its templates
 abbrev pub StandsFor : Run → List (List ℕ) → Type 0
@@ -46,21 +47,25 @@ is_dead run = run.has_begun && (run.live_count == 0)
 
 -- no template of these numbers describes the tokens
 abbrev pub NoneDescribes : List Known → List (List ℕ) → ℕ → ℕ → Type 0
-NoneDescribes set ts from end = (k : ℕ) (known : Known) → from ≤ k → k < end → slice_get set k ≡ Some known → ¬ (IsDescribed (words_of known) ts)
+NoneDescribes set ts from end =
+    (k : ℕ) (known : Known) → from ≤ k → k < end → slice_get set k ≡ Some known → ¬ (IsDescribed (words_of known) ts)
 
 -- the least number, from this one on, of a template that describes the tokens
 abbrev pub IsLeastDescribing : List Known → List (List ℕ) → ℕ → Option ℕ → Type 0
 IsLeastDescribing set ts from None = (end : ℕ) → NoneDescribes set ts from end
 IsLeastDescribing set ts from (Some k) =
-    (from ≤ k) × ((known : Known) × (slice_get set k ≡ Some known) × IsDescribed (words_of known) ts) × NoneDescribes set ts from k
+    (from ≤ k) × ((known : Known) × (slice_get set k ≡ Some known) × IsDescribed (words_of known) ts)
+    × NoneDescribes set ts from k
 
 -- of the templates at such places, from this place up to the other, none describes the tokens
 abbrev pub NoneAtDescribes : List Known → (ℕ → Type 0) → List (List ℕ) → ℕ → ℕ → Type 0
 NoneAtDescribes set places ts from end =
-    (k : ℕ) (known : Known) → places k → from ≤ k → k < end → slice_get set k ≡ Some known → ¬ (IsDescribed (words_of known) ts)
+    (k : ℕ) (known : Known) → places k → from ≤ k → k < end → slice_get set k ≡ Some known
+    → ¬ (IsDescribed (words_of known) ts)
 
 -- the least such place, from this one on, of a template that describes the tokens
 abbrev pub IsLeastPlace : List Known → (ℕ → Type 0) → List (List ℕ) → ℕ → Option ℕ → Type 0
 IsLeastPlace set places ts from None = (end : ℕ) → NoneAtDescribes set places ts from end
 IsLeastPlace set places ts from (Some k) =
-    places k × (from ≤ k) × ((known : Known) × (slice_get set k ≡ Some known) × IsDescribed (words_of known) ts) × NoneAtDescribes set places ts from k
+    places k × (from ≤ k) × ((known : Known) × (slice_get set k ≡ Some known) × IsDescribed (words_of known) ts)
+    × NoneAtDescribes set places ts from k

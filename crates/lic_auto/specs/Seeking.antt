@@ -14,12 +14,14 @@ use Rattle.lic_auto.specs.declared.chosen.Chosen.{Chosen}
 
 -- each seeker's tree has the words of its template, read from their ends
 abbrev pub HaveMirrors : List Known → List Seeker → Type 0
-HaveMirrors set seekers = (k : ℕ) (known : Known) (s : Seeker) → slice_get set k ≡ Some known → slice_get seekers k ≡ Some s
+HaveMirrors set seekers = (k : ℕ) (known : Known) (s : Seeker) → slice_get set k ≡ Some known
+    → slice_get seekers k ≡ Some s
     → ∥ HasWordsOf (core_of (tree_of s)) (mirrored (words_of known)) ∥₁
 
 -- each seeker stands for the tokens
 abbrev pub AllSeek : List Known → List Seeker → List (List ℕ) → Type 0
-AllSeek set seekers ts = (k : ℕ) (known : Known) (s : Seeker) → slice_get set k ≡ Some known → slice_get seekers k ≡ Some s
+AllSeek set seekers ts = (k : ℕ) (known : Known) (s : Seeker) → slice_get set k ≡ Some known
+    → slice_get seekers k ≡ Some s
     → ∥ Seeks s (mirrored (words_of known)) ts ∥₁
 
 -- the seekers at these places have changed so, each over its tree, and the others are as they were
@@ -38,7 +40,8 @@ TakesTurned entered token k old new = (e : Expression) (ts : List (List ℕ)) �
 -- no end of what the seeker stands for is described, and it stands as it is for one token more with which nothing begins
 pub record IsQuiet (s : Seeker) : Type 0 where
   pub none : (e : Expression) (ts : List (List ℕ)) → Seeks s e ts → ¬ (DescribesEnd e ts)
-  pub skips : (e : Expression) (ts : List (List ℕ)) (token : List ℕ) → Seeks s e ts → NoneBegins e token → ∥ Seeks s e (ts ++ token ∷ []) ∥₁
+  pub skips : (e : Expression) (ts : List (List ℕ)) (token : List ℕ) → Seeks s e ts → NoneBegins e token
+      → ∥ Seeks s e (ts ++ token ∷ []) ∥₁
 
 -- all seekers are quiet, but perhaps those at these places
 abbrev pub AreQuietBut : List ℕ → List Seeker → Type 0
@@ -47,4 +50,5 @@ AreQuietBut places seekers = (k : ℕ) (s : Seeker) → ¬ (Contains places k) �
 -- the template of this number, at one of these places, describes some end of the tokens
 abbrev pub IsFoundAt : Chosen → List ℕ → List (List ℕ) → ℕ → Type 0
 IsFoundAt chosen places ts n = (place : ℕ) × Contains places place × (slice_index chosen.numbers.items place ≡ n)
-    × ((known : Known) × (slice_get (templates_of chosen) place ≡ Some known) × DescribesEnd (mirrored (words_of known)) ts)
+    × ((known : Known) × (slice_get (templates_of chosen) place ≡ Some known)
+    × DescribesEnd (mirrored (words_of known)) ts)

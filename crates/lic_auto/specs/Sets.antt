@@ -59,4 +59,5 @@ StandsTwice id known = 2 ≤ count_by (λ k. bytes_eq k.id id) known
 abbrev pub RepeatsAt : List (String Global × TemplateValue) → ℕ → Type 0
 RepeatsAt pairs k =
     (0 < k) × (k < length pairs)
-    × ((d : String Global × TemplateValue) → string_bytes (slice_index_or pairs (k - 1) d).0 ≡ string_bytes (slice_index_or pairs k d).0)
+    × ((d : String Global × TemplateValue)
+    → string_bytes (slice_index_or pairs (k - 1) d).0 ≡ string_bytes (slice_index_or pairs k d).0)

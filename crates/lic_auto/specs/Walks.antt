@@ -17,12 +17,15 @@ HaveTrees set runs = (k : ℕ) (known : Known) (run : Run) → slice_get set k �
 
 -- for the templates of these numbers the runs stand for the tokens
 abbrev pub AllStand : List Known → List Run → List ℕ → List (List ℕ) → Type 0
-AllStand set runs numbers ts = (k : ℕ) (known : Known) (run : Run) → Contains numbers k → slice_get set k ≡ Some known → slice_get runs k ≡ Some run
+AllStand set runs numbers ts =
+    (k : ℕ) (known : Known) (run : Run) → Contains numbers k → slice_get set k ≡ Some known
+    → slice_get runs k ≡ Some run
     → ∥ Stands run (words_of known) ts ∥₁
 
 -- such templates describe no list that begins with the tokens, but for those of these numbers
 abbrev pub OthersDescribeNone : List Known → (ℕ → Type 0) → List ℕ → List (List ℕ) → Type 0
-OthersDescribeNone set such numbers ts = (k : ℕ) (known : Known) → such k → ¬ (Contains numbers k) → slice_get set k ≡ Some known
+OthersDescribeNone set such numbers ts =
+    (k : ℕ) (known : Known) → such k → ¬ (Contains numbers k) → slice_get set k ≡ Some known
     → (more : List (List ℕ)) → ¬ (IsDescribed (words_of known) (ts ++ more))
 
 -- the run begins anew
@@ -35,7 +38,8 @@ Takes token old new = (e : Expression) (ts : List (List ℕ)) → Stands old e t
 
 -- no list that begins with one that the run stands for is described
 abbrev pub IsForGood : Run → Type 0
-IsForGood run = (e : Expression) (ts : List (List ℕ)) → Stands run e ts → (more : List (List ℕ)) → ¬ (IsDescribed e (ts ++ more))
+IsForGood run = (e : Expression) (ts : List (List ℕ)) → Stands run e ts → (more : List (List ℕ))
+    → ¬ (IsDescribed e (ts ++ more))
 
 -- the runs of these numbers have changed so, each over its tree, and the others are as they were
 abbrev pub AreChanged : (Run → Run → Type 0) → List ℕ → List Run → List Run → Type 0

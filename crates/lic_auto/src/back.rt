@@ -41,7 +41,8 @@ pub struct Back<'s> {
     ghost mirrors: { HaveMirrors (templates_of chosen) seekers.items },
     ghost marked_room: { vec_len marked ≡ length (templates_of chosen) },
     ghost marked_within: { marked_count ≤ vec_len marked },
-    ghost marked_rising: { IsRising (take marked_count marked.items) (length (templates_of chosen)) },
+    ghost marked_rising: { IsRising (take marked_count marked.items)
+        (length (templates_of chosen)) },
     ghost quiet: { AreQuietBut (take marked_count marked.items) seekers.items },
     ghost turns_room: { vec_len turns ≡ length (templates_of chosen) },
     ghost live_room: { vec_len live ≡ length (templates_of chosen) },
@@ -95,7 +96,8 @@ impl<'s> Back<'s> {
         ensures stands { StandsBehind self.new [] }
         ensures set { set_behind self.new ≡ set_behind self.old }
         ensures numbers { numbers_behind self.new ≡ numbers_behind self.old }
-        ensures steps { (steps_behind self.old ≤ steps_behind self.new) × (steps_behind self.new ≤ steps_behind self.old + 2) }
+        ensures steps { (steps_behind self.old ≤ steps_behind self.new)
+            × (steps_behind self.new ≤ steps_behind self.old + 2) }
     {
         name_all(&mut self.marked);
         begin_anew(&mut self.seekers, &self.marked);
@@ -109,11 +111,14 @@ impl<'s> Back<'s> {
     /// greatest `u64`.
     pub fn push_front(&mut self, text: &str)
         requires { IsTokenText text.now }
-        ensures stands { (ts : List (List ℕ)) → StandsBehind self.old ts → StandsBehind self.new (chars text.now ∷ ts) }
+        ensures stands { (ts : List (List ℕ)) → StandsBehind self.old ts
+            → StandsBehind self.new (chars text.now ∷ ts) }
         ensures set { set_behind self.new ≡ set_behind self.old }
         ensures numbers { numbers_behind self.new ≡ numbers_behind self.old }
-        ensures least { steps_behind self.new < 2 ^ 64 - 1 → steps_behind self.old + letters_in (chars text.now) ≤ steps_behind self.new }
-        ensures most { steps_behind self.new ≤ steps_behind self.old + 2 * letters_in (chars text.now) }
+        ensures least { steps_behind self.new < 2 ^ 64 - 1
+            → steps_behind self.old + letters_in (chars text.now) ≤ steps_behind self.new }
+        ensures most { steps_behind self.new
+            ≤ steps_behind self.old + 2 * letters_in (chars text.now) }
         ensures never_fall { steps_behind self.old ≤ steps_behind self.new }
     {
         self.steps = count_steps(self.steps, text);
@@ -129,7 +134,8 @@ impl<'s> Back<'s> {
     /// Whether some template of this machine describes a beginning of the list of tokens.
     pub fn live(&self) -> bool
         ensures { (ts : List (List ℕ)) → StandsBehind self.now ts
-            → IsTrue result ↔ ((k : ℕ) × Contains (numbers_behind self.now) k × IsLive (set_behind self.now) ts k) }
+            → IsTrue result ↔ ((k : ℕ) × Contains (numbers_behind self.now) k
+            × IsLive (set_behind self.now) ts k) }
     {
         self.live_count > 0
     }
@@ -138,7 +144,8 @@ impl<'s> Back<'s> {
     pub fn live_numbers(&self) -> &[usize]
         ensures rising { IsRising result.now (length (set_behind self.now)) }
         ensures exactly { (ts : List (List ℕ)) → StandsBehind self.now ts → (k : ℕ)
-            → Contains result.now k ↔ (Contains (numbers_behind self.now) k × IsLive (set_behind self.now) ts k) }
+            → Contains result.now k
+            ↔ (Contains (numbers_behind self.now) k × IsLive (set_behind self.now) ts k) }
     {
         &self.live[..self.live_count]
     }

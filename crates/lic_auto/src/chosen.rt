@@ -31,7 +31,8 @@ pub struct Chosen<'s> {
     direction: Direction,
     index: Index,
     ghost rising: { IsRising numbers.items (length set.now) },
-    ghost indexed: { IsIndexed direction (picked set.now numbers.items) (map (λ tree. tree.now) trees.items) index },
+    ghost indexed: { IsIndexed direction (picked set.now numbers.items)
+        (map (λ tree. tree.now) trees.items) index },
 }
 
 impl<'s> Chosen<'s> {
@@ -77,8 +78,11 @@ impl<'s> Chosen<'s> {
 
     /// The first place whose number is not below this one.
     pub fn place_from(&self, from: usize) -> Option<usize>
-        ensures some { IfSome result (λ place. (i : ℕ) → i < length self.now.numbers.items → place ≤ i ↔ (from ≤ slice_index self.now.numbers.items i)) }
-        ensures none { IfNone result ((i : ℕ) → i < length self.now.numbers.items → slice_index self.now.numbers.items i < from) }
+        ensures some { IfSome result (λ place. (i : ℕ) → i < length self.now.numbers.items
+            → place ≤ i ↔ (from ≤ slice_index self.now.numbers.items i)) }
+        ensures none { IfNone result
+            ((i : ℕ) → i < length self.now.numbers.items
+            → slice_index self.now.numbers.items i < from) }
     {
         for (place, number) in self.numbers.iter().enumerate() {
             if *number >= from {
@@ -126,8 +130,11 @@ impl<'s> Chosen<'s> {
     pub fn entered_by(&self, token: &str) -> &[usize]
         requires { IsTokenText token.now }
         ensures rising { IsRising result.now (length (templates_of self.now)) }
-        ensures rest { (k : ℕ) (known : Known) → slice_get (templates_of self.now) k ≡ Some known → ¬ (Contains result.now k)
-            → (more : List (List ℕ)) → ¬ (IsDescribed (read self.now.direction (words_of known)) (ordered self.now.direction (chars token.now) ∷ more)) }
+        ensures rest { (k : ℕ) (known : Known) → slice_get (templates_of self.now) k ≡ Some known
+            → ¬ (Contains result.now k)
+            → (more : List (List ℕ))
+            → ¬ (IsDescribed (read self.now.direction (words_of known))
+            (ordered self.now.direction (chars token.now) ∷ more)) }
     {
         self.index.entered_by(read_head(token, self.direction))
     }
@@ -141,7 +148,9 @@ fn trees_of<'s>(
     direction: Direction,
 ) -> Result<Vec<&'s Node>, AllocError>
     requires { IsRising numbers.now (length set.now) }
-    ensures { IfOk result (λ trees. HaveTheirTrees direction (picked set.now numbers.now) (map (λ tree. tree.now) trees.items)) }
+    ensures { IfOk result (λ trees.
+        HaveTheirTrees direction (picked set.now numbers.now)
+        (map (λ tree. tree.now) trees.items)) }
 {
     let mut trees = Vec::with_capacity(alloc, numbers.len())?;
     for number in numbers {

@@ -1,16 +1,16 @@
 //! Parts of templates as compiled trees.
 
-ghost use Rattle.std.specs.Prelude.{◌≡◌, ◌<◌, ◌≤◌, ℕ, Option, IsTrue, IfOk, Some, None, [], ◌∷◌, map, chars};
+ghost use Rattle.std.specs.Prelude.{◌≡◌, ◌<◌, ◌≤◌, ◌==◌, ◌++◌, ℕ, Option, IsTrue, IfOk, IfSome, OnOk, Some, None, [], ◌∷◌, map, chars};
 ghost use Rattle.std.specs.List.{list_all};
 ghost use Rattle.lic_words.specs.Expressions.{Language, IsAtMost, letters, empty, none, alt_all as any_of};
 ghost use Rattle.lic_markup.specs.Meaning.{parts_words, part_words};
 ghost use Rattle.lic_markup.specs.Parts.{part_of};
-ghost use Rattle.lic_marks.specs.Cores.{WordsOf, cat_all, alt as either, empty as nothing};
+ghost use Rattle.lic_marks.specs.Cores.{WordsOf, one, cat_all, alt as either, empty as nothing};
 ghost use Rattle.lic_marks.specs.Marks.{is_nullable};
 ghost use Rattle.lic_marks.specs.Rows.{weight};
-ghost use Rattle.lic_marks.specs.Nodes.{core_of, is_measured};
+ghost use Rattle.lic_marks.specs.Nodes.{core_of, is_measured, letter_cores, passes};
 ghost use Rattle.lic_auto.specs.Directions.{ordered, read};
-ghost use Rattle.lic_auto.specs.Compiling.{HasWords, AllHaveWords, Repeats, pattern_words};
+ghost use Rattle.lic_auto.specs.Compiling.{AreSame, HasWords, AllHaveWords, Repeats, pattern_words};
 
 use crate::direction::Direction;
 use lic_ere::Ere;
@@ -30,7 +30,8 @@ pub(crate) fn compile(
     parts: &[Part],
     direction: Direction,
 ) -> Result<Node, AllocError>
-    ensures { IfOk result (HasWords (Language (read direction (parts_words (map part_of parts.now))))) }
+    ensures { IfOk result (HasWords
+        (Language (read direction (parts_words (map part_of parts.now))))) }
 {
     let mut children = Vec::new(alloc);
     for part in parts {
@@ -95,7 +96,8 @@ fn compile_tree(alloc: Global, ere: &Ere, direction: Direction) -> Result<Node, 
 
 #[cycle(compile_tree)]
 fn compile_trees(alloc: Global, subs: &[Ere], direction: Direction) -> Result<Vec<Node>, AllocError>
-    ensures { IfOk result (λ nodes. AllHaveWords nodes.items (map (read direction) (map pattern_words subs.now))) }
+    ensures { IfOk result (λ nodes.
+        AllHaveWords nodes.items (map (read direction) (map pattern_words subs.now))) }
 {
     let mut nodes = Vec::new(alloc);
     for sub in subs {
@@ -107,7 +109,8 @@ fn compile_trees(alloc: Global, subs: &[Ere], direction: Direction) -> Result<Ve
 /// Any one of these patterns. Those that weigh 0 are left out, but for one empty word where one of them has it.
 #[cycle(compile_tree)]
 fn compile_choice(alloc: Global, subs: &[Ere], direction: Direction) -> Result<Node, AllocError>
-    ensures { IfOk result (HasWords (Language (any_of (map (read direction) (map pattern_words subs.now))))) }
+    ensures { IfOk result (HasWords
+        (Language (any_of (map (read direction) (map pattern_words subs.now))))) }
 {
     let mut kept = Vec::new(alloc);
     let mut has_empty = false;
@@ -155,13 +158,14 @@ fn ordered_row(
     direction: Direction,
 ) -> Result<Node, AllocError>
     requires { IsTrue (list_all is_measured children.items) }
-    ensures { IfOk result (HasWords (WordsOf (cat_all (ordered direction (map core_of children.items))))) }
+    ensures { IfOk result (HasWords
+        (WordsOf (cat_all (ordered direction (map core_of children.items))))) }
 {
     direction.order(&mut children);
     row(alloc, children)
 }
 
-/// One child after another. The children that weigh 0 are left out.
+/// One child after another. The children that weigh 0 are left out, and letters in a row are one text.
 fn row(alloc: Global, children: Vec<Node>) -> Result<Node, AllocError>
     requires { IsTrue (list_all is_measured children.items) }
     ensures { IfOk result (HasWords (WordsOf (cat_all (map core_of children.items)))) }
@@ -169,12 +173,87 @@ fn row(alloc: Global, children: Vec<Node>) -> Result<Node, AllocError>
     let mut kept = Vec::new(alloc);
     for child in children {
         if child.weight() > 0 {
-            kept.push(child)?;
+            push_joined(alloc, &mut kept, child)?;
         } else if !has_empty_word(child) {
             return Ok(no_word(alloc));
         }
     }
     joined(kept)
+}
+
+/// Puts the child behind the others. A letter is joined to the text or the letter before it.
+fn push_joined(alloc: Global, kept: &mut Vec<Node>, child: Node) -> Result<(), AllocError>
+    requires kept { IsTrue (list_all is_measured kept.old.items) }
+    requires child { IsTrue (is_measured child) }
+    ensures measured { OnOk result (IsTrue (list_all is_measured kept.new.items)) }
+    ensures words { OnOk result
+        (AreSame (WordsOf (cat_all (map core_of kept.new.items)))
+        (WordsOf (cat_all (map core_of (kept.old.items ++ child ∷ []))))) }
+{
+    let Some(letter) = letter_of(&child) else {
+        kept.push(child)?;
+        return Ok(());
+    };
+    let Some(last) = kept.pop() else {
+        kept.push(child)?;
+        return Ok(());
+    };
+    let mut text = end_text(alloc, kept, last)?;
+    text.push(letter)?;
+    kept.push(build::letters(text))?;
+    Ok(())
+}
+
+// The letter, of a node that is one letter.
+fn letter_of(node: &Node) -> Option<char>
+    ensures { IfSome result (λ letter. core_of node.now ≡ one (λ c. c == letter)) }
+{
+    match node {
+        Node::One(Test::Letter(letter)) => Some(*letter),
+        _ => None,
+    }
+}
+
+// The text of the last child, which is not among the others; where it is none, it is put behind them, and the text is empty.
+fn end_text(alloc: Global, kept: &mut Vec<Node>, last: Node) -> Result<Vec<char>, AllocError>
+    requires kept { IsTrue (list_all is_measured kept.old.items) }
+    requires last { IsTrue (is_measured last) }
+    ensures measured { IfOk result (λ text. IsTrue (list_all is_measured kept.new.items)) }
+    ensures words { IfOk result (λ text.
+        AreSame (WordsOf (cat_all
+        (map core_of kept.new.items ++ cat_all (letter_cores text.items) ∷ [])))
+        (WordsOf (cat_all (map core_of (kept.old.items ++ last ∷ []))))) }
+{
+    match last {
+        Node::Letters(letters) => Ok(letters),
+        Node::One(test) => letter_text(alloc, kept, test),
+        last => {
+            kept.push(last)?;
+            Ok(Vec::new(alloc))
+        }
+    }
+}
+
+// The same of one letter that passes: a text where it is a letter.
+fn letter_text(alloc: Global, kept: &mut Vec<Node>, test: Test) -> Result<Vec<char>, AllocError>
+    requires { IsTrue (list_all is_measured kept.old.items) }
+    ensures measured { IfOk result (λ text. IsTrue (list_all is_measured kept.new.items)) }
+    ensures words { IfOk result (λ text.
+        AreSame (WordsOf (cat_all
+        (map core_of kept.new.items ++ cat_all (letter_cores text.items) ∷ [])))
+        (WordsOf (cat_all (map core_of kept.old.items ++ one (passes test) ∷ [])))) }
+{
+    let mut text = Vec::new(alloc);
+    match test {
+        Test::Letter(letter) => {
+            text.push(letter)?;
+            Ok(text)
+        }
+        test => {
+            kept.push(build::one(test))?;
+            Ok(text)
+        }
+    }
 }
 
 /// One child after another; one alone stands by itself.
@@ -220,7 +299,8 @@ fn repetition(alloc: Global, body: Node, min: u32, max: Option<u32>) -> Result<N
 /// `min` words or more of a body that weighs 0, in a row: the empty word, or no word.
 fn weightless_repetition(alloc: Global, body: Node, min: u32) -> Node
     requires { weight (core_of body) ≡ 0 }
-    ensures { (max : Option ℕ) → IsAtMost max min → HasWords (Repeats (WordsOf (core_of body)) min max) result }
+    ensures { (max : Option ℕ) → IsAtMost max min
+        → HasWords (Repeats (WordsOf (core_of body)) min max) result }
 {
     let may_be_empty = (min == 0) | has_empty_word(body);
     if may_be_empty {

@@ -31,7 +31,9 @@ impl Firsts {
 
     /// The texts of the heads of words of the expression once they are read in a direction, and perhaps some others.
     pub fn of(alloc: Global, node: &Node, direction: Direction) -> Result<Firsts, AllocError>
-        ensures { IfOk result (λ firsts. (text : List ℕ) → IsUtf8 text → HasHead (WordsOf (core_of node.now)) (ordered direction (chars text)) → IsFirst direction firsts text) }
+        ensures { IfOk result (λ firsts. (text : List ℕ) → IsUtf8 text
+            → HasHead (WordsOf (core_of node.now)) (ordered direction (chars text))
+            → IsFirst direction firsts text) }
     {
         let mut firsts = Firsts {
             heads: Vec::new(alloc),
@@ -47,7 +49,9 @@ impl Firsts {
 
     // The same texts from their ends. A first letter, as it is read, stays.
     fn turned(self, alloc: Global) -> Result<Firsts, AllocError>
-        ensures { IfOk result (λ firsts. (text : List ℕ) → IsUtf8 text → IsFirst Forward self (encode_utf8_all (reverse (chars text))) → IsFirst Backward firsts text) }
+        ensures { IfOk result (λ firsts. (text : List ℕ) → IsUtf8 text
+            → IsFirst Forward self (encode_utf8_all (reverse (chars text)))
+            → IsFirst Backward firsts text) }
     {
         let mut heads = Vec::with_capacity(alloc, self.heads.len())?;
         for head in &self.heads {
@@ -63,7 +67,8 @@ impl Firsts {
 
 // The letters of a text from the last to the first.
 fn turned_text(alloc: Global, text: &str) -> Result<String, AllocError>
-    ensures { IfOk result (λ turned. string_bytes turned ≡ encode_utf8_all (reverse (chars text.now))) }
+    ensures { IfOk result (λ turned. string_bytes turned
+        ≡ encode_utf8_all (reverse (chars text.now))) }
 {
     let mut letters: Vec<char> = text.chars().collect(alloc)?;
     Direction::Backward.order(&mut letters);
@@ -74,7 +79,8 @@ ghost use Rattle.lic_auto.specs.Firsts.{Gathers, GathersRow, AddsHead, IsFirst};
 
 // Adds the heads of the expression's words, with nothing behind them.
 fn gather_whole(alloc: Global, node: &Node, firsts: &mut Firsts) -> Result<(), AllocError>
-    ensures { OnOk result ((text : List ℕ) → IsUtf8 text → HasHead (WordsOf (core_of node.now)) (chars text) → IsFirst Forward firsts.new text) }
+    ensures { OnOk result ((text : List ℕ) → IsUtf8 text
+        → HasHead (WordsOf (core_of node.now)) (chars text) → IsFirst Forward firsts.new text) }
 {
     match node {
         Node::Letters(text) => gather_alone(alloc, text, firsts),
@@ -87,7 +93,8 @@ fn gather_whole(alloc: Global, node: &Node, firsts: &mut Firsts) -> Result<(), A
 
 // Adds the head of a text that stands alone: no letters behind it belong to its head, as behind a blank.
 fn gather_alone(alloc: Global, text: &[char], firsts: &mut Firsts) -> Result<(), AllocError>
-    ensures { OnOk result ((head : List ℕ) → IsUtf8 head → (head_of text.now ≢ []) → head_of text.now ≡ chars head → IsFirst Forward firsts.new head) }
+    ensures { OnOk result ((head : List ℕ) → IsUtf8 head → (head_of text.now ≢ [])
+        → head_of text.now ≡ chars head → IsFirst Forward firsts.new head) }
 {
     let mut letters = Vec::from_slice(alloc, text)?;
     letters.push(' ')?;
@@ -117,7 +124,8 @@ fn gather(alloc: Global, node: &Node, firsts: &mut Firsts) -> Result<bool, Alloc
 // blanks alone, or empty.
 #[cycle(gather)]
 fn gather_row(alloc: Global, children: &[Node], firsts: &mut Firsts) -> Result<bool, AllocError>
-    ensures { IfOk result (λ found. GathersRow (map core_of children.now) firsts.old firsts.new found) }
+    ensures { IfOk result (λ found.
+        GathersRow (map core_of children.now) firsts.old firsts.new found) }
 {
     for child in children {
         if !gather(alloc, child, firsts)? {
@@ -135,7 +143,8 @@ fn gather_repeat(
     times: Times,
     firsts: &mut Firsts,
 ) -> Result<bool, AllocError>
-    ensures { IfOk result (λ found. Gathers (so_many times (core_of child.now)) firsts.old firsts.new found) }
+    ensures { IfOk result (λ found.
+        Gathers (so_many times (core_of child.now)) firsts.old firsts.new found) }
 {
     let passes = gather(alloc, child, firsts)?;
     match times {
@@ -147,7 +156,8 @@ fn gather_repeat(
 // The same for any one child.
 #[cycle(gather)]
 fn gather_each(alloc: Global, children: &[Node], firsts: &mut Firsts) -> Result<bool, AllocError>
-    ensures { IfOk result (λ found. Gathers (alt_all (map core_of children.now)) firsts.old firsts.new found) }
+    ensures { IfOk result (λ found.
+        Gathers (alt_all (map core_of children.now)) firsts.old firsts.new found) }
 {
     let mut any = false;
     for child in children {
@@ -158,7 +168,8 @@ fn gather_each(alloc: Global, children: &[Node], firsts: &mut Firsts) -> Result<
 }
 
 fn gather_text(alloc: Global, text: &[char], firsts: &mut Firsts) -> Result<bool, AllocError>
-    ensures { IfOk result (λ found. Gathers (cat_all (letter_cores text.now)) firsts.old firsts.new found) }
+    ensures { IfOk result (λ found.
+        Gathers (cat_all (letter_cores text.now)) firsts.old firsts.new found) }
 {
     match letters_from(text) {
         Some(letters) => {
@@ -215,7 +226,9 @@ fn gather_copies(
     count: usize,
     firsts: &mut Firsts,
 ) -> Result<bool, AllocError>
-    ensures { IfOk result (λ found. Gathers (cat_all (replicate count (one (passes test.now)))) firsts.old firsts.new found) }
+    ensures { IfOk result (λ found.
+        Gathers (cat_all (replicate count
+        (one (passes test.now)))) firsts.old firsts.new found) }
 {
     if count == 0 {
         return Ok(true);
@@ -224,7 +237,9 @@ fn gather_copies(
 }
 
 fn gather_up_to(alloc: Global, test: &Test, firsts: &mut Firsts) -> Result<bool, AllocError>
-    ensures { (count : ℕ) → IfOk result (λ found. Gathers (any_front (replicate count (one (passes test.now)))) firsts.old firsts.new found) }
+    ensures { (count : ℕ) → IfOk result (λ found.
+        Gathers (any_front (replicate count
+        (one (passes test.now)))) firsts.old firsts.new found) }
 {
     let _ = gather_test(alloc, test, firsts)?;
     Ok(true)

@@ -14,7 +14,7 @@ use std::alloc::{AllocError, Global};
 use std::collections::HashMap;
 
 // The most heads with a list of their own: each list repeats the numbers that any head can begin.
-const MOST_HEADS: usize = 4_096;
+const MAX_HEADS: usize = 4_096;
 
 /// For each head the numbers of the trees that have a word which begins with it.
 #[derive(Debug, Drop)]
@@ -27,9 +27,11 @@ pub struct Index {
     letters: Vec<String>,
     // the list of each head that has no place, and whose first letter has none
     others: Vec<usize>,
-    ghost in_range: { (text : List ℕ) (place : ℕ) → get_by_text places text ≡ Some place → place < vec_len lists },
+    ghost in_range: { (text : List ℕ) (place : ℕ) → get_by_text places text ≡ Some place
+        → place < vec_len lists },
     ghost lettered: { vec_len lists ≤ vec_len letters },
-    ghost letter: { (text : List ℕ) (place : ℕ) → get_by_text places text ≡ Some place → slice_index_or (map string_bytes letters.items) place [] ≡ letter_of direction text },
+    ghost letter: { (text : List ℕ) (place : ℕ) → get_by_text places text ≡ Some place
+        → slice_index_or (map string_bytes letters.items) place [] ≡ letter_of direction text },
 }
 
 impl Index {
@@ -38,7 +40,8 @@ impl Index {
 
     /// An index of trees whose words are read in a direction, each under its place.
     pub fn build(alloc: Global, trees: &[&Node], direction: Direction) -> Result<Index, AllocError>
-        ensures { IfOk result (λ index. IsIndexOf direction index (map (λ tree. tree.now) trees.now)) }
+        ensures { IfOk result (λ index.
+            IsIndexOf direction index (map (λ tree. tree.now) trees.now)) }
     {
         let mut index = Index {
             direction,
@@ -78,12 +81,13 @@ impl Index {
     // Adds a number that is greater than all: to the lists of these heads and of those that begin with these letters, or to all
     // lists where any head can begin, or where there would be too many lists.
     fn add(&mut self, alloc: Global, number: usize, firsts: &Firsts) -> Result<(), AllocError>
-        ensures { OnOk result (Adds (IsFirst self.old.direction firsts.now) number self.old self.new) }
+        ensures { OnOk result (Adds
+            (IsFirst self.old.direction firsts.now) number self.old self.new) }
     {
         if firsts.any {
             return self.add_to_all(number);
         }
-        let room = MOST_HEADS.saturating_sub(self.lists.len());
+        let room = MAX_HEADS.saturating_sub(self.lists.len());
         if firsts.heads.len().saturating_add(firsts.letters.len()) > room {
             return self.add_to_all(number);
         }
@@ -97,7 +101,8 @@ impl Index {
         number: usize,
         heads: &[String],
     ) -> Result<(), AllocError>
-        ensures { OnOk result (Adds (Contains (map string_bytes heads.now)) number self.old self.new) }
+        ensures { OnOk result (Adds
+            (Contains (map string_bytes heads.now)) number self.old self.new) }
     {
         for head in heads {
             self.add_to_one(alloc, number, head.as_str())?;
@@ -111,7 +116,9 @@ impl Index {
         number: usize,
         letters: &[String],
     ) -> Result<(), AllocError>
-        ensures { OnOk result (Adds (λ text. Contains (map string_bytes letters.now) (letter_of self.old.direction text)) number self.old self.new) }
+        ensures { OnOk result (Adds (λ text.
+            Contains (map string_bytes letters.now)
+            (letter_of self.old.direction text)) number self.old self.new) }
     {
         for letter in letters {
             self.add_to_letter(alloc, number, letter.as_str())?;
@@ -141,7 +148,8 @@ impl Index {
         number: usize,
         letter: &str,
     ) -> Result<(), AllocError>
-        ensures { OnOk result (Adds (λ text. letter_of self.old.direction text ≡ letter.now) number self.old self.new) }
+        ensures { OnOk result (Adds (λ text. letter_of self.old.direction text
+            ≡ letter.now) number self.old self.new) }
     {
         let _ = self.place_of(alloc, letter)?;
         push_where(&mut self.lists, &self.letters, letter, number)
@@ -172,9 +180,12 @@ impl Index {
 fn put_at(texts: &mut Vec<String>, place: usize, text: String) -> Result<(), AllocError>
     requires { place ≤ vec_len texts.old }
     ensures long { place ≤ vec_len texts.new }
-    ensures kept { (k : ℕ) → k < place → slice_index_or (map string_bytes texts.new.items) k [] ≡ slice_index_or (map string_bytes texts.old.items) k [] }
+    ensures kept { (k : ℕ) → k < place
+        → slice_index_or (map string_bytes texts.new.items) k []
+        ≡ slice_index_or (map string_bytes texts.old.items) k [] }
     ensures last { OnOk result (vec_len texts.new ≡ place + 1) }
-    ensures put { OnOk result (slice_index_or (map string_bytes texts.new.items) place [] ≡ string_bytes text) }
+    ensures put { OnOk result
+        (slice_index_or (map string_bytes texts.new.items) place [] ≡ string_bytes text) }
 {
     texts.truncate(place);
     texts.push(text)?;
@@ -183,7 +194,8 @@ fn put_at(texts: &mut Vec<String>, place: usize, text: String) -> Result<(), All
 
 fn push_to_each(lists: &mut [Vec<usize>], number: usize) -> Result<(), AllocError>
     ensures { OnOk result ((k : ℕ) → k < length lists.old
-        → Grows number (slice_index_or (map (λ list. list.items) lists.old) k []) (slice_index_or (map (λ list. list.items) lists.new) k [])) }
+        → Grows number (slice_index_or (map (λ list. list.items) lists.old) k [])
+        (slice_index_or (map (λ list. list.items) lists.new) k [])) }
 {
     for k in 0..lists.len() {
         let list = &mut lists[k];
@@ -202,7 +214,8 @@ fn push_where(
     requires { length lists.old ≤ length letters.now }
     ensures { OnOk result ((k : ℕ) → k < length lists.old
         → GrowsIf (slice_index_or (map string_bytes letters.now) k [] ≡ letter.now) number
-        (slice_index_or (map (λ list. list.items) lists.old) k []) (slice_index_or (map (λ list. list.items) lists.new) k [])) }
+        (slice_index_or (map (λ list. list.items) lists.old) k [])
+        (slice_index_or (map (λ list. list.items) lists.new) k [])) }
 {
     for k in 0..lists.len() {
         let begins = letters[k].as_str() == letter;

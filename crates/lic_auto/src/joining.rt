@@ -11,7 +11,8 @@ pub fn join_rising(some: &[usize], others: &[usize], joined: &mut [usize]) -> us
     ensures room { length joined.new ≡ length joined.old }
     ensures count { result ≤ length joined.new }
     ensures rising { IsRising (take result joined.new) (length joined.new) }
-    ensures both { (k : ℕ) → Contains (take result joined.new) k ↔ (Contains some.now k ⊎ Contains others.now k) }
+    ensures both { (k : ℕ) → Contains (take result joined.new) k
+        ↔ (Contains some.now k ⊎ Contains others.now k) }
 {
     let mut some = some;
     let mut others = others;
@@ -42,7 +43,8 @@ fn least_of(some: &[usize], others: &[usize]) -> Option<usize>
 }
 
 fn first_of(numbers: &[usize]) -> Option<usize>
-    ensures some { IfSome result (λ number. (0 < length numbers.now) × (number ≡ slice_index numbers.now 0)) }
+    ensures some { IfSome result (λ number. (0 < length numbers.now)
+        × (number ≡ slice_index numbers.now 0)) }
     ensures none { IfNone result (length numbers.now ≡ 0) }
 {
     numbers.first().copied()

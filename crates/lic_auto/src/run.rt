@@ -86,7 +86,8 @@ impl<'s> Run<'s> {
         ensures stands { StandsFor self.new [] }
         ensures set { set_of self.new ≡ set_of self.old }
         ensures numbers { numbers_of self.new ≡ numbers_of self.old }
-        ensures steps { (steps_of self.old ≤ steps_of self.new) × (steps_of self.new ≤ steps_of self.old + 2) }
+        ensures steps { (steps_of self.old ≤ steps_of self.new)
+            × (steps_of self.new ≤ steps_of self.old + 2) }
     {
         self.live_count = 0;
         self.has_begun = false;
@@ -100,7 +101,8 @@ impl<'s> Run<'s> {
         ensures stands { StandsAmong self.new numbers.now [] }
         ensures set { set_of self.new ≡ set_of self.old }
         ensures numbers { numbers_of self.new ≡ numbers_of self.old }
-        ensures steps { (steps_of self.old ≤ steps_of self.new) × (steps_of self.new ≤ steps_of self.old + 2) }
+        ensures steps { (steps_of self.old ≤ steps_of self.new)
+            × (steps_of self.new ≤ steps_of self.old + 2) }
     {
         let runs = self.runs.as_mut_slice();
         let live = self.live.as_mut_slice();
@@ -114,11 +116,14 @@ impl<'s> Run<'s> {
     /// greatest `u64`.
     pub fn push(&mut self, text: &str)
         requires { IsTokenText text.now }
-        ensures stands { (ts : List (List ℕ)) → StandsFor self.old ts → StandsFor self.new (ts ++ chars text.now ∷ []) }
-        ensures among { (numbers : List ℕ) (ts : List (List ℕ)) → StandsAmong self.old numbers ts → StandsAmong self.new numbers (ts ++ chars text.now ∷ []) }
+        ensures stands { (ts : List (List ℕ)) → StandsFor self.old ts
+            → StandsFor self.new (ts ++ chars text.now ∷ []) }
+        ensures among { (numbers : List ℕ) (ts : List (List ℕ)) → StandsAmong self.old numbers ts
+            → StandsAmong self.new numbers (ts ++ chars text.now ∷ []) }
         ensures set { set_of self.new ≡ set_of self.old }
         ensures numbers { numbers_of self.new ≡ numbers_of self.old }
-        ensures least { is_dead self.old ≡ false → steps_of self.new < 2 ^ 64 - 1 → steps_of self.old + letters_in (chars text.now) ≤ steps_of self.new }
+        ensures least { is_dead self.old ≡ false → steps_of self.new < 2 ^ 64 - 1
+            → steps_of self.old + letters_in (chars text.now) ≤ steps_of self.new }
         ensures most { steps_of self.new ≤ steps_of self.old + 2 * letters_in (chars text.now) }
         ensures never_fall { steps_of self.old ≤ steps_of self.new }
     {
@@ -135,11 +140,15 @@ impl<'s> Run<'s> {
 
     /// The least number, from this one on, of a template of this run that describes the list of tokens.
     pub fn accepted(&self, from: usize) -> Option<usize>
-        ensures among { (numbers : List ℕ) (ts : List (List ℕ)) → StandsAmong self.now numbers ts → IsLeastOf (set_of self.now) numbers ts from result }
-        ensures least { (ts : List (List ℕ)) → StandsFor self.now ts → IsLeastOf (set_of self.now) (numbers_of self.now) ts from result }
+        ensures among { (numbers : List ℕ) (ts : List (List ℕ)) → StandsAmong self.now numbers ts
+            → IsLeastOf (set_of self.now) numbers ts from result }
+        ensures least { (ts : List (List ℕ)) → StandsFor self.now ts
+            → IsLeastOf (set_of self.now) (numbers_of self.now) ts from result }
 
         // Where no other template describes the list, it is the least of all.
-        ensures all { (ts : List (List ℕ)) → StandsFor self.now ts → OthersFail (set_of self.now) (numbers_of self.now) ts → IsLeastDescribing (set_of self.now) ts from result }
+        ensures all { (ts : List (List ℕ)) → StandsFor self.now ts
+            → OthersFail (set_of self.now) (numbers_of self.now) ts
+            → IsLeastDescribing (set_of self.now) ts from result }
     {
         let first = self.chosen.place_from(from)?;
         let place = self.accepted_place(first)?;
@@ -149,7 +158,8 @@ impl<'s> Run<'s> {
     // The least place, from this one on, of a template that describes the list of tokens.
     fn accepted_place(&self, from: usize) -> Option<usize>
         ensures least { (numbers : List ℕ) (ts : List (List ℕ)) → StandsAmong self.now numbers ts
-            → IsLeastPlace (templates_of self.now.chosen) (HasNumberOf self.now numbers) ts from result }
+            → IsLeastPlace (templates_of self.now.chosen)
+            (HasNumberOf self.now numbers) ts from result }
         ensures within { IfSome result (λ place. place < length (templates_of self.now.chosen)) }
     {
         let live = &self.live[..self.live_count];
@@ -164,9 +174,14 @@ impl<'s> Run<'s> {
     /// True only if no template of this run describes a list that begins with that list of tokens.
     pub fn dead(&self) -> bool
         ensures value { result ≡ is_dead self.now }
-        ensures among { IsTrue result → (numbers : List ℕ) (ts more : List (List ℕ)) (k : ℕ) (known : Known) → StandsAmong self.now numbers ts → Contains numbers k
-            → slice_get (set_of self.now) k ≡ Some known → ¬ (IsDescribed (words_of known) (ts ++ more)) }
-        ensures none { IsTrue result → (ts more : List (List ℕ)) (k : ℕ) (known : Known) → StandsFor self.now ts → Contains (numbers_of self.now) k → slice_get (set_of self.now) k ≡ Some known
+        ensures among { IsTrue result
+            → (numbers : List ℕ) (ts more : List (List ℕ)) (k : ℕ) (known : Known)
+            → StandsAmong self.now numbers ts → Contains numbers k
+            → slice_get (set_of self.now) k ≡ Some known
+            → ¬ (IsDescribed (words_of known) (ts ++ more)) }
+        ensures none { IsTrue result → (ts more : List (List ℕ)) (k : ℕ) (known : Known)
+            → StandsFor self.now ts → Contains (numbers_of self.now) k
+            → slice_get (set_of self.now) k ≡ Some known
             → ¬ (IsDescribed (words_of known) (ts ++ more)) }
     {
         self.has_begun & (self.live_count == 0)

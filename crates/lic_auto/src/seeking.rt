@@ -66,7 +66,8 @@ pub fn take_turned(
     ensures count { result ≤ length kept.new }
     ensures room { length kept.new ≡ length kept.old }
     ensures rising { IsRising (take result kept.new) (length seekers.new) }
-    ensures taken { AreTurned (TakesTurned entered.now (chars token.now)) places.now seekers.old seekers.new }
+    ensures taken { AreTurned
+        (TakesTurned entered.now (chars token.now)) places.now seekers.old seekers.new }
     ensures kept { AreKeptOf IsQuiet places.now (take result kept.new) seekers.new }
 {
     let mut count = 0;

@@ -23,7 +23,7 @@ use std::marker::Model;
 use thiserror::Error;
 
 /// The most templates that a set may have (this project's profile).
-pub const MOST_TEMPLATES: usize = 4096;
+pub const MAX_TEMPLATES: usize = 4096;
 
 /// Why a set is refused.
 #[derive(Debug, Drop, Error)]
@@ -79,7 +79,8 @@ impl Model for Set {
 
     ghost view = { λ a. all_known a.named.items };
 
-    ghost invariant = { λ a. IsCompiled (all_known a.named.items) a.trees.items a.mirrored.items a.keys };
+    ghost invariant = { λ a.
+        IsCompiled (all_known a.named.items) a.trees.items a.mirrored.items a.keys };
 }
 
 impl Set {
@@ -94,12 +95,14 @@ impl Set {
         ensures few { OnOk result (length templates.items ≤ 4096) }
         ensures many { IsErrOf result BuildFault.TooMany ↔ (4096 < length templates.items) }
         ensures twice { (id : _) → IsErrOf result (BuildFault.Twice id)
-            → (length templates.items ≤ 4096) × StandsTwice (string_bytes id) (pairs_known templates.items) }
+            → (length templates.items ≤ 4096)
+            × StandsTwice (string_bytes id) (pairs_known templates.items) }
 
         // Lack of memory is reported only where nothing else stands against a set.
-        ensures memory { IsErrOf result BuildFault.Memory → (set : _) × IsSetOf (pairs_known templates.items) set }
+        ensures memory { IsErrOf result BuildFault.Memory
+            → (set : _) × IsSetOf (pairs_known templates.items) set }
     {
-        if templates.len() > MOST_TEMPLATES {
+        if templates.len() > MAX_TEMPLATES {
             return Err(BuildFault::TooMany);
         }
         templates.sort_unstable_by(|a, b| a.0.cmp(&b.0));
@@ -180,7 +183,8 @@ fn compile_all(
     named: &[Named],
     direction: Direction,
 ) -> Result<Vec<Node>, AllocError>
-    ensures { IfOk result (λ trees. AllHaveWords trees.items (map (read direction) (map words_of (all_known named.now)))) }
+    ensures { IfOk result (λ trees.
+        AllHaveWords trees.items (map (read direction) (map words_of (all_known named.now)))) }
 {
     let mut trees = Vec::new(alloc);
     for one in named {
@@ -203,7 +207,9 @@ fn build_keys(alloc: Global, named: &[Named]) -> Result<Keys, AllocError>
 // The first place whose identifier is that of the place before.
 fn first_repeat(templates: &[(String, Template)]) -> Option<usize>
     ensures found { IfSome result (RepeatsAt templates.now) }
-    ensures none { IfNone result (AllAdjacentBelow (λ a b. string_bytes a.0 ≢ string_bytes b.0) templates.now (length templates.now)) }
+    ensures none { IfNone result
+        (AllAdjacentBelow (λ a b. string_bytes a.0 ≢ string_bytes b.0) templates.now
+        (length templates.now)) }
 {
     for k in 1..templates.len() {
         if templates[k - 1].0 == templates[k].0 {

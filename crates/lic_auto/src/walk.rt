@@ -30,7 +30,8 @@ pub fn enter(
     ensures count { result ≤ length live.new }
     ensures rising { IsRising (take result live.new) (length (templates_of chosen.now)) }
     ensures begun { AreChanged Resets (take result live.new) runs.old runs.new }
-    ensures others { (k : ℕ) (known : Known) → ¬ (Contains (take result live.new) k) → slice_get (templates_of chosen.now) k ≡ Some known
+    ensures others { (k : ℕ) (known : Known) → ¬ (Contains (take result live.new) k)
+        → slice_get (templates_of chosen.now) k ≡ Some known
         → (more : List (List ℕ)) → ¬ (IsDescribed (words_of known) (chars token.now ∷ more)) }
 {
     let numbers = chosen.entered_by(token);

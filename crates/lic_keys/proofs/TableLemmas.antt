@@ -42,7 +42,9 @@ module _ (marks : List Bool) (lists : List (List ℕ)) (number m i : ℕ) (marke
       ⊎_elim
       (λ (same : j ≡ i).
       subst (λ x. Contains (get_or (set lists i (get_or lists i [] ++ number ∷ [])) x []) k) (sym same)
-      (subst (λ xs. Contains xs k) (sym list_here) (Contains-append_left (get_or lists i []) (number ∷ []) k (subst (λ x. Contains (get_or lists x []) k) same h))))
+      (subst (λ xs. Contains xs k) (sym list_here)
+      (Contains-append_left (get_or lists i []) (number ∷ []) k
+      (subst (λ x. Contains (get_or lists x []) k) same h))))
       (λ (other : j ≡ i → ⊥). subst (λ xs. Contains xs k) (sym (get_or-set_other lists i j (get_or lists i [] ++ number ∷ []) [] other)) h)
       (cases_eq j i)
 
@@ -65,13 +67,20 @@ PutsDown-push window number old new marked listed marks lists = record {
   added = λ other same.
       let is : window ≡ other = same_Some window other same in
       subst (λ x. Contains (named new x) number) is
-      (if_in _ _ number (ap (λ ms. get_or ms (mark_place window) false) marks ∙ mark_here old.marks.items (lists_of old) number (mark_place window) (list_place window) marked listed)
-      (subst (λ xs. Contains xs number) (sym (ap (λ ls. get_or ls (list_place window) []) lists ∙ list_here old.marks.items (lists_of old) number (mark_place window) (list_place window) marked listed))
+      (if_in _ _ number (ap (λ ms. get_or ms (mark_place window) false) marks
+      ∙ mark_here old.marks.items (lists_of old) number (mark_place window)
+      (list_place window) marked listed)
+      (subst (λ xs. Contains xs number)
+      (sym (ap (λ ls. get_or ls (list_place window) []) lists
+      ∙ list_here old.marks.items (lists_of old) number (mark_place window)
+      (list_place window) marked listed))
       (Contains-push (get_or (lists_of old) (list_place window) []) number)));
   kept = λ other k h.
       let (mark, list) = in_if _ _ k h in
       if_in _ _ k
-      (ap (λ ms. get_or ms (mark_place other) false) marks ∙ mark_kept old.marks.items (lists_of old) number (mark_place window) (list_place window) marked listed (mark_place other) mark)
+      (ap (λ ms. get_or ms (mark_place other) false) marks
+      ∙ mark_kept old.marks.items (lists_of old) number (mark_place window) (list_place window) marked listed
+      (mark_place other) mark)
       (subst (λ ls. Contains (get_or ls (list_place other) []) k) (sym lists)
       (list_kept old.marks.items (lists_of old) number (mark_place window) (list_place window) marked listed (list_place other) k list));
   below = λ n all less i k h.

@@ -12,8 +12,12 @@ window_at letters r h = record {
       let room : 16 ≤ length (drop r letters) = omega arith in
       let sixteen : r + 16 - r ≡ 16 = omega arith in
       ap (λ n. length (take n (drop r letters))) sixteen ∙ length-take-le 16 (drop r letters) room;
-  stands =
-      (take r letters, drop (r + 16 - r) (drop r letters), sym (ap (λ x. take r letters ++ x) (take-append-drop (r + 16 - r) (drop r letters)) ∙ take-append-drop r letters));
+  stands = (
+    take r letters,
+    drop (r + 16 - r) (drop r letters),
+    sym (ap (λ x. take r letters ++ x) (take-append-drop (r + 16 - r) (drop r letters))
+        ∙ take-append-drop r letters),
+  );
 }
 
 -- a window has a place

@@ -20,4 +20,5 @@ HasTaken look ts = look.letters.items ≡ letters_of ts
 abbrev pub OthersDescribeNoRange : List (List Part) → List ℕ → List (List ℕ) → Type 0
 OthersDescribeNoRange templates numbers ts =
     (k : ℕ) (parts : List Part) → slice_get templates k ≡ Some parts → ¬ (Contains numbers k)
-    → (before range behind : List (List ℕ)) → ts ≡ before ++ range ++ behind → ¬ (IsDescribed (parts_words (map part_of parts)) range)
+    → (before range behind : List (List ℕ)) → ts ≡ before ++ range ++ behind
+    → ¬ (IsDescribed (parts_words (map part_of parts)) range)

@@ -13,7 +13,8 @@ list_place window = hash_of window / 2 ^ 12 % 4096
 
 -- what the list of a window has, if the window is marked
 abbrev pub named_in : List Bool → List (List ℕ) → List ℕ → List ℕ
-named_in marks lists window = if slice_index_or marks (mark_place window) false then slice_index_or lists (list_place window) [] else []
+named_in marks lists window = if slice_index_or marks (mark_place window) false then slice_index_or lists
+    (list_place window) [] else []
 
 abbrev pub lists_of : Table → List (List ℕ)
 lists_of table = map (λ list. list.items) table.lists.items

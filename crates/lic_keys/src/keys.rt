@@ -55,7 +55,8 @@ impl Keys {
     /// A flag for each template, set where it has no key.
     pub(crate) fn without_key(&self, alloc: Global) -> Result<Vec<bool>, AllocError>
         ensures count { IfOk result (λ flags. length flags.items ≡ length self.now) }
-        ensures set { IfOk result (λ flags. (k : ℕ) → slice_get self.now k ≡ Some None → IsSet flags.items k) }
+        ensures set { IfOk result (λ flags. (k : ℕ) → slice_get self.now k ≡ Some None
+            → IsSet flags.items k) }
         ensures lengths { HaveLengths self.now }
     {
         flags_of(alloc, &self.keys)
@@ -65,7 +66,8 @@ impl Keys {
     pub(crate) fn mark_all(&self, letters: &[char], flags: &mut [bool])
         requires { length flags.old ≡ length self.now }
         ensures kept { (k : ℕ) → IsSet flags.old k → IsSet flags.new k }
-        ensures set { (k : ℕ) (key : List ℕ) → slice_get self.now k ≡ Some (Some key) → IsWindowOf key letters.now → IsSet flags.new k }
+        ensures set { (k : ℕ) (key : List ℕ) → slice_get self.now k ≡ Some (Some key)
+            → IsWindowOf key letters.now → IsSet flags.new k }
     {
         if letters.len() < LENGTH {
             return;
@@ -92,7 +94,8 @@ fn mark_each(keys: &[Option<Vec<char>>], numbers: &[usize], window: &[char], fla
     requires inside { (k : ℕ) → Contains numbers.now k → k < length keys.now }
     requires flags { length flags.old ≡ length keys.now }
     ensures kept { (k : ℕ) → IsSet flags.old k → IsSet flags.new k }
-    ensures set { (k : ℕ) → Contains numbers.now k → slice_get (plain_keys keys.now) k ≡ Some (Some window.now) → IsSet flags.new k }
+    ensures set { (k : ℕ) → Contains numbers.now k
+        → slice_get (plain_keys keys.now) k ≡ Some (Some window.now) → IsSet flags.new k }
 {
     for number in numbers {
         if is_key(&keys[*number], window) {
@@ -103,7 +106,9 @@ fn mark_each(keys: &[Option<Vec<char>>], numbers: &[usize], window: &[char], fla
 
 // The letters of each template's longest text outside optional parts.
 fn longest_texts(alloc: Global, templates: &[&Template]) -> Result<Vec<Vec<char>>, AllocError>
-    ensures { IfOk result (λ texts. AllZip MayHaveLetters (map (λ t. t.now.parts) templates.now) (map (λ text. text.items) texts.items)) }
+    ensures { IfOk result (λ texts.
+        AllZip MayHaveLetters (map (λ t. t.now.parts) templates.now)
+        (map (λ text. text.items) texts.items)) }
 {
     let mut texts = Vec::with_capacity(alloc, templates.len())?;
     for template in templates {
@@ -118,7 +123,8 @@ fn pick_keys(
     texts: &[Vec<char>],
     counts: &Counts,
 ) -> Result<Vec<Option<Vec<char>>>, AllocError>
-    ensures { IfOk result (λ keys. AllZip IsPickedOf (map (λ text. text.items) texts.now) (plain_keys keys.items)) }
+    ensures { IfOk result (λ keys.
+        AllZip IsPickedOf (map (λ text. text.items) texts.now) (plain_keys keys.items)) }
 {
     let mut keys = Vec::with_capacity(alloc, texts.len())?;
     for text in texts {

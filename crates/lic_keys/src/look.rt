@@ -40,7 +40,9 @@ impl<'k> Look<'k> {
     ///
     /// Fails where memory runs out. The look is of no use then.
     pub fn push(&mut self, text: &str) -> Result<(), AllocError>
-        ensures taken { OnOk result ((ts : List (List ℕ)) → HasTaken self.old ts → HasTaken self.new (ts ++ chars text.now ∷ [])) }
+        ensures taken { OnOk result
+            ((ts : List (List ℕ)) → HasTaken self.old ts
+            → HasTaken self.new (ts ++ chars text.now ∷ [])) }
         ensures keys { OnOk result (keys_of self.new ≡ keys_of self.old) }
     {
         push_letters(&mut self.letters, text)
@@ -49,9 +51,12 @@ impl<'k> Look<'k> {
     /// The numbers of the templates without a key and of those whose key stands in the tokens that were taken.
     pub fn kept(&self, alloc: Global) -> Result<Vec<usize>, AllocError>
         ensures rising { IfOk result (λ kept. IsRising kept.items (length (keys_of self.now))) }
-        ensures keys { IfOk result (λ kept. (ts : List (List ℕ)) (k : ℕ) → HasTaken self.now ts → k < length (keys_of self.now) → ¬ (Contains kept.items k)
-            → (key : List ℕ) × (slice_get (keys_of self.now) k ≡ Some (Some key)) × ¬ (StandsIn key (letters_of ts))) }
-        ensures others { IfOk result (λ kept. (templates : List (List Part)) (ts : List (List ℕ)) → AreKeysOf templates (keys_of self.now) → HasTaken self.now ts
+        ensures keys { IfOk result (λ kept. (ts : List (List ℕ)) (k : ℕ) → HasTaken self.now ts
+            → k < length (keys_of self.now) → ¬ (Contains kept.items k)
+            → (key : List ℕ) × (slice_get (keys_of self.now) k ≡ Some (Some key))
+            × ¬ (StandsIn key (letters_of ts))) }
+        ensures others { IfOk result (λ kept. (templates : List (List Part)) (ts : List (List ℕ))
+            → AreKeysOf templates (keys_of self.now) → HasTaken self.now ts
             → OthersDescribeNoRange templates kept.items ts) }
     {
         let mut flags = self.keys.without_key(alloc)?;

@@ -10,7 +10,8 @@ use std::alloc::{AllocError, Global};
 
 /// Puts the letters of a text that are no blanks behind those that are there.
 pub fn push_letters(letters: &mut Vec<char>, text: &str) -> Result<(), AllocError>
-    ensures { OnOk result (letters.new.items ≡ letters.old.items ++ without_blanks (chars text.now)) }
+    ensures { OnOk result (letters.new.items
+        ≡ letters.old.items ++ without_blanks (chars text.now)) }
 {
     for letter in text.chars() {
         if letter != ' ' {

@@ -10,7 +10,7 @@ use std::alloc::{AllocError, Global};
 pub const LENGTH: usize = 16;
 
 // The most counters for windows.
-const MOST_COUNTERS: usize = 1 << 22;
+const MAX_COUNTERS: usize = 1 << 22;
 
 /// The hash of a window, from every other letter of it.
 pub fn hash(window: &[char]) -> u64
@@ -48,7 +48,7 @@ impl Counts {
         for text in texts {
             letters = letters.saturating_add(text.len());
         }
-        let size = letters.saturating_mul(2).clamp(1, MOST_COUNTERS);
+        let size = letters.saturating_mul(2).clamp(1, MAX_COUNTERS);
         let mut counts = Counts {
             counters: vec![in alloc; 0u32; size]?,
         };

@@ -76,7 +76,9 @@ Leaves-copies (suc n) passes after entry row at d some room =
     subst (λ k. Leaves (cat_all (replicate (suc n) (one passes))) after entry row at (get_or row k d)) last (last_copy n passes after entry row at d room)
 
 can_leave-up_to : (n : ℕ) (passes : ℕ → Bool) (after entry : Bool) (row : List Bool) → n ≤ length row →
-    (entry || list_any (λ flag. flag) (take n row)) ≡ can_leave (any_front (replicate n (one passes))) after entry (marks_of (any_front (replicate n (one passes))) row)
+    (entry || list_any (λ flag. flag) (take n row))
+    ≡ can_leave (any_front (replicate n (one passes))) after entry
+    (marks_of (any_front (replicate n (one passes))) row)
 can_leave-up_to zero passes after entry row room = or_none entry
 can_leave-up_to (suc n) passes after entry [] room = absurd (omega (arith, room))
 can_leave-up_to (suc n) passes after entry (flag ∷ row) room =

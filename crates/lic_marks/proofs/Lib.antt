@@ -5,6 +5,7 @@ pub mod Shifting
 pub mod Repetitions
 pub mod Standing
 pub mod Nodes
+pub mod Leaving
 pub mod LetterWalks
 pub mod RowWalks
 pub mod JoinedRows

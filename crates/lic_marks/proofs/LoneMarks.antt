@@ -43,7 +43,8 @@ marks_of-lone (one passes) row (suc p) h l = absurd (omega (arith, h))
 marks_of-lone (cat a b) row p h l = elim (cases_lt p (weight a)) [
   | inl low ↦
       let left = marks_of-lone a row p low l in
-      let right = marks_of-none b (drop (weight a) row) (λ k few. get_or-drop (weight a) row k false ∙ l.others (weight a + k) (λ same. omega (arith, same, low))) in
+      let right = marks_of-none b (drop (weight a) row) (λ k few. get_or-drop (weight a) row k false
+      ∙ l.others (weight a + k) (λ same. omega (arith, same, low))) in
       let both : marks_of (cat a b) row ≡ (mark_at a p, no_marks b) = λ i. (left i, right i) in
       both ∙ sym (left_mark a b p low)
   | inr high ↦
@@ -57,7 +58,8 @@ marks_of-lone none row p h l = refl
 marks_of-lone (alt a b) row p h l = elim (cases_lt p (weight a)) [
   | inl low ↦
       let left = marks_of-lone a row p low l in
-      let right = marks_of-none b (drop (weight a) row) (λ k few. get_or-drop (weight a) row k false ∙ l.others (weight a + k) (λ same. omega (arith, same, low))) in
+      let right = marks_of-none b (drop (weight a) row) (λ k few. get_or-drop (weight a) row k false
+      ∙ l.others (weight a + k) (λ same. omega (arith, same, low))) in
       let both : marks_of (alt a b) row ≡ (mark_at a p, no_marks b) = λ i. (left i, right i) in
       both ∙ sym (left_alt a b p low)
   | inr high ↦
@@ -120,7 +122,8 @@ module _ (r : Core) (after : Bool) (p d c : ℕ) (old new : List Bool) (goes : L
     walk = Leaves-lone;
     row =
         let flags : flags_of r (shift r after false (marks_of r old) c) ≡ take (weight r) new =
-        ap (λ m. flags_of r (shift r after false m c)) here ∙ goes.moves after c ∙ ap (flags_of r) (sym next) ∙ flags_of-marks_of r new (omega (arith, room, long)) in
+        ap (λ m. flags_of r (shift r after false m c)) here ∙ goes.moves after c ∙ ap (flags_of r) (sym next)
+        ∙ flags_of-marks_of r new (omega (arith, room, long)) in
         let size : 0 + weight r ≡ weight r = omega arith in
         let tail : drop (0 + weight r) old ≡ drop (weight r) new = ap (λ n. drop n old) size ∙ sym rest in
         rw (flags, tail) (sym (take-append-drop (weight r) new));

@@ -163,7 +163,8 @@ module _ (takes : ℕ → Bool) (old : List Bool) (at n : ℕ) where
         (other : (k : ℕ) → k ≢ q → (k ≡ q + 1 → at + n ≤ k) → get_or new k false ≡ get_or row k false) where
       gap : (k : ℕ) → q + 2 ≤ k → k ≤ place → k < at + n → get_or new k false ≡ false
       gap k low high inside = other k (omega arith) (λ e. absurd (omega arith))
-          ∙ ⊎_elim (λ before. none k (omega arith) before) (λ same. let e : k ≡ place = omega arith in ap (λ i. get_or row i false) e ∙ f.here (omega arith)) (cases_lt k place)
+          ∙ ⊎_elim (λ before. none k (omega arith) before) (λ same. let e : k ≡ place = omega arith in
+          ap (λ i. get_or row i false) e ∙ f.here (omega arith)) (cases_lt k place)
 
       pub Falls-to : Falls takes old at n new q
       Falls-to = record {
@@ -276,7 +277,9 @@ flag-letters (d ∷ text) after entry c row (suc j) h =
     flag-letters text after (first_flag row) c (drop 1 row) j (omega (arith, h)) ∙ ap (λ b. b && (c == get_or text j 0)) (before_next row j)
 
 flag-copies : (passes : ℕ → Bool) (n : ℕ) (after entry : Bool) (c : ℕ) (row : List Bool) (j : ℕ) → j < n →
-    get_or (flags_of (cat_all (replicate n (one passes))) (shift (cat_all (replicate n (one passes))) after entry (marks_of (cat_all (replicate n (one passes))) row) c)) j false
+    get_or (flags_of (cat_all (replicate n (one passes)))
+    (shift (cat_all (replicate n (one passes))) after entry
+    (marks_of (cat_all (replicate n (one passes))) row) c)) j false
     ≡ (flag_before row entry j && passes c)
 flag-copies passes zero after entry c row j h = absurd (omega arith)
 flag-copies passes (suc n) after entry c row zero h = refl
@@ -284,7 +287,9 @@ flag-copies passes (suc n) after entry c row (suc j) h =
     flag-copies passes n after (first_flag row) c (drop 1 row) j (omega (arith, h)) ∙ ap (λ b. b && passes c) (before_next row j)
 
 flag-up_to : (passes : ℕ → Bool) (n : ℕ) (after entry : Bool) (c : ℕ) (row : List Bool) (j : ℕ) → j < n →
-    get_or (flags_of (any_front (replicate n (one passes))) (shift (any_front (replicate n (one passes))) after entry (marks_of (any_front (replicate n (one passes))) row) c)) j false
+    get_or (flags_of (any_front (replicate n (one passes)))
+    (shift (any_front (replicate n (one passes))) after entry
+    (marks_of (any_front (replicate n (one passes))) row) c)) j false
     ≡ (flag_before row entry j && passes c)
 flag-up_to passes zero after entry c row j h = absurd (omega arith)
 flag-up_to passes (suc n) after entry c row zero h = refl
@@ -293,7 +298,8 @@ flag-up_to passes (suc n) after entry c row (suc j) h =
 
 module _ (r : Core) (takes : ℕ → Bool) (after entry : Bool) (c : ℕ) (old : List Bool) (at n : ℕ) (new : List Bool) (x : Bool)
     (size : weight r ≡ n) (room : at + n ≤ length old) (long : length new ≡ length old)
-    (flags : (j : ℕ) → j < n → get_or (flags_of r (shift r after entry (marks_of r (drop at old)) c)) j false ≡ (flag_before (drop at old) entry j && takes j)) where
+    (flags : (j : ℕ) → j < n → get_or (flags_of r (shift r after entry (marks_of r (drop at old)) c)) j false
+    ≡ (flag_before (drop at old) entry j && takes j)) where
   Shifts-moved : Leaves r after entry old at x → Moves takes entry old at n new → Shifts r after entry c old at new x
   Shifts-moved p m =
       let few = length-flags_of r (shift r after entry (marks_of r (drop at old)) c) in

@@ -208,7 +208,9 @@ Shifts-front a b after entry c old at mid x new y room p q =
     let rest : Shifts (cat a b) after entry c old at new y = Shifts-cat a b after entry c old at mid x new y room p q in
     record {
       walk = Leaves-front a b after entry old at x y p.walk (Leaves-behind a after entry c old at mid x room p b x y q.walk);
-      row = rest.row ∙ ap (λ w. take at old ++ flags_of (cat a b) (shift (cat a b) after entry (marks_of (cat a b) (drop at old)) c) ++ drop (at + w) old) (none_more (weight a + weight b));
+      row = rest.row ∙ ap (λ w. take at old
+          ++ flags_of (cat a b) (shift (cat a b) after entry (marks_of (cat a b) (drop at old)) c)
+          ++ drop (at + w) old) (none_more (weight a + weight b));
     }
 
 pub Shifts-plus : (a : Core) (after entry : Bool) (c : ℕ) (old : List Bool) (at : ℕ) (new : List Bool) (x y : Bool) →
@@ -253,7 +255,8 @@ Shifts-clear_slice r after c row at n room size clear =
     let here : drop at row ≡ replicate (weight r) false ++ drop (at + weight r) row =
     split ∙ ap (λ s. s ++ drop (at + n) row) (clear ∙ ap (λ k. replicate k false) few) ∙ ap (λ k. replicate (weight r) false ++ drop (at + k) row) size in
     Shifts-clear r after c row at (drop (at + weight r) row)
-    (sym (take-append-drop at row) ∙ ap (λ s. take at row ++ s) here ∙ sym (append_assoc (take at row) (replicate (weight r) false) (drop (at + weight r) row))) here
+    (sym (take-append-drop at row) ∙ ap (λ s. take at row ++ s) here
+    ∙ sym (append_assoc (take at row) (replicate (weight r) false) (drop (at + weight r) row))) here
 
 -- ---- tidy words
 
@@ -272,7 +275,9 @@ Shifts-tidy a after entry c old at new x y is p q = record { walk = p; row = q.r
   where
     by_blank : (s b : Bool) → (b && s) ≡ false →
         take at old ++ flags_of a (shift a s (entry && not b) (marks_of a (drop at old)) c) ++ drop (at + weight a) old
-        ≡ take at old ++ flags_of a (if b then (if s then no_marks a else shift a s false (marks_of a (drop at old)) c) else shift a s entry (marks_of a (drop at old)) c) ++ drop (at + weight a) old
+        ≡ take at old ++ flags_of a (if b then
+        (if s then no_marks a else shift a s false (marks_of a (drop at old)) c) else shift a s entry
+        (marks_of a (drop at old)) c) ++ drop (at + weight a) old
     by_blank true true h = cc
     by_blank false true h = ap (λ e. take at old ++ flags_of a (shift a false e (marks_of a (drop at old)) c) ++ drop (at + weight a) old) (and_none entry)
     by_blank s false h = ap (λ e. take at old ++ flags_of a (shift a s e (marks_of a (drop at old)) c) ++ drop (at + weight a) old) (and_all entry)
@@ -291,7 +296,12 @@ clear_more old at i l h =
     let room : at ≤ length old = omega arith in
     let end : i ≡ at + length (replicate (i - at) false) = omega (arith, length-replicate (i - at) false) in
     let long : length (take at old ++ replicate (i - at) false ++ drop i old) ≡ length old =
-    omega (arith, length-append (take at old ++ replicate (i - at) false) (drop i old), front_length old (replicate (i - at) false) at i room end, length-drop i old) in
+    omega (
+      arith,
+      length-append (take at old ++ replicate (i - at) false) (drop i old),
+      front_length old (replicate (i - at) false) at i room end,
+      length-drop i old,
+    ) in
     let more : i + 1 - at ≡ (i - at) + 1 = omega arith in
     let rep : replicate (i + 1 - at) false ≡ replicate (i - at) false ++ false ∷ [] =
     ap (λ n. replicate n false) more ∙ sym (replicate-append-replicate (i - at) 1 false) in

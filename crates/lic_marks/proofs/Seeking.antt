@@ -131,7 +131,8 @@ module _ (e : Expression) (r : Core) (last : ℕ) (lists : List (List (Gap × �
     GoesOn n u = (n < length ts) × (last ≡ last_of blank (drop n ts)) × After (WordsOf r) (gapped (drop n ts)) u
 
     older_sound : (v : Word) → AfterAny (WordsOf r) (each_with (gapped_from last true t) lists) v →
-        (n : ℕ) × (n < length (ts ++ t ∷ [])) × (last_letter last t ≡ last_of blank (drop n (ts ++ t ∷ []))) × After (WordsOf r) (gapped (drop n (ts ++ t ∷ []))) v
+        (n : ℕ) × (n < length (ts ++ t ∷ [])) × (last_letter last t ≡ last_of blank (drop n (ts ++ t ∷ [])))
+        × After (WordsOf r) (gapped (drop n (ts ++ t ∷ []))) v
     older_sound v h =
         let more : List (Gap × ℕ) = gapped_from last true t in
         let end = After-pair more GoesOn v (After-map more (AfterAny (WordsOf r) lists) (λ u. (n : ℕ) × GoesOn n u)
@@ -152,7 +153,9 @@ module _ (e : Expression) (r : Core) (last : ℕ) (lists : List (List (Gap × �
     module _ (n : ℕ) (more : List (List ℕ)) (inside : n < length ts) (described : IsDescribed e (drop n (ts ++ t ∷ []) ++ more))
         (v : Word) (h : After (WordsOf r) (gapped (drop n (ts ++ t ∷ []))) v) where
       described_before : IsDescribed e (drop n ts ++ t ∷ more)
-      described_before = subst (IsDescribed e) (ap (λ x. x ++ more) (drop-push n ts t (omega (arith, inside))) ∙ append_assoc (drop n ts) (t ∷ []) more) described
+      described_before = subst (IsDescribed e)
+          (ap (λ x. x ++ more) (drop-push n ts t (omega (arith, inside)))
+          ∙ append_assoc (drop n ts) (t ∷ []) more) described
 
       before : After (After (WordsOf r) (gapped (drop n ts))) (gapped_from (last_of blank (drop n ts)) true t) v
       before = After-append (gapped (drop n ts)) (gapped_from (last_of blank (drop n ts)) true t) (WordsOf r) v
@@ -211,7 +214,8 @@ module _ (e : Expression) (r : Core) (last : ℕ) (lists : List (List (Gap × �
     }
       where
         sound : (v : Word) → AfterAny (WordsOf r) (with_token true last t lists) v →
-            (n : ℕ) × (n < length (ts ++ t ∷ [])) × (last_letter last t ≡ last_of blank (drop n (ts ++ t ∷ []))) × After (WordsOf r) (gapped (drop n (ts ++ t ∷ []))) v
+            (n : ℕ) × (n < length (ts ++ t ∷ [])) × (last_letter last t ≡ last_of blank (drop n (ts ++ t ∷ [])))
+            × After (WordsOf r) (gapped (drop n (ts ++ t ∷ []))) v
         sound v (inr h) = older_sound v h
         sound v (inl h) =
             let here = drop-last ts t in

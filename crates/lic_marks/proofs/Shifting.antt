@@ -20,7 +20,8 @@ pub is_nullable_sound : (r : Core) → is_nullable r ≡ true → WordsOf r []
 is_nullable_sound empty h = refl
 is_nullable_sound (one passes) h = cc
 is_nullable_sound (cat a b) h =
-    nil_cat (WordsOf a) (WordsOf b) [] (is_nullable_sound a (and_left (is_nullable a) (is_nullable b) h)) (is_nullable_sound b (and_right (is_nullable a) (is_nullable b) h))
+    nil_cat (WordsOf a) (WordsOf b) [] (is_nullable_sound a (and_left (is_nullable a) (is_nullable b) h))
+    (is_nullable_sound b (and_right (is_nullable a) (is_nullable b) h))
 is_nullable_sound none h = cc
 is_nullable_sound (alt a b) h =
     elim (or_cases (is_nullable a) (is_nullable b) h) [ inl p ↦ inl (is_nullable_sound a p) | inr p ↦ inr (is_nullable_sound b p) ]
@@ -31,7 +32,8 @@ pub is_nullable_complete : (r : Core) → WordsOf r [] → is_nullable r ≡ tru
 is_nullable_complete empty h = refl
 is_nullable_complete (one passes) h = cc
 is_nullable_complete (cat a b) h =
-    and_both (is_nullable a) (is_nullable b) (is_nullable_complete a (cat_nil_left (WordsOf a) (WordsOf b) h)) (is_nullable_complete b (cat_nil_right (WordsOf a) (WordsOf b) h))
+    and_both (is_nullable a) (is_nullable b) (is_nullable_complete a (cat_nil_left (WordsOf a) (WordsOf b) h))
+    (is_nullable_complete b (cat_nil_right (WordsOf a) (WordsOf b) h))
 is_nullable_complete none h = absurd h
 is_nullable_complete (alt a b) (inl h) = or_left (is_nullable a) (is_nullable b) (is_nullable_complete a h)
 is_nullable_complete (alt a b) (inr h) = or_right (is_nullable a) (is_nullable b) (is_nullable_complete b h)
@@ -212,7 +214,8 @@ shift_complete (plus a) after entry m c v (inl h) =
     elim (cat_cons (Completes a after m) (Star (WordsOf a)) c v h) [
       | inl s ↦
           let more : Cat (λ u. WordsOf a (c ∷ u)) (Star (WordsOf a)) v = star_cons (WordsOf a) c v s.1 in
-          let enters : (entry || can_leave a after entry m) ≡ true = or_right entry (can_leave a after entry m) (can_leave_complete a after entry m (inl s.0)) in
+          let enters : (entry || can_leave a after entry m) ≡ true =
+          or_right entry (can_leave a after entry m) (can_leave_complete a after entry m (inl s.0)) in
           (more.0, more.1, shift_complete a after (entry || can_leave a after entry m) m c more.0 (inr (enters, more.2)), more.3, more.4)
       | inr s ↦ (s.0, s.1, shift_complete a after (entry || can_leave a after entry m) m c s.0 (inl s.2), s.3, s.4)
     ]

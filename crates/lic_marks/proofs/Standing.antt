@@ -135,14 +135,23 @@ Leads-letter r entry at_once A s c letter = record { sound = sound; complete = c
     other = ne_eqb c blank letter
 
     sound : (v : Word) → GoesOn r false false (shift r false entry at_once c) v → Then no_gap c A v
-    sound v (inl h) = (0, refl, s.sound (c ∷ v) (shift_sound r false entry at_once c v (subst (λ b. Completes r b (shift r false entry at_once c) v) (sym other) h)))
+    sound v (inl h) = (
+      0,
+      refl,
+      s.sound (c ∷ v)
+          (shift_sound r false entry at_once c v
+          (subst (λ b. Completes r b (shift r false entry at_once c) v) (sym other) h)),
+    )
     sound v (inr h) = absurd (let e = h.0 in cc)
 
     complete : (v : Word) → Then no_gap c A v → GoesOn r false false (shift r false entry at_once c) v
-    complete v (zero, a, h) = inl (subst (λ b. Completes r b (shift r false entry at_once c) v) other (shift_complete r false entry at_once c v (s.complete (c ∷ v) h)))
+    complete v (zero, a, h) = inl
+        (subst (λ b. Completes r b (shift r false entry at_once c) v) other
+        (shift_complete r false entry at_once c v (s.complete (c ∷ v) h)))
     complete v (suc n, a, h) = absurd (omega (arith, a))
 
-module _ (r : Core) (entry : Bool) (at_once after_blanks : Marks r) (A : Word → Type 0) (s : LeadsOverBlanks r entry at_once after_blanks A) (c : ℕ) (letter : (c == blank) ≡ false) where
+module _ (r : Core) (entry : Bool) (at_once after_blanks : Marks r) (A : Word → Type 0)
+    (s : LeadsOverBlanks r entry at_once after_blanks A) (c : ℕ) (letter : (c == blank) ≡ false) where
   by_at_once : (v : Word) → Completes r false (shift r false entry at_once c) v → A (c ∷ v)
   by_at_once v h = s.now.sound (c ∷ v) (shift_sound r false entry at_once c v (subst (λ b. Completes r b (shift r false entry at_once c) v) (sym letter) h))
 
@@ -156,7 +165,8 @@ module _ (r : Core) (entry : Bool) (at_once after_blanks : Marks r) (A : Word �
   to_at_once v h = subst (λ b. Completes r b (shift r false entry at_once c) v) letter (shift_complete r false entry at_once c v (s.now.complete (c ∷ v) h))
 
   pub to_after_blanks : (v : Word) (n : ℕ) → A (blanks (suc n) ++ c ∷ v) → Completes r false (shift r true false after_blanks c) v
-  to_after_blanks v n h = subst (λ b. Completes r b (shift r true false after_blanks c) v) letter (shift_complete r true false after_blanks c v (inl (s.blanks_complete (c ∷ v) n h)))
+  to_after_blanks v n h = subst (λ b. Completes r b (shift r true false after_blanks c) v) letter
+      (shift_complete r true false after_blanks c v (inl (s.blanks_complete (c ∷ v) n h)))
 
   letter_sound : (g : Gap) (v : Word) → GoesOn r false false (shift_over r entry at_once after_blanks g c) v → Then g c A v
   letter_sound no_gap v (inl h) = (0, refl, by_at_once v h)
@@ -195,7 +205,8 @@ module _ (r : Core) (entry : Bool) (at_once after_blanks : Marks r) (A : Word �
   ]
 
   pub leaving_complete : (n : ℕ) → A (blanks n) → (can_leave r false entry at_once || can_leave r true false after_blanks) ≡ true
-  leaving_complete zero h = or_left (can_leave r false entry at_once) (can_leave r true false after_blanks) (can_leave_complete r false entry at_once (s.now.complete [] h))
+  leaving_complete zero h = or_left (can_leave r false entry at_once) (can_leave r true false after_blanks)
+      (can_leave_complete r false entry at_once (s.now.complete [] h))
   leaving_complete (suc n) h = or_right (can_leave r false entry at_once) (can_leave r true false after_blanks)
       (can_leave_complete r true false after_blanks (inl (s.blanks_complete [] n (subst A (sym (no_more (suc n))) h))))
 

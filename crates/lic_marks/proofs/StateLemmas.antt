@@ -37,7 +37,8 @@ module _ (r : Core) (entry : Bool) (at_once after_blanks : Marks r) (A : Word �
 
 -- the same set said otherwise
 pub LeadsSoFar-same : (r : Core) (entry : Bool) (at_once after_blanks : Marks r) (is_apart : Bool) (A B : Word → Type 0) →
-    ((v : Word) → A v → B v) → ((v : Word) → B v → A v) → LeadsSoFar r entry at_once after_blanks is_apart A → LeadsSoFar r entry at_once after_blanks is_apart B
+    ((v : Word) → A v → B v) → ((v : Word) → B v → A v) → LeadsSoFar r entry at_once after_blanks is_apart A
+    → LeadsSoFar r entry at_once after_blanks is_apart B
 LeadsSoFar-same r entry at_once after_blanks is_apart A B f g s = record {
   now = Leads-same r entry at_once A B f g s.now;
   apart = λ e. let both = s.apart e in record {
@@ -56,7 +57,12 @@ none_go_on r entry row n none clear v (inr h) = never (sym none ∙ h.0)
 
 -- no marks stand for a set of no words
 pub nothing_left : (r : Core) (A : Word → Type 0) → ((v : Word) → A v → ⊥) → Leads r false (no_marks r) A
-nothing_left r A none = record { sound = λ v h. absurd (elim h [ inl p ↦ Completes-no_marks r false v p | inr p ↦ never p.0 ]); complete = λ v h. absurd (none v h) }
+nothing_left r A none = record {
+  sound =
+      λ v h. absurd (elim h [ inl p ↦ Completes-no_marks r false v p | inr p ↦ never p.0 ]);
+  complete =
+      λ v h. absurd (none v h);
+}
 
 -- clear rows stand for no lists
 pub cleared : (r : Core) (at_once after_blanks : List Bool) (n m : ℕ) → at_once ≡ replicate n false → after_blanks ≡ replicate m false →

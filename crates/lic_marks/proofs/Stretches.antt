@@ -34,7 +34,8 @@ module _ (a b : Core) where
     moves = λ after c.
         let first = g.moves after c in
         let second : shift b after (can_leave a after false (mark_at a k)) (no_marks b) c ≡ no_marks b = rw (g.stays after) (shift-no_marks b after c) in
-        let both : shift (cat a b) after false (mark_at a k, no_marks b) c ≡ ((if c == d then mark_at a (suc k) else no_marks a), no_marks b) = λ i. (first i, second i) in
+        let both : shift (cat a b) after false (mark_at a k, no_marks b) c
+        ≡ ((if c == d then mark_at a (suc k) else no_marks a), no_marks b) = λ i. (first i, second i) in
         ap (λ m. shift (cat a b) after false m c) (left_mark k (omega (arith, g.within))) ∙ both ∙ by_test (c == d);
   }
     where
@@ -50,7 +51,8 @@ module _ (a b : Core) where
         let first = shift-no_marks a after c in
         let second : shift b after (can_leave a after false (no_marks a)) (mark_at b j) c ≡ (if c == d then mark_at b (suc j) else no_marks b) =
         rw (can_leave-no_marks a after) (g.moves after c) in
-        let both : shift (cat a b) after false (no_marks a, mark_at b j) c ≡ (no_marks a, (if c == d then mark_at b (suc j) else no_marks b)) = λ i. (first i, second i) in
+        let both : shift (cat a b) after false (no_marks a, mark_at b j) c
+        ≡ (no_marks a, (if c == d then mark_at b (suc j) else no_marks b)) = λ i. (first i, second i) in
         ap (λ m. shift (cat a b) after false m c) (right_mark k j e) ∙ both ∙ by_test (c == d);
   }
     where
@@ -65,7 +67,8 @@ module _ (a b : Core) where
     moves = λ after c.
         let first = g.moves after c in
         let second = shift-no_marks b after c in
-        let both : shift (alt a b) after false (mark_at a k, no_marks b) c ≡ ((if c == d then mark_at a (suc k) else no_marks a), no_marks b) = λ i. (first i, second i) in
+        let both : shift (alt a b) after false (mark_at a k, no_marks b) c
+        ≡ ((if c == d then mark_at a (suc k) else no_marks a), no_marks b) = λ i. (first i, second i) in
         ap (λ m. shift (alt a b) after false m c) (left_alt k (omega (arith, g.within))) ∙ both ∙ by_test (c == d);
   }
     where
@@ -80,7 +83,8 @@ module _ (a b : Core) where
     moves = λ after c.
         let first = shift-no_marks a after c in
         let second = g.moves after c in
-        let both : shift (alt a b) after false (no_marks a, mark_at b j) c ≡ (no_marks a, (if c == d then mark_at b (suc j) else no_marks b)) = λ i. (first i, second i) in
+        let both : shift (alt a b) after false (no_marks a, mark_at b j) c
+        ≡ (no_marks a, (if c == d then mark_at b (suc j) else no_marks b)) = λ i. (first i, second i) in
         ap (λ m. shift (alt a b) after false m c) (right_alt k j e) ∙ both ∙ by_test (c == d);
   }
     where

@@ -104,10 +104,12 @@ TakesIn-down first mid last old new low between high end p same none order q = r
   fits = λ n h l. q.fits n (p.fits n h l) (omega arith);
   clear = record {
     before = λ k after before far. ⊎_elim (λ left. q.clear.before k after left far)
-        (λ right. ⊎_elim (λ gap. none k right gap before) (λ high_on. same k high_on before ∙ p.clear.before k high_on before (omega (arith, q.from))) (cases_lt k high))
+        (λ right. ⊎_elim (λ gap. none k right gap before) (λ high_on. same k high_on before
+        ∙ p.clear.before k high_on before (omega (arith, q.from))) (cases_lt k high))
         (cases_lt k between);
     behind = λ k after before far. ⊎_elim (λ left. q.clear.behind k after left far)
-        (λ right. ⊎_elim (λ gap. none k right gap before) (λ high_on. same k high_on before ∙ p.clear.behind k high_on before (omega (arith, q.to))) (cases_lt k high))
+        (λ right. ⊎_elim (λ gap. none k right gap before) (λ high_on. same k high_on before
+        ∙ p.clear.behind k high_on before (omega (arith, q.to))) (cases_lt k high))
         (cases_lt k between);
   };
 }

@@ -29,7 +29,8 @@ gapped_from-more last [] more = refl
 gapped_from-more last (t ∷ ts) more =
     gapped_from-append last true t (ts ++ more)
     ∙ ap (λ s. gapped_from last true t ++ s) (gapped_from-more (last_letter last t) ts more)
-    ∙ sym (append_assoc (gapped_from last true t) (gapped_from (last_letter last t) false (row_of ts)) (gapped_from (last_of (last_letter last t) ts) false (row_of more)))
+    ∙ sym (append_assoc (gapped_from last true t) (gapped_from (last_letter last t) false (row_of ts))
+    (gapped_from (last_of (last_letter last t) ts) false (row_of more)))
     ∙ ap (λ s. s ++ gapped_from (last_of (last_letter last t) ts) false (row_of more)) (sym (gapped_from-append last true t ts))
 
 -- more tokens

@@ -144,7 +144,8 @@ joined_flags xs ys new same long flags =
     ext_get_or false new (either_row xs ys) (omega (arith, long, length-either_row xs ys)) (λ k inside. flags k ∙ sym (flag-either_row xs ys k same))
 
 -- a row that has all flags of another has no more that are not set, and less where it has one that the other has not
-unset_most : (old new : List Bool) → length new ≡ length old → ((k : ℕ) → get_or old k false ≡ true → get_or new k false ≡ true) → unset_count new ≤ unset_count old
+unset_most : (old new : List Bool) → length new ≡ length old
+    → ((k : ℕ) → get_or old k false ≡ true → get_or new k false ≡ true) → unset_count new ≤ unset_count old
 unset_most [] [] h more = omega arith
 unset_most [] (y ∷ new) h more = absurd (let e : suc (length new) ≡ 0 = h in cc)
 unset_most (x ∷ old) [] h more = absurd (let e : 0 ≡ suc (length old) = h in cc)
@@ -179,9 +180,13 @@ pub clear_either : (v w u : Window) (xs ys : List Bool) → length xs ≡ length
     IsClearOutside v xs 0 (length xs) → IsClearOutside w ys 0 (length ys) → IsClearOutside u (either_row xs ys) 0 (length (either_row xs ys))
 clear_either v w u xs ys same a b c d p q = record {
   before = λ k low high far. flag-either_row xs ys k same
-      ∙ both_clear (get_or xs k false) (get_or ys k false) (p.before k low (omega (arith, high, length-either_row xs ys)) (omega arith)) (q.before k low (omega (arith, high, same, length-either_row xs ys)) (omega arith));
+      ∙ both_clear (get_or xs k false) (get_or ys k false)
+      (p.before k low (omega (arith, high, length-either_row xs ys)) (omega arith))
+      (q.before k low (omega (arith, high, same, length-either_row xs ys)) (omega arith));
   behind = λ k low high far. flag-either_row xs ys k same
-      ∙ both_clear (get_or xs k false) (get_or ys k false) (p.behind k low (omega (arith, high, length-either_row xs ys)) (omega arith)) (q.behind k low (omega (arith, high, same, length-either_row xs ys)) (omega arith));
+      ∙ both_clear (get_or xs k false) (get_or ys k false)
+      (p.behind k low (omega (arith, high, length-either_row xs ys)) (omega arith))
+      (q.behind k low (omega (arith, high, same, length-either_row xs ys)) (omega arith));
 }
 
 -- ---- a whole row after a walk over its front

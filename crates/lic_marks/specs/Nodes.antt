@@ -60,9 +60,12 @@ node_is_measured (Node-F.Letters text) = true
 node_is_measured (Node-F.One test) = true
 node_is_measured (Node-F.Copies test count) = true
 node_is_measured (Node-F.UpTo test count) = true
-node_is_measured (Node-F.Cat children kept) = are_right children.items && (kept == weight (cat_all (cores_of children.items)))
-node_is_measured (Node-F.Alt children kept) = are_right children.items && (kept == weight (alt_all (cores_of children.items)))
-node_is_measured (Node-F.Repeat child times kept) = child.value.1 && (kept == weight (so_many times (core_of child.value.0)))
+node_is_measured (Node-F.Cat children kept) =
+    are_right children.items && (kept == weight (cat_all (cores_of children.items)))
+node_is_measured (Node-F.Alt children kept) =
+    are_right children.items && (kept == weight (alt_all (cores_of children.items)))
+node_is_measured (Node-F.Repeat child times kept) =
+    child.value.1 && (kept == weight (so_many times (core_of child.value.0)))
 node_is_measured (Node-F.Plus child kept) = child.value.1 && (kept == weight (core_of child.value.0))
 node_is_measured (Node-F.Tidy child kept has_empty) =
     child.value.1 && (kept == weight (core_of child.value.0)) && beq has_empty (is_nullable (core_of child.value.0))

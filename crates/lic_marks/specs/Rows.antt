@@ -43,9 +43,11 @@ pub record Leaves (r : Core) (after entry : Bool) (row : List Bool) (at : ℕ) (
   pub answer : leaves ≡ can_leave r after entry (marks_of r (drop at row))
 
 -- the walk over the row from the place `at` on takes the letter c, and answers whether one could leave before it
-pub record Shifts (r : Core) (after entry : Bool) (c : ℕ) (old : List Bool) (at : ℕ) (new : List Bool) (leaves : Bool) : Type 0 where
+pub record Shifts (r : Core) (after entry : Bool) (c : ℕ) (old : List Bool) (at : ℕ) (new : List Bool)
+    (leaves : Bool) : Type 0 where
   pub walk : Leaves r after entry old at leaves
-  pub row : new ≡ take at old ++ flags_of r (shift r after entry (marks_of r (drop at old)) c) ++ drop (at + weight r) old
+  pub row : new ≡ take at old ++ flags_of r (shift r after entry (marks_of r (drop at old)) c)
+      ++ drop (at + weight r) old
 
 -- each flag or the other row's
 abbrev pub either_row : List Bool → List Bool → List Bool

@@ -25,11 +25,13 @@ tree_of s = s.tree.now
 
 -- The lists of letters go on as ends of the list of tokens do, and as all those do with which a described list begins.
 -- Behind those that go on the last letter is `last`.
-pub record GoOnAsEnds (e : Expression) (r : Core) (last : ℕ) (lists : List (List (Gap × ℕ))) (ts : List (List ℕ)) : Type 0 where
+pub record GoOnAsEnds (e : Expression) (r : Core) (last : ℕ) (lists : List (List (Gap × ℕ)))
+    (ts : List (List ℕ)) : Type 0 where
   pub sound : (v : Word) → AfterAny (WordsOf r) lists v →
       (n : ℕ) × (n < length ts) × (last ≡ last_of blank (drop n ts)) × After (WordsOf r) (gapped (drop n ts)) v
   pub complete : (n : ℕ) (more : List (List ℕ)) → n < length ts → IsDescribed e (drop n ts ++ more) →
-      (v : Word) → After (WordsOf r) (gapped (drop n ts)) v → (last ≡ last_of blank (drop n ts)) × AfterAny (WordsOf r) lists v
+      (v : Word) → After (WordsOf r) (gapped (drop n ts)) v
+      → (last ≡ last_of blank (drop n ts)) × AfterAny (WordsOf r) lists v
 
 -- The seeker's tree has the words of the expression, and its state has taken the letters of the ends of the list.
 pub record Seeks (s : Seeker) (e : Expression) (ts : List (List ℕ)) : Type 0 where

@@ -37,7 +37,8 @@ pub record LeadsOverBlanks (r : Core) (entry : Bool) (at_once after_blanks : Mar
 
 -- Within a token: what may follow the first marks at once are the words of the set. Where the next letter stands apart,
 -- what may follow the second are those after some blanks.
-pub record LeadsSoFar (r : Core) (entry : Bool) (at_once after_blanks : Marks r) (is_apart : Bool) (A : Word → Type 0) : Type 0 where
+pub record LeadsSoFar (r : Core) (entry : Bool) (at_once after_blanks : Marks r) (is_apart : Bool)
+    (A : Word → Type 0) : Type 0 where
   pub now : Leads r entry at_once A
   pub apart : is_apart ≡ true → LeadsOverBlanks r entry at_once after_blanks A
 
@@ -47,11 +48,13 @@ StandsAtOnce r entry marks letters = Leads r entry marks (After (WordsOf r) lett
 
 -- The first marks stand for what may follow the letters at once, the second for what may follow after some blanks.
 abbrev pub StandsFor : (r : Core) → Bool → Marks r → Marks r → List (Gap × ℕ) → Type 0
-StandsFor r entry at_once after_blanks letters = LeadsOverBlanks r entry at_once after_blanks (After (WordsOf r) letters)
+StandsFor r entry at_once after_blanks letters =
+    LeadsOverBlanks r entry at_once after_blanks (After (WordsOf r) letters)
 
 -- The second marks have what may follow after one blank, and nothing but what may follow after some blanks.
 pub record Gathers (r : Core) (entry : Bool) (at_once after_blanks : Marks r) : Type 0 where
-  pub sound : (v : Word) → Completes r true after_blanks v → (n : ℕ) × GoesOn r false entry at_once (blanks (suc n) ++ v)
+  pub sound : (v : Word) → Completes r true after_blanks v
+      → (n : ℕ) × GoesOn r false entry at_once (blanks (suc n) ++ v)
   pub starts : (v : Word) → GoesOn r false entry at_once (blank ∷ v) → Completes r true after_blanks v
 
 -- one more blank leads to nothing new
@@ -61,5 +64,6 @@ pub record IsClosed (r : Core) (after_blanks : Marks r) : Type 0 where
 -- the marks after a letter that is no blank, with the gap before it
 abbrev pub shift_over : (r : Core) → Bool → Marks r → Marks r → Gap → ℕ → Marks r
 shift_over r entry at_once after_blanks no_gap c = shift r false entry at_once c
-shift_over r entry at_once after_blanks free c = join r (shift r false entry at_once c) (shift r true false after_blanks c)
+shift_over r entry at_once after_blanks free c =
+    join r (shift r false entry at_once c) (shift r true false after_blanks c)
 shift_over r entry at_once after_blanks needed c = shift r true false after_blanks c

@@ -24,7 +24,8 @@ pub record IsLone (row : List Bool) (p : ℕ) : Type 0 where
 pub record GoesTo (r : Core) (k d : ℕ) : Type 0 where
   pub within : suc k < weight r
   pub stays : (after : Bool) → can_leave r after false (mark_at r k) ≡ false
-  pub moves : (after : Bool) (c : ℕ) → shift r after false (mark_at r k) c ≡ (if c == d then mark_at r (suc k) else no_marks r)
+  pub moves : (after : Bool) (c : ℕ)
+      → shift r after false (mark_at r k) c ≡ (if c == d then mark_at r (suc k) else no_marks r)
 
 -- from this position on these letters lead on one by one
 abbrev pub IsStretch : Core → ℕ → List ℕ → Type 0
@@ -35,8 +36,10 @@ IsStretch r k (d ∷ rest) = GoesTo r k d × IsStretch r (suc k) rest
 pub record LeadsTo (r : Core) (k d : ℕ) : Type 0 where
   pub within : suc k < weight r
   pub stays : (after : Bool) → can_leave r after false (mark_at r k) ≡ false
-  pub moves : (after : Bool) (c : ℕ) → flags_of r (shift r after false (mark_at r k) c) ≡ flags_of r (if c == d then mark_at r (suc k) else no_marks r)
+  pub moves : (after : Bool) (c : ℕ)
+      → flags_of r (shift r after false (mark_at r k) c) ≡ flags_of r (if c == d then mark_at r (suc k) else no_marks r)
 
 -- each letter of the stretch is the one to which the place before it leads
 abbrev pub IsStretchOf : Core → Stretch → Type 0
-IsStretchOf r stretch = (i : ℕ) → i < length stretch.letters.now → LeadsTo r (stretch.place + i) (get_or stretch.letters.now i 0)
+IsStretchOf r stretch = (i : ℕ) → i < length stretch.letters.now
+    → LeadsTo r (stretch.place + i) (get_or stretch.letters.now i 0)

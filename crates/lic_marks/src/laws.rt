@@ -18,7 +18,8 @@ pub fn a_core_stands_for_the_words_of_its_expression()
 
 /// Where nothing is marked and one may begin, each word may follow.
 pub fn all_words_follow_the_beginning()
-    ensures { (r : Core) (after : Bool) (v : List ℕ) → GoesOn r after true (no_marks r) v ↔ WordsOf r v }
+    ensures { (r : Core) (after : Bool) (v : List ℕ)
+        → GoesOn r after true (no_marks r) v ↔ WordsOf r v }
 {}
 
 /// After a letter goes on what went on with that letter before.
@@ -35,7 +36,8 @@ pub fn leaving_is_going_on_with_nothing()
 
 /// Where nothing is marked and one may not begin, a letter marks nothing, and one cannot leave.
 pub fn no_marks_stay_none()
-    ensures shift { (r : Core) (after : Bool) (c : ℕ) → shift r after false (no_marks r) c ≡ no_marks r }
+    ensures shift { (r : Core) (after : Bool) (c : ℕ)
+        → shift r after false (no_marks r) c ≡ no_marks r }
     ensures leave { (r : Core) (after : Bool) → can_leave r after false (no_marks r) ≡ false }
 {}
 
@@ -53,7 +55,8 @@ pub fn marks_begin_before_the_first_letter()
 /// Marks gathered over blanks until one more leads to nothing new stand for what may follow after blanks.
 pub fn closed_marks_stand_for_what_follows_blanks()
     ensures { (r : Core) (entry : Bool) (at_once after_blanks : Marks r) (letters : List (Gap × ℕ))
-        → StandsAtOnce r entry at_once letters → Gathers r entry at_once after_blanks → IsClosed r after_blanks
+        → StandsAtOnce r entry at_once letters → Gathers r entry at_once after_blanks
+        → IsClosed r after_blanks
         → StandsFor r entry at_once after_blanks letters }
 {}
 
@@ -66,16 +69,19 @@ pub fn marks_go_over_a_letter()
 
 /// From the marks for some letters, those for one letter more, which is no blank, and the gap before it.
 pub fn marks_go_over_a_gap_and_a_letter()
-    ensures { (r : Core) (entry : Bool) (at_once after_blanks : Marks r) (letters : List (Gap × ℕ)) (gap : Gap) (c : ℕ)
+    ensures { (r : Core) (entry : Bool) (at_once after_blanks : Marks r) (letters : List (Gap × ℕ))
+        (gap : Gap) (c : ℕ)
         → StandsFor r entry at_once after_blanks letters → c ≢ blank
-        → StandsAtOnce r false (shift_over r entry at_once after_blanks gap c) (letters ++ (gap, c) ∷ []) }
+        → StandsAtOnce r false (shift_over r entry at_once after_blanks gap c)
+        (letters ++ (gap, c) ∷ []) }
 {}
 
 /// One may leave the one marks or the other exactly where a word spells the letters.
 pub fn leaving_is_spelling()
     ensures { (r : Core) (entry : Bool) (at_once after_blanks : Marks r) (letters : List (Gap × ℕ))
         → StandsFor r entry at_once after_blanks letters
-        → IsTrue (can_leave r false entry at_once || can_leave r true false after_blanks) ↔ ((w : List ℕ) × WordsOf r w × SpellsGapped w letters) }
+        → IsTrue (can_leave r false entry at_once || can_leave r true false after_blanks)
+        ↔ ((w : List ℕ) × WordsOf r w × SpellsGapped w letters) }
 {}
 
 /// Where no mark is left, no word spells letters that begin so.
@@ -86,5 +92,6 @@ pub fn no_marks_are_for_good()
 
 /// Whether an expression describes a list of tokens is decided by a test that computes.
 pub fn whether_an_expression_describes_is_decided()
-    ensures { (e : Expression) (ts : List (List ℕ)) → IsTrue (is_described e ts) ↔ IsDescribed e ts }
+    ensures { (e : Expression) (ts : List (List ℕ))
+        → IsTrue (is_described e ts) ↔ IsDescribed e ts }
 {}

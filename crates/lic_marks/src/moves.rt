@@ -39,7 +39,8 @@ pub fn move_letters(
 )
     requires room { at + length text.now ≤ length row.old }
     requires live { IsClearOutside reading.live row.old at (at + length text.now) }
-    ensures moves { Moves (λ j. reading.letter == slice_index text.now j) entry row.old at (length text.now) row.new }
+    ensures moves { Moves (λ j. reading.letter == slice_index text.now j) entry row.old at
+        (length text.now) row.new }
     ensures marked { TakesIn marked.old marked.new row.new at (at + length text.now) }
     ensures len { length row.new ≡ length row.old }
 {
@@ -74,8 +75,10 @@ fn advance(
     requires begun { at ≤ place }
     requires inside { place < at + length text.now }
     requires room { at + length text.now ≤ length row.old }
-    ensures moves { Advances (λ j. letter == slice_index text.now j) row.old at (length text.now) place row.new }
-    ensures marked { TakesIn marked.old marked.new row.new (place + 1) (min (place + 2) (at + length text.now)) }
+    ensures moves { Advances (λ j. letter == slice_index text.now j) row.old at
+        (length text.now) place row.new }
+    ensures marked { TakesIn marked.old marked.new row.new (place + 1)
+        (min (place + 2) (at + length text.now)) }
     ensures len { length row.new ≡ length row.old }
 {
     let room = row.len();

@@ -32,7 +32,8 @@ impl Model for Row {
 
     ghost view = { λ r. r.flags };
 
-    ghost invariant = { λ r. IsClearOutside r.window r.flags 0 (length r.flags) × (r.window.to ≤ length r.flags) };
+    ghost invariant = { λ r. IsClearOutside r.window r.flags 0 (length r.flags)
+        × (r.window.to ≤ length r.flags) };
 }
 
 impl Row {
@@ -151,7 +152,8 @@ impl Row {
     // The place of the one flag that is set and the letter behind it, if it stands in the stretch.
     fn lone_in(&self, stretch: Stretch<'_>) -> Option<(usize, char)>
         ensures lone { IfSome result (λ found. IsLone self.now found.0) }
-        ensures goes { IfSome result (λ found. (r : Core) → IsStretchOf r stretch.entry → LeadsTo r found.0 found.1) }
+        ensures goes { IfSome result (λ found. (r : Core) → IsStretchOf r stretch.entry
+            → LeadsTo r found.0 found.1) }
     {
         let place = self.lone()?;
         let next = stretch.letter_behind(place)?;

@@ -75,3 +75,18 @@ pub fn join(row: &mut Bits, other: &Bits, live: Window) -> bool
         false
     }
 }
+
+/// A place from `at` on up to which no flag is set, where none is set outside the window: the first that is marked, where one is.
+pub fn next_marked(row: &Bits, at: usize, live: Window) -> usize
+    ensures { (end : ℕ) → end ≤ length row.now → IsClearOutside live row.now at end
+        → (k : ℕ) → at ≤ k → k < end → k < result → get_or row.now k false ≡ false }
+{
+    let to = live.to.min(row.len());
+    if at >= to {
+        return usize::MAX;
+    }
+    match row.next_set(at, to) {
+        Some(next) => next,
+        None => usize::MAX,
+    }
+}

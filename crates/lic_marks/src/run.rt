@@ -36,7 +36,8 @@ impl<'a> Run<'a> {
     /// A run that stands for the empty list.
     pub fn new(alloc: Global, tree: &'a Node) -> Result<Run<'a>, AllocError>
         requires { IsTrue (is_measured tree.now) }
-        ensures stands { (e : Expression) → HasWordsOf (core_of tree.now) e → IfOk result (λ run. Stands run e []) }
+        ensures stands { (e : Expression) → HasWordsOf (core_of tree.now) e
+            → IfOk result (λ run. Stands run e []) }
         ensures tree { IfOk result (λ run. tree_of run ≡ tree.now) }
     {
         let mut state = State::new(alloc, tree)?;
@@ -53,7 +54,8 @@ impl<'a> Run<'a> {
 
     /// Begins anew with the empty list.
     pub fn reset(&mut self)
-        ensures stands { (e : Expression) → HasWordsOf (core_of (tree_of self.old)) e → Stands self.new e [] }
+        ensures stands { (e : Expression) → HasWordsOf (core_of (tree_of self.old)) e
+            → Stands self.new e [] }
         ensures tree { tree_of self.new ≡ tree_of self.old }
     {
         self.state.begin();
@@ -64,7 +66,8 @@ impl<'a> Run<'a> {
 
     /// For every list that the run stood for, it now stands for that list with the token at its end.
     pub fn push(&mut self, token: &str)
-        ensures stands { (e : Expression) (ts : List (List ℕ)) → Stands self.old e ts → Stands self.new e (ts ++ chars token.now ∷ []) }
+        ensures stands { (e : Expression) (ts : List (List ℕ)) → Stands self.old e ts
+            → Stands self.new e (ts ++ chars token.now ∷ []) }
         ensures tree { tree_of self.new ≡ tree_of self.old }
     {
         self.stretch = self.state.stretch_of(self.tree, self.stretch);
@@ -74,7 +77,8 @@ impl<'a> Run<'a> {
 
     /// Whether the expression describes the list of tokens.
     pub fn accepts(&self) -> bool
-        ensures { (e : Expression) (ts : List (List ℕ)) → Stands self.now e ts → IsTrue result ↔ IsDescribed e ts }
+        ensures { (e : Expression) (ts : List (List ℕ)) → Stands self.now e ts
+            → IsTrue result ↔ IsDescribed e ts }
     {
         let is_spelled = self.state.accepts(self.tree, self.stretch);
         !self.is_empty & is_spelled

@@ -46,7 +46,8 @@ impl<'a> Seeker<'a> {
     /// Out of memory.
     pub fn new(alloc: Global, tree: &'a Node) -> Result<Seeker<'a>, AllocError>
         requires { IsTrue (is_measured tree.now) }
-        ensures stands { (e : Expression) → HasWordsOf (core_of tree.now) e → IfOk result (λ s. Seeks s e []) }
+        ensures stands { (e : Expression) → HasWordsOf (core_of tree.now) e
+            → IfOk result (λ s. Seeks s e []) }
         ensures tree { IfOk result (λ s. tree_of s ≡ tree.now) }
     {
         let mut state = State::new(alloc, tree)?;
@@ -63,7 +64,8 @@ impl<'a> Seeker<'a> {
 
     /// Begins anew with the empty list.
     pub fn reset(&mut self)
-        ensures stands { (e : Expression) → HasWordsOf (core_of (tree_of self.old)) e → Seeks self.new e [] }
+        ensures stands { (e : Expression) → HasWordsOf (core_of (tree_of self.old)) e
+            → Seeks self.new e [] }
         ensures tree { tree_of self.new ≡ tree_of self.old }
     {
         self.state.clear();
@@ -74,7 +76,8 @@ impl<'a> Seeker<'a> {
     pub fn push_turned(&mut self, token: &str, may_begin: bool)
         requires { 0 < letters_in (chars token.now) }
         ensures stands { (e : Expression) (ts : List (List ℕ)) → Seeks self.old e ts
-            → (may_begin ≡ false → NoneBegins e (reverse (chars token.now))) → Seeks self.new e (ts ++ reverse (chars token.now) ∷ []) }
+            → (may_begin ≡ false → NoneBegins e (reverse (chars token.now)))
+            → Seeks self.new e (ts ++ reverse (chars token.now) ∷ []) }
         ensures tree { tree_of self.new ≡ tree_of self.old }
     {
         if !may_begin && self.is_dead() {
@@ -96,7 +99,8 @@ impl<'a> Seeker<'a> {
 
     /// Whether the expression describes some end of the list of tokens.
     pub fn accepts(&self) -> bool
-        ensures { (e : Expression) (ts : List (List ℕ)) → Seeks self.now e ts → IsTrue result ↔ DescribesEnd e ts }
+        ensures { (e : Expression) (ts : List (List ℕ)) → Seeks self.now e ts
+            → IsTrue result ↔ DescribesEnd e ts }
     {
         self.state.accepts(self.tree, self.stretch)
     }
@@ -104,8 +108,10 @@ impl<'a> Seeker<'a> {
     /// True where no position is marked: then it stands as it is for the list with one token more that no described list
     /// begins with. It looks at one flag.
     pub fn is_dead(&self) -> bool
-        ensures none { (e : Expression) (ts : List (List ℕ)) → Seeks self.now e ts → IsTrue result → ¬ (DescribesEnd e ts) }
-        ensures skips { (e : Expression) (ts : List (List ℕ)) (token : List ℕ) → Seeks self.now e ts → IsTrue result
+        ensures none { (e : Expression) (ts : List (List ℕ)) → Seeks self.now e ts → IsTrue result
+            → ¬ (DescribesEnd e ts) }
+        ensures skips { (e : Expression) (ts : List (List ℕ)) (token : List ℕ)
+            → Seeks self.now e ts → IsTrue result
             → NoneBegins e token → Seeks self.now e (ts ++ token ∷ []) }
     {
         self.state.is_dead()

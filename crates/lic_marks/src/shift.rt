@@ -10,9 +10,9 @@ ghost use Rattle.lic_marks.specs.Nodes.{core_of, is_measured, letter_cores, pass
 
 use crate::moves::{Reading, move_copies, move_letters, put};
 use crate::node::{Node, Times};
-use crate::rows::clear;
+use crate::rows::{clear, next_marked};
 use crate::test::Test;
-use crate::walk::{leaves, leaves_copies, leaves_letters, leaves_tidy, leaves_up_to};
+use crate::walk::{leaves, leaves_copies, leaves_letters, leaves_up_to};
 use crate::window::Window;
 use lic_rows::bits::Bits;
 
@@ -76,9 +76,12 @@ fn shift_letters(
     marked: &mut Window,
 ) -> bool
     requires room { at + weight (cat_all (letter_cores text.now)) ≤ length row.old }
-    requires live { IsClearOutside reading.live row.old at (at + weight (cat_all (letter_cores text.now))) }
-    ensures shifts { Shifts (cat_all (letter_cores text.now)) reading.after entry reading.letter row.old at row.new result }
-    ensures marked { TakesIn marked.old marked.new row.new at (at + weight (cat_all (letter_cores text.now))) }
+    requires live { IsClearOutside reading.live row.old at
+        (at + weight (cat_all (letter_cores text.now))) }
+    ensures shifts { Shifts (cat_all
+        (letter_cores text.now)) reading.after entry reading.letter row.old at row.new result }
+    ensures marked { TakesIn marked.old marked.new row.new at
+        (at + weight (cat_all (letter_cores text.now))) }
     ensures len { length row.new ≡ length row.old }
 {
     let out = leaves_letters(text, row, at, reading.after, entry);
@@ -97,7 +100,8 @@ fn shift_copies(
 ) -> bool
     requires room { at + count ≤ length row.old }
     requires live { IsClearOutside reading.live row.old at (at + count) }
-    ensures shifts { Shifts (cat_all (replicate count (one (passes test.now)))) reading.after entry reading.letter row.old at row.new result }
+    ensures shifts { Shifts (cat_all
+        (replicate count (one (passes test.now)))) reading.after entry reading.letter row.old at row.new result }
     ensures marked { TakesIn marked.old marked.new row.new at (at + count) }
     ensures len { length row.new ≡ length row.old }
 {
@@ -118,7 +122,8 @@ fn shift_up_to(
 ) -> bool
     requires room { at + count ≤ length row.old }
     requires live { IsClearOutside reading.live row.old at (at + count) }
-    ensures shifts { Shifts (any_front (replicate count (one (passes test.now)))) reading.after entry reading.letter row.old at row.new result }
+    ensures shifts { Shifts (any_front
+        (replicate count (one (passes test.now)))) reading.after entry reading.letter row.old at row.new result }
     ensures marked { TakesIn marked.old marked.new row.new at (at + count) }
     ensures len { length row.new ≡ length row.old }
 {
@@ -140,13 +145,42 @@ fn shift_plus(
 ) -> bool
     requires measured { IsTrue (is_measured child.now) }
     requires room { at + weight (plus (core_of child.now)) ≤ length row.old }
-    requires live { IsClearOutside reading.live row.old at (at + weight (plus (core_of child.now))) }
-    ensures shifts { Shifts (plus (core_of child.now)) reading.after entry reading.letter row.old at row.new result }
-    ensures marked { TakesIn marked.old marked.new row.new at (at + weight (plus (core_of child.now))) }
+    requires live { IsClearOutside reading.live row.old at
+        (at + weight (plus (core_of child.now))) }
+    ensures shifts { Shifts (plus
+        (core_of child.now)) reading.after entry reading.letter row.old at row.new result }
+    ensures marked { TakesIn marked.old marked.new row.new at
+        (at + weight (plus (core_of child.now))) }
     ensures len { length row.new ≡ length row.old }
 {
+    if let Node::One(test) = child {
+        return shift_letters_of(test, row, at, entry, reading, marked);
+    }
     let again = leaves(child, row, at, reading.live, reading.after, entry);
     shift(child, row, at, entry | again, reading, marked);
+    again
+}
+
+// The same where the words are letters that pass.
+fn shift_letters_of(
+    test: &Test,
+    row: &mut Bits,
+    at: usize,
+    entry: bool,
+    reading: Reading,
+    marked: &mut Window,
+) -> bool
+    requires room { at + 1 ≤ length row.old }
+    ensures shifts { Shifts (plus
+        (one (passes test.now))) reading.after entry reading.letter row.old at row.new result }
+    ensures marked { TakesIn marked.old marked.new row.new at (at + 1) }
+    ensures len { length row.new ≡ length row.old }
+{
+    let room = row.len();
+    prove!(at < room);
+    let again = row.get(at);
+    let is_passed = test.passes(reading.letter);
+    put(row, at, (entry | again) & is_passed, marked);
     again
 }
 
@@ -163,9 +197,12 @@ fn shift_repeat(
 ) -> bool
     requires measured { IsTrue (is_measured child.now) }
     requires room { at + weight (so_many times (core_of child.now)) ≤ length row.old }
-    requires live { IsClearOutside reading.live row.old at (at + weight (so_many times (core_of child.now))) }
-    ensures shifts { Shifts (so_many times (core_of child.now)) reading.after entry reading.letter row.old at row.new result }
-    ensures marked { TakesIn marked.old marked.new row.new at (at + weight (so_many times (core_of child.now))) }
+    requires live { IsClearOutside reading.live row.old at
+        (at + weight (so_many times (core_of child.now))) }
+    ensures shifts { Shifts (so_many times
+        (core_of child.now)) reading.after entry reading.letter row.old at row.new result }
+    ensures marked { TakesIn marked.old marked.new row.new at
+        (at + weight (so_many times (core_of child.now))) }
     ensures len { length row.new ≡ length row.old }
 {
     let room = row.len();
@@ -199,10 +236,14 @@ fn shift_copies_of(
 ) -> (bool, bool)
     requires measured { IsTrue (is_measured child.now) }
     requires room { at + weight (copies count (core_of child.now)) ≤ length row.old }
-    requires live { IsClearOutside reading.live row.old at (at + weight (copies count (core_of child.now))) }
-    ensures all { Shifts (copies count (core_of child.now)) reading.after entry reading.letter row.old at row.new result.0 }
-    ensures any { Shifts (up_to count (core_of child.now)) reading.after entry reading.letter row.old at row.new result.1 }
-    ensures marked { TakesIn marked.old marked.new row.new at (at + weight (copies count (core_of child.now))) }
+    requires live { IsClearOutside reading.live row.old at
+        (at + weight (copies count (core_of child.now))) }
+    ensures all { Shifts (copies count
+        (core_of child.now)) reading.after entry reading.letter row.old at row.new result.0 }
+    ensures any { Shifts (up_to count
+        (core_of child.now)) reading.after entry reading.letter row.old at row.new result.1 }
+    ensures marked { TakesIn marked.old marked.new row.new at
+        (at + weight (copies count (core_of child.now))) }
     ensures len { length row.new ≡ length row.old }
 {
     let room = row.len();
@@ -234,21 +275,32 @@ fn shift_row(
 ) -> bool
     requires measured { IsTrue (list_all is_measured children.now) }
     requires room { at + weight (cat_all (map core_of children.now)) ≤ length row.old }
-    requires live { IsClearOutside reading.live row.old at (at + weight (cat_all (map core_of children.now))) }
-    ensures shifts { Shifts (cat_all (map core_of children.now)) reading.after entry reading.letter row.old at row.new result }
-    ensures marked { TakesIn marked.old marked.new row.new at (at + weight (cat_all (map core_of children.now))) }
+    requires live { IsClearOutside reading.live row.old at
+        (at + weight (cat_all (map core_of children.now))) }
+    ensures shifts { Shifts (cat_all
+        (map core_of children.now)) reading.after entry reading.letter row.old at row.new result }
+    ensures marked { TakesIn marked.old marked.new row.new at
+        (at + weight (cat_all (map core_of children.now))) }
     ensures len { length row.new ≡ length row.old }
 {
     let room = row.len();
     prove!(at <= room);
     let mut place = at;
     let mut flag = entry;
+    // from `place` to before `next` nothing is marked
+    let mut next = reading.live.from;
     for child in children {
         if !flag && reading.live.to <= place {
             return false;
         }
+        let end = place + child.weight();
+        if !flag && end <= next {
+            place = end;
+            continue;
+        }
         flag = shift(child, row, place, flag, reading, marked);
-        place += child.weight();
+        place = end;
+        next = next_marked(row, place, reading.live);
     }
     flag
 }
@@ -264,9 +316,12 @@ fn shift_any(
 ) -> bool
     requires measured { IsTrue (list_all is_measured children.now) }
     requires room { at + weight (alt_all (map core_of children.now)) ≤ length row.old }
-    requires live { IsClearOutside reading.live row.old at (at + weight (alt_all (map core_of children.now))) }
-    ensures shifts { Shifts (alt_all (map core_of children.now)) reading.after entry reading.letter row.old at row.new result }
-    ensures marked { TakesIn marked.old marked.new row.new at (at + weight (alt_all (map core_of children.now))) }
+    requires live { IsClearOutside reading.live row.old at
+        (at + weight (alt_all (map core_of children.now))) }
+    ensures shifts { Shifts (alt_all
+        (map core_of children.now)) reading.after entry reading.letter row.old at row.new result }
+    ensures marked { TakesIn marked.old marked.new row.new at
+        (at + weight (alt_all (map core_of children.now))) }
     ensures len { length row.new ≡ length row.old }
 {
     let room = row.len();
@@ -299,33 +354,20 @@ fn shift_tidy(
     requires empty { has_empty ≡ is_nullable (core_of child.now) }
     requires room { at + weight (core_of child.now) ≤ length row.old }
     requires live { IsClearOutside reading.live row.old at (at + weight (core_of child.now)) }
-    ensures shifts { Shifts (tidy (core_of child.now)) reading.after entry reading.letter row.old at row.new result }
+    ensures shifts { Shifts (tidy
+        (core_of child.now)) reading.after entry reading.letter row.old at row.new result }
     ensures marked { TakesIn marked.old marked.new row.new at (at + weight (core_of child.now)) }
     ensures len { length row.new ≡ length row.old }
 {
-    let out = leaves_tidy(
-        child,
-        has_empty,
-        row,
-        at,
-        reading.live,
-        reading.after,
-        entry,
-    );
+    let enters_empty = entry & has_empty;
     if reading.letter == ' ' && reading.after {
         let room = row.len();
         prove!(at <= room);
         let end = at + child.weight();
         clear(row, at, end, reading.live);
-    } else {
-        shift(
-            child,
-            row,
-            at,
-            entry & (reading.letter != ' '),
-            reading,
-            marked,
-        );
+        return enters_empty;
     }
-    out
+    let begins = entry & (reading.letter != ' ');
+    let behind = shift(child, row, at, begins, reading, marked);
+    enters_empty | (behind & !reading.after)
 }

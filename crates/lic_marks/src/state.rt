@@ -82,8 +82,10 @@ impl State {
         ensures room { room_of self.new ≡ room_of self.old }
         ensures taken { (letters : List (Gap × ℕ)) → HasTaken (core_of tree.now) self.old letters
             → HasTaken (core_of tree.now) self.new (letters ++ gapped_letter letter ∷ []) }
-        ensures any { (lists : List (List (Gap × ℕ))) → HasTakenAny (core_of tree.now) self.old lists
-            → HasTakenAny (core_of tree.now) self.new (each_with (gapped_letter letter ∷ []) lists) }
+        ensures any { (lists : List (List (Gap × ℕ)))
+            → HasTakenAny (core_of tree.now) self.old lists
+            → HasTakenAny (core_of tree.now) self.new
+            (each_with (gapped_letter letter ∷ []) lists) }
     {
         if letter.is_apart {
             self.gap(tree, stretch);
@@ -101,7 +103,8 @@ impl State {
         ensures room { room_of self.new ≡ room_of self.old }
         ensures taken { (letters : List (Gap × ℕ)) → HasTaken (core_of tree.now) self.old letters
             → HasTaken (core_of tree.now) self.new letters }
-        ensures any { (lists : List (List (Gap × ℕ))) → HasTakenAny (core_of tree.now) self.old lists
+        ensures any { (lists : List (List (Gap × ℕ)))
+            → HasTakenAny (core_of tree.now) self.old lists
             → HasTakenAny (core_of tree.now) self.new lists }
         ensures open { IsTrue (has_gap self.new) }
     {
@@ -118,7 +121,8 @@ impl State {
         requires stretch { IsStretchOf (core_of tree.now) stretch }
         ensures room { room_of self.new ≡ room_of self.old }
         ensures taken { (letters : List (Gap × ℕ)) → HasTaken (core_of tree.now) self.old letters
-            → HasTaken (core_of tree.now) self.new (letters ++ gapped_from last true (chars token.now)) }
+            → HasTaken (core_of tree.now) self.new
+            (letters ++ gapped_from last true (chars token.now)) }
         ensures open { IsTrue (has_gap self.new) }
         ensures last { result ≡ last_letter last (chars token.now) }
     {
@@ -138,7 +142,8 @@ impl State {
         requires open { IsTrue (has_gap self.now) }
         ensures one { (letters : List (Gap × ℕ)) → HasTaken (core_of tree.now) self.now letters
             → IsTrue result ↔ ((w : Word) × WordsOf (core_of tree.now) w × SpellsGapped w letters) }
-        ensures any { (lists : List (List (Gap × ℕ))) → HasTakenAny (core_of tree.now) self.now lists
+        ensures any { (lists : List (List (Gap × ℕ)))
+            → HasTakenAny (core_of tree.now) self.now lists
             → IsTrue result ↔ ((n : ℕ) × AfterAny (WordsOf (core_of tree.now)) lists (blanks n)) }
     {
         let at_once = self.at_once.leaves_in(tree, stretch, false, self.entry);
@@ -158,7 +163,8 @@ impl State {
 
     /// Whether a letter was taken and no position is marked: then no word goes on so.
     pub fn is_clear(&self) -> bool
-        ensures { (r : Core) (letters : List (Gap × ℕ)) → HasTaken r self.now letters → IsTrue result
+        ensures { (r : Core) (letters : List (Gap × ℕ)) → HasTaken r self.now letters
+            → IsTrue result
             → StandsAtOnce r false (no_marks r) letters }
     {
         self.is_dead()
@@ -166,7 +172,8 @@ impl State {
 
     /// Whether no position is marked, and no word may begin: then no word goes on.
     pub fn is_dead(&self) -> bool
-        ensures { (r : Core) (lists : List (List (Gap × ℕ))) → HasTakenAny r self.now lists → IsTrue result
+        ensures { (r : Core) (lists : List (List (Gap × ℕ))) → HasTakenAny r self.now lists
+            → IsTrue result
             → (v : Word) → ¬ (AfterAny (WordsOf r) lists v) }
     {
         !self.entry & self.at_once.is_clear()
@@ -213,8 +220,10 @@ impl State {
         requires open { IsTrue (has_gap self.old) }
         requires apart { IsTrue letter.is_apart }
         ensures room { room_of self.new ≡ room_of self.old }
-        ensures any { (lists : List (List (Gap × ℕ))) → HasTakenAny (core_of tree.now) self.old lists
-            → HasTakenAny (core_of tree.now) self.new (((free, letter.letter) ∷ []) ∷ each_with (gapped_letter letter ∷ []) lists) }
+        ensures any { (lists : List (List (Gap × ℕ)))
+            → HasTakenAny (core_of tree.now) self.old lists
+            → HasTakenAny (core_of tree.now) self.new
+            (((free, letter.letter) ∷ []) ∷ each_with (gapped_letter letter ∷ []) lists) }
     {
         let c = letter.letter;
         if letter.are_words {
@@ -240,8 +249,10 @@ impl State {
         requires room { weight (core_of tree.now) ≤ room_of self.old }
         requires stretch { IsStretchOf (core_of tree.now) stretch }
         ensures room { room_of self.new ≡ room_of self.old }
-        ensures any { (lists : List (List (Gap × ℕ))) → HasTakenAny (core_of tree.now) self.old lists
-            → HasTakenAny (core_of tree.now) self.new (each_with (turned_letters_left letters.entry) lists) }
+        ensures any { (lists : List (List (Gap × ℕ)))
+            → HasTakenAny (core_of tree.now) self.old lists
+            → HasTakenAny (core_of tree.now) self.new
+            (each_with (turned_letters_left letters.entry) lists) }
         ensures open { IsTrue (has_gap self.new) }
         ensures last { result ≡ turned_last_in letters.entry }
     {
@@ -272,7 +283,8 @@ impl State {
         requires stretch { IsStretchOf (core_of tree.now) stretch }
         ensures room { room_of self.new ≡ room_of self.old }
         ensures after_blanks { marks_of (core_of tree.now) self.new.after_blanks
-            ≡ over_blanks (core_of tree.now) self.old.entry (marks_of (core_of tree.now) self.old.at_once) }
+            ≡ over_blanks (core_of tree.now) self.old.entry
+            (marks_of (core_of tree.now) self.old.at_once) }
         ensures at_once { self.new.at_once ≡ self.old.at_once }
         ensures entry { self.new.entry ≡ self.old.entry }
     {
@@ -294,8 +306,10 @@ impl State {
         requires stretch { IsStretchOf (core_of tree.now) stretch }
         ensures room { room_of self.new ≡ room_of self.old }
         ensures marks { marks_of (core_of tree.now) self.new.at_once
-            ≡ shift_over (core_of tree.now) self.old.entry (marks_of (core_of tree.now) self.old.at_once)
-            (marks_of (core_of tree.now) self.old.after_blanks) (gapped_letter letter).0 letter.letter }
+            ≡ shift_over (core_of tree.now) self.old.entry
+            (marks_of (core_of tree.now) self.old.at_once)
+            (marks_of (core_of tree.now) self.old.after_blanks)
+            (gapped_letter letter).0 letter.letter }
     {
         let c = letter.letter;
         if !letter.is_apart {

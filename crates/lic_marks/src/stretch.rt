@@ -42,7 +42,8 @@ impl<'a> Stretch<'a> {
 
     /// The letter to which the mark at a place leads on, if the place stands in the stretch.
     pub fn letter_behind(self, place: usize) -> Option<char>
-        ensures { IfSome result (λ letter. (r : Core) → IsStretchOf r self.entry → LeadsTo r place letter) }
+        ensures { IfSome result (λ letter. (r : Core) → IsStretchOf r self.entry
+            → LeadsTo r place letter) }
     {
         if place < self.place {
             return None;
@@ -77,7 +78,8 @@ pub fn letters_behind(node: &Node, place: usize) -> Option<&[char]>
 #[cycle(letters_behind)]
 fn behind_in_row(children: &[Node], place: usize) -> Option<&[char]>
     requires { IsTrue (list_all is_measured children.now) }
-    ensures { IfSome result (λ rest. IsStretch (cat_all (map core_of children.now)) place rest.now) }
+    ensures { IfSome result (λ rest.
+        IsStretch (cat_all (map core_of children.now)) place rest.now) }
 {
     let mut at = place;
     for child in children {
@@ -94,7 +96,8 @@ fn behind_in_row(children: &[Node], place: usize) -> Option<&[char]>
 #[cycle(letters_behind)]
 fn behind_in_any(children: &[Node], place: usize) -> Option<&[char]>
     requires { IsTrue (list_all is_measured children.now) }
-    ensures { IfSome result (λ rest. IsStretch (alt_all (map core_of children.now)) place rest.now) }
+    ensures { IfSome result (λ rest.
+        IsStretch (alt_all (map core_of children.now)) place rest.now) }
 {
     let mut at = place;
     for child in children {

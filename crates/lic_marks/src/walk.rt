@@ -48,9 +48,9 @@ pub fn leaves(node: &Node, row: &Bits, at: usize, live: Window, after: bool, ent
     }
 }
 
-/// Whether one may stand behind a tidy word of the child: not after a blank, unless one enters and the word is empty.
+// Whether one may stand behind a tidy word of the child: not after a blank, unless one enters and the word is empty.
 #[cycle(leaves)]
-pub fn leaves_tidy(
+fn leaves_tidy(
     child: &Node,
     has_empty: bool,
     row: &Bits,
@@ -89,7 +89,8 @@ pub fn leaves_letters(text: &[char], row: &Bits, at: usize, after: bool, entry: 
 /// Whether one may stand behind so many letters: the last one is marked, or there is none and one enters.
 pub fn leaves_copies(count: usize, row: &Bits, at: usize, after: bool, entry: bool) -> bool
     requires { at + count ≤ length row.now }
-    ensures { (passes : ℕ → Bool) → Leaves (cat_all (replicate count (one passes))) after entry row.now at result }
+    ensures { (passes : ℕ → Bool)
+        → Leaves (cat_all (replicate count (one passes))) after entry row.now at result }
 {
     let room = row.len();
     prove!(at <= room);
@@ -111,7 +112,8 @@ pub fn leaves_up_to(
 ) -> bool
     requires room { at + count ≤ length row.now }
     requires live { IsClearOutside live row.now at (at + count) }
-    ensures { (passes : ℕ → Bool) → Leaves (any_front (replicate count (one passes))) after entry row.now at result }
+    ensures { (passes : ℕ → Bool)
+        → Leaves (any_front (replicate count (one passes))) after entry row.now at result }
 {
     let room = row.len();
     prove!(at <= room);
@@ -132,7 +134,8 @@ fn leaves_repeat(
 ) -> bool
     requires measured { IsTrue (is_measured child.now) }
     requires room { at + weight (so_many times (core_of child.now)) ≤ length row.now }
-    requires live { IsClearOutside live row.now at (at + weight (so_many times (core_of child.now))) }
+    requires live { IsClearOutside live row.now at
+        (at + weight (so_many times (core_of child.now))) }
     ensures { Leaves (so_many times (core_of child.now)) after entry row.now at result }
 {
     let room = row.len();
@@ -166,7 +169,8 @@ fn leaves_copies_of(
 ) -> (bool, bool)
     requires measured { IsTrue (is_measured child.now) }
     requires room { at + weight (copies count (core_of child.now)) ≤ length row.now }
-    requires live { IsClearOutside live row.now at (at + weight (copies count (core_of child.now))) }
+    requires live { IsClearOutside live row.now at
+        (at + weight (copies count (core_of child.now))) }
     ensures all { Leaves (copies count (core_of child.now)) after entry row.now at result.0 }
     ensures any { Leaves (up_to count (core_of child.now)) after entry row.now at result.1 }
 {
@@ -199,7 +203,8 @@ fn leaves_row(
 ) -> bool
     requires measured { IsTrue (list_all is_measured children.now) }
     requires room { at + weight (cat_all (map core_of children.now)) ≤ length row.now }
-    requires live { IsClearOutside live row.now at (at + weight (cat_all (map core_of children.now))) }
+    requires live { IsClearOutside live row.now at
+        (at + weight (cat_all (map core_of children.now))) }
     ensures { Leaves (cat_all (map core_of children.now)) after entry row.now at result }
 {
     let room = row.len();
@@ -227,7 +232,8 @@ fn leaves_any(
 ) -> bool
     requires measured { IsTrue (list_all is_measured children.now) }
     requires room { at + weight (alt_all (map core_of children.now)) ≤ length row.now }
-    requires live { IsClearOutside live row.now at (at + weight (alt_all (map core_of children.now))) }
+    requires live { IsClearOutside live row.now at
+        (at + weight (alt_all (map core_of children.now))) }
     ensures { Leaves (alt_all (map core_of children.now)) after entry row.now at result }
 {
     let room = row.len();

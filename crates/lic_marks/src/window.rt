@@ -67,7 +67,8 @@ impl Window {
 
     /// What it has from `first` on.
     pub fn part_from(self, first: usize) -> Window
-        ensures clear { (row : List Bool) (end : ℕ) → IsClearOutside self row first end → IsClearOutside result row first end }
+        ensures clear { (row : List Bool) (end : ℕ) → IsClearOutside self row first end
+            → IsClearOutside result row first end }
         ensures to { result.to ≤ self.to }
     {
         if first < self.to {

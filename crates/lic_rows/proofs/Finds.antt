@@ -111,7 +111,8 @@ quotient_one word j low high =
 abbrev pub highest : ℕ → ℕ
 highest word = 63 - leading_zeros w64 word
 
-pub highest_is : (word : ℕ) → 0 < word → word < 2 ^ 64 → (highest word < 64) × (bit_at word (highest word) ≡ 1) × ((i : ℕ) → highest word < i → bit_at word i ≡ 0)
+pub highest_is : (word : ℕ) → 0 < word → word < 2 ^ 64
+    → (highest word < 64) × (bit_at word (highest word) ≡ 1) × ((i : ℕ) → highest word < i → bit_at word i ≡ 0)
 highest_is word some fits =
     let t = leading_top 64 word some fits in
     let j : ℕ = t.0 in

@@ -143,7 +143,9 @@ pub cut_is : (old row : List ℕ) (limit m : ℕ) → limit / 64 < length old �
     → Cut old row limit
 cut_is old row limit m within mask same low high = record {
   below = λ k before. low k (omega arith) ∙ grind (arith, common_steps);
-  here = low (limit / 64) (omega arith) ∙ ap (λ x. get_or (set old (limit / 64) (bit_and (get_or old (limit / 64) 0) x)) (limit / 64) 0) mask ∙ grind (arith, common_steps);
+  here = low (limit / 64) (omega arith)
+      ∙ ap (λ x. get_or (set old (limit / 64) (bit_and (get_or old (limit / 64) 0) x)) (limit / 64) 0) mask
+      ∙ grind (arith, common_steps);
   above = λ k after. elim (cases_lt k (length old)) [
     | inl inside ↦ high k after inside
     | inr past ↦ get_or_past row k 0 (omega arith)

@@ -24,7 +24,8 @@ impl Model for Bits {
 
     ghost view = { λ b. flags b.len b.words.items };
 
-    ghost invariant = { λ b. (length b.words.items ≡ b.len / 64 + 1) × ((k : ℕ) → b.len ≤ k → has b.words.items k ≡ false) };
+    ghost invariant = { λ b. (length b.words.items ≡ b.len / 64 + 1)
+        × ((k : ℕ) → b.len ≤ k → has b.words.items k ≡ false) };
 }
 
 impl Bits {
@@ -132,9 +133,11 @@ impl Bits {
         requires len { length self.old ≡ length other.now }
         ensures len { length self.new ≡ length self.old }
         ensures kept { IsKeptOutside from to (flag_at self.old) (flag_at self.new) }
-        ensures inside { (k : ℕ) → from ≤ k → k < to → flag_at self.new k ≡ (flag_at self.old k || flag_at other.now k) }
+        ensures inside { (k : ℕ) → from ≤ k → k < to
+            → flag_at self.new k ≡ (flag_at self.old k || flag_at other.now k) }
         ensures same { result ≡ false → self.new ≡ self.old }
-        ensures grows { result ≡ true → (k : ℕ) × (flag_at self.old k ≡ false) × (flag_at self.new k ≡ true) }
+        ensures grows { result ≡ true
+            → (k : ℕ) × (flag_at self.old k ≡ false) × (flag_at self.new k ≡ true) }
     {
         let grows = stretch::next_fresh(&self.words, &other.words, from, to).is_some();
         if grows {
@@ -152,7 +155,8 @@ impl Bits {
         ensures len { length self.new ≡ length self.old }
         ensures kept { IsKeptOutside from to (flag_at self.old) (flag_at self.new) }
         ensures first { flag_at self.new from ≡ is_set }
-        ensures rest { (k : ℕ) → from ≤ k → suc k < to → flag_at self.new (suc k) ≡ flag_at self.old k }
+        ensures rest { (k : ℕ) → from ≤ k → suc k < to
+            → flag_at self.new (suc k) ≡ flag_at self.old k }
         ensures out { result ≡ flag_at self.old (to - 1) }
     {
         let out = stretch::get(&self.words, to - 1);

@@ -41,7 +41,9 @@ pub fn shift_four(row: &mut [u64], at: usize)
     requires room { at + 4 ≤ length row.old }
     ensures below { (k : ℕ) → k < at → slice_index row.new k ≡ slice_index row.old k }
     ensures here { (k : ℕ) → at ≤ k → k < at + 4
-        → slice_index row.new k ≡ bit_or (slice_index row.old k * 2 ^ 1 % 2 ^ 64) (slice_index row.old (k - 1) / 2 ^ 63) }
+        → slice_index row.new k
+        ≡ bit_or (slice_index row.old k * 2 ^ 1 % 2 ^ 64)
+        (slice_index row.old (k - 1) / 2 ^ 63) }
     ensures above { (k : ℕ) → at + 4 ≤ k → slice_index row.new k ≡ slice_index row.old k }
 {
     let words = u64x4::from_slice(&row[at..]);
@@ -55,7 +57,8 @@ pub fn shift_four(row: &mut [u64], at: usize)
 pub fn four_are_zero(row: &[u64], at: usize) -> bool
     requires room { at + 4 ≤ length row.now }
     ensures zero { result ≡ true → (k : ℕ) → at ≤ k → k < at + 4 → slice_index row.now k ≡ 0 }
-    ensures some { result ≡ false → (k : ℕ) × (at ≤ k) × (k < at + 4) × (0 < slice_index row.now k) }
+    ensures some { result ≡ false
+        → (k : ℕ) × (at ≤ k) × (k < at + 4) × (0 < slice_index row.now k) }
 {
     let words = u64x4::from_slice(&row[at..]);
     words.simd_ne(u64x4::splat(0)).to_bitmask() == 0

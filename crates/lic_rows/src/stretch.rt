@@ -33,7 +33,8 @@ fn put_back(row: &mut [u64], from: usize, to: usize, low: u64, high: u64)
     requires order { from ≤ to }
     requires room { to / 64 < length row.old }
     ensures inside { (b : ℕ) → from ≤ b → b < to → has row.new b ≡ has row.old b }
-    ensures kept { (whole : List ℕ) → low ≡ slice_index whole (from / 64) → high ≡ slice_index whole (to / 64)
+    ensures kept { (whole : List ℕ) → low ≡ slice_index whole (from / 64)
+        → high ≡ slice_index whole (to / 64)
         → ((k : ℕ) → k < from / 64 → slice_index row.old k ≡ slice_index whole k)
         → ((k : ℕ) → to / 64 < k → slice_index row.old k ≡ slice_index whole k)
         → IsKeptOutside from to (has whole) (has row.new) }
@@ -120,7 +121,8 @@ pub fn join(row: &mut [u64], other: &[u64], from: usize, to: usize)
     requires room { to / 64 < length row.old }
     requires other_room { to / 64 < length other.now }
     ensures kept { IsKeptOutside from to (has row.old) (has row.new) }
-    ensures inside { (b : ℕ) → from ≤ b → b < to → has row.new b ≡ (has row.old b || has other.now b) }
+    ensures inside { (b : ℕ) → from ≤ b → b < to
+        → has row.new b ≡ (has row.old b || has other.now b) }
 {
     if from / 64 == to / 64 {
         let word = row[from / 64] | other[from / 64];
@@ -136,7 +138,8 @@ fn join_words(row: &mut [u64], other: &[u64], from: usize, to: usize)
     requires room { to / 64 < length row.old }
     requires other_room { to / 64 < length other.now }
     ensures kept { IsKeptOutside from to (has row.old) (has row.new) }
-    ensures inside { (b : ℕ) → from ≤ b → b < to → has row.new b ≡ (has row.old b || has other.now b) }
+    ensures inside { (b : ℕ) → from ≤ b → b < to
+        → has row.new b ≡ (has row.old b || has other.now b) }
 {
     let (first, last) = (from / 64, to / 64);
     let (low, high) = (row[first], row[last]);
@@ -226,8 +229,10 @@ pub fn next_fresh(row: &[u64], other: &[u64], from: usize, to: usize) -> Option<
     requires order { from ≤ to }
     requires room { to / 64 < length row.now }
     requires other_room { to / 64 < length other.now }
-    ensures found { IfSome result (λ at. (from ≤ at) × (at < to) × (has row.now at ≡ false) × (has other.now at ≡ true)) }
-    ensures none { IfNone result ((b : ℕ) → from ≤ b → b < to → has other.now b ≡ true → has row.now b ≡ true) }
+    ensures found { IfSome result (λ at. (from ≤ at) × (at < to) × (has row.now at ≡ false)
+        × (has other.now at ≡ true)) }
+    ensures none { IfNone result
+        ((b : ℕ) → from ≤ b → b < to → has other.now b ≡ true → has row.now b ≡ true) }
 {
     let mut at = from / 64;
     let mut word = spliced(0, fresh(row[at], other[at]), from % 64);

@@ -31,7 +31,9 @@ pub fn shift_words(row: &mut [u64])
     ensures fits { (k : ℕ) → slice_index row.old k < 2 ^ 64 }
     ensures first { slice_index row.new 0 ≡ slice_index row.old 0 * 2 ^ 1 % 2 ^ 64 }
     ensures rest { (k : ℕ) → suc k < length row.old
-        → slice_index row.new (suc k) ≡ bit_or (slice_index row.old (suc k) * 2 ^ 1 % 2 ^ 64) (slice_index row.old k / 2 ^ 63) }
+        → slice_index row.new (suc k)
+        ≡ bit_or (slice_index row.old (suc k) * 2 ^ 1 % 2 ^ 64)
+        (slice_index row.old k / 2 ^ 63) }
 {
     let mut at = row.len();
     'lanes: while at >= 5 {

@@ -9,11 +9,14 @@ pub compile-loop-part-preserved : goal.compile-loop-part-preserved
 compile-loop-part-preserved t c =
     let d = c.args.direction in
     rw (c.in_ok-push.ensures.items, more_of (read d) part_words c.args.parts.now c.loop-part.part-index c.part-item.result c.loop-part-test.true c.part-item.is)
-    (AllHaveWords-push c.loop-part.children.items (map (read d) (map part_words (take c.loop-part.part-index c.args.parts.now))) _ _ c.loop-part.invariant c.in_ok-compile_part.ensures)
+    (AllHaveWords-push c.loop-part.children.items
+    (map (read d) (map part_words
+    (take c.loop-part.part-index c.args.parts.now))) _ _ c.loop-part.invariant c.in_ok-compile_part.ensures)
 
 pub compile-ordered_row-requires : goal.compile-ordered_row-requires
 compile-ordered_row-requires t c = AllHaveWords-measured _ _ c.loop-part.invariant
 
 pub compile-returns : goal.compile-returns
 compile-returns t c =
-    changed _ (compiled_parts c.args.direction _ _ (rw (take_all c.loop-part.part-index c.args.parts.now c.loop-part-test.false) at c.loop-part.invariant)) c.ordered_row.ensures
+    changed _ (compiled_parts c.args.direction _ _
+    (rw (take_all c.loop-part.part-index c.args.parts.now c.loop-part-test.false) at c.loop-part.invariant)) c.ordered_row.ensures

@@ -64,10 +64,13 @@ compile_tree-returns-in-Alt t c =
 
 pub compile_tree-returns-in_ok-body-in_default : goal.compile_tree-returns-in_ok-body-in_default
 compile_tree-returns-in_ok-body-in_default t c =
-    changed _ (compiled_repetition c.args.direction _ _ _ _ _ c.in-Repeat.is (rw c.deref-in_default.ensures at c.in_ok-body-in_default.ensures)) c.repetition.ensures
+    changed _ (compiled_repetition c.args.direction _ _ _ _ _ c.in-Repeat.is
+    (rw c.deref-in_default.ensures at c.in_ok-body-in_default.ensures)) c.repetition.ensures
 
 pub compile_trees-loop-sub-preserved : goal.compile_trees-loop-sub-preserved
 compile_trees-loop-sub-preserved t c =
     let d = c.args.direction in
     rw (c.in_ok-push.ensures.items, more_of (read d) pattern_words c.args.subs.now c.loop-sub.sub-index c.sub-item.result c.loop-sub-test.true c.sub-item.is)
-    (AllHaveWords-push c.loop-sub.nodes.items (map (read d) (map pattern_words (take c.loop-sub.sub-index c.args.subs.now))) _ _ c.loop-sub.invariant c.in_ok-compile_tree.ensures)
+    (AllHaveWords-push c.loop-sub.nodes.items
+    (map (read d) (map pattern_words
+    (take c.loop-sub.sub-index c.args.subs.now))) _ _ c.loop-sub.invariant c.in_ok-compile_tree.ensures)

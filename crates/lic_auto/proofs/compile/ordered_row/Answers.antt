@@ -12,11 +12,13 @@ use Rattle.lic_auto.proofs.compile.ordered_row.Goals as goal
 pub row-requires : goal.row-requires
 row-requires c =
     let old = c.args.children in
-    let is = with_items_is old c.order.new.row (omega (arith, c.order.auto, c.deref_mut.ensures.len)) ∙ c.order.ensures ∙ ap (ordered c.args.direction) c.deref_mut.ensures.value in
+    let is = with_items_is old c.order.new.row (omega (arith, c.order.auto, c.deref_mut.ensures.len)) ∙ c.order.ensures
+    ∙ ap (ordered c.args.direction) c.deref_mut.ensures.value in
     ap (list_all is_measured) is ∙ list_all-ordered c.args.direction is_measured old.items c.requires
 
 pub returns : goal.returns
 returns c =
     let old = c.args.children in
-    let is = with_items_is old c.order.new.row (omega (arith, c.order.auto, c.deref_mut.ensures.len)) ∙ c.order.ensures ∙ ap (ordered c.args.direction) c.deref_mut.ensures.value in
+    let is = with_items_is old c.order.new.row (omega (arith, c.order.auto, c.deref_mut.ensures.len)) ∙ c.order.ensures
+    ∙ ap (ordered c.args.direction) c.deref_mut.ensures.value in
     subst (λ rs. IfOk c.row.result (HasWords (WordsOf (cat_all rs)))) (ap (map core_of) is ∙ map-ordered c.args.direction core_of old.items) c.row.ensures

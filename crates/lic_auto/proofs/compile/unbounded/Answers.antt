@@ -17,7 +17,8 @@ returns-then-min-eq0 c =
 
 pub returns-then-min-eq1 : goal.returns-then-min-eq1
 returns-then-min-eq1 c =
-    let is : core_of c.plus-then-min-eq1.result ≡ plus (core_of c.args.body) = c.plus-then-min-eq1.ensures.stands ∙ ap (λ n. plus (core_of n)) c.in_ok-new-2.ensures.ok in
+    let is : core_of c.plus-then-min-eq1.result ≡ plus (core_of c.args.body) =
+    c.plus-then-min-eq1.ensures.stands ∙ ap (λ n. plus (core_of n)) c.in_ok-new-2.ensures.ok in
     rw c.if-min-eq1.true record {
       words = subst (λ r. AreSame (WordsOf r) (Repeats (WordsOf (core_of c.args.body)) 1 None)) (sym is) (plus_words (core_of c.args.body));
       measured = c.plus-then-min-eq1.ensures.measured;

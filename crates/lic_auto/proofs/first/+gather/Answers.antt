@@ -20,7 +20,8 @@ pub gather-returns-in-UpTo : goal.gather-returns-in-UpTo
 gather-returns-in-UpTo t c = rw (c.in-UpTo.is, core_of-UpTo) (c.gather_up_to.ensures _)
 
 pub gather-returns-in-Cat : goal.gather-returns-in-Cat
-gather-returns-in-Cat t c = rw (c.in-Cat.is, core_of-Cat, ← c.deref-in-Cat.ensures.value) (IfOk-weaker _ _ _ (λ found g. Gathers-cat _ _ _ found g) c.gather_row.ensures)
+gather-returns-in-Cat t c = rw (c.in-Cat.is, core_of-Cat, ← c.deref-in-Cat.ensures.value)
+    (IfOk-weaker _ _ _ (λ found g. Gathers-cat _ _ _ found g) c.gather_row.ensures)
 
 pub gather-returns-in-Alt : goal.gather-returns-in-Alt
 gather-returns-in-Alt t c = rw (c.in-Alt.is, core_of-Alt, ← c.deref-in-Alt.ensures.value) c.gather_each.ensures
@@ -58,7 +59,8 @@ gather_row-returns-then-not-branch t c =
     let stops : c.in_ok-gather.field-0 ≡ false = search rules in
     let here : Gathers (core_of child) c.loop-child.firsts c.gather.new.firsts false =
     subst (λ found. Gathers (core_of child) c.loop-child.firsts c.gather.new.firsts found) stops c.in_ok-gather.ensures in
-    RowSoFar-stop (map core_of children) (map core_of (drop (i + 1) children)) (core_of child) c.args.firsts.now c.loop-child.firsts c.gather.new.firsts so_far here
+    RowSoFar-stop (map core_of children) (map core_of (drop (i + 1) children))
+    (core_of child) c.args.firsts.now c.loop-child.firsts c.gather.new.firsts so_far here
 
 pub gather_row-loop-child-preserved : goal.gather_row-loop-child-preserved
 gather_row-loop-child-preserved t c =
@@ -75,7 +77,8 @@ gather_row-loop-child-preserved t c =
 pub gather_row-returns : goal.gather_row-returns
 gather_row-returns t c =
     let children = c.args.children.now in
-    let none : map core_of (drop c.loop-child.child-index children) ≡ [] = ap (map core_of) (drop_all c.loop-child.child-index children c.loop-child-test.false) in
+    let none : map core_of (drop c.loop-child.child-index children) ≡ [] =
+    ap (map core_of) (drop_all c.loop-child.child-index children c.loop-child-test.false) in
     RowSoFar-end (map core_of children) c.args.firsts.now c.loop-child.firsts
     (subst (λ rest. RowSoFar (map core_of children) rest c.args.firsts.now c.loop-child.firsts) none c.loop-child.invariant)
 
@@ -94,6 +97,7 @@ gather_each-loop-child-preserved t c =
 pub gather_each-returns : goal.gather_each-returns
 gather_each-returns t c =
     let children = c.args.children.now in
-    let none : map core_of (drop c.loop-child.child-index children) ≡ [] = ap (map core_of) (drop_all c.loop-child.child-index children c.loop-child-test.false) in
+    let none : map core_of (drop c.loop-child.child-index children) ≡ [] =
+    ap (map core_of) (drop_all c.loop-child.child-index children c.loop-child-test.false) in
     EachSoFar-end (map core_of children) c.loop-child.any c.args.firsts.now c.loop-child.firsts
     (subst (λ rest. EachSoFar (map core_of children) rest c.loop-child.any c.args.firsts.now c.loop-child.firsts) none c.loop-child.invariant)

@@ -7,4 +7,6 @@ pub returns-in_default : goal.returns-in_default
 returns-in_default c = Gathers-any _ c.args.firsts.now _ refl
 
 pub returns-in-Letter : goal.returns-in-Letter
-returns-in-Letter c = rw c.in-Letter.is (IfOk-weaker _ _ _ (λ found g. Gathers-letter c.in-Letter.letter c.args.firsts.now c.gather_text.new.firsts found g) c.gather_text.ensures)
+returns-in-Letter c = rw c.in-Letter.is
+    (IfOk-weaker _ _ _ (λ found g.
+    Gathers-letter c.in-Letter.letter c.args.firsts.now c.gather_text.new.firsts found g) c.gather_text.ensures)

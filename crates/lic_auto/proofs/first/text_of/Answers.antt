@@ -12,6 +12,7 @@ loop-letter-preserved c =
     let i = c.loop-letter.letter-index in
     let letters = c.args.letters.now in
     let d = c.letter-item.result in
-    let more : take (i + 1) letters ≡ take i letters ++ d ∷ [] = take_more letters i d c.loop-letter-test.true ∙ ap (λ x. take i letters ++ x ∷ []) (sym c.letter-item.is) in
+    let more : take (i + 1) letters ≡ take i letters ++ d ∷ [] =
+    take_more letters i d c.loop-letter-test.true ∙ ap (λ x. take i letters ++ x ∷ []) (sym c.letter-item.is) in
     c.in_ok-push.ensures.bytes ∙ ap (λ x. x ++ encode d) c.loop-letter.invariant ∙ ap (λ x. encodes (take i letters) ++ x) (sym (append-nil (encode d)))
     ∙ sym (encodes-append (take i letters) (d ∷ [])) ∙ ap encodes (sym more)

@@ -10,7 +10,9 @@ use Rattle.lic_auto.proofs.first.turned_text.Goals as goal
 pub returns : goal.returns
 returns c =
     let letters = c.in_ok-letters.letters in
-    let made : letters.items ≡ chars c.args.text.now = items_from_collect {E = AllocError} (Ok letters) c.in_ok-letters.ensures.ran (YieldsList-from_chars c.args.text.now c.utf8.text c.chars.ensures.rest) in
+    let made : letters.items ≡ chars c.args.text.now =
+    items_from_collect {E = AllocError} (Ok letters) c.in_ok-letters.ensures.ran
+    (YieldsList-from_chars c.args.text.now c.utf8.text c.chars.ensures.rest) in
     let turned : c.order.new.row ≡ reverse (chars c.args.text.now) = c.order.ensures ∙ ap reverse (c.deref_mut.ensures.value ∙ made) in
     let is : c.deref.result.now ≡ reverse (chars c.args.text.now) =
     c.deref.ensures.value ∙ with_items_is letters c.order.new.row (omega (arith, c.order.auto, c.deref_mut.ensures.len)) ∙ turned in

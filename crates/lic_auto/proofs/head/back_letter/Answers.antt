@@ -13,7 +13,9 @@ range_from-requires c =
     let last = c.in-Some.field-0 in
     let front : List ℕ = c.as_str-front.result.now in
     let scalar : IsScalar last = search (rules) in
-    let came : text ≡ front ++ encode_utf8 last = sym c.chars-letters.ensures.rest ∙ c.in-Some.ensures.steps ∙ ap (λ r. r ++ encode_utf8 last) (sym c.as_str-front.ensures) in
+    let came : text ≡ front ++ encode_utf8 last =
+    sym c.chars-letters.ensures.rest ∙ c.in-Some.ensures.steps
+    ∙ ap (λ r. r ++ encode_utf8 last) (sym c.as_str-front.ensures) in
     λ some. IsCharBoundary-last text front last scalar c.as_str-front.utf8 came
 
 pub returns-in-Some : goal.returns-in-Some
@@ -22,7 +24,9 @@ returns-in-Some c =
     let last = c.in-Some.field-0 in
     let front : List ℕ = c.as_str-front.result.now in
     let scalar : IsScalar last = search (rules) in
-    let came : text ≡ front ++ encode_utf8 last = sym c.chars-letters.ensures.rest ∙ c.in-Some.ensures.steps ∙ ap (λ r. r ++ encode_utf8 last) (sym c.as_str-front.ensures) in
+    let came : text ≡ front ++ encode_utf8 last =
+    sym c.chars-letters.ensures.rest ∙ c.in-Some.ensures.steps
+    ∙ ap (λ r. r ++ encode_utf8 last) (sym c.as_str-front.ensures) in
     c.range_from.ensures.value ∙ drop-last text front last scalar c.as_str-front.utf8 came ∙ sym (append-nil (encode last))
     ∙ sym (ap (λ cs. encodes (take 1 cs)) (turned-last text front last scalar c.as_str-front.utf8 came))
 

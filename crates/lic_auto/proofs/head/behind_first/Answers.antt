@@ -16,7 +16,9 @@ returns-in-Some c = λ d rest is.
     let text = c.args.text.now in
     let first = c.in-Some.field-0 in
     let behind : List ℕ = c.as_str.result.now in
-    let came : text ≡ encode_utf8 first ++ behind = sym c.chars-letters.ensures.rest ∙ c.in-Some.ensures.steps.0 ∙ ap (λ r. encode_utf8 first ++ r) (sym c.as_str.ensures) in
+    let came : text ≡ encode_utf8 first ++ behind =
+    sym c.chars-letters.ensures.rest ∙ c.in-Some.ensures.steps.0
+    ∙ ap (λ r. encode_utf8 first ++ r) (sym c.as_str.ensures) in
     same_rest first d (chars behind) rest (sym (chars_past_char text behind first c.utf8.text came) ∙ is)
 
 pub returns-in-None : goal.returns-in-None

@@ -6,6 +6,7 @@ use Rattle.lic_auto.proofs.head.first_letter.Goals as goal
 
 pub returns : goal.returns
 returns c =
-    let here : slice_get (chars c.args.token.now) 0 ≡ Some c.unwrap.result = ap (λ t. slice_get (chars t) 0) (sym c.chars.ensures.rest) ∙ sym c.next.ensures.steps.2 ∙ c.unwrap.ensures in
+    let here : slice_get (chars c.args.token.now) 0 ≡ Some c.unwrap.result =
+    ap (λ t. slice_get (chars t) 0) (sym c.chars.ensures.rest) ∙ sym c.next.ensures.steps.2 ∙ c.unwrap.ensures in
     let (rest, first) = first_of (chars c.args.token.now) c.unwrap.result here in
     (rest, no_blank_first c.args.token.now c.unwrap.result c.utf8.token c.requires here, first)

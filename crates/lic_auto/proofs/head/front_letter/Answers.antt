@@ -24,8 +24,11 @@ returns-in-Some c =
     let text = c.args.text.now in
     let first = c.in-Some.first in
     let is = chars_past_char text _ first c.utf8.text (sym c.chars-letters.ensures.rest ∙ c.in-Some.ensures.steps.0) in
-    let value : c.range.result.now ≡ take (len_utf8 first) text = c.range.ensures.value ∙ part text c.len_utf8.result ∙ ap (λ n. take n text) c.len_utf8.ensures.value in
-    sym (encodes-chars c.range.result.now c.range.utf8) ∙ ap encodes (ap chars value ∙ chars-first text c.utf8.text first _ is) ∙ sym (ap (λ cs. encodes (take 1 cs)) is)
+    let value : c.range.result.now ≡ take (len_utf8 first) text =
+    c.range.ensures.value ∙ part text c.len_utf8.result ∙ ap (λ n. take n text) c.len_utf8.ensures.value in
+    sym (encodes-chars c.range.result.now c.range.utf8)
+    ∙ ap encodes (ap chars value ∙ chars-first text c.utf8.text first _ is)
+    ∙ sym (ap (λ cs. encodes (take 1 cs)) is)
 
 pub returns-in-None : goal.returns-in-None
 returns-in-None c =

@@ -17,7 +17,8 @@ part text n = let same : n - 0 ≡ n = omega arith in ap (λ k. take k text) sam
 pub range-requires-clause-end_boundary : goal.range-requires-clause-end_boundary
 range-requires-clause-end_boundary c =
     let (rest, letter, is) = c.first_letter-first.ensures in
-    subst (IsCharBoundary c.args.token.now) (sym c.len_utf8.ensures.value) (IsCharBoundary-first c.args.token.now c.utf8.token c.first_letter-first.result rest is)
+    subst (IsCharBoundary c.args.token.now) (sym c.len_utf8.ensures.value)
+    (IsCharBoundary-first c.args.token.now c.utf8.token c.first_letter-first.result rest is)
 
 pub returns-then-not-is_word : goal.returns-then-not-is_word
 returns-then-not-is_word c =
@@ -25,7 +26,8 @@ returns-then-not-is_word c =
     let first = c.first_letter-first.result in
     let (rest, letter, is) = c.first_letter-first.ensures in
     let other : is_word first ≡ false = sym c.is_word.ensures ∙ c.if-not-is_word.true in
-    let value : c.range.result.now ≡ take (len_utf8 first) text = c.range.ensures.value ∙ part text c.len_utf8.result ∙ ap (λ n. take n text) c.len_utf8.ensures.value in
+    let value : c.range.result.now ≡ take (len_utf8 first) text =
+    c.range.ensures.value ∙ part text c.len_utf8.result ∙ ap (λ n. take n text) c.len_utf8.ensures.value in
     ap chars value ∙ chars-first text c.utf8.token first rest is ∙ sym (ap head_of is ∙ head-other first rest (ne_eqb first blank letter) other)
 
 pub returns-in-Some : goal.returns-in-Some

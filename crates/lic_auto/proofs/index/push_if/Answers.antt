@@ -11,4 +11,5 @@ returns-then-not-holds c =
 
 pub returns : goal.returns
 returns c =
-    IfOk-weaker _ _ _ (λ done grows. GrowsIf-grows (IsTrue c.args.holds) c.args.number c.args.list.now.items c.push_once.new.list.items grows) c.push_once.ensures
+    IfOk-weaker _ _ _ (λ done grows.
+    GrowsIf-grows (IsTrue c.args.holds) c.args.number c.args.list.now.items c.push_once.new.list.items grows) c.push_once.ensures

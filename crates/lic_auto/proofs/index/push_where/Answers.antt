@@ -25,7 +25,9 @@ loop-k-preserved c =
     λ is. c.eq-begins.ensures ∙ (bytes_eq-Decides c.as_str.result.now letter).1 (sym one ∙ is) in
     let grows : R k (get_or (items_of old) k []) c.push_if.new.list.items =
     subst (λ xs. R k xs c.push_if.new.list.items) here
-    (GrowsIf-fewer (IsTrue c.eq-begins.result) (get_or (map string_bytes letters) k [] ≡ letter) number _ c.push_if.new.list.items begins c.in_ok-push_if.ensures) in
+    (GrowsIf-fewer (IsTrue c.eq-begins.result)
+    (get_or (map string_bytes letters) k []
+    ≡ letter) number _ c.push_if.new.list.items begins c.in_ok-push_if.ensures) in
     record {
       done = done_more R k old now c.push_if.new.list within c.loop-k.invariant.done grows;
       rest = rest_more R k old now c.push_if.new.list within c.loop-k.invariant.rest;

@@ -17,4 +17,5 @@ returns-clause-put c =
     let long : place ≤ length texts.items = omega (arith, c.requires, texts.ok) in
     ap (λ xs. get_or (map string_bytes xs) place []) (c.in_ok-push.ensures.items ∙ ap (λ xs. xs ++ c.args.text ∷ []) c.truncate.ensures.items)
     ∙ ap (λ xs. get_or xs place []) (map-append string_bytes (take place texts.items) (c.args.text ∷ []))
-    ∙ get_or_push (map string_bytes (take place texts.items)) (string_bytes c.args.text) [] place (length-map (take place texts.items) string_bytes ∙ length-take-le place texts.items long)
+    ∙ get_or_push (map string_bytes (take place texts.items)) (string_bytes c.args.text) [] place
+    (length-map (take place texts.items) string_bytes ∙ length-take-le place texts.items long)

@@ -34,7 +34,12 @@ pub bounds-joined-count : goal.bounds-joined-count
 bounds-joined-count c =
     let l = c.loop-number in
     let size = length-take-le l.count l.joined l.invariant.within in
-    omega (arith, size, fewer_joined (length l.joined) (take l.count l.joined) l.some.now l.others.now c.args.some.now c.args.others.now l.invariant.joined c.in-Some.number c.in-Some.ensures.some)
+    omega (
+      arith,
+      size,
+      fewer_joined (length l.joined)
+          (take l.count l.joined) l.some.now l.others.now c.args.some.now c.args.others.now l.invariant.joined c.in-Some.number c.in-Some.ensures.some,
+    )
 
 pub loop-number-preserved : goal.loop-number-preserved
 loop-number-preserved c =
@@ -50,10 +55,13 @@ loop-number-preserved c =
     record {
       room = same ∙ l.invariant.room;
       within = omega (arith, same, room);
-      joined = subst (λ size. AreJoined size (take (l.count + 1) (set l.joined l.count m)) c.behind-some.result.now c.behind-others.result.now c.args.some.now c.args.others.now) (sym same)
+      joined = subst (λ size. AreJoined size
+          (take (l.count + 1) (set l.joined l.count m)) c.behind-some.result.now c.behind-others.result.now c.args.some.now c.args.others.now) (sym same)
           (subst (λ xs. AreJoined n xs c.behind-some.result.now c.behind-others.result.now c.args.some.now c.args.others.now) (sym now)
           (AreJoined-more n (take l.count l.joined) l.some.now l.others.now c.args.some.now c.args.others.now l.invariant.joined m least
-          c.behind-some.result.now c.behind-others.result.now (c.behind-some.ensures.rising n l.invariant.joined.xs_rise) (c.behind-others.ensures.rising n l.invariant.joined.ys_rise)
+          c.behind-some.result.now c.behind-others.result.now
+          (c.behind-some.ensures.rising n l.invariant.joined.xs_rise)
+          (c.behind-others.ensures.rising n l.invariant.joined.ys_rise)
           c.behind-some.ensures.exactly c.behind-others.ensures.exactly));
     }
 
@@ -63,4 +71,5 @@ returns-clause-rising c = c.loop-number.invariant.joined.rising
 pub returns-clause-both : goal.returns-clause-both
 returns-clause-both c =
     let l = c.loop-number in
-    AreJoined-end (length l.joined) (take l.count l.joined) l.some.now l.others.now c.args.some.now c.args.others.now l.invariant.joined c.in_default.ensures.none.0 c.in_default.ensures.none.1
+    AreJoined-end (length l.joined)
+    (take l.count l.joined) l.some.now l.others.now c.args.some.now c.args.others.now l.invariant.joined c.in_default.ensures.none.0 c.in_default.ensures.none.1

@@ -21,4 +21,5 @@ loop-place-preserved c =
     let a = get_or seekers n c.index-seekers-place.result in
     let here : slice_get seekers n ≡ Some a = slice_get-get_or seekers n c.index-seekers-place.result within in
     subst (λ s. AreTurned BeginsAnew s c.args.seekers.now (set seekers n c.reset.new.self)) (sym (take_more places i 0 inside))
-    (Changed-more tree_of BeginsAnew (take i places) n c.args.seekers.now seekers a c.reset.new.self c.loop-place.invariant fresh here c.reset.ensures.tree c.reset.ensures.stands)
+    (Changed-more tree_of BeginsAnew
+    (take i places) n c.args.seekers.now seekers a c.reset.new.self c.loop-place.invariant fresh here c.reset.ensures.tree c.reset.ensures.stands)

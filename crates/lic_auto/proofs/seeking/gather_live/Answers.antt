@@ -12,7 +12,15 @@ use Rattle.lic_auto.proofs.seeking.gather_live.Goals.{then-accepts, else-accepts
 
 pub bounds-live-count : goal.bounds-live-count
 bounds-live-count c =
-    omega (arith, c.loop-place.invariant.few, c.loop-place.invariant.room, c.loop-place-test.true, length-rising c.args.places.now _ c.requires.rising, c.requires.room, c.requires.count)
+    omega (
+      arith,
+      c.loop-place.invariant.few,
+      c.loop-place.invariant.room,
+      c.loop-place-test.true,
+      length-rising c.args.places.now _ c.requires.rising,
+      c.requires.room,
+      c.requires.count,
+    )
 
 pub returns-clause-count : goal.returns-clause-count
 returns-clause-count c =
@@ -42,10 +50,19 @@ loop-place-preserved c =
     let place : ℕ = get_or places i 0 in
     let inside : place < length numbers = omega (arith, c.requires.rising.below i within, c.requires.count, size) in
     let s = c.index-seekers-place.result in
-    let here : slice_get seekers place ≡ Some s = slice_get-get_or seekers place s (omega (arith, inside, c.requires.count, size)) ∙ ap Some (sym c.index-seekers-place.is) in
+    let here : slice_get seekers place ≡ Some s =
+    slice_get-get_or seekers place s (omega (arith, inside, c.requires.count, size))
+    ∙ ap Some (sym c.index-seekers-place.is) in
     let more = take_more places i 0 within in
     let gathered = c.loop-place.invariant.gathered in
-    let few : length places ≤ length live = omega (arith, length-rising places _ c.requires.rising, c.loop-place.invariant.room, c.requires.room, c.requires.count) in
+    let few : length places ≤ length live =
+    omega (
+      arith,
+      length-rising places _ c.requires.rising,
+      c.loop-place.invariant.room,
+      c.requires.room,
+      c.requires.count,
+    ) in
     elim c.if-accepts.branch [
       | then-accepts w ↦
           let room : count < length live = omega (arith, c.loop-place.invariant.few, few, within) in
@@ -57,7 +74,8 @@ loop-place-preserved c =
             room = ap length w.live-is ∙ length-set live count w.number.result ∙ c.loop-place.invariant.room;
             gathered = subst (λ seen. AreGathered set numbers seekers seen (take c.if-accepts.count c.if-accepts.live)) (sym more)
                 (subst (AreGathered set numbers seekers (take i places ++ place ∷ [])) (sym front)
-                (Gathered-add set numbers chosen.rising seekers (take i places) (take count live) place s here c.accepts.result c.accepts.ensures gathered w.if-accepts.true inside
+                (Gathered-add set numbers chosen.rising seekers (take i places)
+                (take count live) place s here c.accepts.result c.accepts.ensures gathered w.if-accepts.true inside
                 (λ k h. less_before places _ c.requires.rising i k within h) known there));
           }
       | else-accepts w ↦
@@ -66,7 +84,8 @@ loop-place-preserved c =
             room = ap length w.live-is ∙ c.loop-place.invariant.room;
             gathered = subst (λ seen. AreGathered set numbers seekers seen (take c.if-accepts.count c.if-accepts.live)) (sym more)
                 (rw (w.live-is, w.count-is)
-                (Gathered-skip set numbers chosen.rising seekers (take i places) (take count live) place s here c.accepts.result c.accepts.ensures gathered w.if-accepts.false));
+                (Gathered-skip set numbers chosen.rising seekers (take i places)
+                (take count live) place s here c.accepts.result c.accepts.ensures gathered w.if-accepts.false));
           }
     ]
 

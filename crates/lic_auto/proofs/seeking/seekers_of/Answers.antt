@@ -18,7 +18,8 @@ loop-place-preserved c =
     let seeker = c.in_ok-seeker.seeker in
     let place : c.loop-place.place ≡ length seekers = omega (arith, c.loop-place.invariant.count, c.loop-place.seekers.ok) in
     let words : (known : Known) → slice_get set (length seekers) ≡ Some known → ∥ HasWordsOf (core_of c.tree.result.now) (mirrored (words_of known)) ∥₁ =
-    λ known is. subst (λ d. ∥ HasWordsOf (core_of c.tree.result.now) (read d (words_of known)) ∥₁) c.requires (c.tree.ensures.words known (ap (slice_get set) place ∙ is)) in
+    λ known is. subst (λ d. ∥ HasWordsOf (core_of c.tree.result.now) (read d (words_of known)) ∥₁) c.requires
+    (c.tree.ensures.words known (ap (slice_get set) place ∙ is)) in
     record {
       count = omega (arith, c.in_ok-push.ensures.len, c.loop-place.invariant.count);
       trees = subst (HaveMirrors set) (sym c.in_ok-push.ensures.items)

@@ -37,13 +37,15 @@ loop-place-preserved c =
     elim c.if-not-is_dead.branch [
       | then-not-is_dead w ↦
           let room : count < length kept = omega (arith, invariant.few, invariant.room, c.requires.room, inside) in
-          let front : take c.if-not-is_dead.count c.if-not-is_dead.kept ≡ take count kept ++ n ∷ [] = rw (w.kept-is, w.count-is) (take_more_set kept count n room) in
+          let front : take c.if-not-is_dead.count c.if-not-is_dead.kept ≡ take count kept ++ n ∷ [] =
+          rw (w.kept-is, w.count-is) (take_more_set kept count n room) in
           let less : (x : ℕ) → Contains (take count kept) x → x < n = λ x h. less_before places _ c.requires.rising i x inside (invariant.kept.within x h) in
           record {
             few = omega (arith, w.count-is, invariant.few);
             room = ap length w.kept-is ∙ length-set kept count n ∙ invariant.room;
             rising = subst (λ xs. IsRising xs (length (set seekers n b))) (sym front)
-                (IsRising-push (take count kept) (length seekers) n (length (set seekers n b)) invariant.rising (omega (arith, size)) less (omega (arith, size, within)));
+                (IsRising-push (take count kept) (length seekers) n (length (set seekers n b)) invariant.rising
+                (omega (arith, size)) less (omega (arith, size, within)));
             taken = taken;
             kept = subst (λ xs. AreKeptOf IsQuiet (take (i + 1) places) xs (set seekers n b)) (sym front)
                 (subst (λ s. AreKeptOf IsQuiet s (take count kept ++ n ∷ []) (set seekers n b)) (sym more)
@@ -59,7 +61,8 @@ loop-place-preserved c =
           record {
             few = omega (arith, w.count-is, invariant.few);
             room = ap length w.kept-is ∙ invariant.room;
-            rising = subst (λ xs. IsRising xs (length (set seekers n b))) (sym same) (IsRising-more (take count kept) (length seekers) _ invariant.rising (omega (arith, size)));
+            rising = subst (λ xs. IsRising xs (length (set seekers n b))) (sym same)
+                (IsRising-more (take count kept) (length seekers) _ invariant.rising (omega (arith, size)));
             taken = taken;
             kept = subst (λ xs. AreKeptOf IsQuiet (take (i + 1) places) xs (set seekers n b)) (sym same)
                 (subst (λ s. AreKeptOf IsQuiet s (take count kept) (set seekers n b)) (sym more)
@@ -71,7 +74,8 @@ pub returns-clause-taken : goal.returns-clause-taken
 returns-clause-taken c =
     let places = c.args.places.now in
     let done : take c.loop-place.place-index places ≡ places = take_all c.loop-place.place-index places (omega (arith, c.loop-place-test.false)) in
-    subst (λ seen. AreTurned (TakesTurned c.args.entered.now (chars c.args.token.now)) seen c.args.seekers.now c.loop-place.seekers) done c.loop-place.invariant.taken
+    subst (λ seen. AreTurned (TakesTurned c.args.entered.now
+    (chars c.args.token.now)) seen c.args.seekers.now c.loop-place.seekers) done c.loop-place.invariant.taken
 
 pub returns-clause-kept : goal.returns-clause-kept
 returns-clause-kept c =

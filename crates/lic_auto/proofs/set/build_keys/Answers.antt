@@ -15,7 +15,8 @@ returns c =
     let named = c.args.named.now in
     let templates = c.loop-one.templates.items in
     let template : Named → TemplateValue = λ one. one.template in
-    let read : map (λ t. t.now) templates ≡ map template named = c.loop-one.invariant ∙ ap (map template) (take_all c.loop-one.one-index named c.loop-one-test.false) in
+    let read : map (λ t. t.now) templates ≡ map template named =
+    c.loop-one.invariant ∙ ap (map template) (take_all c.loop-one.one-index named c.loop-one-test.false) in
     let are : map (λ t. t.now.parts) templates ≡ parts_of (all_known named) =
     map_through templates (λ t. t.now) (map template named) (λ v. v.parts) read
     ∙ map-map (λ v. v.parts) template named ∙ sym (map-map (λ known. known.template.parts) known_of named) in

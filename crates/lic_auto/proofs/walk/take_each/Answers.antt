@@ -32,23 +32,27 @@ loop-i-preserved c =
     let size : length (set runs n b) ≡ length runs = length-set runs n b in
     let taken : AreChanged (Takes (chars c.args.token.now)) (take (i + 1) old) c.args.runs.now (set runs n b) =
     subst (λ s. AreChanged (Takes (chars c.args.token.now)) s c.args.runs.now (set runs n b)) (sym more)
-    (Changed-more tree_of (λ _. Takes (chars c.args.token.now)) (take i old) n c.args.runs.now runs a b invariant.taken fresh here c.push.ensures.tree c.push.ensures.stands) in
+    (Changed-more tree_of (λ _. Takes (chars c.args.token.now))
+    (take i old) n c.args.runs.now runs a b invariant.taken fresh here c.push.ensures.tree c.push.ensures.stands) in
     elim c.if-not-is_dead.branch [
       | then-not-is_dead w ↦
           let room : kept < length now = omega (arith, invariant.count, inside, c.loop-i.auto) in
-          let front : take c.if-not-is_dead.kept c.if-not-is_dead.numbers ≡ take kept now ++ n ∷ [] = rw (w.numbers-is, w.kept-is) (take_more_set now kept n room) in
+          let front : take c.if-not-is_dead.kept c.if-not-is_dead.numbers ≡ take kept now ++ n ∷ [] =
+          rw (w.numbers-is, w.kept-is) (take_more_set now kept n room) in
           let less : (x : ℕ) → Contains (take kept now) x → x < n =
           λ x h. omega (arith, less_before old _ c.requires i x inside (invariant.kept.within x h), is) in
           record {
             count = omega (arith, w.kept-is, invariant.count);
             rising = subst (λ xs. IsRising xs (length (set runs n b))) (sym front)
-                (IsRising-push (take kept now) (length runs) n (length (set runs n b)) invariant.rising (omega (arith, size)) less (omega (arith, size, within)));
+                (IsRising-push (take kept now) (length runs) n (length (set runs n b)) invariant.rising
+                (omega (arith, size)) less (omega (arith, size, within)));
             rest = λ j h.
                 let apart : j ≢ kept = omega (arith, h, invariant.count) in
                 ap (λ xs. get_or xs j 0) w.numbers-is ∙ get_or-set_other now kept j n 0 apart ∙ invariant.rest j (omega arith);
             taken = taken;
             kept = subst (λ xs. AreKept (take (i + 1) old) xs (set runs n b)) (sym front)
-                (subst (λ s. AreKept s (take kept now ++ n ∷ []) (set runs n b)) (sym more) (Kept-kept IsForGood (take i old) (take kept now) n runs b invariant.kept fresh));
+                (subst (λ s. AreKept s (take kept now ++ n ∷ []) (set runs n b)) (sym more)
+                (Kept-kept IsForGood (take i old) (take kept now) n runs b invariant.kept fresh));
           }
       | else-not-is_dead w ↦
           let dead : c.is_dead.result ≡ true = search rules in
@@ -56,10 +60,13 @@ loop-i-preserved c =
           let good : IsForGood b = λ e ts s. c.is_dead.ensures e ts s dead in
           record {
             count = omega (arith, w.kept-is, invariant.count);
-            rising = subst (λ xs. IsRising xs (length (set runs n b))) (sym same) (IsRising-more (take kept now) (length runs) _ invariant.rising (omega (arith, size)));
+            rising = subst (λ xs. IsRising xs (length (set runs n b))) (sym same)
+                (IsRising-more (take kept now) (length runs) _ invariant.rising (omega (arith, size)));
             rest = λ j h. ap (λ xs. get_or xs j 0) w.numbers-is ∙ invariant.rest j (omega arith);
             taken = taken;
             kept = subst (λ xs. AreKept (take (i + 1) old) xs (set runs n b)) (sym same)
-                (subst (λ s. AreKept s (take kept now) (set runs n b)) (sym more) (Kept-dropped IsForGood (take i old) (take kept now) n runs b invariant.kept fresh within good));
+                (subst (λ s. AreKept s (take kept now) (set runs n b)) (sym more)
+                (Kept-dropped IsForGood (take i old)
+                (take kept now) n runs b invariant.kept fresh within good));
           }
     ]

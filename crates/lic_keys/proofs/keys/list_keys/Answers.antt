@@ -12,7 +12,8 @@ use Rattle.lic_keys.proofs.keys.list_keys.Goals as goal
 
 pub put_down-requires : goal.put_down-requires
 put_down-requires c =
-    λ letters is. c.requires c.loop-number.number letters (plain_at c.args.keys.now c.loop-number.number c.index-keys-number.result c.loop-number-test.true c.index-keys-number.is ∙ ap Some is)
+    λ letters is. c.requires c.loop-number.number letters
+    (plain_at c.args.keys.now c.loop-number.number c.index-keys-number.result c.loop-number-test.true c.index-keys-number.is ∙ ap Some is)
 
 pub loop-number-init : goal.loop-number-init
 loop-number-init c =
@@ -27,7 +28,8 @@ loop-number-preserved c =
     let n = c.loop-number.number in
     let before = c.loop-number.invariant in
     let down : PutsDown (plain_key c.index-keys-number.result) n c.loop-number.table c.put_down.new.table = c.in_ok-put_down.ensures in
-    let here : slice_get (plain_keys c.args.keys.now) n ≡ Some (plain_key c.index-keys-number.result) = plain_at c.args.keys.now n c.index-keys-number.result c.loop-number-test.true c.index-keys-number.is in
+    let here : slice_get (plain_keys c.args.keys.now) n ≡ Some (plain_key c.index-keys-number.result) =
+    plain_at c.args.keys.now n c.index-keys-number.result c.loop-number-test.true c.index-keys-number.is in
     record {
       listed = λ k key less there.
           ⊎_elim

@@ -14,7 +14,8 @@ loop-template-preserved c =
     let before = map (λ text. text.items) c.loop-template.texts.items in
     let more = map_more templates i template (λ t. t.now.parts) c.loop-template-test.true c.template-item.is in
     let texts : map (λ text. text.items) c.push.new.self.items ≡ before ++ letters ∷ [] =
-    ap (map (λ text. text.items)) c.in_ok-push.ensures.items ∙ map-append (λ text. text.items) c.loop-template.texts.items (c.in_ok-longest_letters.field-0 ∷ []) in
+    ap (map (λ text. text.items)) c.in_ok-push.ensures.items
+    ∙ map-append (λ text. text.items) c.loop-template.texts.items (c.in_ok-longest_letters.field-0 ∷ []) in
     let has : MayHaveLetters template.now.parts letters = subst (λ ps. MayHaveLetters ps letters) c.parts.ensures c.in_ok-longest_letters.ensures in
     subst (λ ps. AllZip MayHaveLetters ps (map (λ text. text.items) c.push.new.self.items)) (sym more)
     (subst (AllZip MayHaveLetters (map (λ t. t.now.parts) (take i templates) ++ template.now.parts ∷ [])) (sym texts)

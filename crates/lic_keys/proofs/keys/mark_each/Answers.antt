@@ -14,17 +14,20 @@ use Rattle.lic_keys.proofs.keys.mark_each.Goals.{then-is_key, else-is_key}
 pub offset_bounds-keys-number : goal.offset_bounds-keys-number
 offset_bounds-keys-number c =
     let inside : get_or c.args.numbers.now c.loop-number.number-index 0 < length c.args.keys.now =
-    c.requires.inside (get_or c.args.numbers.now c.loop-number.number-index 0) (Contains-get_or c.args.numbers.now c.loop-number.number-index 0 c.loop-number-test.true) in
+    c.requires.inside (get_or c.args.numbers.now c.loop-number.number-index 0)
+    (Contains-get_or c.args.numbers.now c.loop-number.number-index 0 c.loop-number-test.true) in
     omega arith
 
 pub bounds-keys-number : goal.bounds-keys-number
 bounds-keys-number c =
-    c.requires.inside (get_or c.args.numbers.now c.loop-number.number-index 0) (Contains-get_or c.args.numbers.now c.loop-number.number-index 0 c.loop-number-test.true)
+    c.requires.inside (get_or c.args.numbers.now c.loop-number.number-index 0)
+    (Contains-get_or c.args.numbers.now c.loop-number.number-index 0 c.loop-number-test.true)
 
 pub bounds-flags-number : goal.bounds-flags-number
 bounds-flags-number c =
     let inside : get_or c.args.numbers.now c.loop-number.number-index 0 < length c.args.keys.now =
-    c.requires.inside (get_or c.args.numbers.now c.loop-number.number-index 0) (Contains-get_or c.args.numbers.now c.loop-number.number-index 0 c.loop-number-test.true) in
+    c.requires.inside (get_or c.args.numbers.now c.loop-number.number-index 0)
+    (Contains-get_or c.args.numbers.now c.loop-number.number-index 0 c.loop-number-test.true) in
     omega (arith, c.requires.flags, c.loop-number.auto.flags)
 
 pub loop-number-preserved : goal.loop-number-preserved

@@ -9,7 +9,8 @@ unfolding chars
 returns c =
     let longest = c.longest_text.result.now in
     let all : c.push_letters.new.letters.items ≡ c.new-letters.result.items ++ without_blanks (chars longest) = c.in_ok-push_letters.ensures in
-    let are : c.push_letters.new.letters.items ≡ without_blanks (chars longest) = all ∙ ap (λ x. x ++ without_blanks (chars longest)) c.new-letters.ensures.items in
+    let are : c.push_letters.new.letters.items ≡ without_blanks (chars longest) =
+    all ∙ ap (λ x. x ++ without_blanks (chars longest)) c.new-letters.ensures.items in
     ⊎_elim
     (λ (none : longest ≡ []). inl (are ∙ ap (λ x. without_blanks (chars x)) none))
     (λ (has : HasText c.args.parts.now longest). inr (longest, has, are))

@@ -32,6 +32,7 @@ returns-else-is_passed c = record {
 pub returns-else-reach : goal.returns-else-reach
 returns-else-reach c = record {
   moves = Moves-idle c.args.entry c.args.row.now c.args.at c.args.count c.args.live c.requires.live _ _ c.reach-reach.ensures.from c.reach-reach.ensures.to _ c.if-reach.false;
-  marked = TakesIn-clear _ _ _ _ (clear_idle c.args.entry c.args.row.now c.args.at c.args.count c.args.live c.requires.live _ _ c.reach-reach.ensures.from c.reach-reach.ensures.to c.if-reach.false);
+  marked = TakesIn-clear _ _ _ _
+      (clear_idle c.args.entry c.args.row.now c.args.at c.args.count c.args.live c.requires.live _ _ c.reach-reach.ensures.from c.reach-reach.ensures.to c.if-reach.false);
   len = refl;
 }

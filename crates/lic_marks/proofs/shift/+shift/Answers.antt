@@ -1,4 +1,5 @@
-use Rattle.std.proofs.Common.{◌≡◌, ◌+◌, ◌-◌, ◌<◌, ◌||◌, ◌&&◌, false, map, drop, set, length, refl, ap, ◌∙◌, rules, arith, eq-eqb}
+use Rattle.std.proofs.Common.{◌≡◌, ℕ, ◌+◌, ◌-◌, ◌<◌, ◌≤◌, ◌||◌, ◌&&◌, ◌==◌, not, false, map, drop, set, length, get_or, refl, ap, ◌∙◌, rules, arith, eq-eqb}
+use Rattle.std.proofs.lemmas.Bool.{ne_eqb}
 use Rattle.std.proofs.lemmas.List.{length-set}
 use Rattle.lic_words.specs.Words.{blank}
 use Rattle.lic_marks.specs.Cores.{cat_all, alt_all, copies, up_to, plus}
@@ -8,7 +9,8 @@ use Rattle.lic_marks.specs.declared.node.Times.TheVariants.{Bounded, Unbounded}
 use Rattle.lic_marks.specs.declared.node.Node.{the_lemmas}
 use Rattle.lic_marks.proofs.Nodes.{core_of-One, core_of-Copies, core_of-UpTo, core_of-Cat, core_of-Alt, core_of-Repeat, core_of-Plus, core_of-Tidy, children-Cat, children-Alt, child-Repeat, child-Plus, child-Tidy, nullable-Tidy}
 use Rattle.lic_marks.proofs.LetterWalks.{weight-copies, weight-up_to}
-use Rattle.lic_marks.proofs.RowWalks.{Shifts-empty, Shifts-none, Shifts-one, Shifts-cat, Shifts-alt, Shifts-front, Shifts-plus, Shifts-tidy-clear}
+use Rattle.lic_marks.proofs.RowWalks.{Shifts-empty, Shifts-none, Shifts-one, Shifts-cat, Shifts-alt, Shifts-front, Shifts-plus, Shifts-tidy, Shifts-tidy-clear, Leaves-tidy-after}
+use Rattle.lic_marks.proofs.Leaving.{Leaves-tidy-behind, and_never, never_and}
 use Rattle.lic_marks.proofs.Counted.{weight-copies as weight-copies_of, weight-same, place_behind, copies_more, up_to_more, copies_done, up_to_done}
 use Rattle.lic_marks.proofs.Children.{cores_more, cores_done, measured_at}
 use Rattle.lic_marks.proofs.Answers.{or_none, or_again}
@@ -16,6 +18,7 @@ use Rattle.lic_marks.proofs.Taken.{clear_all, clear_part, TakesIn-clear, TakesIn
 use Rattle.lic_marks.proofs.Untouched.{Shifts-untouched, clear_behind, clear_from, TakesIn-walk}
 use Rattle.lic_marks.proofs.WindowRows.{flags_cleared}
 use Rattle.lic_marks.proofs.shift.+shift.Goals as goal
+use Rattle.lic_marks.proofs.shift.+shift.Goals.{shift_tidy-else-reading-eq32-via-then-reading-eq32+else-reading, shift_tidy-else-reading-eq32-via-else-reading-eq32}
 
 pub shift-returns-then-not-meets : goal.shift-returns-then-not-meets
 shift-returns-then-not-meets t c =
@@ -145,6 +148,13 @@ shift-returns-in-Repeat t c = record {
   len = c.shift_repeat.ensures.len;
 }
 
+pub shift_plus-returns-in-One : goal.shift_plus-returns-in-One
+shift_plus-returns-in-One t c = record {
+  shifts = rw (c.in-One.is, core_of-One) c.shift_letters_of.ensures.shifts;
+  marked = rw (c.in-One.is, core_of-One) c.shift_letters_of.ensures.marked;
+  len = c.shift_letters_of.ensures.len;
+}
+
 pub shift_plus-returns : goal.shift_plus-returns
 shift_plus-returns t c = record {
   shifts = Shifts-plus _ _ _ _ _ _ _ _ _ c.leaves-again.ensures c.shift.ensures.shifts;
@@ -164,10 +174,23 @@ shift_tidy-returns-then-reading t c =
     let next = ap (λ n. c.args.at + n) c.weight.ensures in
     record {
       shifts = rw c.if-reading.true (Shifts-tidy-clear _ _ _ _ _ _ _ _ (eq-eqb c.args.reading.letter blank c.if-reading-eq32.true)
-          (rw c.if-reading.true at c.leaves_tidy-out.ensures) next c.clear.ensures.row);
+          (Leaves-tidy-after _ _ _ _ _ c.requires.empty) next c.clear.ensures.row);
       marked = TakesIn-clear _ _ _ _ (λ k low high.
           flags_cleared _ _ _ _ (omega arith) (omega (arith, next, c.requires.room)) c.clear.ensures.row k low (omega (arith, next, high)));
       len = c.clear.ensures.len;
+    }
+
+pub shift_tidy-returns : goal.shift_tidy-returns
+shift_tidy-returns t c =
+    let apart : ((c.args.reading.letter == blank) && c.args.reading.after) ≡ false = elim c.else-reading-eq32.branch [
+      | shift_tidy-else-reading-eq32-via-then-reading-eq32+else-reading w ↦ and_never _ _ w.if-reading.false
+      | shift_tidy-else-reading-eq32-via-else-reading-eq32 w ↦ never_and _ _ (ne_eqb _ _ w.if-reading-eq32.false)
+    ] in record {
+      shifts = Shifts-tidy _ _ _ _ _ _ _ _ _ apart
+          (Leaves-tidy-behind _ _ _ (not
+          (c.args.reading.letter == blank)) _ _ _ _ c.requires.empty c.shift-behind.ensures.shifts.walk) c.shift-behind.ensures.shifts;
+      marked = c.shift-behind.ensures.marked;
+      len = c.shift-behind.ensures.len;
     }
 
 pub shift_row-shift-flag-requires : goal.shift_row-shift-flag-requires
@@ -188,13 +211,37 @@ pub shift_row-loop-child-preserved : goal.shift_row-loop-child-preserved
 shift_row-loop-child-preserved t c =
     let more = ap cat_all (cores_more c.args.children.now c.loop-child.child-index _ c.loop-child-test.true c.child-item.is) in
     let rest = rw more at c.loop-child.invariant.rest in
-    rw c.weight-place.ensures record {
+    let live = clear_behind _ _ _ _ _ _ _ _ (omega (arith, rest)) c.shift-flag.ensures.shifts _ _ c.loop-child.invariant.live (omega (arith, rest)) in
+    rw c.weight.ensures record {
       begun = omega (arith, c.loop-child.invariant.begun);
       rest = omega (arith, rest);
-      live = clear_behind _ _ _ _ _ _ _ _ (omega (arith, rest)) c.shift-flag.ensures.shifts _ _ c.loop-child.invariant.live (omega (arith, rest));
+      live = live;
       taken = TakesIn-walk _ _ _ _ _ _ _ _ (omega (arith, rest)) c.shift-flag.ensures.shifts _ _ _ _ c.loop-child.invariant.taken c.shift-flag.ensures.marked;
       long = c.shift-flag.ensures.len ∙ c.loop-child.invariant.long;
+      quiet = (rw c.weight.ensures at c.next_marked-next.ensures) _
+          (omega (arith, c.requires.room, c.shift-flag.ensures.len, c.loop-child.invariant.long)) live;
       walk = λ new y q. c.loop-child.invariant.walk new y (rw more (Shifts-cat _ _ _ _ _ _ _ _ _ _ _ (omega (arith, rest)) c.shift-flag.ensures.shifts q));
+    }
+
+pub shift_row-loop-child-preserved-then-end-next : goal.shift_row-loop-child-preserved-then-end-next
+shift_row-loop-child-preserved-then-end-next t c =
+    let more = ap cat_all (cores_more c.args.children.now c.loop-child.child-index _ c.loop-child-test.true c.child-item.is) in
+    let rest = rw more at c.loop-child.invariant.rest in
+    let quiet : (k : ℕ) → c.loop-child.place ≤ k → k < c.loop-child.place + weight (core_of c.child-item.result) → get_or c.loop-child.row k false ≡ false =
+    λ k low high. c.loop-child.invariant.quiet k low (omega (arith, rest, high)) (omega (arith, high, c.if-end-next.true, c.weight.ensures)) in
+    let untouched = Shifts-untouched _ c.args.reading.after c.loop-child.row c.loop-child.place
+    (omega (arith, rest, c.requires.room, c.loop-child.invariant.long)) quiet c.args.reading.letter in
+    rw c.weight.ensures record {
+      begun = omega (arith, c.loop-child.invariant.begun);
+      rest = omega (arith, rest);
+      live = clear_part _ _ _ _ _ _ c.loop-child.invariant.live (omega arith) (omega arith);
+      taken = TakesIn-more _ _ _ _ _ _ c.loop-child.invariant.taken (omega arith) quiet;
+      long = c.loop-child.invariant.long;
+      quiet = λ k low high far. c.loop-child.invariant.quiet k (omega (arith, low)) high far;
+      walk = λ new y q. c.loop-child.invariant.walk new y
+          (rw more (Shifts-cat _ _ _ _ _ _ _ _ _ _ _
+          (omega (arith, rest, c.requires.room, c.loop-child.invariant.long))
+          (rw c.if-not-flag-2.true untouched) q));
     }
 
 pub shift_row-returns : goal.shift_row-returns
@@ -211,7 +258,8 @@ shift_row-returns t c =
 pub shift_row-returns-then-reading-place : goal.shift_row-returns-then-reading-place
 shift_row-returns-then-reading-place t c =
     let clear = clear_from _ _ _ _ c.loop-child.invariant.live c.if-reading-place.true in
-    let untouched = Shifts-untouched (cat_all (map core_of (drop c.loop-child.child-index c.args.children.now))) c.args.reading.after c.loop-child.row c.loop-child.place
+    let untouched = Shifts-untouched
+    (cat_all (map core_of (drop c.loop-child.child-index c.args.children.now))) c.args.reading.after c.loop-child.row c.loop-child.place
     (omega (arith, c.loop-child.invariant.rest)) (λ k low high. clear k low (omega (arith, high, c.loop-child.invariant.rest))) c.args.reading.letter in
     record {
       shifts = c.loop-child.invariant.walk c.loop-child.row false (rw c.if-not-flag.true untouched);
@@ -262,7 +310,8 @@ shift_any-returns t c =
 pub shift_any-returns-then-reading-place : goal.shift_any-returns-then-reading-place
 shift_any-returns-then-reading-place t c =
     let clear = clear_from _ _ _ _ c.loop-child.invariant.live c.if-reading-place.true in
-    let untouched = Shifts-untouched (alt_all (map core_of (drop c.loop-child.child-index c.args.children.now))) c.args.reading.after c.loop-child.row c.loop-child.place
+    let untouched = Shifts-untouched
+    (alt_all (map core_of (drop c.loop-child.child-index c.args.children.now))) c.args.reading.after c.loop-child.row c.loop-child.place
     (omega (arith, c.loop-child.invariant.rest)) (λ k low high. clear k low (omega (arith, high, c.loop-child.invariant.rest))) c.args.reading.letter in
     record {
       shifts = rw (← or_none c.loop-child.found) (c.loop-child.invariant.walk c.loop-child.row false (rw c.if-not-entry.true untouched));
@@ -351,7 +400,8 @@ shift_repeat-shift_copies_of-out-requires t c =
     let next = place_behind (core_of c.args.child.now) c.in-Bounded.needed c.args.at _ c.weight.ensures in
     let same = weight-same (core_of c.args.child.now) c.in-Bounded.more in
     let room = rw c.in-Bounded.is at c.requires.room in
-    let live = clear_behind _ _ _ _ _ _ _ _ (omega (arith, room)) c.shift_copies_of-behind.ensures.all _ _ (rw c.in-Bounded.is at c.requires.live) (omega arith) in (
+    let live = clear_behind _ _ _ _ _ _ _ _ (omega (arith, room)) c.shift_copies_of-behind.ensures.all _ _
+    (rw c.in-Bounded.is at c.requires.live) (omega arith) in (
       search (rules, the_lemmas),
       (
         c.requires.measured,
@@ -368,7 +418,8 @@ shift_repeat-returns-in-Bounded t c =
     let same = weight-same (core_of c.args.child.now) c.in-Bounded.more in
     let room = rw c.in-Bounded.is at c.requires.room in
     let shifts = rw next at c.shift_copies_of-out.ensures.any in
-    let joined = TakesIn-walk _ _ _ _ _ _ _ _ (omega (arith, room, c.shift_copies_of-behind.ensures.len)) shifts _ _ _ _ c.shift_copies_of-behind.ensures.marked (rw (next, same) at c.shift_copies_of-out.ensures.marked) in
+    let joined = TakesIn-walk _ _ _ _ _ _ _ _
+    (omega (arith, room, c.shift_copies_of-behind.ensures.len)) shifts _ _ _ _ c.shift_copies_of-behind.ensures.marked (rw (next, same) at c.shift_copies_of-out.ensures.marked) in
     let end : c.args.at + weight (copies c.in-Bounded.needed (core_of c.args.child.now)) + weight (up_to c.in-Bounded.more (core_of c.args.child.now))
     ≡ c.args.at + weight (so_many (Bounded c.in-Bounded.needed c.in-Bounded.more) (core_of c.args.child.now)) = omega arith in
     record {
@@ -391,7 +442,8 @@ pub shift_repeat-shift_plus-requires : goal.shift_repeat-shift_plus-requires
 shift_repeat-shift_plus-requires t c =
     let next = place_behind (core_of c.args.child.now) c.in-Unbounded.before c.args.at _ c.weight-in-Unbounded.ensures in
     let room = rw c.in-Unbounded.is at c.requires.room in
-    let live = clear_behind _ _ _ _ _ _ _ _ (omega (arith, room)) c.shift_copies_of-behind-in-Unbounded.ensures.all _ _ (rw c.in-Unbounded.is at c.requires.live) (omega arith) in (
+    let live = clear_behind _ _ _ _ _ _ _ _ (omega (arith, room)) c.shift_copies_of-behind-in-Unbounded.ensures.all _ _
+    (rw c.in-Unbounded.is at c.requires.live) (omega arith) in (
       search (rules, the_lemmas),
       (
         c.requires.measured,
@@ -407,7 +459,8 @@ shift_repeat-returns-in-Unbounded t c =
     let next = place_behind (core_of c.args.child.now) c.in-Unbounded.before c.args.at _ c.weight-in-Unbounded.ensures in
     let room = rw c.in-Unbounded.is at c.requires.room in
     let shifts = rw next at c.shift_plus.ensures.shifts in
-    let joined = TakesIn-walk _ _ _ _ _ _ _ _ (omega (arith, room, c.shift_copies_of-behind-in-Unbounded.ensures.len)) shifts _ _ _ _ c.shift_copies_of-behind-in-Unbounded.ensures.marked (rw next at c.shift_plus.ensures.marked) in
+    let joined = TakesIn-walk _ _ _ _ _ _ _ _
+    (omega (arith, room, c.shift_copies_of-behind-in-Unbounded.ensures.len)) shifts _ _ _ _ c.shift_copies_of-behind-in-Unbounded.ensures.marked (rw next at c.shift_plus.ensures.marked) in
     let end : c.args.at + weight (copies c.in-Unbounded.before (core_of c.args.child.now)) + weight (plus (core_of c.args.child.now))
     ≡ c.args.at + weight (so_many (Unbounded c.in-Unbounded.before) (core_of c.args.child.now)) = omega arith in
     record {

@@ -1,4 +1,4 @@
-use Rattle.std.proofs.Common.{◌≡◌, List, ◌+◌, ◌-◌, ◌≤◌, Bool, ◌||◌, map, drop, length}
+use Rattle.std.proofs.Common.{◌≡◌, ℕ, List, ◌+◌, ◌-◌, ◌≤◌, ◌<◌, Bool, false, ◌||◌, map, drop, length, get_or}
 use Rattle.lic_marks.specs.Cores.{cat_all, alt_all, copies, up_to}
 use Rattle.lic_marks.specs.Rows.{weight, Shifts}
 use Rattle.lic_marks.specs.Windows.{IsClearOutside, TakesIn}
@@ -13,7 +13,10 @@ invariant-shift_row-loop-child l = record {
   live : IsClearOutside l.reading.live l.row l.place (l.at + weight (cat_all (map core_of l.children)));
   taken : TakesIn l.initial.marked l.marked l.row l.at l.place;
   long : length l.row ≡ length l.initial.row;
-  walk : (new : List Bool) (y : Bool) → Shifts (cat_all (map core_of (drop l.child-index l.children))) l.reading.after l.flag l.reading.letter l.row l.place new y →
+  quiet : (k : ℕ) → l.place ≤ k → k < l.at + weight (cat_all (map core_of l.children)) → k < l.next → get_or l.row k false ≡ false;
+  walk : (new : List Bool) (y : Bool)
+      → Shifts (cat_all (map core_of
+      (drop l.child-index l.children))) l.reading.after l.flag l.reading.letter l.row l.place new y →
       Shifts (cat_all (map core_of l.children)) l.reading.after l.entry l.reading.letter l.initial.row l.at new y;
 }
 
@@ -24,7 +27,9 @@ invariant-shift_any-loop-child l = record {
   live : IsClearOutside l.reading.live l.row l.place (l.at + weight (alt_all (map core_of l.children)));
   taken : TakesIn l.initial.marked l.marked l.row l.at l.place;
   long : length l.row ≡ length l.initial.row;
-  walk : (new : List Bool) (y : Bool) → Shifts (alt_all (map core_of (drop l.child-index l.children))) l.reading.after l.entry l.reading.letter l.row l.place new y →
+  walk : (new : List Bool) (y : Bool)
+      → Shifts (alt_all (map core_of
+      (drop l.child-index l.children))) l.reading.after l.entry l.reading.letter l.row l.place new y →
       Shifts (alt_all (map core_of l.children)) l.reading.after l.entry l.reading.letter l.initial.row l.at new (l.found || y);
 }
 

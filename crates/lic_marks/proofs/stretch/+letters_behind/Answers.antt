@@ -62,30 +62,41 @@ letters_behind-returns-in-Letters t c =
     let inside : c.args.place < length c.in-Letters.text.items = omega (arith, c.if-place-len.true, c.len.ensures) in
     let s = letters_stretch c.in-Letters.text.items c.args.place inside in
     let next : c.args.place + 1 ≡ suc c.args.place = omega arith in
-    let all : take (length c.in-Letters.text.items - suc c.args.place) (drop (suc c.args.place) c.in-Letters.text.items) ≡ drop (suc c.args.place) c.in-Letters.text.items =
+    let all : take (length c.in-Letters.text.items - suc c.args.place)
+    (drop (suc c.args.place) c.in-Letters.text.items) ≡ drop (suc c.args.place) c.in-Letters.text.items =
     take_all _ _ (omega (arith, length-drop (suc c.args.place) c.in-Letters.text.items)) in
     rw (c.in-Letters.is, core_of-Letters, c.deref.ensures.value, next, all) s
 
 pub behind_in_row-returns-then-at-weight : goal.behind_in_row-returns-then-at-weight
 behind_in_row-returns-then-at-weight t c =
     let more = cores_more c.args.children.now c.loop-child.child-index _ c.loop-child-test.true c.child-item.is in
-    lift_found _ (IsStretch (cat_all (map core_of c.args.children.now)) c.args.place) (λ rest s. c.loop-child.invariant.lifts rest (rw more (IsStretch-left _ _ _ rest s))) _
+    lift_found _ (IsStretch (cat_all (map core_of c.args.children.now)) c.args.place) (λ rest s.
+    c.loop-child.invariant.lifts rest (rw more (IsStretch-left _ _ _ rest s))) _
     c.letters_behind.ensures
 
 pub behind_in_any-returns-then-at-weight : goal.behind_in_any-returns-then-at-weight
 behind_in_any-returns-then-at-weight t c =
     let more = cores_more c.args.children.now c.loop-child.child-index _ c.loop-child-test.true c.child-item.is in
-    lift_found _ (IsStretch (alt_all (map core_of c.args.children.now)) c.args.place) (λ rest s. c.loop-child.invariant.lifts rest (rw more (IsStretch-left_alt _ _ _ rest s))) _
+    lift_found _ (IsStretch (alt_all (map core_of c.args.children.now)) c.args.place) (λ rest s.
+    c.loop-child.invariant.lifts rest (rw more (IsStretch-left_alt _ _ _ rest s))) _
     c.letters_behind.ensures
 
 pub behind_in_row-loop-child-preserved : goal.behind_in_row-loop-child-preserved
 behind_in_row-loop-child-preserved t c =
     let more = cores_more c.args.children.now c.loop-child.child-index _ c.loop-child-test.true c.child-item.is in
-    let size : c.loop-child.at ≡ weight (core_of c.child-item.result) + (c.loop-child.at - c.weight-weight.result) = omega (arith, c.weight-weight.ensures, c.if-at-weight.false) in
-    record { lifts = λ rest s. c.loop-child.invariant.lifts rest (rw more (IsStretch-right _ _ c.loop-child.at (c.loop-child.at - c.weight-weight.result) rest size s)) }
+    let size : c.loop-child.at ≡ weight (core_of c.child-item.result) + (c.loop-child.at - c.weight-weight.result) =
+    omega (arith, c.weight-weight.ensures, c.if-at-weight.false) in
+    record {
+      lifts = λ rest s. c.loop-child.invariant.lifts rest
+          (rw more (IsStretch-right _ _ c.loop-child.at (c.loop-child.at - c.weight-weight.result) rest size s));
+    }
 
 pub behind_in_any-loop-child-preserved : goal.behind_in_any-loop-child-preserved
 behind_in_any-loop-child-preserved t c =
     let more = cores_more c.args.children.now c.loop-child.child-index _ c.loop-child-test.true c.child-item.is in
-    let size : c.loop-child.at ≡ weight (core_of c.child-item.result) + (c.loop-child.at - c.weight-weight.result) = omega (arith, c.weight-weight.ensures, c.if-at-weight.false) in
-    record { lifts = λ rest s. c.loop-child.invariant.lifts rest (rw more (IsStretch-right_alt _ _ c.loop-child.at (c.loop-child.at - c.weight-weight.result) rest size s)) }
+    let size : c.loop-child.at ≡ weight (core_of c.child-item.result) + (c.loop-child.at - c.weight-weight.result) =
+    omega (arith, c.weight-weight.ensures, c.if-at-weight.false) in
+    record {
+      lifts = λ rest s. c.loop-child.invariant.lifts rest
+          (rw more (IsStretch-right_alt _ _ c.loop-child.at (c.loop-child.at - c.weight-weight.result) rest size s));
+    }

@@ -178,7 +178,8 @@ leaves_any-returns-then-live-place t c =
     rw (← or_none c.loop-child.found) (c.loop-child.invariant.walk false
     (rw c.if-not-entry.true (Leaves-clear _ c.args.after c.args.row.now c.loop-child.place
     (omega (arith, c.loop-child.invariant.rest, c.requires.room)) (λ k low high.
-    c.requires.live.behind k (omega (arith, c.loop-child.invariant.begun)) (omega (arith, c.loop-child.invariant.rest)) (omega (arith, c.if-live-place.true))))))
+    c.requires.live.behind k (omega (arith, c.loop-child.invariant.begun)) (omega (arith, c.loop-child.invariant.rest))
+    (omega (arith, c.if-live-place.true))))))
 
 pub leaves-leaves_repeat-requires : goal.leaves-leaves_repeat-requires
 leaves-leaves_repeat-requires t c = (
@@ -232,8 +233,12 @@ leaves_copies_of-loop-preserved t c =
 pub leaves_copies_of-returns : goal.leaves_copies_of-returns
 leaves_copies_of-returns t c =
     record {
-      all = c.loop.invariant.walk c.loop.flag (rw (copies_done (core_of c.args.child.now) c.args.count c.loop.counter c.loop-test.false) (Leaves-empty _ _ _ _));
-      any = c.loop.invariant.front c.loop.flag (rw (up_to_done (core_of c.args.child.now) c.args.count c.loop.counter c.loop-test.false) (Leaves-empty _ _ _ _));
+      all = c.loop.invariant.walk c.loop.flag
+          (rw (copies_done (core_of c.args.child.now) c.args.count c.loop.counter c.loop-test.false)
+          (Leaves-empty _ _ _ _));
+      any = c.loop.invariant.front c.loop.flag
+          (rw (up_to_done (core_of c.args.child.now) c.args.count c.loop.counter c.loop-test.false)
+          (Leaves-empty _ _ _ _));
     }
 
 pub leaves_copies_of-returns-then-live-place : goal.leaves_copies_of-returns-then-live-place
@@ -247,7 +252,8 @@ leaves_copies_of-returns-then-live-place t c =
       any = rw (← or_none c.loop.found) (c.loop.invariant.front false
           (rw c.if-not-flag.true (Leaves-clear (up_to (c.args.count - c.loop.counter) (core_of c.args.child.now)) c.args.after c.args.row.now c.loop.place
           (omega (arith, c.loop.invariant.rest, c.requires.room, same)) (λ k low high.
-          c.requires.live.behind k (omega (arith, c.loop.invariant.begun)) (omega (arith, c.loop.invariant.rest, same, high)) (omega (arith, c.if-live-place.true))))));
+          c.requires.live.behind k (omega (arith, c.loop.invariant.begun))
+          (omega (arith, c.loop.invariant.rest, same, high)) (omega (arith, c.if-live-place.true))))));
     }
 
 pub leaves_repeat-overflow_mul-place : goal.leaves_repeat-overflow_mul-place

@@ -27,5 +27,7 @@ returns-clause-inside c = λ b low high.
     c.clear_from.auto.row ∙ length-between c.args.row.now first (last + 1) (omega (arith, c.requires.room)) in
     c.put_back.ensures.inside b low high
     ∙ has_mid c.args.row.now first last (omega (arith, c.requires.order)) c.requires.room c.clear_from.new.row len b (omega (arith, low)) (omega (arith, high))
-    ∙ c.clear_from.ensures (b - first * 64) ∙ ap (λ t. has (slice_range c.args.row.now first (last + 1)) (b - first * 64) && t) (le-ltb (b - first * 64) 0 (omega arith))
+    ∙ c.clear_from.ensures (b - first * 64)
+    ∙ ap (λ t. has (slice_range c.args.row.now first (last + 1)) (b - first * 64) && t)
+    (le-ltb (b - first * 64) 0 (omega arith))
     ∙ and-false (has (slice_range c.args.row.now first (last + 1)) (b - first * 64))

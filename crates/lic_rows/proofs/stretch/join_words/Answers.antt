@@ -24,5 +24,9 @@ returns-clause-inside c = λ b low high.
     c.put_back.ensures.inside b low high
     ∙ has_mid c.args.row.now first last (omega (arith, c.requires.order)) c.requires.room c.or_into.new.into len b (omega (arith, low)) (omega (arith, high))
     ∙ c.or_into.ensures (b - first * 64)
-    ∙ ap (λ x. x || has (slice_range c.args.other.now first (last + 1)) (b - first * 64)) (has_part c.args.row.now first last (omega (arith, c.requires.order)) c.requires.room b (omega (arith, low)) (omega (arith, high)))
-    ∙ ap (λ x. has c.args.row.now b || x) (has_part c.args.other.now first last (omega (arith, c.requires.order)) c.requires.other_room b (omega (arith, low)) (omega (arith, high)))
+    ∙ ap (λ x. x || has (slice_range c.args.other.now first (last + 1)) (b - first * 64))
+    (has_part c.args.row.now first last (omega (arith, c.requires.order)) c.requires.room b (omega (arith, low))
+    (omega (arith, high)))
+    ∙ ap (λ x. has c.args.row.now b || x)
+    (has_part c.args.other.now first last (omega (arith, c.requires.order)) c.requires.other_room b
+    (omega (arith, low)) (omega (arith, high)))

@@ -16,7 +16,17 @@ invariant_of-result-clause-quiet c =
     subst (λ xs. AreQuietBut (take count xs) seekers) (sym marked)
     (subst (λ xs. AreQuietBut xs seekers) (sym all)
     (AreQuietBut-all places seekers
-    (λ k h. c.name_all.ensures.all k (omega (arith, h, c.in_ok-seekers.ensures.count, c.in_ok-seekers.seekers.ok, c.len-count.ensures, c.name_all.auto, c.deref_mut.ensures.len, c.in_ok-marked.ensures.len)))))
+    (λ k h. c.name_all.ensures.all k
+    (omega (
+      arith,
+      h,
+      c.in_ok-seekers.ensures.count,
+      c.in_ok-seekers.seekers.ok,
+      c.len-count.ensures,
+      c.name_all.auto,
+      c.deref_mut.ensures.len,
+      c.in_ok-marked.ensures.len,
+    )))))
 
 pub invariant_of-result-clause-marked_rising : goal.invariant_of-result-clause-marked_rising
 invariant_of-result-clause-marked_rising c =

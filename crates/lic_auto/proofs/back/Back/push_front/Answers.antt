@@ -60,7 +60,8 @@ gather_live-self-requires c =
     record {
       count = seekers;
       rising = subst (IsRising (take c.take_turned-self.result c.deref-3.result.now)) (size ∙ sym seekers)
-          (subst (λ xs. IsRising (take c.take_turned-self.result xs) (length c.take_turned-self.new.seekers)) (sym (c.deref-3.ensures.value ∙ marked)) c.take_turned-self.ensures.rising);
+          (subst (λ xs. IsRising (take c.take_turned-self.result xs) (length c.take_turned-self.new.seekers))
+          (sym (c.deref-3.ensures.value ∙ marked)) c.take_turned-self.ensures.rising);
       room = omega (arith, c.deref_mut-4.ensures.len, self.live_room);
     }
 
@@ -71,7 +72,9 @@ invariant_of-self c =
     let kept = c.take_turned-self.new.kept in
     let count = c.take_turned-self.result in
     let places = take c.join_rising-count.result c.deref-2.result.now in
-    let turns = c.deref-2.ensures.value ∙ with_items_is self.turns c.join_rising-count.new.joined (omega (arith, c.join_rising-count.ensures.room, c.deref_mut.ensures.len)) in
+    let turns = c.deref-2.ensures.value
+    ∙ with_items_is self.turns c.join_rising-count.new.joined
+    (omega (arith, c.join_rising-count.ensures.room, c.deref_mut.ensures.len)) in
     let items = with_items_is self.seekers c.take_turned-self.new.seekers (omega (arith, c.take_turned-self.auto, c.deref_mut-2.ensures.len)) in
     let marked = with_items_is self.marked kept (omega (arith, c.take_turned-self.ensures.room, c.deref_mut-3.ensures.len)) in
     let live = with_items_is self.live c.gather_live-self.new.live (omega (arith, c.gather_live-self.ensures.room, c.deref_mut-4.ensures.len)) in
@@ -80,7 +83,9 @@ invariant_of-self c =
     subst (λ xs. AreQuietBut (take self.marked_count xs) c.deref_mut-2.result.now) (sym c.deref.ensures.value)
     (subst (AreQuietBut (take self.marked_count self.marked.items)) (sym c.deref_mut-2.ensures.value) self.quiet) in
     let both : (k : ℕ) → Contains places k ↔ (Contains (take self.marked_count c.deref.result.now) k ⊎ Contains c.entered_by-entered.result.now k) =
-    λ k. subst (λ xs. Contains (take c.join_rising-count.result xs) k ↔ (Contains (take self.marked_count c.deref.result.now) k ⊎ Contains c.entered_by-entered.result.now k)) (sym turns)
+    λ k. subst (λ xs. Contains (take c.join_rising-count.result xs) k
+    ↔ (Contains (take self.marked_count c.deref.result.now) k ⊎ Contains c.entered_by-entered.result.now k))
+    (sym turns)
     (c.join_rising-count.ensures.both k) in
     let size : length c.take_turned-self.new.seekers ≡ length set = omega (arith, c.take_turned-self.auto, c.deref_mut-2.ensures.len, self.count) in
     record {
@@ -89,9 +94,12 @@ invariant_of-self c =
       mirrors = subst (HaveMirrors set) (sym items) (HaveMirrors-changed set _ _ _ places c.take_turned-self.ensures.taken before);
       marked_room = self.marked_room;
       marked_within = omega (arith, c.take_turned-self.ensures.count, c.take_turned-self.ensures.room, c.deref_mut-3.ensures.len);
-      marked_rising = subst (λ xs. IsRising (take count xs) (length set)) (sym marked) (subst (IsRising (take count kept)) size c.take_turned-self.ensures.rising);
-      quiet = subst (λ xs. AreQuietBut (take count xs) (with_items self.seekers c.take_turned-self.new.seekers).items) (sym marked) (subst (AreQuietBut (take count kept)) (sym items)
-          (AreQuietBut-kept set _ _ (take self.marked_count c.deref.result.now) c.entered_by-entered.result.now places (chars c.args.text.now) quiet c.take_turned-self.ensures.taken both
+      marked_rising = subst (λ xs. IsRising (take count xs) (length set)) (sym marked)
+          (subst (IsRising (take count kept)) size c.take_turned-self.ensures.rising);
+      quiet = subst (λ xs. AreQuietBut (take count xs) (with_items self.seekers c.take_turned-self.new.seekers).items)
+          (sym marked) (subst (AreQuietBut (take count kept)) (sym items)
+          (AreQuietBut-kept set _ _ (take self.marked_count c.deref.result.now) c.entered_by-entered.result.now places
+          (chars c.args.text.now) quiet c.take_turned-self.ensures.taken both
           (take count kept) c.take_turned-self.ensures.kept));
       turns_room = self.turns_room;
       live_room = self.live_room;
@@ -111,7 +119,9 @@ returns-clause-stands c = λ ts s.
     let entered = c.entered_by-entered.result.now in
     let places = take c.join_rising-count.result c.deref-2.result.now in
     let before_marked = take self.marked_count c.deref.result.now in
-    let turns = c.deref-2.ensures.value ∙ with_items_is self.turns c.join_rising-count.new.joined (omega (arith, c.join_rising-count.ensures.room, c.deref_mut.ensures.len)) in
+    let turns = c.deref-2.ensures.value
+    ∙ with_items_is self.turns c.join_rising-count.new.joined
+    (omega (arith, c.join_rising-count.ensures.room, c.deref_mut.ensures.len)) in
     let items = with_items_is self.seekers c.take_turned-self.new.seekers (omega (arith, c.take_turned-self.auto, c.deref_mut-2.ensures.len)) in
     let marked = with_items_is self.marked kept (omega (arith, c.take_turned-self.ensures.room, c.deref_mut-3.ensures.len)) in
     let live = with_items_is self.live c.gather_live-self.new.live (omega (arith, c.gather_live-self.ensures.room, c.deref_mut-4.ensures.len)) in
@@ -120,19 +130,22 @@ returns-clause-stands c = λ ts s.
     subst (λ xs. AreQuietBut (take self.marked_count xs) c.deref_mut-2.result.now) (sym c.deref.ensures.value)
     (subst (AreQuietBut (take self.marked_count self.marked.items)) (sym c.deref_mut-2.ensures.value) self.quiet) in
     let both : (k : ℕ) → Contains places k ↔ (Contains before_marked k ⊎ Contains entered k) =
-    λ k. subst (λ xs. Contains (take c.join_rising-count.result xs) k ↔ (Contains before_marked k ⊎ Contains entered k)) (sym turns) (c.join_rising-count.ensures.both k) in
+    λ k. subst (λ xs. Contains (take c.join_rising-count.result xs) k
+    ↔ (Contains before_marked k ⊎ Contains entered k)) (sym turns) (c.join_rising-count.ensures.both k) in
     let rest : (k : ℕ) (one : Known) → slice_get set k ≡ Some one → (Contains entered k → ⊥) → NoneBegins (mirrored (words_of one)) (reverse token) =
     λ k one is out more described.
     c.entered_by-entered.ensures.rest k one is out more
     (subst (λ d. IsDescribed (read d (words_of one)) (ordered d token ∷ more)) (sym self.backward) described) in
     let taken : AllSeek set c.take_turned-self.new.seekers (turned ts ++ reverse token ∷ []) =
     AllSeek-taken set _ _ before_marked entered places token quiet c.take_turned-self.ensures.taken both (turned ts) rest before in
-    let after : AllSeek set c.take_turned-self.new.seekers (turned (token ∷ ts)) = subst (AllSeek set c.take_turned-self.new.seekers) (sym (turned-cons token ts)) taken in
+    let after : AllSeek set c.take_turned-self.new.seekers (turned (token ∷ ts)) =
+    subst (AllSeek set c.take_turned-self.new.seekers) (sym (turned-cons token ts)) taken in
     let calm : AreQuietBut (take count kept) c.take_turned-self.new.seekers =
     AreQuietBut-kept set _ _ before_marked entered places token quiet c.take_turned-self.ensures.taken both (take count kept) c.take_turned-self.ensures.kept in
     let size : length set ≡ length numbers = length-picked known numbers self.chosen.rising.below in
     let seekers : length c.take_turned-self.new.seekers ≡ length set = omega (arith, c.take_turned-self.auto, c.deref_mut-2.ensures.len, self.count) in
-    let seen : AllSeek set c.deref-4.result.now (turned (token ∷ ts)) = subst (λ xs. AllSeek set xs (turned (token ∷ ts))) (sym (c.deref-4.ensures.value ∙ items)) after in
+    let seen : AllSeek set c.deref-4.result.now (turned (token ∷ ts)) =
+    subst (λ xs. AllSeek set xs (turned (token ∷ ts))) (sym (c.deref-4.ensures.value ∙ items)) after in
     let at : take count c.deref-3.result.now ≡ take count kept = ap (take count) (c.deref-3.ensures.value ∙ marked) in
     let up : IsRising (take count kept) (length numbers) = subst (IsRising (take count kept)) (seekers ∙ size) c.take_turned-self.ensures.rising in
     let found = λ (k : ℕ). c.gather_live-self.ensures.exactly (turned (token ∷ ts)) seen k in

@@ -14,8 +14,18 @@ pub begin_anew-requires : goal.begin_anew-requires
 begin_anew-requires c =
     let self = c.args.self.now in
     let places = c.name_all.new.places in
-    let marked : c.deref.result.now ≡ places = c.deref.ensures.value ∙ with_items_is self.marked places (omega (arith, c.name_all.auto, c.deref_mut.ensures.len)) in
-    let size : length places ≡ length c.deref_mut-2.result.now = omega (arith, c.name_all.auto, c.deref_mut.ensures.len, c.deref_mut-2.ensures.len, self.marked_room, self.count) in
+    let marked : c.deref.result.now ≡ places =
+    c.deref.ensures.value ∙ with_items_is self.marked places
+    (omega (arith, c.name_all.auto, c.deref_mut.ensures.len)) in
+    let size : length places ≡ length c.deref_mut-2.result.now =
+    omega (
+      arith,
+      c.name_all.auto,
+      c.deref_mut.ensures.len,
+      c.deref_mut-2.ensures.len,
+      self.marked_room,
+      self.count,
+    ) in
     subst (λ xs. IsRising xs (length c.deref_mut-2.result.now)) (sym marked) (subst (IsRising places) size c.name_all.ensures.rising)
 
 pub invariant_of-self : goal.invariant_of-self
@@ -27,7 +37,9 @@ invariant_of-self c =
     let items = with_items_is self.seekers c.begin_anew.new.seekers (omega (arith, c.begin_anew.auto, c.deref_mut-2.ensures.len)) in
     let before : HaveMirrors set c.deref_mut-2.result.now = subst (HaveMirrors set) (sym c.deref_mut-2.ensures.value) self.mirrors in
     let size : length places ≡ length set = omega (arith, c.name_all.auto, c.deref_mut.ensures.len, self.marked_room) in
-    let all : take c.len-self.result places ≡ places = take_all c.len-self.result places (omega (arith, c.len-self.ensures, c.name_all.auto, c.deref_mut.ensures.len)) in
+    let all : take c.len-self.result places ≡ places =
+    take_all c.len-self.result places
+    (omega (arith, c.len-self.ensures, c.name_all.auto, c.deref_mut.ensures.len)) in
     let seekers : length c.begin_anew.new.seekers ≡ length set = omega (arith, c.begin_anew.auto, c.deref_mut-2.ensures.len, self.count) in
     record {
       backward = self.backward;
@@ -54,8 +66,18 @@ returns-clause-stands c =
     let places = c.name_all.new.places in
     let items = with_items_is self.seekers c.begin_anew.new.seekers (omega (arith, c.begin_anew.auto, c.deref_mut-2.ensures.len)) in
     let before : HaveMirrors set c.deref_mut-2.result.now = subst (HaveMirrors set) (sym c.deref_mut-2.ensures.value) self.mirrors in
-    let marked : c.deref.result.now ≡ places = c.deref.ensures.value ∙ with_items_is self.marked places (omega (arith, c.name_all.auto, c.deref_mut.ensures.len)) in
-    let size : length places ≡ length c.deref_mut-2.result.now = omega (arith, c.name_all.auto, c.deref_mut.ensures.len, c.deref_mut-2.ensures.len, self.marked_room, self.count) in
+    let marked : c.deref.result.now ≡ places =
+    c.deref.ensures.value ∙ with_items_is self.marked places
+    (omega (arith, c.name_all.auto, c.deref_mut.ensures.len)) in
+    let size : length places ≡ length c.deref_mut-2.result.now =
+    omega (
+      arith,
+      c.name_all.auto,
+      c.deref_mut.ensures.len,
+      c.deref_mut-2.ensures.len,
+      self.marked_room,
+      self.count,
+    ) in
     let all : (k : ℕ) → k < length c.deref_mut-2.result.now → Contains c.deref.result.now k =
     λ k h. subst (λ xs. Contains xs k) (sym marked) (c.name_all.ensures.all k (omega (arith, h, size))) in
     record {

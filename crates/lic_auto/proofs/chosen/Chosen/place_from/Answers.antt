@@ -13,7 +13,8 @@ returns-then-number-from-clause-some c = λ i inside.
       λ late.
           ⊎_elim
           (λ (later : place < i). omega (arith, rises numbers (length self.set.now) self.rising place i later inside, value, c.if-number-from.true))
-          (λ (here : i ≤ place). let same : i ≡ place = omega arith in let value' = ap (λ x. get_or numbers x 0) same in omega (arith, value, value', c.if-number-from.true))
+          (λ (here : i ≤ place). let same : i ≡ place = omega arith in let value' =
+          ap (λ x. get_or numbers x 0) same in omega (arith, value, value', c.if-number-from.true))
           (cases_lt place i),
       λ great.
           ⊎_elim

@@ -19,11 +19,13 @@ loop-head-preserved c =
     let text = c.in_ok-turned_text.field-0 in
     let same : heads ≡ all = c.deref-head-items.ensures.value in
     let made : string_bytes text ≡ turned_text (string_bytes c.head-item.result) = c.in_ok-turned_text.ensures ∙ ap turned_text c.as_str.ensures.value in
-    let more : map turned_text (map string_bytes (take (i + 1) heads)) ≡ map turned_text (map string_bytes (take i heads)) ++ turned_text (string_bytes c.head-item.result) ∷ [] =
+    let more : map turned_text (map string_bytes (take (i + 1) heads))
+    ≡ map turned_text (map string_bytes (take i heads)) ++ turned_text (string_bytes c.head-item.result) ∷ [] =
     more_of turned_text string_bytes heads i c.head-item.result c.loop-head-test.true c.head-item.is in
     ap (map string_bytes) c.in_ok-push.ensures.items ∙ map-append string_bytes c.loop-head.heads.items (text ∷ [])
     ∙ ap (λ xs. xs ++ string_bytes text ∷ []) (c.loop-head.invariant ∙ ap (λ xs. map turned_text (map string_bytes (take i xs))) (sym same))
-    ∙ ap (λ t. map turned_text (map string_bytes (take i heads)) ++ t ∷ []) made ∙ sym more ∙ ap (λ xs. map turned_text (map string_bytes (take (i + 1) xs))) same
+    ∙ ap (λ t. map turned_text (map string_bytes (take i heads)) ++ t ∷ []) made ∙ sym more
+    ∙ ap (λ xs. map turned_text (map string_bytes (take (i + 1) xs))) same
 
 pub returns : goal.returns
 returns c = λ text utf8 first.
@@ -34,11 +36,13 @@ returns c = λ text utf8 first.
     ∙ ap (λ xs. map turned_text (map string_bytes xs)) (take_all c.loop-head.head-index c.deref-head-items.result.now c.loop-head-test.false ∙ size) in
     ⊎_elim
     (λ (any : IsTrue c.args.self.any). inl any)
-    (λ (other : Contains (map string_bytes all) (turned_text text) ⊎ Contains (map string_bytes c.args.self.letters.items) (letter_of Forward (turned_text text))).
+    (λ (other : Contains (map string_bytes all) (turned_text text)
+    ⊎ Contains (map string_bytes c.args.self.letters.items) (letter_of Forward (turned_text text))).
     ⊎_elim
     (λ (there : Contains (map string_bytes all) (turned_text text)).
     inr (inl (subst (λ xs. Contains xs text) (sym whole)
-    (subst (Contains (map turned_text (map string_bytes all))) (turned-turned text utf8) (contains-map turned_text (map string_bytes all) (turned_text text) there)))))
+    (subst (Contains (map turned_text (map string_bytes all))) (turned-turned text utf8)
+    (contains-map turned_text (map string_bytes all) (turned_text text) there)))))
     (λ (letter : Contains (map string_bytes c.args.self.letters.items) (letter_of Forward (turned_text text))).
     inr (inr (subst (Contains (map string_bytes c.args.self.letters.items)) (ap (λ cs. encodes (take 1 cs)) (chars-turned text utf8)) letter)))
     other)

@@ -11,11 +11,13 @@ use Rattle.lic_auto.proofs.index.Index.add.Goals as goal
 
 pub returns-then-firsts : goal.returns-then-firsts
 returns-then-firsts c =
-    IfOk-weaker _ _ _ (λ done adds. Adds-fewer (λ _. Unit {0}) (IsFirst c.args.self.now.direction c.args.firsts.now) c.args.number c.args.self.now c.add_to_all.new.self adds (λ d h. tt)) c.add_to_all.ensures
+    IfOk-weaker _ _ _ (λ done adds.
+    Adds-fewer (λ _. Unit {0}) (IsFirst c.args.self.now.direction c.args.firsts.now) c.args.number c.args.self.now c.add_to_all.new.self adds (λ d h. tt)) c.add_to_all.ensures
 
 pub returns-then-saturating_add-room : goal.returns-then-saturating_add-room
 returns-then-saturating_add-room c =
-    IfOk-weaker _ _ _ (λ done adds. Adds-fewer (λ _. Unit {0}) (IsFirst c.args.self.now.direction c.args.firsts.now) c.args.number c.args.self.now c.add_to_all-then-saturating_add-room.new.self adds (λ d h. tt)) c.add_to_all-then-saturating_add-room.ensures
+    IfOk-weaker _ _ _ (λ done adds.
+    Adds-fewer (λ _. Unit {0}) (IsFirst c.args.self.now.direction c.args.firsts.now) c.args.number c.args.self.now c.add_to_all-then-saturating_add-room.new.self adds (λ d h. tt)) c.add_to_all-then-saturating_add-room.ensures
 
 pub returns : goal.returns
 returns c =
@@ -27,12 +29,14 @@ returns c =
     let heads : map string_bytes c.deref.result.now ≡ map string_bytes firsts.heads.items = ap (map string_bytes) c.deref.ensures.value in
     let letters : map string_bytes c.deref-2.result.now ≡ map string_bytes firsts.letters.items = ap (map string_bytes) c.deref-2.ensures.value in
     IfOk-weaker _ _ _
-    (λ done adds. Adds-then (Contains (map string_bytes c.deref.result.now)) (λ q. Contains (map string_bytes c.deref-2.result.now) (letter_of mid.direction q)) (IsFirst d firsts)
+    (λ done adds. Adds-then (Contains (map string_bytes c.deref.result.now)) (λ q.
+    Contains (map string_bytes c.deref-2.result.now) (letter_of mid.direction q)) (IsFirst d firsts)
     c.args.number old mid c.add_to_letters.new.self each adds
     (λ q h. ⊎_elim (λ (any : IsTrue firsts.any). absurd (false≢true (sym c.if-firsts.false ∙ any)))
     (λ (other : Contains (map string_bytes firsts.heads.items) q ⊎ Contains (map string_bytes firsts.letters.items) (letter_of d q)).
     ⊎_elim (λ (there : Contains (map string_bytes firsts.heads.items) q). inl (subst (λ xs. Contains xs q) (sym heads) there))
     (λ (there : Contains (map string_bytes firsts.letters.items) (letter_of d q)).
-    inr (subst (λ e. Contains (map string_bytes c.deref-2.result.now) (letter_of e q)) (sym each.reads) (subst (λ xs. Contains xs (letter_of d q)) (sym letters) there)))
+    inr (subst (λ e. Contains (map string_bytes c.deref-2.result.now) (letter_of e q)) (sym each.reads)
+    (subst (λ xs. Contains xs (letter_of d q)) (sym letters) there)))
     other) h))
     c.add_to_letters.ensures

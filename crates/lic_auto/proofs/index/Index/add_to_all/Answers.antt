@@ -11,7 +11,9 @@ returns c =
     let number = c.args.number in
     let same : c.deref_mut.result.now ≡ old.lists.items = c.deref_mut.ensures.value in
     let is = with_items_is old.lists c.push_to_each.new.lists (omega (arith, c.push_to_each.auto, c.deref_mut.ensures.len)) in
-    let each : (k : ℕ) → k < length old.lists.items → Grows number (get_or (items_of old.lists.items) k []) (get_or (items_of (with_items old.lists c.push_to_each.new.lists).items) k []) =
+    let each : (k : ℕ) → k < length old.lists.items
+    → Grows number (get_or (items_of old.lists.items) k [])
+    (get_or (items_of (with_items old.lists c.push_to_each.new.lists).items) k []) =
     λ k h. subst (λ xs. Grows number (get_or (items_of old.lists.items) k []) (get_or (items_of xs) k [])) (sym is)
     (subst (λ xs. Grows number (get_or (items_of xs) k []) (get_or (items_of c.push_to_each.new.lists) k [])) same
     (c.in_ok-push_to_each.ensures k (omega (arith, ap length same, h)))) in

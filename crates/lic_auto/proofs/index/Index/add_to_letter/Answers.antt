@@ -17,12 +17,16 @@ returns c =
     let inside : (k : ℕ) → k < length mid.lists.items → k < length c.deref_mut.result.now = λ k h. omega (arith, ap length same, h) in
     IfOk-weaker _ _ _
     (λ done. λ (each : (k : ℕ) → k < length c.deref_mut.result.now →
-    GrowsIf (get_or (map string_bytes c.deref.result.now) k [] ≡ letter) number (get_or (items_of c.deref_mut.result.now) k []) (get_or (items_of c.push_where.new.lists) k [])).
+    GrowsIf (get_or (map string_bytes c.deref.result.now) k [] ≡ letter) number
+    (get_or (items_of c.deref_mut.result.now) k []) (get_or (items_of c.push_where.new.lists) k [])).
     Adds-letter number letter c.in_ok-place_of.field-0 c.args.self.now mid _ c.utf8.letter c.in_ok-place_of.ensures.kept c.in_ok-place_of.ensures.placed
     (λ d. refl) c.place_of.ensures.direction refl
-    (λ k h. subst (λ xs. GrowsIf (get_or (map string_bytes mid.letters.items) k [] ≡ letter) number (get_or (items_of mid.lists.items) k []) (get_or (items_of xs) k [])) (sym is)
-    (subst (λ xs. GrowsIf (get_or (map string_bytes mid.letters.items) k [] ≡ letter) number (get_or (items_of xs) k []) (get_or (items_of c.push_where.new.lists) k [])) same
-    (subst (λ xs. GrowsIf (get_or (map string_bytes xs) k [] ≡ letter) number (get_or (items_of c.deref_mut.result.now) k []) (get_or (items_of c.push_where.new.lists) k [])) letters
+    (λ k h. subst (λ xs. GrowsIf (get_or (map string_bytes mid.letters.items) k [] ≡ letter) number
+    (get_or (items_of mid.lists.items) k []) (get_or (items_of xs) k [])) (sym is)
+    (subst (λ xs. GrowsIf (get_or (map string_bytes mid.letters.items) k [] ≡ letter) number
+    (get_or (items_of xs) k []) (get_or (items_of c.push_where.new.lists) k [])) same
+    (subst (λ xs. GrowsIf (get_or (map string_bytes xs) k [] ≡ letter) number
+    (get_or (items_of c.deref_mut.result.now) k []) (get_or (items_of c.push_where.new.lists) k [])) letters
     (each k (inside k h)))))
     refl)
     c.push_where.ensures

@@ -20,7 +20,8 @@ loop-letter-preserved c =
     ∙ map-append string_bytes (take i letters) (x ∷ []) in
     let this : c.as_str.result.now ≡ string_bytes x = c.as_str.ensures.value in
     let reads : now ≡ d = c.loop-letter.invariant.reads in
-    Adds-then (λ q. Contains before (letter_of d q)) (λ q. letter_of now q ≡ c.as_str.result.now) (λ q. Contains (map string_bytes (take (i + 1) letters)) (letter_of d q))
+    Adds-then (λ q. Contains before (letter_of d q)) (λ q. letter_of now q
+    ≡ c.as_str.result.now) (λ q. Contains (map string_bytes (take (i + 1) letters)) (letter_of d q))
     c.args.number c.args.self.now c.loop-letter.self c.add_to_letter.new.self c.loop-letter.invariant c.in_ok-add_to_letter.ensures
     (λ q h.
     ⊎_elim (λ (there : Contains before (letter_of d q)). inl there)

@@ -5,4 +5,6 @@ use Rattle.lic_auto.specs.Indexes.{Adds}
 use Rattle.lic_auto.proofs.index.Index.add_to_letters.Given as goal
 
 abbrev pub invariant-loop-letter : goal.invariant-loop-letter
-invariant-loop-letter l = Adds (λ q. Contains (map string_bytes (take l.letter-index l.letters)) (letter_of l.initial.self.direction q)) l.number l.initial.self l.self
+invariant-loop-letter l = Adds (λ q.
+    Contains (map string_bytes (take l.letter-index l.letters))
+    (letter_of l.initial.self.direction q)) l.number l.initial.self l.self

@@ -38,11 +38,14 @@ invariant_of-self-2 c =
     let within : (q : List ℕ) (p : ℕ) → get_by_text old.places q ≡ Some p → p < n = λ q p h. omega (arith, old.in_range q p h, old.lists.ok) in
     let kept : (k : ℕ) → k < n → get_or more k [] ≡ get_or letters k [] = λ k h. c.put_at.ensures.kept k (omega (arith, h, place_is)) in
     let put : get_or more n [] ≡ letter_of d head =
-    ap (λ k. get_or more k []) (sym place_is) ∙ c.in_ok-put_at.ensures.put ∙ c.in_ok-letter.ensures.ok ∙ c.read_letter.ensures ∙ ap (letter_of d) (sym c.in_ok-key.ensures.ok) in
+    ap (λ k. get_or more k []) (sym place_is) ∙ c.in_ok-put_at.ensures.put ∙ c.in_ok-letter.ensures.ok
+    ∙ c.read_letter.ensures ∙ ap (letter_of d) (sym c.in_ok-key.ensures.ok) in
     let after : Updates string_eq old.places c.insert.new.self c.in_ok-key.key (Some c.len-place.result) →
     (q : List ℕ) → get_by_text c.insert.new.self q ≡ update bytes_eq (get_by_text old.places) head (Some n) q =
-    λ updates q. hash_map_updates_text head old.places c.insert.new.self (Some c.len-place.result) updates q ∙ ap (λ k. update bytes_eq (get_by_text old.places) head (Some k) q) place_is in
-    let before : c.insert.new.self.entries ≡ old.places.entries → (q : List ℕ) (p : ℕ) → get_by_text c.insert.new.self q ≡ Some p → get_by_text old.places q ≡ Some p =
+    λ updates q. hash_map_updates_text head old.places c.insert.new.self (Some c.len-place.result) updates q
+    ∙ ap (λ k. update bytes_eq (get_by_text old.places) head (Some k) q) place_is in
+    let before : c.insert.new.self.entries ≡ old.places.entries → (q : List ℕ) (p : ℕ)
+    → get_by_text c.insert.new.self q ≡ Some p → get_by_text old.places q ≡ Some p =
     λ unchanged q p is. ap (λ es. lookup (λ k. bytes_eq q (string_bytes k)) es) (sym unchanged) ∙ is in
     record {
       in_range = λ text place is.
@@ -50,7 +53,8 @@ invariant_of-self-2 c =
           (λ (updates : Updates string_eq old.places c.insert.new.self c.in_ok-key.key (Some c.len-place.result)).
           let less : place < n + 1 = in_range-more lists (get_by_text old.places) (get_by_text c.insert.new.self) head within (after updates) text place is in
           omega (arith, less, size))
-          (λ (unchanged : c.insert.new.self.entries ≡ old.places.entries). let less : place < n = within text place (before unchanged text place is) in omega (arith, less, size))
+          (λ (unchanged : c.insert.new.self.entries ≡ old.places.entries). let less : place < n =
+          within text place (before unchanged text place is) in omega (arith, less, size))
           (by_result c.insert.result c.insert.ensures.updates c.insert.ensures.err);
       lettered = omega (arith, size, c.in_ok-put_at.ensures.last, place_is);
       letter = λ text place is.
@@ -74,8 +78,12 @@ returns-clause-kept c = λ q.
     let fresh : get_by_text old.places head ≡ None = ap (get_by_text old.places) same_head ∙ none in
     let place_is : c.len-place.result ≡ length lists = omega (arith, c.len-place.ensures, old.lists.ok) in
     let after : (q : List ℕ) → get_by_text c.insert.new.self q ≡ update bytes_eq (get_by_text old.places) head (Some (length lists)) q =
-    λ q. hash_map_updates_text head old.places c.insert.new.self (Some c.len-place.result) c.in_ok-insert.ensures.updates q ∙ ap (λ n. update bytes_eq (get_by_text old.places) head (Some n) q) place_is in
-    ap (λ xs. list_at xs old.others.items (place_or (get_by_text c.insert.new.self q) (get_by_text c.insert.new.self (letter_of d q)))) c.in_ok-push.ensures.items
+    λ q. hash_map_updates_text head old.places c.insert.new.self
+    (Some c.len-place.result) c.in_ok-insert.ensures.updates q
+    ∙ ap (λ n. update bytes_eq (get_by_text old.places) head (Some n) q) place_is in
+    ap (λ xs. list_at xs old.others.items
+    (place_or (get_by_text c.insert.new.self q)
+    (get_by_text c.insert.new.self (letter_of d q)))) c.in_ok-push.ensures.items
     ∙ listed-more lists (get_by_text old.places) (get_by_text c.insert.new.self) head (λ q p h. omega (arith, old.in_range q p h, old.lists.ok)) after
     d old.others.items c.in_ok-list.list (subst IsUtf8 (sym same_head) c.utf8.head) fresh
     (c.in_ok-list.ensures.items ∙ c.entered_by.ensures ∙ ap (listed old) (sym same_head)) q

@@ -48,4 +48,5 @@ returns-in_err-place-clause-least c = λ ts s. returns-in_err-place-clause-among
 pub returns-in_err-place-clause-all : goal.returns-in_err-place-clause-all
 returns-in_err-place-clause-all c = λ ts s others.
     let chosen = c.args.self.now.chosen in
-    IsLeastDescribing-of chosen.set.now chosen.numbers.items ts c.args.from c.from_residual-in_err-place.result (returns-in_err-place-clause-least c ts s) others
+    IsLeastDescribing-of chosen.set.now chosen.numbers.items ts c.args.from c.from_residual-in_err-place.result
+    (returns-in_err-place-clause-least c ts s) others

@@ -25,7 +25,8 @@ returns-then-accepts-clause-least c = λ numbers ts s.
     let within : n < length self.runs.items = omega (arith, n_is, self.rising.below i inside, self.count, self.runs.ok) in
     let there : slice_get self.runs.items n ≡ Some c.index.result.now = slice_get_read self.runs.items _ n _ refl within c.index.ensures in
     let live : Contains (live_of self) n = subst (Contains (live_of self)) (sym n_is) (Contains-get_or (live_of self) i 0 inside) in
-    let before : FailBefore self.runs.items (live_of self) c.args.from i = subst (λ xs. FailBefore self.runs.items xs c.args.from i) same c.loop-number.invariant in (
+    let before : FailBefore self.runs.items (live_of self) c.args.from i =
+    subst (λ xs. FailBefore self.runs.items xs c.args.from i) same c.loop-number.invariant in (
       s.within n live,
       c.if-number-from.true,
       some_described self numbers ts s n c.index.result.now c.accepts.result live there c.if-accepts.true (λ e us stands. (c.accepts.ensures e us stands).0),
@@ -54,7 +55,8 @@ loop-number-preserved c =
           let inside : i < length (live_of self) = omega (arith, ap length same, c.loop-number-test.true) in
           let n_is : get_or live i 0 ≡ get_or (live_of self) i 0 = ap (λ xs. get_or xs i 0) same in
           let within : get_or live i 0 < length self.runs.items = omega (arith, n_is, self.rising.below i inside, self.count, self.runs.ok) in
-          let here : slice_get self.runs.items (get_or live i 0) ≡ Some w.index.result.now = slice_get_read self.runs.items _ (get_or live i 0) _ refl within w.index.ensures in
+          let here : slice_get self.runs.items (get_or live i 0) ≡ Some w.index.result.now =
+          slice_get_read self.runs.items _ (get_or live i 0) _ refl within w.index.ensures in
           let is : run ≡ w.index.result.now = same_Some run w.index.result.now (sym there ∙ here) in
           let yes = (w.accepts.ensures e ts (subst (λ r. Stands r e ts) is stands)).1 described in
           cc
@@ -66,11 +68,13 @@ returns-clause-least c = λ numbers ts s end k known among from less is.
     let self = c.args.self.now in
     let i = c.loop-number.number-index in
     let same : take self.live_count c.deref.result.now ≡ live_of self = ap (take self.live_count) c.deref.ensures.value in
-    let before : FailBefore self.runs.items (live_of self) c.args.from i = subst (λ xs. FailBefore self.runs.items xs c.args.from i) same c.loop-number.invariant in
+    let before : FailBefore self.runs.items (live_of self) c.args.from i =
+    subst (λ xs. FailBefore self.runs.items xs c.args.from i) same c.loop-number.invariant in
     let size = ap length same in
     none_described self numbers ts s k known among is
     (λ j inside at r here stands.
-    before j (omega (arith, size, inside, c.loop-number-test.false)) (omega (arith, at, from)) r (ap (slice_get self.runs.items) at ∙ here) (words_of known) ts stands)
+    before j (omega (arith, size, inside, c.loop-number-test.false)) (omega (arith, at, from)) r
+    (ap (slice_get self.runs.items) at ∙ here) (words_of known) ts stands)
 
 pub returns-then-accepts-clause-within : goal.returns-then-accepts-clause-within
 returns-then-accepts-clause-within c =

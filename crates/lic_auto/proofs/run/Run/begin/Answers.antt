@@ -52,7 +52,12 @@ returns-clause-stands c =
       within = subst (λ xs. (place : ℕ) → Contains (take now.result xs) place → HasNumberOf self numbers place) (sym live_is)
           (places-sound all numbers _ _ self.chosen.rising c.requires.rising places now.ensures.places size);
       others = λ _ place known among gone is more described.
-          let inside : place < length all = omega (arith, slice_get_within set place known is, length-picked self.chosen.set.now all self.chosen.rising.below) in
+          let inside : place < length all =
+          omega (
+            arith,
+            slice_get_within set place known is,
+            length-picked self.chosen.set.now all self.chosen.rising.below,
+          ) in
           gone (subst (λ xs. Contains (take now.result xs) place) (sym live_is)
           (places-complete all numbers _ _ self.chosen.rising c.requires.rising places now.ensures.places size place inside among));
     }

@@ -31,8 +31,10 @@ invariant_of-self c =
       | then-not-self w ↦ omega (arith, w.count-is, w.enter-count.ensures.count, w.enter-count.auto, c.as_mut_slice-live.ensures.len)
       | else-not-self w ↦ omega (arith, w.count-is, self.within)
     ] in
-    let runs_is = with_items_is self.runs c.take_token-self.new.runs (omega (arith, c.take_token-self.auto, c.if-not-self.auto, c.as_mut_slice-runs.ensures.len)) in
-    let live_is = with_items_is self.live c.take_token-self.new.live (omega (arith, c.take_token-self.auto, c.if-not-self.auto, c.as_mut_slice-live.ensures.len)) in
+    let runs_is = with_items_is self.runs c.take_token-self.new.runs
+    (omega (arith, c.take_token-self.auto, c.if-not-self.auto, c.as_mut_slice-runs.ensures.len)) in
+    let live_is = with_items_is self.live c.take_token-self.new.live
+    (omega (arith, c.take_token-self.auto, c.if-not-self.auto, c.as_mut_slice-live.ensures.len)) in
     let size : length c.if-not-self.runs ≡ length set = omega (arith, c.if-not-self.auto, c.as_mut_slice-runs.ensures.len, self.count) in
     record {
       forward = self.forward;
@@ -84,15 +86,21 @@ returns-clause-among c = λ numbers ts s.
           let live_is : live ≡ live_of self = cc (w.live-is, w.count-is, c.as_mut_slice-live.ensures.value) in
           s.within place (subst (λ xs. Contains xs place) live_is h)
     ] in
-    let size : length set ≡ length c.take_token-self.new.runs = omega (arith, c.take_token-self.auto, c.if-not-self.auto, c.as_mut_slice-runs.ensures.len, self.count) in
-    let after = IsAfter-taken set such live token (take c.take_token-self.result c.take_token-self.new.live) c.if-not-self.runs c.take_token-self.new.runs ts before
+    let size : length set ≡ length c.take_token-self.new.runs =
+    omega (arith, c.take_token-self.auto, c.if-not-self.auto, c.as_mut_slice-runs.ensures.len, self.count) in
+    let after = IsAfter-taken set such live token
+    (take c.take_token-self.result c.take_token-self.new.live) c.if-not-self.runs c.take_token-self.new.runs ts before
     c.take_token-self.ensures.taken c.take_token-self.ensures.kept size in
-    let runs_is = with_items_is self.runs c.take_token-self.new.runs (omega (arith, c.take_token-self.auto, c.if-not-self.auto, c.as_mut_slice-runs.ensures.len)) in
-    let live_is = with_items_is self.live c.take_token-self.new.live (omega (arith, c.take_token-self.auto, c.if-not-self.auto, c.as_mut_slice-live.ensures.len)) in
+    let runs_is = with_items_is self.runs c.take_token-self.new.runs
+    (omega (arith, c.take_token-self.auto, c.if-not-self.auto, c.as_mut_slice-runs.ensures.len)) in
+    let live_is = with_items_is self.live c.take_token-self.new.live
+    (omega (arith, c.take_token-self.auto, c.if-not-self.auto, c.as_mut_slice-live.ensures.len)) in
     record {
       waits = λ h. absurd (false≢true (sym h));
       some = s.some;
-      live = subst (λ runs. AllStand set runs (take c.take_token-self.result (with_items self.live c.take_token-self.new.live).items) (ts ++ token ∷ [])) (sym runs_is)
+      live = subst (λ runs. AllStand set runs
+          (take c.take_token-self.result (with_items self.live c.take_token-self.new.live).items)
+          (ts ++ token ∷ [])) (sym runs_is)
           (subst (λ xs. AllStand set c.take_token-self.new.runs (take c.take_token-self.result xs) (ts ++ token ∷ [])) (sym live_is) after.stand);
       within = subst (λ xs. (place : ℕ) → Contains (take c.take_token-self.result xs) place → such place) (sym live_is)
           (λ place h. among place (c.take_token-self.ensures.kept.within place h));

@@ -18,8 +18,11 @@ use Rattle.lic_auto.proofs.set.Set.assemble.Goals as goal
 pub invariant_of-result : goal.invariant_of-result
 invariant_of-result c =
     record {
-      trees = HaveTheirTrees-from_trees Forward (all_known c.in_ok-named.named.items) c.in_ok-trees.trees.items (rw c.deref.ensures.value at c.in_ok-trees.ensures);
-      mirrored = HaveTheirTrees-from_trees Backward (all_known c.in_ok-named.named.items) c.in_ok-mirrored.mirrored.items (rw c.deref-2.ensures.value at c.in_ok-mirrored.ensures);
+      trees = HaveTheirTrees-from_trees Forward (all_known c.in_ok-named.named.items) c.in_ok-trees.trees.items
+          (rw c.deref.ensures.value at c.in_ok-trees.ensures);
+      mirrored = HaveTheirTrees-from_trees Backward
+          (all_known c.in_ok-named.named.items) c.in_ok-mirrored.mirrored.items
+          (rw c.deref-2.ensures.value at c.in_ok-mirrored.ensures);
       keys = subst (λ ns. AreKeysOf (parts_of (all_known ns)) c.in_ok-keys.keys) c.deref-3.ensures.value c.in_ok-keys.ensures;
     }
 
@@ -28,5 +31,9 @@ returns c =
     let given = c.args.templates.items in
     let named : String Global × TemplateValue → Named = λ p. record { id = p.0; template = p.1 } in
     let made : c.in_ok-named.named.items ≡ map named given =
-    items_from_collect {E = AllocError} (Ok c.in_ok-named.named) c.in_ok-named.ensures.ran (YieldsList-from_map _ named (YieldsList-at c.map.ensures.source (YieldsList-from_vec given c.into_iter.ensures.rest (omega arith))) c.map.ensures.closure (λ x r q k. search rules)) in
+    items_from_collect {E = AllocError} (Ok c.in_ok-named.named) c.in_ok-named.ensures.ran
+    (YieldsList-from_map _ named
+    (YieldsList-at c.map.ensures.source
+    (YieldsList-from_vec given c.into_iter.ensures.rest (omega arith))) c.map.ensures.closure (λ x r q k.
+    search rules)) in
     ap (map known_of) made ∙ map-map known_of named given

@@ -21,12 +21,14 @@ pub returns-in_err-assemble-clause-memory : goal.returns-in_err-assemble-clause-
 returns-in_err-assemble-clause-memory c = λ _.
     let moved = c.sort_unstable_by.new.self.items in
     let apart : AllAdjacentBelow (λ a b. string_bytes a.0 ≢ string_bytes b.0) moved (length moved) = rw c.deref.ensures.value at c.in_default.ensures.none in
-    let sorted = c.sort_unstable_by.ensures.sorted (λ x y. is_lt (string_cmp x.0 y.0)) (ranks_by string_cmp_total (λ p. p.0)) (answers_always _ _ _ (λ f a r f' k. search rules)) in
+    let sorted = c.sort_unstable_by.ensures.sorted (λ x y. is_lt (string_cmp x.0 y.0))
+    (ranks_by string_cmp_total (λ p. p.0)) (answers_always _ _ _ (λ f a r f' k. search rules)) in
     (pairs_known moved, IsSetOf-from_sort c.args.templates.items moved c.sort_unstable_by.ensures.permutation sorted apart)
 
 pub returns-clause-holds : goal.returns-clause-holds
 returns-clause-holds c =
     let moved = c.sort_unstable_by.new.self.items in
     let apart : AllAdjacentBelow (λ a b. string_bytes a.0 ≢ string_bytes b.0) moved (length moved) = rw c.deref.ensures.value at c.in_default.ensures.none in
-    let sorted = c.sort_unstable_by.ensures.sorted (λ x y. is_lt (string_cmp x.0 y.0)) (ranks_by string_cmp_total (λ p. p.0)) (answers_always _ _ _ (λ f a r f' k. search rules)) in
+    let sorted = c.sort_unstable_by.ensures.sorted (λ x y. is_lt (string_cmp x.0 y.0))
+    (ranks_by string_cmp_total (λ p. p.0)) (answers_always _ _ _ (λ f a r f' k. search rules)) in
     rw c.in_ok-assemble.ensures (IsSetOf-from_sort c.args.templates.items moved c.sort_unstable_by.ensures.permutation sorted apart)

@@ -19,13 +19,16 @@ pub returns-in-Backward-clause-measured : goal.returns-in-Backward-clause-measur
 returns-in-Backward-clause-measured c =
     let set = c.self.inside in
     let within : c.args.k < length set.mirrored.items = omega (arith, c.self.invariant.mirrored.count, ap length c.self.view_is, c.requires) in
-    let there : slice_get set.mirrored.items c.args.k ≡ Some c.index-in-Backward.result.now = slice_get_read set.mirrored.items _ c.args.k _ refl within c.index-in-Backward.ensures in
+    let there : slice_get set.mirrored.items c.args.k ≡ Some c.index-in-Backward.result.now =
+    slice_get_read set.mirrored.items _ c.args.k _ refl within c.index-in-Backward.ensures in
     c.self.invariant.mirrored.measured c.args.k c.index-in-Backward.result.now there
 
 pub returns-in-Backward-clause-words : goal.returns-in-Backward-clause-words
 returns-in-Backward-clause-words c = λ known is.
     let set = c.self.inside in
     let within : c.args.k < length set.mirrored.items = omega (arith, c.self.invariant.mirrored.count, ap length c.self.view_is, c.requires) in
-    let there : slice_get set.mirrored.items c.args.k ≡ Some c.index-in-Backward.result.now = slice_get_read set.mirrored.items _ c.args.k _ refl within c.index-in-Backward.ensures in
+    let there : slice_get set.mirrored.items c.args.k ≡ Some c.index-in-Backward.result.now =
+    slice_get_read set.mirrored.items _ c.args.k _ refl within c.index-in-Backward.ensures in
     subst (λ d. ∥ HasWordsOf (core_of c.index-in-Backward.result.now) (read d (words_of known)) ∥₁) (sym c.in-Backward.is)
-    (c.self.invariant.mirrored.words c.args.k known c.index-in-Backward.result.now (subst (λ xs. slice_get xs c.args.k ≡ Some known) (sym c.self.view_is) is) there)
+    (c.self.invariant.mirrored.words c.args.k known c.index-in-Backward.result.now
+    (subst (λ xs. slice_get xs c.args.k ≡ Some known) (sym c.self.view_is) is) there)

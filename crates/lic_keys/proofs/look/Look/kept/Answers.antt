@@ -41,5 +41,7 @@ returns-clause-others c =
     let within : k < length templates = slice_get_within templates k parts there in
     let inside : k < length keys = omega (arith, AllZip-count IsKeyOf templates keys are) in
     let (key, at, nowhere) = rest ts k taken inside gone in
-    nowhere (subst (λ x. StandsIn key (letters_of x)) (sym is) (key_stands parts key before range behind (AllZip-at IsKeyOf templates keys k parts (Some key) are there at) described)))
+    nowhere (subst (λ x. StandsIn key (letters_of x)) (sym is)
+    (key_stands parts key before range behind
+    (AllZip-at IsKeyOf templates keys k parts (Some key) are there at) described)))
     (returns-clause-keys c)

@@ -16,7 +16,8 @@ returns c =
     let here : c.index_mut.result.now.items ≡ get_or (lists_of old) (list_place window) [] =
     ap (λ l. l.items) (c.index_mut.ensures.value ∙ ap (λ i. get_or old.lists.items i c.index_mut.result.now) list)
     ∙ sym (get_or-map (λ l. l.items) old.lists.items (list_place window) c.index_mut.result.now [] inside) in
-    let pushed : c.push.new.self.items ≡ get_or (lists_of old) (list_place window) [] ++ number ∷ [] = c.in_ok-push.ensures.items ∙ ap (λ xs. xs ++ number ∷ []) here in
+    let pushed : c.push.new.self.items ≡ get_or (lists_of old) (list_place window) [] ++ number ∷ [] =
+    c.in_ok-push.ensures.items ∙ ap (λ xs. xs ++ number ∷ []) here in
     PutsDown-push window number old _ marked (omega (arith, inside, length-map old.lists.items (λ l. l.items)))
     (ap (λ m. set old.marks.items m true) mark)
     (map-set (λ l. l.items) old.lists.items c.list_of.result c.push.new.self

@@ -21,7 +21,9 @@ returns-clause-any c = λ lists s.
     let words = c.args.letter.are_words in
     let first = c.args.first.now in
     let start : marks_of r c.if-letter.self.1.0 ≡ begun r words (marks_of r old.at_once) = elim c.if-letter.branch [
-      | then-letter w ↦ rw w.self-is (ap (marks_of r) w.clear.ensures.clear ∙ marks_of-replicate r _ ∙ ap (λ b. begun r b (marks_of r old.at_once)) (sym w.if-letter.true))
+      | then-letter w ↦ rw w.self-is
+          (ap (marks_of r) w.clear.ensures.clear ∙ marks_of-replicate r _
+          ∙ ap (λ b. begun r b (marks_of r old.at_once)) (sym w.if-letter.true))
       | else-letter w ↦ rw w.self-is (ap (λ b. begun r b (marks_of r old.at_once)) (sym w.if-letter.false))
     ] in
     let same_len : length c.if-letter.self.1.0 ≡ length old.at_once = elim c.if-letter.branch [
@@ -34,7 +36,15 @@ returns-clause-any c = λ lists s.
     ap (marks_of r) c.join.ensures.row ∙ marks_of-either_row r _ _ (omega (arith, c.requires.size, old.after_blanks_len)) in
     let after_blanks : marks_of r c.shift_in-2.new.self ≡ shift r true false (join r (marks_of r old.after_blanks) (marks_of r first)) letter =
     Shifts-marks_of r _ _ _ _ _ _ c.shift_in-2.ensures.shifts ∙ ap (λ m. shift r true false m letter) both in
-    let long : length c.shift_in.new.self ≡ length c.shift_in-2.new.self = omega (arith, c.shift_in.ensures.len, same_len, c.shift_in-2.ensures.len, c.join.ensures.len, old.after_blanks_len) in
+    let long : length c.shift_in.new.self ≡ length c.shift_in-2.new.self =
+    omega (
+      arith,
+      c.shift_in.ensures.len,
+      same_len,
+      c.shift_in-2.ensures.len,
+      c.join.ensures.len,
+      old.after_blanks_len,
+    ) in
     let all : marks_of r c.join-2.new.self ≡ join r (shift r false true (begun r words (marks_of r old.at_once)) letter)
     (shift r true false (join r (marks_of r old.after_blanks) (marks_of r first)) letter) =
     ap (marks_of r) c.join-2.ensures.row ∙ marks_of-either_row r _ _ long ∙ ap (λ m. join r m (marks_of r c.shift_in-2.new.self)) at_once

@@ -14,7 +14,9 @@ pub returns-clause-taken : goal.returns-clause-taken
 returns-clause-taken c = λ letters s.
     let r = core_of c.args.tree.now in
     let is_apart = c.args.letter.is_apart in
-    let Behind : State → Type 0 = λ state. LeadsSoFar r state.entry (marks_of r state.at_once) (marks_of r state.after_blanks) is_apart (After (WordsOf r) letters) in
+    let Behind : State → Type 0 =
+    λ state. LeadsSoFar r state.entry (marks_of r state.at_once) (marks_of r state.after_blanks) is_apart
+    (After (WordsOf r) letters) in
     let before : Behind c.if-letter.self = elim c.if-letter.branch [
       | then-letter w ↦ subst Behind (sym w.self-is)
           (gap_used r _ _ _ _ w.gap.new.self.is_apart is_apart (λ _. w.gap.ensures.open) (w.gap.ensures.taken letters s))
@@ -22,13 +24,16 @@ returns-clause-taken c = λ letters s.
           (gap_used r _ _ _ _ c.args.self.now.is_apart is_apart (λ e. absurd (let f = w.if-letter.false in cc)) s)
     ] in
     without_gap r false _ _ _ (StandsAtOnce-more r _ letters _ _ (rw c.shift.ensures.marks
-    (LeadsSoFar-letter r c.if-letter.self.entry _ _ is_apart (After (WordsOf r) letters) before c.args.letter.are_words c.args.letter.letter c.args.letter.is_letter)))
+    (LeadsSoFar-letter r c.if-letter.self.entry _ _ is_apart
+    (After (WordsOf r) letters) before c.args.letter.are_words c.args.letter.letter c.args.letter.is_letter)))
 
 pub returns-clause-any : goal.returns-clause-any
 returns-clause-any c = λ lists s.
     let r = core_of c.args.tree.now in
     let is_apart = c.args.letter.is_apart in
-    let Behind : State → Type 0 = λ state. LeadsSoFar r state.entry (marks_of r state.at_once) (marks_of r state.after_blanks) is_apart (AfterAny (WordsOf r) lists) in
+    let Behind : State → Type 0 =
+    λ state. LeadsSoFar r state.entry (marks_of r state.at_once) (marks_of r state.after_blanks) is_apart
+    (AfterAny (WordsOf r) lists) in
     let before : Behind c.if-letter.self = elim c.if-letter.branch [
       | then-letter w ↦ subst Behind (sym w.self-is)
           (gap_used r _ _ _ _ w.gap.new.self.is_apart is_apart (λ _. w.gap.ensures.open) (w.gap.ensures.any lists s))
@@ -37,4 +42,5 @@ returns-clause-any c = λ lists s.
     ] in
     without_gap r false _ _ _ (Leads-same r false _ _ _ (λ v h. snoc-AfterAny (WordsOf r) lists _ _ v h) (λ v h. AfterAny-snoc (WordsOf r) lists _ _ v h)
     (rw c.shift.ensures.marks
-    (LeadsSoFar-letter r c.if-letter.self.entry _ _ is_apart (AfterAny (WordsOf r) lists) before c.args.letter.are_words c.args.letter.letter c.args.letter.is_letter)))
+    (LeadsSoFar-letter r c.if-letter.self.entry _ _ is_apart
+    (AfterAny (WordsOf r) lists) before c.args.letter.are_words c.args.letter.letter c.args.letter.is_letter)))

@@ -15,7 +15,8 @@ invariant_of-self c =
     let kept = rw c.deref_mut.ensures.value at c.clear.ensures.kept in
     rw items (
       omega (arith, c.clear.auto.row, ap length c.deref_mut.ensures.value, c.self.invariant.0),
-      rest_kept c.self.inside.len c.self.inside.words.items c.clear.new.row c.self.invariant.1 c.args.from c.args.to (omega (arith, size, c.requires.room)) kept,
+      rest_kept c.self.inside.len c.self.inside.words.items c.clear.new.row c.self.invariant.1 c.args.from c.args.to
+          (omega (arith, size, c.requires.room)) kept,
     )
 
 pub returns-clause-kept : goal.returns-clause-kept
@@ -24,7 +25,8 @@ returns-clause-kept c =
     let items = with_items_is c.self.inside.words c.clear.new.row (omega (arith, c.clear.auto.row, c.deref_mut.ensures.len)) in
     let kept = rw c.deref_mut.ensures.value at c.clear.ensures.kept in
     rw (items, ← c.self.view_is)
-    (flags_kept c.self.inside.len c.self.inside.words.items c.clear.new.row c.self.invariant.1 c.args.from c.args.to (omega (arith, size, c.requires.room)) kept)
+    (flags_kept c.self.inside.len c.self.inside.words.items c.clear.new.row c.self.invariant.1 c.args.from c.args.to
+    (omega (arith, size, c.requires.room)) kept)
 
 pub returns-clause-inside : goal.returns-clause-inside
 returns-clause-inside c =

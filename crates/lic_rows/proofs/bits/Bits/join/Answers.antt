@@ -52,7 +52,8 @@ returns-then-grows-clause-inside c =
     let inside = rw (c.deref_mut.ensures.value, c.deref-then-grows.ensures.value) at c.join.ensures.inside in
     rw (items, ← c.self.view_is, ← c.other.view_is) (λ k low high.
     flag-inside c.self.inside.len c.join.new.row k (omega (arith, size, c.requires.room, high)) ∙ inside k low high
-    ∙ ap (λ x. x || has c.other.inside.words.items k) (sym (flag-inside c.self.inside.len c.self.inside.words.items k (omega (arith, size, c.requires.room, high))))
+    ∙ ap (λ x. x || has c.other.inside.words.items k)
+    (sym (flag-inside c.self.inside.len c.self.inside.words.items k (omega (arith, size, c.requires.room, high))))
     ∙ ap (λ x. flag_at (flags c.self.inside.len c.self.inside.words.items) k || x)
     (sym (flag-inside c.other.inside.len c.other.inside.words.items k (omega (arith, size, other, c.requires.room, c.requires.len, high)))))
 

@@ -16,7 +16,8 @@ invariant_of-self c =
     let kept = rw c.deref_mut.ensures.value at c.move_up.ensures.kept in
     rw items (
       omega (arith, c.move_up.auto.row, ap length c.deref_mut.ensures.value, c.self.invariant.0),
-      rest_kept c.self.inside.len c.self.inside.words.items c.move_up.new.row c.self.invariant.1 c.args.from c.args.to (omega (arith, size, c.requires.room)) kept,
+      rest_kept c.self.inside.len c.self.inside.words.items c.move_up.new.row c.self.invariant.1 c.args.from c.args.to
+          (omega (arith, size, c.requires.room)) kept,
     )
 
 pub returns-clause-kept : goal.returns-clause-kept
@@ -25,7 +26,8 @@ returns-clause-kept c =
     let items = with_items_is c.self.inside.words c.move_up.new.row (omega (arith, c.move_up.auto.row, c.deref_mut.ensures.len)) in
     let kept = rw c.deref_mut.ensures.value at c.move_up.ensures.kept in
     rw (items, ← c.self.view_is)
-    (flags_kept c.self.inside.len c.self.inside.words.items c.move_up.new.row c.self.invariant.1 c.args.from c.args.to (omega (arith, size, c.requires.room)) kept)
+    (flags_kept c.self.inside.len c.self.inside.words.items c.move_up.new.row c.self.invariant.1 c.args.from c.args.to
+    (omega (arith, size, c.requires.room)) kept)
 
 pub get-out-requires : goal.get-out-requires
 get-out-requires c =
