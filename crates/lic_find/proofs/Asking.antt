@@ -37,7 +37,8 @@ module _ (set : List Known) (tokens : List TokenValue) (t : Triple) where
       only k (suc i, inside, is) = absurd (omega arith)
 
   pub IsMatch-answer : (r : Option ℕ) (answer : Bool) → t.first ≤ t.last → t.last < length tokens →
-      IsLeastOf set (t.template ∷ []) (letters_between tokens t.first t.last) t.template r → (IsTrue answer ↔ (r ≡ Some t.template)) → IsTrue answer ↔ IsMatch set tokens t
+      IsLeastOf set (t.template ∷ []) (letters_between tokens t.first t.last) t.template r
+      → (IsTrue answer ↔ (r ≡ Some t.template)) → IsTrue answer ↔ IsMatch set tokens t
   IsMatch-answer r answer order within least same = (
     λ h.
         let (known, number, described) = answered r least (same.0 h) in

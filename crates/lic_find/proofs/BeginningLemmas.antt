@@ -31,19 +31,26 @@ module _ (set : List Known) (tokens : List TokenValue) (place : Option Triple) (
   firsts_of_new = subst (λ ns. AreFirstsFrom set tokens ns from starts) (sym alike) firsts
 
   pub HasCome-begun : (begin : ℕ) → BeginsAt place begin → from ≤ begin → (from < length tokens → begin ≤ from) → set_of new ≡ set →
-      StandsAmong run (numbers_of run) [] → (r : Option ℕ) → HasBegun starts left run new r → HasCome set tokens place new left (unwrap_or r (length tokens)) (unwrap_or r (length tokens))
+      StandsAmong run (numbers_of run) [] → (r : Option ℕ) → HasBegun starts left run new r
+      → HasCome set tokens place new left (unwrap_or r (length tokens)) (unwrap_or r (length tokens))
   HasCome-begun begin begins low high templates fresh None (empty, same, still) =
       subst (λ l. HasCome set tokens place new l (length tokens) (length tokens)) (sym (same ∙ empty))
       (HasCome-none set tokens place begin from begins low high new templates (subst (AreFirstsFrom set tokens (numbers_of new) from) empty firsts_of_new)
       (subst (λ r. StandsAmong r (numbers_of r) []) (sym still) fresh))
   HasCome-begun begin begins low high templates fresh (Some first) (noted, is, here, stands) =
       subst (λ n. HasCome set tokens place new left n n) here
-      (HasCome-begin set tokens place begin from begins low high new templates noted left (subst (AreFirstsFrom set tokens (numbers_of new) from) is firsts_of_new)
+      (HasCome-begin set tokens place begin from begins low high new templates noted left
+      (subst (AreFirstsFrom set tokens (numbers_of new) from) is firsts_of_new)
       (subst (λ ns. StandsAmong new (noted_with ns noted.numbers) []) (sym alike) stands))
 
-  pub AreCounted-begun : (listed : (after : Option Triple) → AreMatches set tokens after (matches_behind set tokens after)) (noting : ℕ) → noting ≤ 2 * letters_of tokens →
-      (place ≡ None → noting < 2 ^ 64 - 1 → letters_of tokens ≤ noting) → (place ≡ None → from ≡ 0) → from ≤ length tokens → steps_of run ≡ 0 → steps_of new ≤ steps_of run + 2 →
-      (r : Option ℕ) → HasBegun starts left run new r → AreCounted set tokens place noting (steps_of new) (unwrap_or r (length tokens)) (unwrap_or r (length tokens))
+  pub AreCounted-begun : (listed : (after : Option Triple)
+      → AreMatches set tokens after (matches_behind set tokens after)) (noting : ℕ)
+      → noting ≤ 2 * letters_of tokens →
+      (place ≡ None → noting < 2 ^ 64 - 1 → letters_of tokens ≤ noting) → (place ≡ None → from ≡ 0)
+      → from ≤ length tokens → steps_of run ≡ 0 → steps_of new ≤ steps_of run + 2 →
+      (r : Option ℕ) → HasBegun starts left run new r
+      → AreCounted set tokens place noting (steps_of new) (unwrap_or r (length tokens))
+      (unwrap_or r (length tokens))
   AreCounted-begun listed noting most least whole within fresh few None (empty, same, still) =
       AreCounted-none set tokens listed place noting most least from (steps_of new) whole within (ap steps_of still ∙ fresh)
       (subst (AreFirstsFrom set tokens (numbers_of run) from) empty firsts)
@@ -53,7 +60,8 @@ module _ (set : List Known) (tokens : List TokenValue) (place : Option Triple) (
       (subst (AreFirstsFrom set tokens (numbers_of run) from) is firsts).0)
 
 pub HasBegun-told : (starts left : List NotedFirst) (run new : Run) (r : Option ℕ) →
-    IfSome r (λ first. (noted : NotedFirst) × (starts ≡ noted ∷ left) × (noted.first ≡ first) × StandsAmong new (noted_with (numbers_of run) noted.numbers) []) →
+    IfSome r (λ first. (noted : NotedFirst) × (starts ≡ noted ∷ left) × (noted.first ≡ first)
+    × StandsAmong new (noted_with (numbers_of run) noted.numbers) []) →
     IfNone r ((starts ≡ []) × (left ≡ starts) × (new ≡ run)) → HasBegun starts left run new r
 HasBegun-told starts left run new None some none = none
 HasBegun-told starts left run new (Some first) some none = some

@@ -63,9 +63,11 @@ longest_end-least : (matches : List Triple) (first : ℕ) → first ≤ longest_
 longest_end-least [] first = omega arith
 longest_end-least (s ∷ matches) first =
     let more : first ≤ longest_end matches first = longest_end-least matches first in
-    cond_both (s.first == first) (max (s.last + 1) (longest_end matches first)) (longest_end matches first) (λ n. first ≤ n) (λ passes. omega arith) (λ fails. more)
+    cond_both (s.first == first) (max (s.last + 1) (longest_end matches first))
+    (longest_end matches first) (λ n. first ≤ n) (λ passes. omega arith) (λ fails. more)
 
-longest_end-most : (matches : List Triple) (first end : ℕ) → first ≤ end → ((t : Triple) → Contains matches t → t.first ≡ first → t.last + 1 ≤ end) → longest_end matches first ≤ end
+longest_end-most : (matches : List Triple) (first end : ℕ) → first ≤ end
+    → ((t : Triple) → Contains matches t → t.first ≡ first → t.last + 1 ≤ end) → longest_end matches first ≤ end
 longest_end-most [] first end low ended = low
 longest_end-most (s ∷ matches) first end low ended =
     let more : longest_end matches first ≤ end = longest_end-most matches first end low (λ t k. ended t (Contains-tail s matches t k)) in
@@ -115,7 +117,8 @@ module _ (set : List Known) (tokens : List TokenValue) (listed : (after : Option
       low (omega arith) (begins (triple_at noted.first last template) m)
 
   -- the longest match ends where all matches have ended
-  pub letters_of_longest-ended : (first end : ℕ) → first ≤ end → AllEndBy set tokens first end → letters_of_longest set tokens first ≤ letters_of (slice_range tokens first end)
+  pub letters_of_longest-ended : (first end : ℕ) → first ≤ end → AllEndBy set tokens first end
+      → letters_of_longest set tokens first ≤ letters_of (slice_range tokens first end)
   unfolding letters_of_longest
   letters_of_longest-ended first end order ended =
       letters_of-longer tokens first (longest_end (matches_of set tokens) first) end (longest_end-least (matches_of set tokens) first)
@@ -142,7 +145,8 @@ length-filter_range p (suc k) a n =
     ap (λ x. length (filter p (range_with_len a x))) count in
     omega arith
 
-pub firsts_from-fewer : (set : List Known) (tokens : List TokenValue) (from : ℕ) → from ≤ length tokens → length (firsts_from set tokens from) ≤ length (firsts_of set tokens)
+pub firsts_from-fewer : (set : List Known) (tokens : List TokenValue) (from : ℕ) → from ≤ length tokens
+    → length (firsts_from set tokens from) ≤ length (firsts_of set tokens)
 unfolding firsts_from
 firsts_from-fewer set tokens from within =
     let p : ℕ → Bool = begins_one (matches_of set tokens) in

@@ -45,12 +45,16 @@ module _ (set : List Known) (tokens : List TokenValue) where
         m.known,
         m.number,
         t.last + 1 - t.first,
-        subst (IsDescribed (words_of m.known)) (ap (λ n. letters_up_to tokens t.first n) (sym end) ∙ letters_of_some t.first (t.last + 1 - t.first)) m.described,
+        subst (IsDescribed (words_of m.known))
+            (ap (λ n. letters_up_to tokens t.first n) (sym end)
+            ∙ letters_of_some t.first (t.last + 1 - t.first)) m.described,
       )
 
   -- so many tokens from this one on, or all that there are
   module _ (first k : ℕ) (known : Known) (number : slice_get set k ≡ Some known) where
-    some_match : (n : ℕ) → first + n ≤ length tokens → IsDescribed (words_of known) (letters_up_to tokens first (first + n)) → (last : ℕ) × IsMatch set tokens (triple_at first last k)
+    some_match : (n : ℕ) → first + n ≤ length tokens
+        → IsDescribed (words_of known) (letters_up_to tokens first (first + n))
+        → (last : ℕ) × IsMatch set tokens (triple_at first last k)
     some_match zero within described =
         absurd (described.0 (letters_of_some first 0 ∙ nothing))
       where
@@ -63,12 +67,14 @@ module _ (set : List Known) (tokens : List TokenValue) where
         within = omega arith;
         known = known;
         number = number;
-        described = let end : first + suc n ≡ first + n + 1 = omega arith in subst (λ e. IsDescribed (words_of known) (letters_up_to tokens first e)) end described;
+        described = let end : first + suc n ≡ first + n + 1 = omega arith in
+            subst (λ e. IsDescribed (words_of known) (letters_up_to tokens first e)) end described;
       },
     )
 
   -- a live template describes a range from there
-  pub match_live : (first k : ℕ) → first ≤ length tokens → IsLive set (all_letters (drop first tokens)) k → (last : ℕ) × IsMatch set tokens (triple_at first last k)
+  pub match_live : (first k : ℕ) → first ≤ length tokens → IsLive set (all_letters (drop first tokens)) k
+      → (last : ℕ) × IsMatch set tokens (triple_at first last k)
   match_live first k inside (known, number, n, described) =
       ⊎_elim
       (λ (short : n < length (drop first tokens)).
@@ -78,13 +84,15 @@ module _ (set : List Known) (tokens : List TokenValue) where
       let count : length (all_letters (drop first tokens)) ≡ length (drop first tokens) = length-map (drop first tokens) (λ t. chars t.text) in
       let within : first + length (drop first tokens) ≤ length tokens = omega (arith, length-drop first tokens) in
       let all : take n (all_letters (drop first tokens)) ≡ take (length (drop first tokens)) (all_letters (drop first tokens)) =
-      take_all n (all_letters (drop first tokens)) (omega arith) ∙ sym (take_all (length (drop first tokens)) (all_letters (drop first tokens)) (omega arith)) in
+      take_all n (all_letters (drop first tokens)) (omega arith)
+      ∙ sym (take_all (length (drop first tokens)) (all_letters (drop first tokens)) (omega arith)) in
       some_match first k known number (length (drop first tokens)) within
       (subst (IsDescribed (words_of known)) (all ∙ sym (letters_of_some first (length (drop first tokens)))) described))
       (cases_lt n (length (drop first tokens)))
 
   -- the template of a match is kept
-  pub kept_match : (kept : List ℕ) → OthersDescribeNoRange (parts_of set) kept (all_letters tokens) → (t : Triple) → IsMatch set tokens t → Contains kept t.template
+  pub kept_match : (kept : List ℕ) → OthersDescribeNoRange (parts_of set) kept (all_letters tokens) → (t : Triple)
+      → IsMatch set tokens t → Contains kept t.template
   kept_match kept others t m =
       let order : t.first ≤ t.last = m.order in
       let within : t.last < length tokens = m.within in
@@ -144,7 +152,8 @@ module _ (set : List Known) (tokens : List TokenValue) where
 
       -- numbers that stand for these templates, of which each is live
       noted_live : (numbers : List ℕ) → ((t : Triple) → IsMatch set tokens t → t.first ≡ first → Contains (noted_with kept numbers) t.template) →
-          ((k : ℕ) → Contains numbers k → Contains live k) → IsRising numbers (length set) → (k : ℕ) → Contains live k → IsFirstFrom set tokens kept first (noted_at first numbers)
+          ((k : ℕ) → Contains numbers k → Contains live k) → IsRising numbers (length set) → (k : ℕ) → Contains live k
+          → IsFirstFrom set tokens kept first (noted_at first numbers)
       noted_live numbers all some order k there = record {
         low = omega arith;
         begins = let (last, m) = match_of_live k there in (last, k, m);

@@ -6,7 +6,8 @@ use Rattle.lic_find.specs.declared.triple.Triple.{Triple}
 use Rattle.lic_find.specs.declared.finder.Finder.{Finder}
 
 -- where something is given, it is the first of what was left
-pub YieldsFirst-given : (old new : Finder) (left : List Triple) (r : Option Triple) → left ≡ rest_of old → IfSome r (λ triple. left ≡ triple ∷ rest_of new) → (r ≡ None → ⊥) →
+pub YieldsFirst-given : (old new : Finder) (left : List Triple) (r : Option Triple) → left ≡ rest_of old
+    → IfSome r (λ triple. left ≡ triple ∷ rest_of new) → (r ≡ None → ⊥) →
     YieldsFirst rest_of old r new
 YieldsFirst-given old new left None same some never = absurd (never refl)
 YieldsFirst-given old new left (Some triple) same some never = sym same ∙ some

@@ -38,7 +38,8 @@ module _ (tokens : List TokenValue) where
       letters_of (slice_range tokens a (b + 1)) ≡ letters_of (slice_range tokens a b) + letters_in (chars (get_or tokens b d).text)
   letters_of-more a b d order within =
       ap letters_of (slice_range-more tokens a b d order within)
-      ∙ letters_of-append (slice_range tokens a b) (get_or tokens b d ∷ []) ∙ ap (λ n. letters_of (slice_range tokens a b) + n) (letters_of-one (get_or tokens b d))
+      ∙ letters_of-append (slice_range tokens a b) (get_or tokens b d ∷ [])
+      ∙ ap (λ n. letters_of (slice_range tokens a b) + n) (letters_of-one (get_or tokens b d))
 
   pub letters_of-drop : (b : ℕ) (d : TokenValue) → b < length tokens →
       letters_of (drop b tokens) ≡ letters_in (chars (get_or tokens b d).text) + letters_of (drop (b + 1) tokens)

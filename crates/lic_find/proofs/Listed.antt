@@ -42,7 +42,9 @@ module _ (tokens templates : ℕ) where
   abbrev Begins : ℕ → Triple → Type 0
   Begins first t = (t.first ≡ first) × (t.last < tokens) × (t.template < templates)
 
-  Collects-lasts : (first : ℕ) → Collects (Begins first) (flat_map (λ last. map (λ template. triple_at first last template) (numbers_below templates)) (numbers_below tokens))
+  Collects-lasts : (first : ℕ) → Collects (Begins first)
+      (flat_map (λ last. map (λ template. triple_at first last template) (numbers_below templates))
+      (numbers_below tokens))
   Collects-lasts first =
       Collects-same _ (Begins first) _
       (Collects-rows (HasRange first) (λ last. map (λ template. triple_at first last template) (numbers_below templates)) (Collects-templates first)
@@ -56,7 +58,9 @@ module _ (tokens templates : ℕ) where
   pub Collects-all : Collects IsInside (all_triples tokens templates)
   Collects-all =
       Collects-same _ IsInside _
-      (Collects-rows Begins (λ first. flat_map (λ last. map (λ template. triple_at first last template) (numbers_below templates)) (numbers_below tokens)) Collects-lasts
+      (Collects-rows Begins (λ first.
+      flat_map (λ last. map (λ template. triple_at first last template) (numbers_below templates))
+      (numbers_below tokens)) Collects-lasts
       (λ i j s t less p q. inl (omega (arith, p.0, q.0))) 0 tokens)
       (λ t (k, low, high, p). (omega (arith, p.0), p.1, p.2))
       (λ t p. (t.first, omega arith, omega (arith, p.0), (refl, p.1, p.2)))
@@ -72,11 +76,13 @@ Decides-is_behind None t = (λ h. tt, λ h. refl)
 Decides-is_behind (Some place) t = Decides-precedes place t
 
 module _ (decided : (e : Expression) (ts : List (List ℕ)) → IsTrue (is_described e ts) ↔ IsDescribed e ts) where
-  described_by : (o : Option Known) (letters : List (List ℕ)) → describes o letters ≡ true → (known : Known) × (o ≡ Some known) × IsDescribed (words_of known) letters
+  described_by : (o : Option Known) (letters : List (List ℕ)) → describes o letters ≡ true
+      → (known : Known) × (o ≡ Some known) × IsDescribed (words_of known) letters
   described_by None letters h = absurd (false≢true h)
   described_by (Some known) letters h = (known, refl, (decided (words_of known) letters).0 h)
 
-  describes_by : (o : Option Known) (letters : List (List ℕ)) (known : Known) → o ≡ Some known → IsDescribed (words_of known) letters → describes o letters ≡ true
+  describes_by : (o : Option Known) (letters : List (List ℕ)) (known : Known) → o ≡ Some known
+      → IsDescribed (words_of known) letters → describes o letters ≡ true
   describes_by o letters known e d = ap (λ p. describes p letters) e ∙ (decided (words_of known) letters).1 d
 
   module _ (set : List Known) (tokens : List TokenValue) (t : Triple) where

@@ -22,7 +22,8 @@ IsAfter-trans (Some place) s t h k = Precedes-trans place s t h k
 
 module _ (set : List Known) (tokens : List TokenValue) (listed : (after : Option Triple) → AreMatches set tokens after (matches_behind set tokens after)) where
   -- the first of the matches behind a place, and those behind it
-  pub matches_behind-next : (place : Option Triple) (t : Triple) → IsNext set tokens place t → matches_behind set tokens place ≡ t ∷ matches_behind set tokens (Some t)
+  pub matches_behind-next : (place : Option Triple) (t : Triple) → IsNext set tokens place t
+      → matches_behind set tokens place ≡ t ∷ matches_behind set tokens (Some t)
   matches_behind-next place t next =
       let old = listed place in
       let new = listed (Some t) in

@@ -45,7 +45,8 @@ module _ (tokens : List TokenValue) where
   letters_up_to-all = ap (λ xs. map (λ t. chars t.text) xs) (slice_range-all tokens)
 
   -- the letters of the first tokens, and of one more
-  pub all_letters-more : (n : ℕ) (d : TokenValue) → n < length tokens → all_letters (take (n + 1) tokens) ≡ all_letters (take n tokens) ++ chars (get_or tokens n d).text ∷ []
+  pub all_letters-more : (n : ℕ) (d : TokenValue) → n < length tokens
+      → all_letters (take (n + 1) tokens) ≡ all_letters (take n tokens) ++ chars (get_or tokens n d).text ∷ []
   all_letters-more n d within =
       ap (λ xs. map (λ t. chars t.text) xs) (take_more tokens n d within) ∙ map-append (λ t. chars t.text) (take n tokens) (get_or tokens n d ∷ [])
 

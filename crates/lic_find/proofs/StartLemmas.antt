@@ -39,7 +39,8 @@ noted_in-none (one ∷ entries) numbers e = absurd (omega arith)
 -- no last element, no element
 pub none_of : {A : Type 0} → (xs : List A) → None ≡ slice_get xs (length xs - 1) → length xs ≡ 0
 none_of [] e = refl
-none_of (x ∷ xs) e = absurd (let some = slice_get-get_or (x ∷ xs) (length (x ∷ xs) - 1) x (omega arith) in let never : None ≡ Some (get_or (x ∷ xs) (length (x ∷ xs) - 1) x) = e ∙ some in cc)
+none_of (x ∷ xs) e = absurd (let some = slice_get-get_or (x ∷ xs) (length (x ∷ xs) - 1) x (omega arith) in
+    let never : None ≡ Some (get_or (x ∷ xs) (length (x ∷ xs) - 1) x) = e ∙ some in cc)
 
 module _ (entries : List Entry) (numbers : List ℕ) where
   -- the least first token, as it is read

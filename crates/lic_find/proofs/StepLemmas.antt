@@ -33,7 +33,8 @@ module _ (set : List Known) (tokens : List TokenValue) (listed : (after : Option
       ap (sum_by (letters_of_longest set tokens)) (firsts_from-next set tokens listed kept from noted is)
       ∙ sum_by-cons (letters_of_longest set tokens) noted.first (firsts_from set tokens (noted.first + 1))
 
-  module _ (began : Option Triple) (noting : ℕ) (noting_most : noting ≤ 2 * letters_of tokens) (noting_least : began ≡ None → noting < 2 ^ 64 - 1 → letters_of tokens ≤ noting) where
+  module _ (began : Option Triple) (noting : ℕ) (noting_most : noting ≤ 2 * letters_of tokens)
+      (noting_least : began ≡ None → noting < 2 ^ 64 - 1 → letters_of tokens ≤ noting) where
     -- at the first of the first tokens from here on
     pub AreCounted-begin : (kept : List ℕ) (from walked : ℕ) (noted : NotedFirst) → (began ≡ None → from ≡ 0) → from ≤ length tokens → walked ≤ 2 →
         IsFirstFrom set tokens kept from noted → AreCounted set tokens began noting walked noted.first noted.first
@@ -61,7 +62,9 @@ module _ (set : List Known) (tokens : List TokenValue) (listed : (after : Option
         let nothing : letters_of (drop (length tokens) tokens) ≡ 0 = ap letters_of (drop-length tokens) ∙ letters_of-none in
         let empty : letters_of (slice_range tokens (length tokens) (length tokens)) ≡ 0 = letters_of-empty tokens (length tokens) in
         let left : walk_over tokens * length (firsts_from set tokens (length tokens + 1)) ≡ 0 =
-        ap (λ firsts. walk_over tokens * length firsts) (firsts_from-none set tokens listed (length tokens + 1) (λ t m late. none t m (omega arith))) ∙ mul-zero (walk_over tokens) in
+        ap (λ firsts. walk_over tokens * length firsts)
+        (firsts_from-none set tokens listed (length tokens + 1) (λ t m late. none t m (omega arith)))
+        ∙ mul-zero (walk_over tokens) in
         record {
           noting_most = noting_most;
           noting_least = noting_least;
@@ -80,7 +83,8 @@ module _ (set : List Known) (tokens : List TokenValue) (listed : (after : Option
       longest = letters_of_longest-ended set tokens listed first end order ended
 
       -- the next first token
-      pub AreCounted-next : (kept : List ℕ) (more : ℕ) (noted : NotedFirst) → IsFirstFrom set tokens kept (first + 1) noted → walked ≤ more → more ≤ walked + 2 →
+      pub AreCounted-next : (kept : List ℕ) (more : ℕ) (noted : NotedFirst)
+          → IsFirstFrom set tokens kept (first + 1) noted → walked ≤ more → more ≤ walked + 2 →
           AreCounted set tokens began noting more noted.first noted.first
       AreCounted-next kept more noted is grows most =
           let left = left_more kept (first + 1) noted is in
@@ -107,12 +111,16 @@ module _ (set : List Known) (tokens : List TokenValue) (listed : (after : Option
           ap (sum_by (letters_of_longest set tokens)) (firsts_from-none set tokens listed (first + 1) none) in
           omega arith
 
-module _ (set : List Known) (tokens : List TokenValue) (began : Option Triple) (noting walked first end : ℕ) (counted : AreCounted set tokens began noting walked first end) where
+module _ (set : List Known) (tokens : List TokenValue) (began : Option Triple) (noting walked first end : ℕ)
+    (counted : AreCounted set tokens began noting walked first end) where
   -- one more token
-  pub AreCounted-push : (d : TokenValue) (more : ℕ) → first ≤ end → end < length tokens → walked ≤ more → more ≤ walked + 2 * letters_in (chars (get_or tokens end d).text) →
+  pub AreCounted-push : (d : TokenValue) (more : ℕ) → first ≤ end → end < length tokens → walked ≤ more
+      → more ≤ walked + 2 * letters_in (chars (get_or tokens end d).text) →
       (more < 2 ^ 64 - 1 → walked + letters_in (chars (get_or tokens end d).text) ≤ more) → AreCounted set tokens began noting more first (end + 1)
   AreCounted-push d more order room grows most least =
-      let left : letters_of (drop end tokens) ≡ letters_in (chars (get_or tokens end d).text) + letters_of (drop (end + 1) tokens) = letters_of-drop tokens end d room in
+      let left : letters_of (drop end tokens)
+      ≡ letters_in (chars (get_or tokens end d).text) + letters_of (drop (end + 1) tokens) =
+      letters_of-drop tokens end d room in
       let longer = letters_of-more tokens first end d order room in
       let before = counted.walked_most in
       record {

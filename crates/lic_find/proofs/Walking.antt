@@ -43,7 +43,8 @@ module _ (set : List Known) (tokens : List TokenValue) where
       omega arith
 
   -- at the first of the noted first tokens
-  module _ (place : Option Triple) (begin from : ℕ) (begins : BeginsAt place begin) (low : from ≤ begin) (high : from < length tokens → begin ≤ from) (run : Run) (templates : set_of run ≡ set) where
+  module _ (place : Option Triple) (begin from : ℕ) (begins : BeginsAt place begin) (low : from ≤ begin)
+      (high : from < length tokens → begin ≤ from) (run : Run) (templates : set_of run ≡ set) where
     pub HasCome-begin : (noted : NotedFirst) (more : List NotedFirst) → AreFirstsFrom set tokens (numbers_of run) from (noted ∷ more) →
         StandsAmong run (noted_with (numbers_of run) noted.numbers) [] → HasCome set tokens place run more noted.first noted.first
     HasCome-begin noted more (is, behind) stands =
@@ -85,8 +86,10 @@ module _ (set : List Known) (tokens : List TokenValue) where
 
   module _ (place : Option Triple) (run : Run) (noted : List NotedFirst) (first end : ℕ) (come : HasCome set tokens place run noted first end) where
     -- one more token
-    pub HasCome-push : (new : Run) (d : TokenValue) → NoneHasRange set tokens place first end → end < length tokens → set_of new ≡ set_of run → numbers_of new ≡ numbers_of run →
-        StandsAmong new come.numbers (letters_up_to tokens first end ++ chars (get_or tokens end d).text ∷ []) → HasCome set tokens place new noted first (end + 1)
+    pub HasCome-push : (new : Run) (d : TokenValue) → NoneHasRange set tokens place first end → end < length tokens
+        → set_of new ≡ set_of run → numbers_of new ≡ numbers_of run →
+        StandsAmong new come.numbers (letters_up_to tokens first end ++ chars (get_or tokens end d).text ∷ [])
+        → HasCome set tokens place new noted first (end + 1)
     HasCome-push new d none room same alike stands =
         let order : first ≤ end = come.order in
         record {
@@ -130,7 +133,8 @@ module _ (set : List Known) (tokens : List TokenValue) where
         let letters : letters_between tokens t.first t.last ≡ letters_up_to tokens first end ++ letters_up_to tokens end (t.last + 1) =
         ap (λ n. letters_up_to tokens n (t.last + 1)) here ∙ letters_up_to-split tokens first end (t.last + 1) come.order (omega arith) in
         let there : slice_get (set_of run) t.template ≡ Some m.known = ap (λ s. slice_get s t.template) come.templates ∙ m.number in
-        absurd (dead come.numbers (letters_up_to tokens first end) (letters_up_to tokens end (t.last + 1)) t.template m.known come.stands (come.all t m here) there
+        absurd (dead come.numbers (letters_up_to tokens first end)
+        (letters_up_to tokens end (t.last + 1)) t.template m.known come.stands (come.all t m here) there
         (subst (IsDescribed (words_of m.known)) letters m.described)))
         (cases_lt t.last end)
 
@@ -209,12 +213,14 @@ module _ (set : List Known) (tokens : List TokenValue) where
         number_of : (t : Triple) (m : IsMatch set tokens t) → slice_get (set_of run) t.template ≡ Some m.known
         number_of t m = ap (λ s. slice_get s t.template) come.templates ∙ m.number
 
-        described_of : (t : Triple) (m : IsMatch set tokens t) → t.first ≡ first → t.last + 1 ≡ end → IsDescribed (words_of m.known) (letters_up_to tokens first end)
+        described_of : (t : Triple) (m : IsMatch set tokens t) → t.first ≡ first → t.last + 1 ≡ end
+            → IsDescribed (words_of m.known) (letters_up_to tokens first end)
         described_of t m here there = subst (IsDescribed (words_of m.known)) (same_letters t here there) m.described
 
         pub NoneHasRange-least : IsLeastOf (set_of run) come.numbers (letters_up_to tokens first end) from None → NoneHasRange set tokens place first end
         NoneHasRange-least none t m after here there =
-            none (t.template + 1) t.template m.known (come.all t m here) (from_below t after here there) (omega arith) (number_of t m) (described_of t m here there)
+            none (t.template + 1) t.template m.known (come.all t m here) (from_below t after here there) (omega arith)
+            (number_of t m) (described_of t m here there)
 
         -- nothing describes no tokens
         begun : (known : Known) → IsDescribed (words_of known) (letters_up_to tokens first end) → first < end
@@ -226,7 +232,8 @@ module _ (set : List Known) (tokens : List TokenValue) where
             absurd (described.0 (ap (λ n. letters_up_to tokens first n) same ∙ letters_up_to-none tokens first)))
             (cases_lt first end)
 
-        pub IsNext-least : (k : ℕ) → IsLeastOf (set_of run) come.numbers (letters_up_to tokens first end) from (Some k) → IsNext set tokens place (triple_at first last k)
+        pub IsNext-least : (k : ℕ) → IsLeastOf (set_of run) come.numbers (letters_up_to tokens first end) from (Some k)
+            → IsNext set tokens place (triple_at first last k)
         IsNext-least k (inside, low, (known, number, described), fewer) =
             let some : first < end = begun known described in
             let within : end ≤ length tokens = come.within in

@@ -31,7 +31,8 @@ firsts_of set tokens = firsts_from set tokens 0
 -- where the longest of the matches that begin with this token ends
 abbrev pub longest_end : List Triple → ℕ → ℕ
 longest_end [] first = first
-longest_end (t ∷ matches) first = if t.first == first then max (t.last + 1) (longest_end matches first) else longest_end matches first
+longest_end (t ∷ matches) first =
+    if t.first == first then max (t.last + 1) (longest_end matches first) else longest_end matches first
 
 -- the letters of the longest match that begins with this token
 unfoldable pub letters_of_longest : List Known → List TokenValue → ℕ → ℕ

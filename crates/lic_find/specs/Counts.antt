@@ -8,11 +8,14 @@ use Rattle.lic_find.specs.declared.triple.Triple.{Triple}
 -- The steps of the walk that noted first tokens, and of the walks from first tokens up to `first` and its `end`: with what is still to
 -- come they fit into what is allowed. Below the greatest number each letter of these walks was counted, where the search began with the
 -- first match.
-pub record AreCounted (set : List Known) (tokens : List TokenValue) (began : Option Triple) (noting walked first end : ℕ) : Type 0 where
+pub record AreCounted (set : List Known) (tokens : List TokenValue) (began : Option Triple)
+    (noting walked first end : ℕ) : Type 0 where
   pub noting_most : noting ≤ 2 * letters_of tokens
   pub noting_least : began ≡ None → noting < 2 ^ 64 - 1 → letters_of tokens ≤ noting
-  pub walked_most : walked + 2 * letters_of (drop end tokens) + walk_over tokens * length (firsts_from set tokens (first + 1))
+  pub walked_most : walked + 2 * letters_of (drop end tokens)
+      + walk_over tokens * length (firsts_from set tokens (first + 1))
       ≤ walk_over tokens * length (firsts_of set tokens)
   pub walked_least : began ≡ None → walked < 2 ^ 64 - 1
       → letters_of_matches set tokens + letters_of (slice_range tokens first end)
-      ≤ walked + letters_of_longest set tokens first + sum_by (letters_of_longest set tokens) (firsts_from set tokens (first + 1))
+      ≤ walked + letters_of_longest set tokens first
+      + sum_by (letters_of_longest set tokens) (firsts_from set tokens (first + 1))

@@ -27,11 +27,13 @@ NoneBeginFrom set tokens from = (t : Triple) → IsMatch set tokens t → ¬ (fr
 
 -- The first token, from this one on, with which a match begins. It stands for all templates that describe a range from there; those
 -- of its numbers do describe one.
-pub record IsFirstFrom (set : List Known) (tokens : List TokenValue) (kept : List ℕ) (from : ℕ) (noted : NotedFirst) : Type 0 where
+pub record IsFirstFrom (set : List Known) (tokens : List TokenValue) (kept : List ℕ) (from : ℕ)
+    (noted : NotedFirst) : Type 0 where
   pub low : from ≤ noted.first
   pub begins : (last template : ℕ) × IsMatch set tokens (triple_at noted.first last template)
   pub passed : (t : Triple) → IsMatch set tokens t → from ≤ t.first → noted.first ≤ t.first
-  pub all : (t : Triple) → IsMatch set tokens t → t.first ≡ noted.first → Contains (noted_with kept noted.numbers) t.template
+  pub all : (t : Triple) → IsMatch set tokens t → t.first ≡ noted.first
+      → Contains (noted_with kept noted.numbers) t.template
   pub only : (k : ℕ) → Contains noted.numbers k → (last : ℕ) × IsMatch set tokens (triple_at noted.first last k)
   pub rising : IsRising noted.numbers (length set)
   pub within : (k : ℕ) → Contains noted.numbers k → Contains kept k

@@ -17,7 +17,8 @@ numbers_below bound = range_with_len 0 bound
 -- all triples of so many tokens and so many templates, in order
 abbrev pub all_triples : ℕ → ℕ → List Triple
 all_triples tokens templates =
-    flat_map (λ first. flat_map (λ last. map (λ template. triple_at first last template) (numbers_below templates)) (numbers_below tokens)) (numbers_below tokens)
+    flat_map (λ first. flat_map (λ last. map (λ template. triple_at first last template) (numbers_below templates))
+    (numbers_below tokens)) (numbers_below tokens)
 
 -- whether a template, if there is one, describes tokens with these letters
 abbrev pub describes : Option Known → List (List ℕ) → Bool
@@ -26,7 +27,8 @@ describes (Some known) letters = is_described (words_of known) letters
 
 -- whether the template of a triple describes the tokens of its range
 abbrev pub is_matching : List Known → List TokenValue → Triple → Bool
-is_matching set tokens t = nat_le t.first t.last && describes (slice_get set t.template) (letters_between tokens t.first t.last)
+is_matching set tokens t = nat_le t.first t.last
+    && describes (slice_get set t.template) (letters_between tokens t.first t.last)
 
 -- all matches in a text, in order
 abbrev pub matches_of : List Known → List TokenValue → List Triple
@@ -35,7 +37,8 @@ matches_of set tokens = filter (is_matching set tokens) (all_triples (length tok
 -- whether the first triple comes before the second
 abbrev pub precedes : Triple → Triple → Bool
 precedes s t =
-    nat_lt s.first t.first || (s.first == t.first && (nat_lt s.last t.last || (s.last == t.last && nat_lt s.template t.template)))
+    nat_lt s.first t.first || (s.first == t.first
+    && (nat_lt s.last t.last || (s.last == t.last && nat_lt s.template t.template)))
 
 -- whether a triple comes behind a place, if there is one
 abbrev pub is_behind : Option Triple → Triple → Bool

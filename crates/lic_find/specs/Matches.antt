@@ -25,7 +25,8 @@ pub record IsMatch (set : List Known) (tokens : List TokenValue) (t : Triple) : 
 
 -- by first token, then by last token, then by template
 abbrev pub Precedes : Triple → Triple → Type 0
-Precedes s t = (s.first < t.first) ⊎ ((s.first ≡ t.first) × ((s.last < t.last) ⊎ ((s.last ≡ t.last) × (s.template < t.template))))
+Precedes s t = (s.first < t.first)
+    ⊎ ((s.first ≡ t.first) × ((s.last < t.last) ⊎ ((s.last ≡ t.last) × (s.template < t.template))))
 
 -- behind the place where a search goes on, or any where it begins at the beginning
 abbrev pub IsAfter : Option Triple → Triple → Type 0
@@ -38,6 +39,7 @@ AreAscending [] = Unit {0}
 AreAscending (t ∷ ts) = ((s : Triple) → Contains ts s → Precedes t s) × AreAscending ts
 
 -- The list has exactly the matches after a triple, or all of them, each once, in order.
-pub record AreMatches (set : List Known) (tokens : List TokenValue) (after : Option Triple) (found : List Triple) : Type 0 where
+pub record AreMatches (set : List Known) (tokens : List TokenValue) (after : Option Triple)
+    (found : List Triple) : Type 0 where
   pub ascending : AreAscending found
   pub exact : (t : Triple) → Contains found t ↔ (IsMatch set tokens t × IsAfter after t)

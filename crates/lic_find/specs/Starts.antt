@@ -8,7 +8,8 @@ use Rattle.lic_find.specs.declared.starts.Starts.{Starts}
 abbrev pub noted_in : List Entry → List ℕ → List NotedFirst
 noted_in [] numbers = []
 noted_in (entry ∷ more) numbers =
-    noted_at entry.first (drop (length numbers - entry.count) numbers) ∷ noted_in more (take (length numbers - entry.count) numbers)
+    noted_at entry.first (drop (length numbers - entry.count) numbers)
+    ∷ noted_in more (take (length numbers - entry.count) numbers)
 
 -- the first tokens that are left, in rising order
 unfoldable pub starts_in : Starts → List NotedFirst

@@ -22,7 +22,8 @@ BeginsAt (Some place) first = first ≡ place.first
 -- The run stands for the tokens from `first` up to `end`, among all templates of matches that begin with `first`. No match behind the
 -- place begins before `first`, or there and with its last token before the last of these. Every match that begins later is behind the
 -- place, and the tokens with which such matches begin are noted.
-pub record HasCome (set : List Known) (tokens : List TokenValue) (place : Option Triple) (run : Run) (noted : List NotedFirst)
+pub record HasCome (set : List Known) (tokens : List TokenValue) (place : Option Triple) (run : Run)
+    (noted : List NotedFirst)
     (first end : ℕ) : Type 0 where
   pub order : first ≤ end
   pub within : end ≤ length tokens
@@ -30,7 +31,8 @@ pub record HasCome (set : List Known) (tokens : List TokenValue) (place : Option
   pub numbers : List ℕ
   pub stands : StandsAmong run numbers (letters_up_to tokens first end)
   pub all : (t : Triple) → IsMatch set tokens t → t.first ≡ first → Contains numbers t.template
-  pub reached : (t : Triple) → IsMatch set tokens t → IsAfter place t → (first ≤ t.first) × (t.first ≡ first → end ≤ t.last + 1)
+  pub reached : (t : Triple) → IsMatch set tokens t → IsAfter place t
+      → (first ≤ t.first) × (t.first ≡ first → end ≤ t.last + 1)
   pub ahead : (t : Triple) → IsMatch set tokens t → first < t.first → IsAfter place t
   pub firsts : AreFirstsFrom set tokens (numbers_of run) (first + 1) noted
 
@@ -50,7 +52,8 @@ NoneBegins set tokens place first = (t : Triple) → IsMatch set tokens t → Is
 
 -- no match behind a place has this range, whose end is left out
 abbrev pub NoneHasRange : List Known → List TokenValue → Option Triple → ℕ → ℕ → Type 0
-NoneHasRange set tokens place first end = (t : Triple) → IsMatch set tokens t → IsAfter place t → t.first ≡ first → ¬ (t.last + 1 ≡ end)
+NoneHasRange set tokens place first end =
+    (t : Triple) → IsMatch set tokens t → IsAfter place t → t.first ≡ first → ¬ (t.last + 1 ≡ end)
 
 -- the first match behind a place, which has this range, or that no match behind it has this range
 abbrev pub IsNextOfRange : List Known → List TokenValue → Option Triple → ℕ → ℕ → Option Triple → Type 0

@@ -47,7 +47,8 @@ pub struct Finder<'a> {
     first: usize,
     /// The end of this range: the run stands for the tokens from the first one up to here.
     end: usize,
-    ghost come: { ∥ HasCome set.now text.now.tokens (option_or given began) run (starts_in starts) first end ∥₁ },
+    ghost come: { ∥ HasCome set.now text.now.tokens (option_or given began) run
+        (starts_in starts) first end ∥₁ },
     ghost order: { first ≤ end },
     ghost counted: { AreCounted set.now text.now.tokens began noting (steps_of run) first end },
 }
@@ -58,10 +59,12 @@ impl<'a> Finder<'a> {
     /// All matches. Fails if memory runs out.
     pub fn new(alloc: Global, set: &'a Set, text: &'a Text) -> Result<Finder<'a>, AllocError>
         ensures all { IfOk result (λ f. AreMatches set.now text.now.tokens None (rest_of f)) }
-        ensures only { IfOk result (λ f. (others : List Triple) → AreMatches set.now text.now.tokens None others → others ≡ rest_of f) }
+        ensures only { IfOk result (λ f. (others : List Triple)
+            → AreMatches set.now text.now.tokens None others → others ≡ rest_of f) }
         ensures begun { IfOk result (λ f. IsBegun f set.now text.now.tokens None) }
         ensures most { IfOk result (λ f. steps_taken f ≤ 2 * (letters_of text.now.tokens + 1)) }
-        ensures least { IfOk result (λ f. steps_taken f < 2 ^ 64 - 1 → letters_of text.now.tokens ≤ steps_taken f) }
+        ensures least { IfOk result (λ f. steps_taken f < 2 ^ 64 - 1
+            → letters_of text.now.tokens ≤ steps_taken f) }
     {
         Finder::behind(alloc, set, text, None)
     }
@@ -75,8 +78,10 @@ impl<'a> Finder<'a> {
         text: &'a Text,
         after: Triple,
     ) -> Result<Finder<'a>, AllocError>
-        ensures later { IfOk result (λ f. AreMatches set.now text.now.tokens (Some after) (rest_of f)) }
-        ensures only { IfOk result (λ f. (others : List Triple) → AreMatches set.now text.now.tokens (Some after) others → others ≡ rest_of f) }
+        ensures later { IfOk result (λ f.
+            AreMatches set.now text.now.tokens (Some after) (rest_of f)) }
+        ensures only { IfOk result (λ f. (others : List Triple)
+            → AreMatches set.now text.now.tokens (Some after) others → others ≡ rest_of f) }
         ensures begun { IfOk result (λ f. IsBegun f set.now text.now.tokens (Some after)) }
         ensures most { IfOk result (λ f. steps_taken f ≤ 2 * (letters_of text.now.tokens + 1)) }
     {
@@ -93,7 +98,8 @@ impl<'a> Finder<'a> {
         ensures matches { IfOk result (λ f. AreMatches set.now text.now.tokens place (rest_of f)) }
         ensures begun { IfOk result (λ f. IsBegun f set.now text.now.tokens place) }
         ensures most { IfOk result (λ f. steps_taken f ≤ 2 * (letters_of text.now.tokens + 1)) }
-        ensures least { IfOk result (λ f. place ≡ None → steps_taken f < 2 ^ 64 - 1 → letters_of text.now.tokens ≤ steps_taken f) }
+        ensures least { IfOk result (λ f. place ≡ None → steps_taken f < 2 ^ 64 - 1
+            → letters_of text.now.tokens ≤ steps_taken f) }
     {
         matches_are_listed();
         let kept = kept_templates(alloc, set, text)?;
@@ -119,7 +125,8 @@ impl<'a> Finder<'a> {
     pub fn steps(&self) -> u64
         ensures value { result ≡ steps_taken self.now }
         ensures most { result
-            ≤ 2 * (letters_of (tokens_in self.now) + 1) * (1 + length (firsts_of (set_in self.now) (tokens_in self.now))) }
+            ≤ 2 * (letters_of (tokens_in self.now) + 1) *
+            (1 + length (firsts_of (set_in self.now) (tokens_in self.now))) }
     {
         self.noting.saturating_add(self.run.steps())
     }
@@ -143,8 +150,11 @@ impl<'a> Finder<'a> {
 
     // The first match behind the place, if it has the range that the run has come to.
     fn accepted(&self) -> Option<Triple>
-        ensures { HasCome self.now.set.now self.now.text.now.tokens (place_of self.now) self.now.run (starts_in self.now.starts)
-            self.now.first self.now.end → IsNextOfRange self.now.set.now self.now.text.now.tokens (place_of self.now) self.now.first self.now.end result }
+        ensures { HasCome self.now.set.now self.now.text.now.tokens
+            (place_of self.now) self.now.run (starts_in self.now.starts)
+            self.now.first self.now.end
+            → IsNextOfRange self.now.set.now self.now.text.now.tokens
+            (place_of self.now) self.now.first self.now.end result }
     {
         let last = self.end.checked_sub(1)?;
         let from = self.least_number(last)?;
@@ -159,13 +169,17 @@ impl<'a> Finder<'a> {
     // The next match, if it begins with the current first token.
     fn next_of_first(&mut self) -> Option<Triple>
         ensures some { IfSome result (λ triple. rest_of self.old ≡ triple ∷ rest_of self.new) }
-        ensures none { IfNone result (NoneBegins self.new.set.now self.new.text.now.tokens (place_of self.new) self.new.first) }
-        ensures ended { IfNone result (AllEndBy self.new.set.now self.new.text.now.tokens self.new.first self.new.end) }
+        ensures none { IfNone result
+            (NoneBegins self.new.set.now self.new.text.now.tokens
+            (place_of self.new) self.new.first) }
+        ensures ended { IfNone result
+            (AllEndBy self.new.set.now self.new.text.now.tokens self.new.first self.new.end) }
         ensures rest { IfNone result (rest_of self.new ≡ rest_of self.old) }
         ensures given { self.new.given ≡ option_or result self.old.given }
         ensures same { IsOnSameWalk self.old self.new }
         ensures never_fall { steps_of self.old.run ≤ steps_of self.new.run }
-        ensures most { steps_of self.new.run ≤ steps_of self.old.run + 2 * letters_of self.old.text.now.tokens }
+        ensures most { steps_of self.new.run
+            ≤ steps_of self.old.run + 2 * letters_of self.old.text.now.tokens }
     {
         loop {
             if let Some(triple) = self.accepted() {
@@ -191,16 +205,21 @@ fn first_token(place: Option<Triple>) -> usize
 
 // Takes the least noted first token that is left, and begins a run with it over the templates that it stands for.
 fn begin_next(run: &mut Run<'_>, starts: &mut Starts) -> Option<usize>
-    requires rising { (noted : NotedFirst) (more : List NotedFirst) → starts_in starts.old ≡ noted ∷ more
+    requires rising { (noted : NotedFirst) (more : List NotedFirst)
+        → starts_in starts.old ≡ noted ∷ more
         → IsRising noted.numbers (length (set_of run.old)) }
-    requires within { (noted : NotedFirst) (more : List NotedFirst) → starts_in starts.old ≡ noted ∷ more
+    requires within { (noted : NotedFirst) (more : List NotedFirst)
+        → starts_in starts.old ≡ noted ∷ more
         → (k : ℕ) → Contains noted.numbers k → Contains (numbers_of run.old) k }
-    ensures some { IfSome result (λ first. (noted : NotedFirst) × (starts_in starts.old ≡ noted ∷ starts_in starts.new) × (noted.first ≡ first)
+    ensures some { IfSome result (λ first. (noted : NotedFirst)
+        × (starts_in starts.old ≡ noted ∷ starts_in starts.new) × (noted.first ≡ first)
         × StandsAmong run.new (noted_with (numbers_of run.old) noted.numbers) []) }
-    ensures none { IfNone result ((starts_in starts.old ≡ []) × (starts.new ≡ starts.old) × (run.new ≡ run.old)) }
+    ensures none { IfNone result
+        ((starts_in starts.old ≡ []) × (starts.new ≡ starts.old) × (run.new ≡ run.old)) }
     ensures set { set_of run.new ≡ set_of run.old }
     ensures numbers { numbers_of run.new ≡ numbers_of run.old }
-    ensures steps { (steps_of run.old ≤ steps_of run.new) × (steps_of run.new ≤ steps_of run.old + 2) }
+    ensures steps { (steps_of run.old ≤ steps_of run.new)
+        × (steps_of run.new ≤ steps_of run.old + 2) }
 {
     let noted = starts.least()?;
     let first = noted.first;

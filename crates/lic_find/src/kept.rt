@@ -13,7 +13,8 @@ use std::alloc::{AllocError, Global};
 /// The numbers of the templates that can describe a range of the text's tokens, by a look once through its letters.
 pub fn kept_templates(alloc: Global, set: &Set, text: &Text) -> Result<Vec<usize>, AllocError>
     ensures rising { IfOk result (λ kept. IsRising kept.items (length set.now)) }
-    ensures others { IfOk result (λ kept. OthersDescribeNoRange (parts_of set.now) kept.items (all_letters text.now.tokens)) }
+    ensures others { IfOk result (λ kept.
+        OthersDescribeNoRange (parts_of set.now) kept.items (all_letters text.now.tokens)) }
 {
     let mut look = set.look(alloc);
     for number in 0..text.len() {

@@ -11,7 +11,8 @@ use lic_auto::laws::whether_an_expression_describes_is_decided;
 
 /// There is one list of the matches: which they are and in which order leaves no choice.
 pub fn matches_are_one_list()
-    ensures { (set : List Known) (tokens : List TokenValue) (after : Option Triple) (xs ys : List Triple)
+    ensures { (set : List Known) (tokens : List TokenValue) (after : Option Triple)
+        (xs ys : List Triple)
         → AreMatches set tokens after xs → AreMatches set tokens after ys → xs ≡ ys }
 {}
 

@@ -27,10 +27,13 @@ pub fn first_tokens(
 ) -> Result<(Starts, u64), AllocError>
     requires rising { IsRising kept.items (length set.now) }
     requires within { from ≤ length text.now.tokens }
-    ensures firsts { OthersDescribeNoRange (parts_of set.now) kept.items (all_letters text.now.tokens)
-        → IfOk result (λ found. AreFirstsFrom set.now text.now.tokens kept.items from (starts_in found.0)) }
+    ensures firsts { OthersDescribeNoRange (parts_of set.now) kept.items
+        (all_letters text.now.tokens)
+        → IfOk result (λ found.
+        AreFirstsFrom set.now text.now.tokens kept.items from (starts_in found.0)) }
     ensures most { IfOk result (λ found. found.1 ≤ 2 * letters_of text.now.tokens) }
-    ensures least { IfOk result (λ found. found.1 < 2 ^ 64 - 1 → letters_of (drop from text.now.tokens) ≤ found.1) }
+    ensures least { IfOk result (λ found. found.1 < 2 ^ 64 - 1
+        → letters_of (drop from text.now.tokens) ≤ found.1) }
 {
     let mut back = Back::over(alloc, set, kept)?;
     let mut starts = Starts::none(alloc);

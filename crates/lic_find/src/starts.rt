@@ -46,7 +46,8 @@ impl Starts {
 
     /// Notes a first token before all others, with the numbers of the templates that describe a range from there.
     pub fn add(&mut self, first: usize, numbers: &[usize]) -> Result<(), AllocError>
-        ensures { OnOk result (starts_in self.new ≡ noted_at first (few_of numbers.now) ∷ starts_in self.old) }
+        ensures { OnOk result (starts_in self.new
+            ≡ noted_at first (few_of numbers.now) ∷ starts_in self.old) }
     {
         let few = if numbers.len() <= 4 { numbers } else { &[] };
         self.numbers.extend_from_slice(few)?;
@@ -60,7 +61,8 @@ impl Starts {
     /// The least first token that is left.
     pub fn least(&self) -> Option<Noted<'_>>
         ensures none { IfNone result (starts_in self.now ≡ []) }
-        ensures some { IfSome result (λ noted. starts_in self.now ≡ noted_at noted.first noted.numbers.now ∷ drop 1 (starts_in self.now)) }
+        ensures some { IfSome result (λ noted. starts_in self.now
+            ≡ noted_at noted.first noted.numbers.now ∷ drop 1 (starts_in self.now)) }
     {
         let entry = self.entries.last()?;
         let from = self.numbers.len() - entry.count;

@@ -1,5 +1,5 @@
 -- The tight matches of one template, from the last to the first.
-use Rattle.std.proofs.Common.{◌≡◌, ℕ, ◌+◌, ◌<◌, ◌≤◌, ◌⊎◌, ◌↔◌, List, [], ◌∷◌, ◌++◌, length, reverse, Option, Some, None, refl, sym, ap, ◌∙◌, inl, inr, subst, ⊎_elim, arith}
+use Rattle.std.proofs.Common.{◌≡◌, ℕ, ◌<◌, ◌≤◌, List, [], ◌∷◌, ◌++◌, length, reverse, Option, Some, None, refl, sym, ap, ◌∙◌, inl, subst, ⊎_elim, arith}
 use Rattle.std.specs.List.{Contains}
 use Rattle.std.specs.Option.{option_map}
 use Rattle.std.proofs.lemmas.Bool.{cases_lt}
@@ -34,7 +34,8 @@ module _ (set : List Known) (tokens : List TokenValue) where
       -- no match of the template that ends before `end` begins later
       not_later : (t : Triple) → IsMatch set tokens t → t.template ≡ k → t.last < end → t.first ≤ first
       not_later t m e low =
-          ⊎_elim (λ (later : first < t.first). absurd (latest.2 t.first later (begins_before t k end m e low))) (λ (h : t.first ≤ first). h) (cases_lt first t.first)
+          ⊎_elim (λ (later : first < t.first). absurd (latest.2 t.first later (begins_before t k end m e low))) (λ
+          (h : t.first ≤ first). h) (cases_lt first t.first)
 
       -- the shortest match from there on is tight
       pub last_tight : (r : Option ℕ) → IsLeastLast set tokens k first r → IsLastTight set tokens k end (option_map (λ last. triple_at first last k) r)
@@ -47,8 +48,11 @@ module _ (set : List Known) (tokens : List TokenValue) where
             alone = λ s found e after before.
                 let up : s.first ≤ first = not_later s found e (omega arith) in
                 let same : s.first ≡ first = omega arith in
-                let here : IsMatch set tokens (triple_at first s.last k) = subst (λ n. IsMatch set tokens (triple_at n s.last k)) same (at_numbers s k found e) in
-                let long : last ≤ s.last = ⊎_elim (λ (less : s.last < last). absurd (least s.last less here)) (λ (h : last ≤ s.last). h) (cases_lt s.last last) in
+                let here : IsMatch set tokens (triple_at first s.last k) =
+                subst (λ n. IsMatch set tokens (triple_at n s.last k)) same (at_numbers s k found e) in
+                let long : last ≤ s.last =
+                ⊎_elim (λ (less : s.last < last). absurd (least s.last less here)) (λ (h : last ≤ s.last). h)
+                (cases_lt s.last last) in
                 let end_is : last ≡ s.last = omega arith in
                 same_parts (triple_at first last k) s (sym same) end_is (sym e);
           } in

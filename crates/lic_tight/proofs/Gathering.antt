@@ -1,18 +1,16 @@
 -- The tight matches of one template after another.
-use Rattle.std.proofs.Common.{◌≡◌, ◌≢◌, ℕ, ◌+◌, ◌-◌, ◌*◌, ◌^◌, ◌<◌, ◌≤◌, ◌⊎◌, ◌↔◌, Bool, true, not, List, [], ◌∷◌, ◌++◌, length, Option, Some, None, refl, sym, ap, ◌∙◌, inl, inr, subst, ⊎_elim, arith}
-use Rattle.std.specs.List.{Contains, sum_by, list_any, filter}
+use Rattle.std.proofs.Common.{◌≡◌, ◌≢◌, ℕ, ◌+◌, ◌-◌, ◌*◌, ◌^◌, ◌<◌, ◌≤◌, ◌⊎◌, ◌↔◌, true, List, [], ◌∷◌, ◌++◌, length, None, refl, sym, ap, ◌∙◌, inl, inr, subst, ⊎_elim, arith}
+use Rattle.std.specs.List.{Contains}
 use Rattle.std.specs.List.Sorted.{IsPermutation, IsSorted}
 use Rattle.std.proofs.lemmas.Bool.{cases_lt}
-use Rattle.std.proofs.lemmas.Bool.Decides.{nat_tests}
 use Rattle.std.proofs.lemmas.List.{length_push}
 use Rattle.std.proofs.lemmas.List.Elements.{Contains-append_left, Contains-append_right, Contains-append_cases, Contains-push, Contains-push_cases}
 use Rattle.std.proofs.lemmas.List.Sorted.{Contains-permutation, IsPermutation-sym, sum_by-IsPermutation}
 use Rattle.std.proofs.lemmas.List.Sums.{sum_by-append}
 use Rattle.lic_norm.specs.Tokens.{TokenValue}
-use Rattle.lic_keys.specs.Rising.{IsRising}
 use Rattle.lic_keys.proofs.RisingLemmas.{IsRising-nil, IsRising-push}
 use Rattle.lic_auto.specs.Sets.{Known}
-use Rattle.lic_find.specs.Matches.{IsMatch, AreAscending, AreMatches}
+use Rattle.lic_find.specs.Matches.{IsMatch, AreMatches}
 use Rattle.lic_find.specs.declared.triple.Triple.{Triple}
 use Rattle.lic_find.proofs.Triples.{Contains-nil, same_from_members}
 use Rattle.lic_find.proofs.Collecting.{Collects, Collects-filter}
@@ -20,7 +18,7 @@ use Rattle.lic_vars.specs.Filters.{is_inside, is_tight, tight_of, triple_cmp}
 use Rattle.lic_vars.proofs.Members.{not-list_any}
 use Rattle.lic_vars.proofs.Ranges.{IsInside, IsInside-test, test-IsInside, same_triple}
 use Rattle.lic_tight.specs.TightMatches.{IsTightMatch, AreTightOf}
-use Rattle.lic_tight.specs.Searches.{BeginsBefore, IsLatestFirst}
+use Rattle.lic_tight.specs.Searches.{IsLatestFirst}
 use Rattle.lic_tight.specs.Steps.{HaveRead, letters_from, text_letters, range_letters, range_steps, AreTemplatesOf, AreFewSteps}
 use Rattle.lic_tight.proofs.Finding.{begins_before}
 use Rattle.lic_tight.proofs.Sorting.{AreOnce, once_none, once_append, once_descending, once_moved, ascending_sorted}
@@ -42,7 +40,9 @@ module _ (set : List Known) (tokens : List TokenValue) where
       exact = λ t. (
         λ h. let old = (had.exact t).0 h in (old.0, Contains-append_left numbers (k ∷ []) t.template old.1),
         λ h. ⊎_elim (λ old. (had.exact t).1 (h.0, old))
-            (λ (new : k ≡ t.template). absurd (none t.first (omega arith) (begins_before set tokens t k (length tokens) h.0.matches (sym new) h.0.matches.within)))
+            (λ (new : k ≡ t.template). absurd
+            (none t.first (omega arith)
+            (begins_before set tokens t k (length tokens) h.0.matches (sym new) h.0.matches.within)))
             (Contains-push_cases numbers k t.template h.1),
       );
     }
@@ -97,10 +97,13 @@ module _ (set : List Known) (tokens : List TokenValue) where
           inside.within.another (ap (λ u. u.first) is) (ap (λ u. u.last) is)),
     )
 
-    pub sorted-tight_of : (numbers : List ℕ) (found sorted : List Triple) → HasFound set tokens numbers found → ((t : Triple) → IsMatch set tokens t → Contains numbers t.template)
+    pub sorted-tight_of : (numbers : List ℕ) (found sorted : List Triple) → HasFound set tokens numbers found
+        → ((t : Triple) → IsMatch set tokens t → Contains numbers t.template)
         → IsPermutation found sorted → IsSorted triple_cmp sorted → sorted ≡ tight_of all
     sorted-tight_of numbers found sorted has kept moved order =
-        let tight : Collects (λ t. IsMatchOf t × (is_tight all t ≡ true)) (tight_of all) = Collects-filter (is_tight all) IsMatchOf all (record { ascending = matches.ascending; exact = matches.exact }) in
+        let tight : Collects (λ t. IsMatchOf t × (is_tight all t ≡ true)) (tight_of all) =
+        Collects-filter (is_tight all) IsMatchOf all
+        (record { ascending = matches.ascending; exact = matches.exact }) in
         same_from_members sorted (tight_of all) (ascending_sorted sorted order (once_moved found sorted moved has.once)) tight.ascending
         (λ t h.
         let m = ((has.exact t).0 (Contains-permutation sorted found t (IsPermutation-sym found sorted moved) h)).0 in
@@ -131,7 +134,7 @@ module _ (tokens : List TokenValue) (bound : ℕ) where
     are = record { rising = IsRising-nil bound; exact = λ k. (λ h. absurd (Contains-nil k h), λ (t, h, e). absurd (Contains-nil t h)) };
     among = λ k h. h;
     few = omega arith;
-    read = λ low. (least low, λ t h. absurd (Contains-nil t h));
+    read = λ low. (least low, λ s t h. absurd (Contains-nil s h));
   }
 
   module _ (numbers : List ℕ) (found : List Triple) (steps : ℕ) (had : HasTaken tokens bound numbers found steps) (k : ℕ) where
@@ -147,13 +150,15 @@ module _ (tokens : List TokenValue) (bound : ℕ) where
     pub has_taken-more : (more : List Triple) (added sum : ℕ) → k < bound → ((j : ℕ) → Contains numbers j → j < k)
         → ((t : Triple) → Contains more t → t.template ≡ k) → ((t : Triple) × Contains more t)
         → added ≤ 2 * text_letters tokens + range_steps tokens more → sum ≤ steps + added
-        → (sum < 2 ^ 64 - 1 → (count : ℕ) × (steps + count ≡ sum) × ((t : Triple) → Contains (found ++ more) t → Contains found t ⊎ (letters_from tokens 0 t.last ≤ count))) → HasTaken tokens bound (numbers ++ k ∷ []) (found ++ more) sum
+        → (sum < 2 ^ 64 - 1 → (count : ℕ) × (steps + count ≡ sum) × HaveRead tokens 0 more count)
+        → HasTaken tokens bound (numbers ++ k ∷ []) (found ++ more) sum
     has_taken-more more added sum within greater its some low total least =
         let size : length (had.templates ++ k ∷ []) ≡ length had.templates + 1 = length_push had.templates k in
         let both : range_steps tokens (found ++ more) ≡ range_steps tokens found + range_steps tokens more =
         sum_by-append (λ t. 4 * (range_letters tokens t + 1)) found more in
         let few = had.few in
-        let product : text_letters tokens * length (had.templates ++ k ∷ []) ≡ text_letters tokens * (length had.templates + 1) = ap (λ n. text_letters tokens * n) size in
+        let product : text_letters tokens * length (had.templates ++ k ∷ [])
+        ≡ text_letters tokens * (length had.templates + 1) = ap (λ n. text_letters tokens * n) size in
         record {
           templates = had.templates ++ k ∷ [];
           are = record {
@@ -180,18 +185,32 @@ module _ (tokens : List TokenValue) (bound : ℕ) where
               let old = had.read (omega arith) in
               let all : text_letters tokens ≤ steps = old.0 in (
                 omega arith,
-                λ t h. ⊎_elim
-                    (λ before. let was : text_letters tokens + letters_from tokens 0 t.last ≤ steps = old.1 t before in omega arith)
-                    (λ (now : letters_from tokens 0 t.last ≤ count). omega arith)
-                    (read t h),
+                λ s t h j e. ⊎_elim
+                    (λ before.
+                    ⊎_elim (λ also. let was : text_letters tokens + letters_from tokens s.first t.last ≤ steps = old.1 s t before also e in omega arith)
+                    (λ now. absurd (apart s t before now e)) (Contains-append_cases found more t j))
+                    (λ now.
+                    ⊎_elim (λ before. absurd (apart t s before now (sym e)))
+                    (λ also. let is : 0 + letters_from tokens s.first t.last ≤ count = read s t now also e in
+                    omega arith) (Contains-append_cases found more t j))
+                    (Contains-append_cases found more s h),
               );
         }
+      where
+        apart : (s t : Triple) → Contains found s → Contains more t → s.template ≢ t.template
+        apart s t h j e =
+            let old : s.template < k = greater s.template (had.among s.template ((had.are.exact s.template).1 (s, h, refl))) in
+            let new : t.template ≡ k = its t j in
+            omega (arith, old, new, e)
 
   pub read_letters : (numbers : List ℕ) (found sorted : List Triple) (steps : ℕ) → HasTaken tokens bound numbers found steps → IsPermutation found sorted →
       steps < 2 ^ 64 - 1 → HaveRead tokens (text_letters tokens) sorted steps
-  read_letters numbers found sorted steps has moved low t h = (has.read low).1 t (Contains-permutation sorted found t (IsPermutation-sym found sorted moved) h)
+  read_letters numbers found sorted steps has moved low s t h j =
+      let back = IsPermutation-sym found sorted moved in
+      (has.read low).1 s t (Contains-permutation sorted found s back h) (Contains-permutation sorted found t back j)
 
-  pub few_steps : (numbers : List ℕ) (found sorted : List Triple) (steps : ℕ) → HasTaken tokens bound numbers found steps → IsPermutation found sorted → AreFewSteps tokens bound sorted steps
+  pub few_steps : (numbers : List ℕ) (found sorted : List Triple) (steps : ℕ)
+      → HasTaken tokens bound numbers found steps → IsPermutation found sorted → AreFewSteps tokens bound sorted steps
   few_steps numbers found sorted steps has moved =
       let same : range_steps tokens sorted ≡ range_steps tokens found = sum_by-IsPermutation (λ t. 4 * (range_letters tokens t + 1)) found sorted moved in
       let few = has.few in (

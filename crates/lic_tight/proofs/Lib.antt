@@ -3,6 +3,7 @@ pub mod LiveRanges
 pub mod Sorting
 pub mod Gathering
 pub mod Noting
+pub mod Fronts
 pub mod Walking
 pub mod Single
 pub mod Keeping

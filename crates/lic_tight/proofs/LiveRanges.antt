@@ -1,6 +1,6 @@
 -- The ranges that describe beginnings of a list of tokens, and their letters.
-use Rattle.std.proofs.Common.{◌≡◌, ℕ, zero, ◌+◌, ◌-◌, ◌<◌, ◌≤◌, ◌↔◌, List, [], ◌∷◌, ◌++◌, length, get_or, map, take, drop, Option, Some, None, refl, sym, ap, ◌∙◌, subst, ⊎_elim, arith}
-use Rattle.std.specs.List.{slice_get, slice_range, sum_by}
+use Rattle.std.proofs.Common.{◌≡◌, ℕ, ◌+◌, ◌-◌, ◌<◌, ◌≤◌, List, [], ◌∷◌, ◌++◌, length, get_or, take, drop, sym, ap, ◌∙◌, subst, ⊎_elim, arith}
+use Rattle.std.specs.List.{slice_range, sum_by}
 use Rattle.std.specs.Str.{chars}
 use Rattle.std.proofs.lemmas.Bool.{cases_lt}
 use Rattle.std.proofs.lemmas.List.{length-map, length-take, length-drop, take_all}
@@ -11,15 +11,15 @@ use Rattle.lic_words.specs.Describing.{IsDescribed}
 use Rattle.lic_words.specs.Letters.{letters_in}
 use Rattle.lic_auto.specs.Backs.{IsLive}
 use Rattle.lic_auto.specs.Sets.{Known, words_of}
-use Rattle.lic_find.specs.Listing.{triple_at}
-use Rattle.lic_find.specs.Matches.{IsMatch, letters_between}
+use Rattle.lic_find.specs.Matches.{letters_between}
 use Rattle.lic_find.specs.Walks.{letters_up_to}
 use Rattle.lic_find.proofs.Ranges.{letters_up_to-none, letters_up_to-more, letters_up_to-split}
 use Rattle.lic_tight.specs.Searches.{BeginsBefore}
 use Rattle.lic_tight.specs.Steps.{letters_from}
 
 module _ (tokens : List TokenValue) where
-  pub letters_up_to-one : (first : ℕ) (d : TokenValue) → first < length tokens → letters_up_to tokens first (first + 1) ≡ chars (get_or tokens first d).text ∷ []
+  pub letters_up_to-one : (first : ℕ) (d : TokenValue) → first < length tokens
+      → letters_up_to tokens first (first + 1) ≡ chars (get_or tokens first d).text ∷ []
   letters_up_to-one first d within =
       letters_up_to-more tokens first first d (omega arith) within ∙ ap (λ ts. ts ++ chars (get_or tokens first d).text ∷ []) (letters_up_to-none tokens first)
 
@@ -36,7 +36,8 @@ module _ (tokens : List TokenValue) where
       ∙ omega (arith, length-take (end - first) (drop first tokens), length-drop first tokens)
 
   -- so many of them
-  letters_up_to-take : (n first end : ℕ) → first + n ≤ end → end ≤ length tokens → take n (letters_up_to tokens first end) ≡ letters_up_to tokens first (first + n)
+  letters_up_to-take : (n first end : ℕ) → first + n ≤ end → end ≤ length tokens
+      → take n (letters_up_to tokens first end) ≡ letters_up_to tokens first (first + n)
   letters_up_to-take n first end order within =
       let count : length (letters_up_to tokens first (first + n)) ≡ n = omega (arith, letters_up_to-length first (first + n) (omega arith) (omega arith)) in
       ap (take n) (letters_up_to-split tokens first (first + n) end (omega arith) order)
@@ -45,7 +46,8 @@ module _ (tokens : List TokenValue) where
 
   -- ---- letters
 
-  pub letters_from-split : (first between end : ℕ) → first ≤ between → between ≤ end → letters_from tokens first end ≡ letters_from tokens first between + letters_from tokens between end
+  pub letters_from-split : (first between end : ℕ) → first ≤ between → between ≤ end
+      → letters_from tokens first end ≡ letters_from tokens first between + letters_from tokens between end
   letters_from-split first between end order within =
       ap (sum_by letters_in) (letters_up_to-split tokens first between end order within)
       ∙ sum_by-append letters_in (letters_up_to tokens first between) (letters_up_to tokens between end)
@@ -53,7 +55,8 @@ module _ (tokens : List TokenValue) where
   pub letters_from-none : (first : ℕ) → letters_from tokens first first ≡ 0
   letters_from-none first = ap (sum_by letters_in) (letters_up_to-none tokens first)
 
-  pub letters_from-one : (first : ℕ) (d : TokenValue) → first < length tokens → letters_from tokens first (first + 1) ≡ letters_in (chars (get_or tokens first d).text)
+  pub letters_from-one : (first : ℕ) (d : TokenValue) → first < length tokens
+      → letters_from tokens first (first + 1) ≡ letters_in (chars (get_or tokens first d).text)
   letters_from-one first d within =
       let front : (n : ℕ) → 0 + n ≡ n = λ n. omega arith in
       ap (sum_by letters_in) (letters_up_to-one first d within) ∙ front (letters_in (chars (get_or tokens first d).text))
@@ -61,7 +64,8 @@ module _ (tokens : List TokenValue) where
   pub letters_from-front : (first end : ℕ) (d : TokenValue) → first < end → end ≤ length tokens →
       letters_from tokens first end ≡ letters_in (chars (get_or tokens first d).text) + letters_from tokens (first + 1) end
   letters_from-front first end d less within =
-      letters_from-split first (first + 1) end (omega arith) (omega arith) ∙ ap (λ n. n + letters_from tokens (first + 1) end) (letters_from-one first d (omega arith))
+      letters_from-split first (first + 1) end (omega arith) (omega arith)
+      ∙ ap (λ n. n + letters_from tokens (first + 1) end) (letters_from-one first d (omega arith))
 
   pub letters_from-more : (first end : ℕ) (d : TokenValue) → first ≤ end → end < length tokens →
       letters_from tokens first (end + 1) ≡ letters_from tokens first end + letters_in (chars (get_or tokens end d).text)

@@ -1,5 +1,5 @@
 -- The latest first tokens of many templates, as a walk towards the front notes them.
-use Rattle.std.proofs.Common.{◌≡◌, ◌≢◌, ℕ, ◌+◌, ◌-◌, ◌<◌, ◌≤◌, ◌⊎◌, ◌↔◌, List, [], ◌∷◌, ◌++◌, length, get_or, take, drop, set, MatchResult, Option, Some, None, Result, Ok, Err, refl, sym, ap, ◌∙◌, inl, inr, subst, ⊎_elim, arith, get_or-set_other, get_or-set_same}
+use Rattle.std.proofs.Common.{◌≡◌, ◌≢◌, ℕ, ◌+◌, ◌<◌, ◌≤◌, ◌⊎◌, ◌↔◌, List, [], ◌∷◌, ◌++◌, length, get_or, take, drop, set, MatchResult, Option, Some, None, Result, Ok, Err, refl, sym, ap, ◌∙◌, inl, inr, subst, ⊎_elim, arith, get_or-set_other, get_or-set_same}
 use Rattle.std.specs.List.{Contains}
 use Rattle.std.specs.Option.{option_or}
 use Rattle.std.proofs.lemmas.Bool.{cases_lt, cases_eq}
@@ -49,7 +49,9 @@ module _ (templates live : List ℕ) (first : ℕ) (old new : List (Option ℕ))
         (cases_eq i place);
     left = λ i inside h.
         ⊎_elim
-        (λ (here : i ≡ place). absurd (h (subst (λ j. Contains (live ++ x ∷ []) (get_or templates j 0)) (sym here) (subst (Contains (live ++ x ∷ [])) (sym is) (Contains-push live x)))))
+        (λ (here : i ≡ place). absurd
+        (h (subst (λ j. Contains (live ++ x ∷ []) (get_or templates j 0)) (sym here)
+        (subst (Contains (live ++ x ∷ [])) (sym is) (Contains-push live x)))))
         (λ (apart : i ≢ place).
         get_or-set_other new place i (option_or (get_or new place None) (Some first)) None apart
         ∙ had.left i inside (λ before. h (Contains-append_left live (x ∷ []) (get_or templates i 0) before)))
@@ -87,7 +89,8 @@ module _ (known : List Known) (tokens : List TokenValue) where
   noted_left : (k end first : ℕ) (old : Option ℕ) → IsLatestFirstFrom known tokens k end (first + 1) old → ¬ (BeginsBefore known tokens k end first) →
       IsLatestFirstFrom known tokens k end first old
   noted_left k end first None none not = λ f low begins.
-      ⊎_elim (λ (is : f ≡ first). not (subst (BeginsBefore known tokens k end) is begins)) (λ (apart : f ≢ first). none f (omega arith) begins) (cases_eq f first)
+      ⊎_elim (λ (is : f ≡ first). not (subst (BeginsBefore known tokens k end) is begins)) (λ
+      (apart : f ≢ first). none f (omega arith) begins) (cases_eq f first)
   noted_left k end first (Some f) latest not = (let low : first + 1 ≤ f = latest.0 in omega arith, latest.1, latest.2)
 
   pub latest_none : (templates : List ℕ) (firsts : List (Option ℕ)) → length firsts ≡ length templates → ((i : ℕ) → get_or firsts i None ≡ None) →
@@ -99,7 +102,8 @@ module _ (known : List Known) (tokens : List TokenValue) where
         (λ first low (last, less, m). let order : first ≤ last = m.order in omega arith);
   }
 
-  pub latest_more : (templates live : List ℕ) (first : ℕ) (old new : List (Option ℕ)) → AreLatestFirsts known tokens templates (first + 1) old → AreNoted templates live first old new →
+  pub latest_more : (templates live : List ℕ) (first : ℕ) (old new : List (Option ℕ))
+      → AreLatestFirsts known tokens templates (first + 1) old → AreNoted templates live first old new →
       ((i : ℕ) → i < length templates → Contains live (get_or templates i 0) ↔ BeginsBefore known tokens (get_or templates i 0) (length tokens) first) →
       AreLatestFirsts known tokens templates first new
   latest_more templates live first old new had step is = record {
@@ -118,7 +122,9 @@ module _ (known : List Known) (tokens : List TokenValue) where
   -- the numbers of the live templates are those of the templates that have a match which begins with this token
   pub live_is_begun : (first : ℕ) → first ≤ length tokens → (behind : List Known) → behind ≡ known → (numbers templates : List ℕ) → numbers ≡ templates →
       (i : ℕ) → i < length templates → (live : List ℕ) →
-      (Contains live (get_or templates i 0) ↔ (Contains numbers (get_or templates i 0) × IsLive behind (letters_up_to tokens first (length tokens)) (get_or templates i 0))) →
+      (Contains live (get_or templates i 0)
+      ↔ (Contains numbers (get_or templates i 0)
+      × IsLive behind (letters_up_to tokens first (length tokens)) (get_or templates i 0))) →
       Contains live (get_or templates i 0) ↔ BeginsBefore known tokens (get_or templates i 0) (length tokens) first
   live_is_begun first order behind same numbers templates over i within live exactly =
       let k = get_or templates i 0 in
@@ -131,29 +137,37 @@ module _ (known : List Known) (tokens : List TokenValue) where
       )
 
 -- what was written through the slice of a list
-pub written_back : {X : Type 0} (items new : List X) (len : ℕ) → len ≡ length items → length new ≡ length items → take len (new ++ drop (length new) items) ≡ new
+pub written_back : {X : Type 0} (items new : List X) (len : ℕ) → len ≡ length items → length new ≡ length items
+    → take len (new ++ drop (length new) items) ≡ new
 written_back items new len size same =
     ap (λ rest. take len (new ++ rest)) (drop_all (length new) items (omega arith)) ∙ ap (take len) (append-nil new) ∙ take_all len new (omega arith)
 
 -- what a binary search finds
 module _ (templates live : List ℕ) (first : ℕ) (old new : List (Option ℕ)) (had : AreNoted templates live first old new) (x : ℕ)
-    (rising : (n : ℕ) × IsRising templates n) (same : length old ≡ length templates) (r : Result ℕ ℕ) (position : IsBinarySearchResult (λ y. nat_cmp y x) templates r) where
+    (rising : (n : ℕ) × IsRising templates n) (same : length old ≡ length templates) (r : Result ℕ ℕ)
+    (position : IsBinarySearchResult (λ y. nat_cmp y x) templates r) where
   goes_up : (i j : ℕ) → i ≤ j → j < length templates → get_or templates i 0 ≤ get_or templates j 0
   goes_up i j order within =
       ⊎_elim (λ (less : i < j). omega (arith, rises templates rising.0 rising.1 i j less within))
       (λ (more : j ≤ i). let is : i ≡ j = omega arith in omega (arith, ap (λ k. get_or templates k 0) is))
       (cases_lt i j)
 
-  pub noted_found : (place : ℕ) → r ≡ Ok place → (value : Option ℕ) → value ≡ option_or (get_or new place None) (Some first) → AreNoted templates (live ++ x ∷ []) first old (set new place value)
+  pub noted_found : (place : ℕ) → r ≡ Ok place → (value : Option ℕ)
+      → value ≡ option_or (get_or new place None) (Some first)
+      → AreNoted templates (live ++ x ∷ []) first old (set new place value)
   noted_found place is value e =
-      let at = subst (λ q. MatchResult q (λ i. (i < length templates) × (get_or templates i 0 ≡ x)) (λ i. (i ≤ length templates) × ((k : ℕ) → k < i → get_or templates k 0 < x)
+      let at = subst (λ q. MatchResult q (λ i. (i < length templates)
+      × (get_or templates i 0 ≡ x)) (λ i. (i ≤ length templates)
+      × ((k : ℕ) → k < i → get_or templates k 0 < x)
       × ((k : ℕ) → i ≤ k → k < length templates → x < get_or templates k 0))) is (searched templates x r position goes_up) in
       subst (λ v. AreNoted templates (live ++ x ∷ []) first old (set new place v)) (sym e)
       (noted_at templates live first old new had x rising.0 place rising.1 same at.0 at.1)
 
   pub noted_missed : (place : ℕ) → r ≡ Err place → AreNoted templates (live ++ x ∷ []) first old new
   noted_missed place is =
-      let (low, below, above) = subst (λ q. MatchResult q (λ i. (i < length templates) × (get_or templates i 0 ≡ x)) (λ i. (i ≤ length templates) × ((k : ℕ) → k < i → get_or templates k 0 < x)
+      let (low, below, above) = subst (λ q.
+      MatchResult q (λ i. (i < length templates) × (get_or templates i 0 ≡ x)) (λ i. (i ≤ length templates)
+      × ((k : ℕ) → k < i → get_or templates k 0 < x)
       × ((k : ℕ) → i ≤ k → k < length templates → x < get_or templates k 0))) is (searched templates x r position goes_up) in
       noted_other templates live first old new had x (λ i within e.
       ⊎_elim (λ (less : i < place). let h = below i less in omega arith) (λ (more : place ≤ i). let h = above i more within in omega arith) (cases_lt i place))

@@ -1,5 +1,5 @@
 -- Lists of triples of which none stands twice, and the order of triples.
-use Rattle.std.proofs.Common.{◌≡◌, ◌≢◌, ℕ, zero, suc, ◌+◌, ◌<◌, ◌≤◌, ◌⊎◌, ◌&&◌, ◌==◌, Bool, false, true, List, [], ◌∷◌, ◌++◌, length, get_or, reverse, refl, sym, subst, inl, inr, ⊎_elim, arith}
+use Rattle.std.proofs.Common.{◌≡◌, ◌≢◌, ℕ, suc, ◌<◌, ◌≤◌, ◌⊎◌, ◌&&◌, ◌==◌, Bool, false, true, List, [], ◌∷◌, ◌++◌, get_or, reverse, refl, sym, subst, inl, inr, ⊎_elim, arith}
 use Rattle.std.specs.List.{Contains, AllByRecursion, AllPairs, IsDistinct}
 use Rattle.std.specs.List.Sorted.{IsPermutation, IsSorted}
 use Rattle.std.specs.Ordering.{nat_cmp, is_lt, ordering_then}
@@ -63,7 +63,8 @@ unfolding IsDistinct
 once_none = tt
 
 -- two lists, where no template stands in both
-pub once_append : (xs ys : List Triple) → AreOnce xs → AreOnce ys → ((s t : Triple) → Contains xs s → Contains ys t → s.template ≢ t.template) → AreOnce (xs ++ ys)
+pub once_append : (xs ys : List Triple) → AreOnce xs → AreOnce ys
+    → ((s t : Triple) → Contains xs s → Contains ys t → s.template ≢ t.template) → AreOnce (xs ++ ys)
 once_append [] ys d e apart = e
 once_append (x ∷ xs) ys d e apart =
     let head = all_at (λ y. is_same x y ≡ false) xs (IsDistinct-head is_same x xs d) in
@@ -86,7 +87,8 @@ once_descending xs fall = once_moved (reverse xs) xs (IsPermutation-sym xs (reve
 -- ---- lists in order
 
 triple_cmp-total : IsTotalOrder triple_cmp
-triple_cmp-total = then_total (on_total (λ t. t.first) nat_cmp_total) (then_total (on_total (λ t. t.last) nat_cmp_total) (on_total (λ t. t.template) nat_cmp_total))
+triple_cmp-total = then_total (on_total (λ t. t.first) nat_cmp_total)
+    (then_total (on_total (λ t. t.last) nat_cmp_total) (on_total (λ t. t.template) nat_cmp_total))
 
 -- what is not less by a number and then by more
 not_less : (a b : ℕ) (o : Ordering) → is_lt (ordering_then (nat_cmp a b) o) ≡ false → (b < a) ⊎ ((b ≡ a) × (is_lt o ≡ false))

@@ -1,5 +1,5 @@
 -- Walks for the matches of one template.
-use Rattle.std.proofs.Common.{◌≡◌, ◌≢◌, ℕ, zero, suc, ◌+◌, ◌-◌, ◌*◌, ◌<◌, ◌≤◌, ◌⊎◌, ◌↔◌, Bool, false, true, List, [], ◌∷◌, ◌++◌, length, get_or, Option, Some, None, refl, sym, ap, ◌∙◌, subst, ⊎_elim, arith}
+use Rattle.std.proofs.Common.{◌≡◌, ◌≢◌, ℕ, zero, suc, ◌+◌, ◌-◌, ◌<◌, ◌≤◌, ◌↔◌, Bool, false, true, List, [], ◌∷◌, ◌++◌, length, get_or, Option, Some, None, refl, sym, ap, ◌∙◌, subst, ⊎_elim, arith}
 use Rattle.std.specs.Bool.{IsTrue}
 use Rattle.std.specs.List.{Contains}
 use Rattle.std.specs.Str.{chars}
@@ -15,7 +15,7 @@ use Rattle.lic_find.specs.Walks.{letters_up_to}
 use Rattle.lic_find.specs.declared.triple.Triple.{Triple}
 use Rattle.lic_find.proofs.Asking.{IsMatch-answer}
 use Rattle.lic_find.proofs.Ranges.{letters_up_to-more}
-use Rattle.lic_tight.specs.Searches.{BeginsBefore, IsLatestFirst, IsLatestFirstFrom, IsLeastLast, IsLastTight}
+use Rattle.lic_tight.specs.Searches.{BeginsBefore, IsLatestFirst, IsLatestFirstFrom, IsLastTight}
 use Rattle.lic_tight.specs.Steps.{letters_from}
 use Rattle.lic_tight.proofs.Finding.{begins_before}
 use Rattle.lic_tight.proofs.LiveRanges.{live_begins, begins_live, letters_up_to-front, letters_from-front, letters_from-more}
@@ -38,15 +38,20 @@ module _ (tokens : List TokenValue) (text : List ℕ) (d : TokenValue) where
   count_front n end some order within is =
       let next : n - 1 + 1 ≡ n = omega arith in
       letters_from-front tokens (n - 1) end d (omega arith) within
-      ∙ ap (λ m. letters_in (chars (get_or tokens (n - 1) d).text) + letters_from tokens m end) next ∙ ap (λ t. letters_in (chars t) + letters_from tokens n end) (sym is)
+      ∙ ap (λ m. letters_in (chars (get_or tokens (n - 1) d).text) + letters_from tokens m end) next
+      ∙ ap (λ t. letters_in (chars t) + letters_from tokens n end) (sym is)
 
   pub letters_behind : (first end : ℕ) → first ≤ end → end < length tokens → text ≡ (get_or tokens end d).text →
       letters_up_to tokens first (end + 1) ≡ letters_up_to tokens first end ++ chars text ∷ []
-  letters_behind first end order within is = letters_up_to-more tokens first end d order within ∙ ap (λ t. letters_up_to tokens first end ++ chars t ∷ []) (sym is)
+  letters_behind first end order within is =
+      letters_up_to-more tokens first end d order within
+      ∙ ap (λ t. letters_up_to tokens first end ++ chars t ∷ []) (sym is)
 
   pub count_behind : (first end : ℕ) → first ≤ end → end < length tokens → text ≡ (get_or tokens end d).text →
       letters_from tokens first (end + 1) ≡ letters_from tokens first end + letters_in (chars text)
-  count_behind first end order within is = letters_from-more tokens first end d order within ∙ ap (λ t. letters_from tokens first end + letters_in (chars t)) (sym is)
+  count_behind first end order within is =
+      letters_from-more tokens first end d order within
+      ∙ ap (λ t. letters_from tokens first end + letters_in (chars t)) (sym is)
 
 module _ (set : List Known) (tokens : List TokenValue) (k end : ℕ) where
   module _ (n : ℕ) (some : 0 < n) (none : IsLatestFirstFrom set tokens k end n None) (order : n ≤ end) (within : end ≤ length tokens)
@@ -75,7 +80,8 @@ module _ (set : List Known) (tokens : List TokenValue) (k end : ℕ) where
         (cases_eq f (n - 1))
 
   -- what is found for a latest first token begins there
-  pub found_from : (first : ℕ) → IsLatestFirst set tokens k end (Some first) → (r : Option Triple) → IsLastTight set tokens k end r → (Q : Option Triple → Type 0)
+  pub found_from : (first : ℕ) → IsLatestFirst set tokens k end (Some first) → (r : Option Triple)
+      → IsLastTight set tokens k end r → (Q : Option Triple → Type 0)
       → ((t : Triple) → r ≡ Some t → t.first ≡ first → Q (Some t)) → Q r
   found_from first latest None none Q f = let (last, low, m) = latest.1 in absurd (none (triple_at first last k) m refl low)
   found_from first latest (Some t) (tight, e, low, more) Q f =
@@ -88,11 +94,13 @@ module _ (set : List Known) (tokens : List TokenValue) (k end : ℕ) where
 
 module _ (set : List Known) (tokens : List TokenValue) (k first : ℕ) where
   -- whether a run over the one template accepts
-  pub accepts_match : (last : ℕ) (other : List Known) (numbers : List ℕ) → other ≡ set → numbers ≡ k ∷ [] → first ≤ last → last < length tokens → (r : Option ℕ) (b : Bool)
+  pub accepts_match : (last : ℕ) (other : List Known) (numbers : List ℕ) → other ≡ set → numbers ≡ k ∷ []
+      → first ≤ last → last < length tokens → (r : Option ℕ) (b : Bool)
       → IsLeastOf other numbers (letters_between tokens first last) k r → (IsTrue b ↔ (r ≡ Some k)) → IsTrue b ↔ IsMatch set tokens (triple_at first last k)
   accepts_match last other numbers alike only order within r b least same =
       IsMatch-answer set tokens (triple_at first last k) r b order within
-      (subst (λ s. IsLeastOf s (k ∷ []) (letters_between tokens first last) k r) alike (subst (λ ns. IsLeastOf other ns (letters_between tokens first last) k r) only least)) same
+      (subst (λ s. IsLeastOf s (k ∷ []) (letters_between tokens first last) k r) alike
+      (subst (λ ns. IsLeastOf other ns (letters_between tokens first last) k r) only least)) same
 
   pub ends_more : (last : ℕ) → ((less : ℕ) → less < last → ¬ (IsMatch set tokens (triple_at first less k))) → ¬ (IsMatch set tokens (triple_at first last k)) →
       (less : ℕ) → less < last + 1 → ¬ (IsMatch set tokens (triple_at first less k))

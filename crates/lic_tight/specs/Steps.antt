@@ -31,23 +31,26 @@ pub record AreTemplatesOf (found : List Triple) (bound : ℕ) (templates : List 
 -- At most twice the letters of the text, once and for each template that has a triple in the list, and for each triple four times its letters and four.
 abbrev pub AreFewSteps : List TokenValue → ℕ → List Triple → ℕ → Type 0
 AreFewSteps tokens bound found steps =
-    (templates : List ℕ) × AreTemplatesOf found bound templates × (steps ≤ 2 * text_letters tokens * (1 + length templates) + range_steps tokens found)
+    (templates : List ℕ) × AreTemplatesOf found bound templates
+    × (steps ≤ 2 * text_letters tokens * (1 + length templates) + range_steps tokens found)
 
--- the token that a walk towards the front has reached: the one that it looked for, or the first of all
-abbrev pub reached : Option ℕ → ℕ
-reached None = 0
-reached (Some first) = first
+-- the token that a walk towards the front has reached: the one that it looked for, or the last that it looked at
+abbrev pub reached : ℕ → Option ℕ → ℕ
+reached front None = front
+reached front (Some first) = first
 
--- the same of a walk for a tight match: its first token, or the first of all
-abbrev pub begin_of : Option Triple → ℕ
-begin_of None = 0
-begin_of (Some t) = t.first
+-- the same of a walk for a tight match: its first token, or the last that it looked at
+abbrev pub begin_of : ℕ → Option Triple → ℕ
+begin_of front None = front
+begin_of front (Some t) = t.first
 
 -- the steps that a walk from a first token on to the end of a match takes at most
 abbrev pub forward_steps : List TokenValue → Option Triple → ℕ
 forward_steps tokens None = 0
 forward_steps tokens (Some t) = 2 + 2 * range_letters tokens t
 
--- So many letters were read before, and for each triple of the list all letters before its last token.
+-- So many letters were read before, and for each two triples of one template in the list all letters from the first token of the one up to the last token of the other, which is left out.
 abbrev pub HaveRead : List TokenValue → ℕ → List Triple → ℕ → Type 0
-HaveRead tokens before found steps = (t : Triple) → Contains found t → before + letters_from tokens 0 t.last ≤ steps
+HaveRead tokens before found steps =
+    (s t : Triple) → Contains found s → Contains found t → s.template ≡ t.template
+    → before + letters_from tokens s.first t.last ≤ steps

@@ -23,14 +23,17 @@ loop-number-preserved c =
     record {
       keys = subst (AreKeysOf (parts_of c.args.set.now)) (sym c.in_ok-push.ensures.keys) c.loop-number.invariant.keys;
       taken = subst (HasTaken c.push.new.self) (sym (all_letters-more tokens number token within))
-          (subst (λ text. HasTaken c.push.new.self (front ++ chars text ∷ [])) (c.token.ensures.text token) (c.in_ok-push.ensures.taken front c.loop-number.invariant.taken));
+          (subst (λ text. HasTaken c.push.new.self (front ++ chars text ∷ [])) (c.token.ensures.text token)
+          (c.in_ok-push.ensures.taken front c.loop-number.invariant.taken));
     }
 
 pub returns-clause-rising : goal.returns-clause-rising
 returns-clause-rising c =
     let set = c.args.set.now in
     let keys = keys_of c.loop-number.look in
-    let count : length keys ≡ length set = sym (AllZip-count IsKeyOf (parts_of set) keys c.loop-number.invariant.keys) ∙ length-map set (λ known. known.template.parts) in
+    let count : length keys ≡ length set =
+    sym (AllZip-count IsKeyOf (parts_of set) keys c.loop-number.invariant.keys)
+    ∙ length-map set (λ known. known.template.parts) in
     IfOk-weaker c.kept.result (λ kept. IsRising kept.items (length keys)) (λ kept. IsRising kept.items (length set))
     (λ kept rising. subst (IsRising kept.items) count rising) c.kept.ensures.rising
 
@@ -42,6 +45,7 @@ returns-clause-others c =
     let whole : take c.loop-number.number tokens ≡ tokens = take_all c.loop-number.number tokens (omega arith) in
     let taken : HasTaken look (all_letters tokens) = subst (λ ts. HasTaken look (all_letters ts)) whole c.loop-number.invariant.taken in
     IfOk-weaker c.kept.result
-    (λ kept. (templates : List (List Part)) (ts : List (List ℕ)) → AreKeysOf templates (keys_of look) → HasTaken look ts → OthersDescribeNoRange templates kept.items ts)
+    (λ kept. (templates : List (List Part)) (ts : List (List ℕ)) → AreKeysOf templates (keys_of look)
+    → HasTaken look ts → OthersDescribeNoRange templates kept.items ts)
     (λ kept. OthersDescribeNoRange (parts_of set) kept.items (all_letters tokens))
     (λ kept rest. rest (parts_of set) (all_letters tokens) c.loop-number.invariant.keys taken) c.kept.ensures.others

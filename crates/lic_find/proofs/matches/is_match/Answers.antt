@@ -43,6 +43,8 @@ returns c =
     subst (λ n. StandsFor c.loop-number.run (letters_up_to tokens triple.first n)) whole c.loop-number.invariant.stands in
     let least = c.accepted.ensures.least (letters_between tokens triple.first triple.last) stands in
     IsMatch-answer c.args.set.now tokens triple c.accepted.result _ order within
-    (subst (λ s. IsLeastOf s (triple.template ∷ []) (letters_between tokens triple.first triple.last) triple.template c.accepted.result) c.loop-number.invariant.templates
-    (subst (λ ns. IsLeastOf (set_of c.loop-number.run) ns (letters_between tokens triple.first triple.last) triple.template c.accepted.result) c.loop-number.invariant.numbers least))
+    (subst (λ s. IsLeastOf s (triple.template ∷ [])
+    (letters_between tokens triple.first triple.last) triple.template c.accepted.result) c.loop-number.invariant.templates
+    (subst (λ ns. IsLeastOf (set_of c.loop-number.run) ns
+    (letters_between tokens triple.first triple.last) triple.template c.accepted.result) c.loop-number.invariant.numbers least))
     (is_number c.accepted.result triple.template c.eq.result c.eq.ensures)

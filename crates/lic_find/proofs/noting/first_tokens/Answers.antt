@@ -59,7 +59,8 @@ loop-first-preserved c =
     let text = c.token.ensures.text token in
     let stands : StandsBehind back (all_letters (drop first tokens)) =
     subst (StandsBehind back) (sym (all_letters-drop tokens first end token inside next))
-    (subst (λ text. StandsBehind back (chars text ∷ all_letters (drop end tokens))) text (c.push_front.ensures.stands (all_letters (drop end tokens)) inv.stands)) in
+    (subst (λ text. StandsBehind back (chars text ∷ all_letters (drop end tokens))) text
+    (c.push_front.ensures.stands (all_letters (drop end tokens)) inv.stands)) in
     let same_set : set_behind back ≡ set = c.push_front.ensures.set ∙ inv.set in
     let same_numbers : numbers_behind back ≡ kept = c.push_front.ensures.numbers ∙ inv.numbers in
     let rising : IsRising live (length set) = subst (λ s. IsRising live (length s)) same_set c.live_numbers-live.ensures.rising in
@@ -72,7 +73,9 @@ loop-first-preserved c =
     let most : steps_behind back ≤ steps_behind c.loop-first.back + 2 * letters_in (chars (get_or tokens first token).text) =
     subst (λ text. steps_behind back ≤ steps_behind c.loop-first.back + 2 * letters_in (chars text)) text c.push_front.ensures.most in
     let least : steps_behind back < 2 ^ 64 - 1 → steps_behind c.loop-first.back + letters_in (chars (get_or tokens first token).text) ≤ steps_behind back =
-    subst (λ text. steps_behind back < 2 ^ 64 - 1 → steps_behind c.loop-first.back + letters_in (chars text) ≤ steps_behind back) text c.push_front.ensures.least in
+    subst (λ text. steps_behind back < 2 ^ 64 - 1
+    → steps_behind c.loop-first.back + letters_in (chars text)
+    ≤ steps_behind back) text c.push_front.ensures.least in
     let before = inv.most in
     record {
       low = omega arith;
@@ -83,7 +86,8 @@ loop-first-preserved c =
           let behind : AreFirstsFrom set tokens kept (first + 1) (starts_in c.loop-first.starts) =
           subst (λ n. AreFirstsFrom set tokens kept n (starts_in c.loop-first.starts)) (sym next) (inv.firsts others) in
           AreFirstsFrom-pass set tokens kept first (starts_in c.loop-first.starts)
-          (none_live set tokens kept first inside live rising exactly others (empty live (eqb-true (length live) 0 (sym c.is_empty.ensures ∙ c.if-not-is_empty.false)))) behind;
+          (none_live set tokens kept first inside live rising exactly others
+          (empty live (eqb-true (length live) 0 (sym c.is_empty.ensures ∙ c.if-not-is_empty.false)))) behind;
       most = omega arith;
       least = λ bounded.
           let grown = least bounded in
@@ -107,7 +111,8 @@ loop-first-preserved-in-Continue-branch-2 c =
     let text = c.token.ensures.text token in
     let stands : StandsBehind back (all_letters (drop first tokens)) =
     subst (StandsBehind back) (sym (all_letters-drop tokens first end token inside next))
-    (subst (λ text. StandsBehind back (chars text ∷ all_letters (drop end tokens))) text (c.push_front.ensures.stands (all_letters (drop end tokens)) inv.stands)) in
+    (subst (λ text. StandsBehind back (chars text ∷ all_letters (drop end tokens))) text
+    (c.push_front.ensures.stands (all_letters (drop end tokens)) inv.stands)) in
     let same_set : set_behind back ≡ set = c.push_front.ensures.set ∙ inv.set in
     let same_numbers : numbers_behind back ≡ kept = c.push_front.ensures.numbers ∙ inv.numbers in
     let rising : IsRising live (length set) = subst (λ s. IsRising live (length s)) same_set c.live_numbers-live.ensures.rising in
@@ -120,7 +125,9 @@ loop-first-preserved-in-Continue-branch-2 c =
     let most : steps_behind back ≤ steps_behind c.loop-first.back + 2 * letters_in (chars (get_or tokens first token).text) =
     subst (λ text. steps_behind back ≤ steps_behind c.loop-first.back + 2 * letters_in (chars text)) text c.push_front.ensures.most in
     let least : steps_behind back < 2 ^ 64 - 1 → steps_behind c.loop-first.back + letters_in (chars (get_or tokens first token).text) ≤ steps_behind back =
-    subst (λ text. steps_behind back < 2 ^ 64 - 1 → steps_behind c.loop-first.back + letters_in (chars text) ≤ steps_behind back) text c.push_front.ensures.least in
+    subst (λ text. steps_behind back < 2 ^ 64 - 1
+    → steps_behind c.loop-first.back + letters_in (chars text)
+    ≤ steps_behind back) text c.push_front.ensures.least in
     let before = inv.most in
     record {
       low = omega arith;
@@ -131,7 +138,8 @@ loop-first-preserved-in-Continue-branch-2 c =
           let behind : AreFirstsFrom set tokens kept (first + 1) (starts_in c.loop-first.starts) =
           subst (λ n. AreFirstsFrom set tokens kept n (starts_in c.loop-first.starts)) (sym next) (inv.firsts others) in
           let (k, there) = some_of live (λ none. false≢true (sym c.if-not-is_empty.true ∙ c.is_empty.ensures ∙ eq-eqb (length live) 0 none)) in
-          subst (AreFirstsFrom set tokens kept first) (sym c.in_ok-add.ensures) (IsFirstFrom-live set tokens kept first inside live rising exactly others k there, behind);
+          subst (AreFirstsFrom set tokens kept first) (sym c.in_ok-add.ensures)
+          (IsFirstFrom-live set tokens kept first inside live rising exactly others k there, behind);
       most = omega arith;
       least = λ bounded.
           let grown = least bounded in
@@ -150,4 +158,5 @@ returns-clause-firsts c = λ others.
     let low = c.loop-first.invariant.low in
     let done = c.loop-first-test.false in
     let same : c.loop-first.first ≡ c.args.from = omega arith in
-    subst (λ n. AreFirstsFrom c.args.set.now c.args.text.now.tokens c.args.kept.items n (starts_in c.loop-first.starts)) same (c.loop-first.invariant.firsts others)
+    subst (λ n. AreFirstsFrom c.args.set.now c.args.text.now.tokens c.args.kept.items n
+    (starts_in c.loop-first.starts)) same (c.loop-first.invariant.firsts others)

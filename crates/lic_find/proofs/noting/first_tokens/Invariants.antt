@@ -14,7 +14,8 @@ invariant-loop-first l = record {
   set : set_behind l.back ≡ l.set;
   numbers : numbers_behind l.back ≡ l.fn.kept.items;
   stands : StandsBehind l.back (all_letters (drop l.first l.text.tokens));
-  firsts : OthersDescribeNoRange (parts_of l.set) l.fn.kept.items (all_letters l.text.tokens) → AreFirstsFrom l.set l.text.tokens l.fn.kept.items l.first (starts_in l.starts);
+  firsts : OthersDescribeNoRange (parts_of l.set) l.fn.kept.items (all_letters l.text.tokens)
+      → AreFirstsFrom l.set l.text.tokens l.fn.kept.items l.first (starts_in l.starts);
   most : steps_behind l.back ≤ 2 * letters_of (drop l.first l.text.tokens);
   least : steps_behind l.back < 2 ^ 64 - 1 → letters_of (drop l.first l.text.tokens) ≤ steps_behind l.back;
 }

@@ -1,4 +1,4 @@
-use Rattle.std.proofs.Common.{◌≡◌, ◌+◌, ◌∷◌, ◌++◌, [], get_or, take, sym, subst, arith}
+use Rattle.std.proofs.Common.{◌∷◌, ◌++◌, [], get_or, take, sym, subst, arith}
 use Rattle.std.proofs.lemmas.List.{take_more}
 use Rattle.lic_tight.specs.Searches.{AreNoted}
 use Rattle.lic_tight.proofs.Noting.{noted_found, noted_missed}

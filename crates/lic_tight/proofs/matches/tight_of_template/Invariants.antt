@@ -9,7 +9,7 @@ abbrev pub invariant-loop-next : goal.invariant-loop-next
 invariant-loop-next l = record {
   set : (set_of l.run ≡ l.set) × (set_behind l.back ≡ l.set);
   numbers : (numbers_of l.run ≡ l.template ∷ []) × (numbers_behind l.back ≡ l.template ∷ []);
-  come : HasWalked l.set l.text.tokens l.template l.matches.items l.next (steps_of l.run) (steps_behind l.back);
+  come : HasWalked l.set l.text.tokens l.template l.front l.matches.items l.next (steps_of l.run) (steps_behind l.back);
 }
 
 abbrev left : Option Triple → ℕ

@@ -11,6 +11,7 @@ invariant-loop-first l = record {
   numbers : numbers_behind l.back ≡ numbers_behind l.fn.back;
   stands : StandsBehind l.back (letters_up_to l.text.tokens l.first l.end);
   none : (template : ℕ) → numbers_behind l.fn.back ≡ template ∷ [] → IsLatestFirstFrom (set_behind l.fn.back) l.text.tokens template l.end l.first None;
+  low : l.front ≤ l.first;
   most : steps_behind l.back ≤ steps_behind l.fn.back + 2 + 2 * letters_from l.text.tokens l.first l.end;
   least : steps_behind l.back < 2 ^ 64 - 1 → steps_behind l.fn.back + letters_from l.text.tokens l.first l.end ≤ steps_behind l.back;
 }

@@ -1,4 +1,4 @@
-use Rattle.std.proofs.Common.{◌≡◌, ◌↔◌, ◌+◌, ◌*◌, ◌<◌, ◌≤◌, ◌∷◌, ◌++◌, [], ℕ, length, sym, subst, ◌∙◌, arith}
+use Rattle.std.proofs.Common.{◌≡◌, ◌↔◌, ◌+◌, ◌<◌, ◌≤◌, length, sym, subst, ◌∙◌, arith}
 use Rattle.std.specs.Bool.{IsTrue}
 use Rattle.std.specs.Str.{chars}
 use Rattle.std.proofs.lemmas.Bool.{false≢true}
@@ -22,10 +22,13 @@ returns-then-eq-clause-least c =
     let token : TokenValue = record { text = c.token.result.text.now; span = c.token.result.span } in
     let within : last < length tokens = omega arith in
     let stands : StandsFor c.push.new.self (letters_up_to tokens first (last + 1)) =
-    subst (StandsFor c.push.new.self) (sym (letters_behind tokens c.token.result.text.now token first last c.loop-last.auto.last within (c.token.ensures.text token)))
+    subst (StandsFor c.push.new.self)
+    (sym (letters_behind tokens c.token.result.text.now token first last c.loop-last.auto.last within
+    (c.token.ensures.text token)))
     (c.push.ensures.stands (letters_up_to tokens first last) c.loop-last.invariant.stands) in
     let is : IsTrue c.eq.result ↔ IsMatch (set_of c.args.run.now) tokens (triple_at first last c.args.template) =
-    accepts_match (set_of c.args.run.now) tokens c.args.template first last (set_of c.push.new.self) (numbers_of c.push.new.self) (c.push.ensures.set ∙ c.loop-last.invariant.set)
+    accepts_match (set_of c.args.run.now) tokens c.args.template first last (set_of c.push.new.self)
+    (numbers_of c.push.new.self) (c.push.ensures.set ∙ c.loop-last.invariant.set)
     (c.push.ensures.numbers ∙ c.loop-last.invariant.numbers) c.loop-last.auto.last within c.accepted.result c.eq.result
     (c.accepted.ensures.least (letters_up_to tokens first (last + 1)) stands) (is_number c.accepted.result c.args.template c.eq.result c.eq.ensures) in
     (is.0 c.if-eq.true, c.loop-last.invariant.none)
@@ -34,7 +37,8 @@ pub returns-then-eq-clause-most : goal.returns-then-eq-clause-most
 returns-then-eq-clause-most c =
     let tokens = c.args.text.now.tokens in
     let token : TokenValue = record { text = c.token.result.text.now; span = c.token.result.span } in
-    let count : letters_from tokens c.args.first (c.loop-last.last + 1) ≡ letters_from tokens c.args.first c.loop-last.last + letters_in (chars c.token.result.text.now) =
+    let count : letters_from tokens c.args.first (c.loop-last.last + 1)
+    ≡ letters_from tokens c.args.first c.loop-last.last + letters_in (chars c.token.result.text.now) =
     count_behind tokens c.token.result.text.now token c.args.first c.loop-last.last c.loop-last.auto.last (omega arith) (c.token.ensures.text token) in
     omega (arith, count, c.push.ensures.most, c.loop-last.invariant.most)
 
@@ -46,10 +50,13 @@ loop-last-preserved c =
     let token : TokenValue = record { text = c.token.result.text.now; span = c.token.result.span } in
     let within : last < length tokens = omega arith in
     let stands : StandsFor c.push.new.self (letters_up_to tokens first (last + 1)) =
-    subst (StandsFor c.push.new.self) (sym (letters_behind tokens c.token.result.text.now token first last c.loop-last.auto.last within (c.token.ensures.text token)))
+    subst (StandsFor c.push.new.self)
+    (sym (letters_behind tokens c.token.result.text.now token first last c.loop-last.auto.last within
+    (c.token.ensures.text token)))
     (c.push.ensures.stands (letters_up_to tokens first last) c.loop-last.invariant.stands) in
     let is : IsTrue c.eq.result ↔ IsMatch (set_of c.args.run.now) tokens (triple_at first last c.args.template) =
-    accepts_match (set_of c.args.run.now) tokens c.args.template first last (set_of c.push.new.self) (numbers_of c.push.new.self) (c.push.ensures.set ∙ c.loop-last.invariant.set)
+    accepts_match (set_of c.args.run.now) tokens c.args.template first last (set_of c.push.new.self)
+    (numbers_of c.push.new.self) (c.push.ensures.set ∙ c.loop-last.invariant.set)
     (c.push.ensures.numbers ∙ c.loop-last.invariant.numbers) c.loop-last.auto.last within c.accepted.result c.eq.result
     (c.accepted.ensures.least (letters_up_to tokens first (last + 1)) stands) (is_number c.accepted.result c.args.template c.eq.result c.eq.ensures) in
     let count : letters_from tokens first (last + 1) ≡ letters_from tokens first last + letters_in (chars c.token.result.text.now) =

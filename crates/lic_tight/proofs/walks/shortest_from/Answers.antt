@@ -1,4 +1,4 @@
-use Rattle.std.proofs.Common.{◌≡◌, sym, subst, Some, None}
+use Rattle.std.proofs.Common.{sym, subst, Some, None}
 use Rattle.lic_auto.specs.Runs.{set_of}
 use Rattle.lic_tight.specs.Searches.{IsLastTight}
 use Rattle.lic_tight.proofs.Finding.{last_tight}

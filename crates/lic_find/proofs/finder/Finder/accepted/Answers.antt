@@ -19,7 +19,8 @@ returns-in_err-template c = λ come.
     let tokens = f.text.now.tokens in
     let ends : c.in_ok-last.last + 1 ≡ f.end = omega (arith, c.in_ok-last.ensures) in
     subst (IsNextOfRange f.set.now tokens (place_of f) f.first f.end) (sym c.from_residual-in_err-template.ensures)
-    (NoneHasRange-least f.set.now tokens (place_of f) f.run (starts_in f.starts) f.first f.end come c.in_ok-last.last ends c.in_ok-from.from c.in_ok-from.ensures.some
+    (NoneHasRange-least f.set.now tokens (place_of f) f.run
+    (starts_in f.starts) f.first f.end come c.in_ok-last.last ends c.in_ok-from.from c.in_ok-from.ensures.some
     (c.in_err-template.ensures.among come.numbers (letters_up_to tokens f.first f.end) come.stands))
 
 pub returns : goal.returns
@@ -29,6 +30,7 @@ returns c = λ come.
     let ends : c.in_ok-last.last + 1 ≡ f.end = omega (arith, c.in_ok-last.ensures) in (
       refl,
       ends,
-      IsNext-least f.set.now tokens (place_of f) f.run (starts_in f.starts) f.first f.end come c.in_ok-last.last ends c.in_ok-from.from c.in_ok-from.ensures.some
+      IsNext-least f.set.now tokens (place_of f) f.run
+          (starts_in f.starts) f.first f.end come c.in_ok-last.last ends c.in_ok-from.from c.in_ok-from.ensures.some
           c.in_ok-template.template (c.in_ok-template.ensures.among come.numbers (letters_up_to tokens f.first f.end) come.stands),
     )

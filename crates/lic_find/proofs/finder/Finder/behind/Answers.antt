@@ -22,7 +22,8 @@ begin_next-requires-clause-rising c = λ noted more is.
     let others : OthersDescribeNoRange (parts_of set) behind (all_letters tokens) =
     subst (λ ns. OthersDescribeNoRange (parts_of set) ns (all_letters tokens)) (sym same) c.in_ok-kept.ensures.others in
     let firsts : AreFirstsFrom set tokens (numbers_of c.in_ok-run.run') c.min-from.result (starts_in c.in_ok-starts.starts) =
-    subst (λ ns. AreFirstsFrom set tokens ns c.min-from.result (starts_in c.in_ok-starts.starts)) (same ∙ sym c.in_ok-run.ensures.numbers) (c.in_ok-starts.ensures.firsts others) in
+    subst (λ ns. AreFirstsFrom set tokens ns c.min-from.result (starts_in c.in_ok-starts.starts))
+    (same ∙ sym c.in_ok-run.ensures.numbers) (c.in_ok-starts.ensures.firsts others) in
     subst (λ s. IsRising noted.numbers (length s)) (sym c.in_ok-run.ensures.set)
     (subst (AreFirstsFrom set tokens (numbers_of c.in_ok-run.run') c.min-from.result) is firsts).0.rising
 
@@ -36,7 +37,8 @@ begin_next-requires-clause-within c = λ noted more is k inside.
     let others : OthersDescribeNoRange (parts_of set) behind (all_letters tokens) =
     subst (λ ns. OthersDescribeNoRange (parts_of set) ns (all_letters tokens)) (sym same) c.in_ok-kept.ensures.others in
     let firsts : AreFirstsFrom set tokens (numbers_of c.in_ok-run.run') c.min-from.result (starts_in c.in_ok-starts.starts) =
-    subst (λ ns. AreFirstsFrom set tokens ns c.min-from.result (starts_in c.in_ok-starts.starts)) (same ∙ sym c.in_ok-run.ensures.numbers) (c.in_ok-starts.ensures.firsts others) in
+    subst (λ ns. AreFirstsFrom set tokens ns c.min-from.result (starts_in c.in_ok-starts.starts))
+    (same ∙ sym c.in_ok-run.ensures.numbers) (c.in_ok-starts.ensures.firsts others) in
     (subst (AreFirstsFrom set tokens (numbers_of c.in_ok-run.run') c.min-from.result) is firsts).0.within k inside
 
 pub invariant_of-result : goal.invariant_of-result
@@ -49,7 +51,8 @@ invariant_of-result c =
     let others : OthersDescribeNoRange (parts_of set) behind (all_letters tokens) =
     subst (λ ns. OthersDescribeNoRange (parts_of set) ns (all_letters tokens)) (sym same) c.in_ok-kept.ensures.others in
     let firsts : AreFirstsFrom set tokens (numbers_of c.in_ok-run.run') c.min-from.result (starts_in c.in_ok-starts.starts) =
-    subst (λ ns. AreFirstsFrom set tokens ns c.min-from.result (starts_in c.in_ok-starts.starts)) (same ∙ sym c.in_ok-run.ensures.numbers) (c.in_ok-starts.ensures.firsts others) in
+    subst (λ ns. AreFirstsFrom set tokens ns c.min-from.result (starts_in c.in_ok-starts.starts))
+    (same ∙ sym c.in_ok-run.ensures.numbers) (c.in_ok-starts.ensures.firsts others) in
     let run = c.in_ok-run.run' in
     let new = c.begin_next.new.run in
     let starts = starts_in c.in_ok-starts.starts in
@@ -58,7 +61,8 @@ invariant_of-result c =
     let begin = c.first_token.result in
     let from = c.min-from.result in
     let begun : HasBegun starts left run new r =
-    HasBegun-told starts left run new r c.begin_next.ensures.some (IfNone-map r (λ (empty, same, still). (empty, ap starts_in same, still)) c.begin_next.ensures.none) in
+    HasBegun-told starts left run new r c.begin_next.ensures.some
+    (IfNone-map r (λ (empty, same, still). (empty, ap starts_in same, still)) c.begin_next.ensures.none) in
     let low : from ≤ begin = omega (arith, c.min-from.ensures) in
     let high : from < length tokens → begin ≤ from = λ h. omega (arith, c.min-from.ensures, c.len.ensures) in
     let within : from ≤ length tokens = omega (arith, c.min-from.ensures, c.len.ensures) in

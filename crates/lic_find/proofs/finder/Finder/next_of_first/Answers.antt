@@ -36,7 +36,8 @@ returns-in-Some-clause-some c =
     let triple = c.in-Some.triple in
     sym c.loop-triple.invariant.rest
     ∙ same_list (matches_behind set tokens (place_of f)) (triple ∷ matches_behind set tokens (Some triple))
-    (∥∥₁_map f.come (λ come. matches_behind-next set tokens (λ after. c.matches_are_listed.ensures set tokens after) (place_of f) triple (c.in-Some.ensures come).2))
+    (∥∥₁_map f.come (λ come. matches_behind-next set tokens (λ after. c.matches_are_listed.ensures set tokens after)
+    (place_of f) triple (c.in-Some.ensures come).2))
 
 pub returns-in-Some-clause-most : goal.returns-in-Some-clause-most
 returns-in-Some-clause-most c =
@@ -55,14 +56,17 @@ returns-then-self-len-clause-ended c = λ t m here.
           let all : length tokens ≤ f.end = omega arith in
           ∥∥₁_elim f.come le_prop (λ come. AllEndBy-at_end set tokens (place_of f) f.run (starts_in f.starts) f.first f.end come all t m here)
       | then-self-len-via-else-self-len+then-dead w ↦
-          ∥∥₁_elim f.come le_prop (λ come. AllEndBy-dead set tokens (place_of f) f.run (starts_in f.starts) f.first f.end come (w.dead.ensures.among w.if-dead.true) t m here)
+          ∥∥₁_elim f.come le_prop (λ come.
+          AllEndBy-dead set tokens (place_of f) f.run (starts_in f.starts) f.first f.end come
+          (w.dead.ensures.among w.if-dead.true) t m here)
     ]
 
 pub returns-then-self-len-clause-none : goal.returns-then-self-len-clause-none
 returns-then-self-len-clause-none c = λ t m after here.
     let f = c.loop-triple.self in
     not_there f.come (λ come.
-    NoneBegins-ended f.set.now f.text.now.tokens (place_of f) f.run (starts_in f.starts) f.first f.end come (c.in_default.ensures come) (returns-then-self-len-clause-ended c) t m after here)
+    NoneBegins-ended f.set.now f.text.now.tokens (place_of f) f.run (starts_in f.starts) f.first f.end come
+    (c.in_default.ensures come) (returns-then-self-len-clause-ended c) t m after here)
 
 pub returns-then-self-len-clause-most : goal.returns-then-self-len-clause-most
 returns-then-self-len-clause-most c =
@@ -80,11 +84,14 @@ invariant_of-self-in-loop-triple c =
     let text = c.token.ensures.text token in
     record {
       come = ∥∥₁_map f.come (λ come.
-          HasCome-push f.set.now tokens (place_of f) f.run (starts_in f.starts) f.first f.end come c.push.new.self token (c.in_default.ensures come) room c.push.ensures.set c.push.ensures.numbers
+          HasCome-push f.set.now tokens (place_of f) f.run
+          (starts_in f.starts) f.first f.end come c.push.new.self token
+          (c.in_default.ensures come) room c.push.ensures.set c.push.ensures.numbers
           (subst (λ text. StandsAmong c.push.new.self come.numbers (letters_up_to tokens f.first f.end ++ chars text ∷ [])) text
           (c.push.ensures.among come.numbers (letters_up_to tokens f.first f.end) come.stands)));
       order = let order = f.order in omega arith;
-      counted = AreCounted-push f.set.now tokens f.began f.noting (steps_of f.run) f.first f.end f.counted token (steps_of c.push.new.self) f.order room c.push.ensures.never_fall
+      counted = AreCounted-push f.set.now tokens f.began f.noting (steps_of f.run) f.first f.end f.counted token
+          (steps_of c.push.new.self) f.order room c.push.ensures.never_fall
           (subst (λ text. steps_of c.push.new.self ≤ steps_of f.run + 2 * letters_in (chars text)) text c.push.ensures.most)
           (subst (λ text. steps_of c.push.new.self < 2 ^ 64 - 1 → steps_of f.run + letters_in (chars text) ≤ steps_of c.push.new.self) text
           (c.push.ensures.least (sym c.dead.ensures.value ∙ c.if-dead.false)));
@@ -106,7 +113,15 @@ loop-triple-preserved c =
     record {
       rest = inv.rest;
       given = inv.given;
-      same = record { set = inv.same.set; text = inv.same.text; began = inv.same.began; starts = inv.same.starts; noting = inv.same.noting; first = inv.same.first };
+      same = record {
+        set = inv.same.set;
+        text = inv.same.text;
+        began = inv.same.began;
+        starts =
+            inv.same.starts;
+        noting = inv.same.noting;
+        first = inv.same.first;
+      };
       never_fall = omega arith;
       most = omega arith;
     }

@@ -62,7 +62,8 @@ returns-in_err-first-clause-steps c =
       least = λ nothing b bounded.
           let below = capped-below (f.noting + steps_of c.begin_next.new.run) bounded in
           let all : letters_of_matches set tokens ≤ steps_of f.run =
-          walked-all set tokens (λ after. c.matches_are_listed.ensures set tokens after) f.began f.noting (steps_of f.run) f.first f.end f.counted f.order c.in_default.ensures.ended none
+          walked-all set tokens (λ after. c.matches_are_listed.ensures set tokens after) f.began f.noting
+          (steps_of f.run) f.first f.end f.counted f.order c.in_default.ensures.ended none
           (same.began ∙ b) (omega arith) in
           let noted : letters_of tokens ≤ f.noting = f.counted.noting_least (same.began ∙ b) (omega arith) in
           let left : letters_of old.text.now.tokens ≡ letters_of tokens = ap letters_of (sym same_tokens) in
@@ -87,8 +88,11 @@ invariant_of-self-2 c =
       order = omega arith;
       counted = ∥∥₁_elim f.come (hlevel (le_prop)) (λ come.
           subst (λ n. AreCounted set tokens f.began f.noting (steps_of new) n n) here
-          (AreCounted-next set tokens (λ after. c.matches_are_listed.ensures set tokens after) f.began f.noting (steps_of f.run) f.first f.end f.counted f.order c.in_default.ensures.ended (numbers_of f.run) (steps_of new) noted
-          (next_first set tokens (place_of f) f.run (starts_in f.starts) f.first f.end come noted left is).0 c.begin_next.ensures.steps.0 c.begin_next.ensures.steps.1));
+          (AreCounted-next set tokens (λ after. c.matches_are_listed.ensures set tokens after) f.began f.noting
+          (steps_of f.run) f.first f.end f.counted f.order c.in_default.ensures.ended (numbers_of f.run)
+          (steps_of new) noted
+          (next_first set tokens (place_of f) f.run
+          (starts_in f.starts) f.first f.end come noted left is).0 c.begin_next.ensures.steps.0 c.begin_next.ensures.steps.1));
     }
 
 pub returns-clause-steps : goal.returns-clause-steps
