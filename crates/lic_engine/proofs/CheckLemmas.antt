@@ -38,7 +38,8 @@ module _ (set : List Known) (tokens : List TokenValue) (k last : ℕ) (d : Known
       let letters : letters_between tokens 0 last ≡ all_letters tokens = whole_range tokens last e in (
         λ m.
             let known : m.known ≡ get_or set k d = let same : Some m.known ≡ Some (get_or set k d) = sym m.number ∙ number in cc in
-            subst (λ ts. IsDescribed (words_of (get_or set k d)) ts) letters (subst (λ t. IsDescribed (words_of t) (letters_between tokens 0 last)) known m.described),
+            subst (λ ts. IsDescribed (words_of (get_or set k d)) ts) letters
+            (subst (λ t. IsDescribed (words_of t) (letters_between tokens 0 last)) known m.described),
         λ described.
             record {
               order = omega arith;
@@ -69,10 +70,12 @@ one_answer false false to from = refl
 
 -- ---- the lines
 
-pub one_checked : (rules : LineRules) (words : List Phrase) (x y : Checked) → known_of x ≡ known_of y → IsVerdict rules words x → IsVerdict rules words y → x ≡ y
+pub one_checked : (rules : LineRules) (words : List Phrase) (x y : Checked) → known_of x ≡ known_of y
+    → IsVerdict rules words x → IsVerdict rules words y → x ≡ y
 one_checked rules words x y e h k =
     let same : x.yes ≡ y.yes =
-    one_answer x.yes y.yes (λ yes. k.1 (subst (λ t. DescribesItsOriginal rules words t) e (h.0 yes))) (λ yes. h.1 (subst (λ t. DescribesItsOriginal rules words t) (sym e) (k.0 yes))) in
+    one_answer x.yes y.yes (λ yes. k.1 (subst (λ t. DescribesItsOriginal rules words t) e (h.0 yes))) (λ yes.
+    h.1 (subst (λ t. DescribesItsOriginal rules words t) (sym e) (k.0 yes))) in
     λ i. record { known = e i; yes = same i }
 
 -- verdicts on these templates, some of their lines put and the others gathered
@@ -112,15 +115,18 @@ module _ (rules : LineRules) (words : List Phrase) where
   nothing_begins (Err x) set a = λ checked lines report. begins_empty a lines
 
   -- what was put, and then a beginning of what is gathered, is a beginning of each report
-  pub check_begins_within : (a b c : Option (List ℕ)) (gathered : List ℕ) (set keys rest : List Known) (all : Bool) → AreChecked rules words a b gathered keys all
+  pub check_begins_within : (a b c : Option (List ℕ)) (gathered : List ℕ) (set keys rest : List Known) (all : Bool)
+      → AreChecked rules words a b gathered keys all
       → BeginsWith b c gathered → set ≡ keys ++ rest
       → (checked : List Checked) (lines : List ℕ) → IsCheckReport rules set words checked lines → BeginsWith a c lines
   check_begins_within a b c gathered set keys rest all h p split = λ checked lines report.
       subst (λ l. BeginsWith a c l) (sym report.lines)
-      (done_begins_within Known Checked known_of (IsVerdict rules words) check_line (one_checked rules words) a b c gathered keys rest set checked h.done p split report.templates report.verdicts)
+      (done_begins_within Known Checked known_of (IsVerdict rules words) check_line
+      (one_checked rules words) a b c gathered keys rest set checked h.done p split report.templates report.verdicts)
 
   -- the lines of all templates
-  pub check_whole : (a b c : Option (List ℕ)) (gathered : List ℕ) (set keys : List Known) (all : Bool) → AreChecked rules words a b gathered keys all → Appends b c gathered → keys ≡ set
+  pub check_whole : (a b c : Option (List ℕ)) (gathered : List ℕ) (set keys : List Known) (all : Bool)
+      → AreChecked rules words a b gathered keys all → Appends b c gathered → keys ≡ set
       → (checked : List Checked) × (lines : List ℕ) × IsCheckReport rules set words checked lines × Appends a c lines × (all ≡ list_all says_yes checked)
   check_whole a b c gathered set keys all h p e =
       let whole = done_whole Known Checked known_of (IsVerdict rules words) check_line a b c gathered keys h.done p in (

@@ -13,7 +13,8 @@ on_err (Ok x) P p = tt
 on_err (Err x) P p = p
 
 -- the good things of these keys: the lines of some are put, and those of the others gathered
-pub record AreDone (X Y : Type 0) (key : Y → X) (Good : Y → Type 0) (line : Y → List ℕ) (old new : Option (List ℕ)) (gathered : List ℕ) (keys : List X) : Type 0 where
+pub record AreDone (X Y : Type 0) (key : Y → X) (Good : Y → Type 0) (line : Y → List ℕ) (old new : Option (List ℕ))
+    (gathered : List ℕ) (keys : List X) : Type 0 where
   pub things : List Y
   pub belong : map key things ≡ keys
   pub good : All Good things

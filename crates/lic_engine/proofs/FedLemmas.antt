@@ -11,7 +11,8 @@ pub piece_read : (a b c : Option (List ℕ)) (fed piece fed' : List ℕ) → Con
 piece_read a b c fed piece fed' p q e = subst (Consumes a c) (sym e) (Consumes-trans a b c fed piece p q)
 
 -- a piece was refused, and so is what was read, however it goes on
-pub piece_refused : (a b c : Option (List ℕ)) (fed piece : List ℕ) (fault : TextFault) → Consumes a b fed → Consumes b c piece → refusal_of (fed ++ piece) ≡ Some fault
+pub piece_refused : (a b c : Option (List ℕ)) (fed piece : List ℕ) (fault : TextFault) → Consumes a b fed
+    → Consumes b c piece → refusal_of (fed ++ piece) ≡ Some fault
     → (bytes : List ℕ) × Consumes a c bytes × ((more : List ℕ) → refusal_of (bytes ++ more) ≡ Some fault)
 piece_refused a b c fed piece fault p q r = refused_text (fed ++ piece) fault a c (Consumes-trans a b c fed piece p q) r
 

@@ -23,6 +23,17 @@ one_valued set tokens law x y e h k =
     let same : x.values ≡ y.values = law set tokens y.triple x.values y.values moved k in
     λ i. record { triple = e i; values = same i }
 
+-- the lines of a match by assigners of the set
+pub valued_by : (name : List ℕ) (own set : List Known) (source : List ℕ) (tokens : List TokenValue) (gathered more : List ℕ) (t : Triple) → own ≡ set
+    → ((values : List Assigned) × AreValues own tokens t values
+    × (more ≡ gathered ++ valued_lines name own source tokens (record { triple = t; values = values })))
+    → (values : List Assigned) × AreValues set tokens t values
+    × (more ≡ gathered ++ valued_lines name set source tokens (record { triple = t; values = values }))
+valued_by name own set source tokens gathered more t same line =
+    subst (λ (s : List Known). (values : List Assigned) × AreValues s tokens t values
+    × (more ≡ gathered ++ valued_lines name s source tokens (record { triple = t; values = values })))
+    same line
+
 -- the lines of one match more are gathered
 pub valued_more : (name : List ℕ) (set : List Known) (source : List ℕ) (tokens : List TokenValue) (a b : Option (List ℕ)) (gathered more : List ℕ)
     (triples : List Triple) (i : ℕ) (d : Triple)
@@ -32,7 +43,8 @@ pub valued_more : (name : List ℕ) (set : List Known) (source : List ℕ) (toke
     × (more ≡ gathered ++ valued_lines name set source tokens (record { triple = get_or triples i d; values = values })))
     → AreDone Triple Valued triple_of (HasItsValues set tokens) (valued_lines name set source tokens) a b more (take (i + 1) triples)
 valued_more name set source tokens a b gathered more triples i d h within line =
-    subst (λ keys. AreDone Triple Valued triple_of (HasItsValues set tokens) (valued_lines name set source tokens) a b more keys) (sym (take_more triples i d within))
+    subst (λ keys. AreDone Triple Valued triple_of (HasItsValues set tokens)
+    (valued_lines name set source tokens) a b more keys) (sym (take_more triples i d within))
     (done_more Triple Valued triple_of (HasItsValues set tokens) (valued_lines name set source tokens) a b gathered more (take i triples)
     (record { triple = get_or triples i d; values = line.0 }) h line.1 line.2)
 

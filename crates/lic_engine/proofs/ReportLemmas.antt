@@ -63,7 +63,8 @@ module _ (name : List ℕ) (set : List Known) (ask : Ask) (source : List ℕ) (t
       → IfOk r (λ some. (lines : List ℕ) × AreLines kind name set ask source tokens lines × Appends a b lines × (some ≡ nat_lt 0 (length lines)))
       → IfOk r (λ some. (lines : List ℕ) × AreLines ask.all name set ask source tokens lines × Appends a b lines × (some ≡ nat_lt 0 (length lines)))
   report_of_kind r kind a b e p =
-      subst (λ k. IfOk r (λ some. (lines : List ℕ) × AreLines k name set ask source tokens lines × Appends a b lines × (some ≡ nat_lt 0 (length lines)))) (sym e) p
+      subst (λ k. IfOk r (λ some. (lines : List ℕ) × AreLines k name set ask source tokens lines × Appends a b lines
+      × (some ≡ nat_lt 0 (length lines)))) (sym e) p
 
   pub part_of_kind : {E : Type 0} (r : Result Bool E) (kind : Bool) (a b : Option (List ℕ)) → ask.all ≡ kind
       → OnErr r ((lines : List ℕ) → AreLines kind name set ask source tokens lines → BeginsWith a b lines)

@@ -11,7 +11,8 @@ use Rattle.lic_report.specs.declared.ask.Ask.{Ask}
 use Rattle.lic_engine.specs.Inputs.{IsAccepted}
 
 -- these bytes were read to the end, are accepted, and have these tokens
-pub record HasTokens (rules : LineRules) (words : List Phrase) (a b : Option (List ℕ)) (source : List ℕ) (tokens : List TokenValue) (bytes : List ℕ) : Type 0 where
+pub record HasTokens (rules : LineRules) (words : List Phrase) (a b : Option (List ℕ)) (source : List ℕ)
+    (tokens : List TokenValue) (bytes : List ℕ) : Type 0 where
   pub accepted : IsAccepted a b bytes
   pub bytes_same : source ≡ bytes
   pub same : tokens ≡ tokens_of rules words bytes

@@ -25,7 +25,8 @@ CountsWrites result old new =
 
 -- nothing was written where the answer is Text or Read
 abbrev pub Keeps : {A W : Type 0} → Result A RunFault → W → W → Type 0
-Keeps result old new = (IsErrOf result Read → new ≡ old) × ((fault : TextFault) → IsErrOf result (Text fault) → new ≡ old)
+Keeps result old new = (IsErrOf result Read → new ≡ old)
+    × ((fault : TextFault) → IsErrOf result (Text fault) → new ≡ old)
 
 -- a fault is one of reading
 abbrev pub IsOfReading : {A : Type 0} → Result A RunFault → Type 0

@@ -34,7 +34,10 @@ fn original_text(
     k: usize,
 ) -> Result<Text, RunFault>
     requires { k < length set.now }
-    ensures tokens { (d : Known) → IfOk result (λ text. text.tokens ≡ tokens_of (rules_of rules.now) words.now (slice_index_or set.now k d).template.original) }
+    ensures tokens { (d : Known)
+        → IfOk result (λ text. text.tokens
+        ≡ tokens_of (rules_of rules.now) words.now
+        (slice_index_or set.now k d).template.original) }
     ensures text { (fault : _) → IsErrOf result (RunFault.Text fault)
         → (d : Known) → refusal_of (slice_index_or set.now k d).template.original ≡ Some fault }
     ensures faults { IsOfText result }
@@ -50,7 +53,8 @@ fn original_text(
 /// Whether a template describes all tokens of a text, and there is one.
 fn describes(alloc: Global, set: &Set, text: &Text, k: usize) -> Result<bool, AllocError>
     requires { k < length set.now }
-    ensures { (d : Known) → IfOk result (λ yes. IsTrue yes ↔ IsDescribed (words_of (slice_index_or set.now k d)) (all_letters text.now.tokens)) }
+    ensures { (d : Known) → IfOk result (λ yes. IsTrue yes
+        ↔ IsDescribed (words_of (slice_index_or set.now k d)) (all_letters text.now.tokens)) }
 {
     let Some(last) = text.len().checked_sub(1) else {
         return Ok(false);
@@ -72,7 +76,9 @@ fn describes_original(
     k: usize,
 ) -> Result<bool, RunFault>
     requires { k < length set.now }
-    ensures yes { (d : Known) → IfOk result (λ yes. IsTrue yes ↔ DescribesItsOriginal (rules_of rules.now) words.now (slice_index_or set.now k d)) }
+    ensures yes { (d : Known)
+        → IfOk result (λ yes. IsTrue yes
+        ↔ DescribesItsOriginal (rules_of rules.now) words.now (slice_index_or set.now k d)) }
     ensures text { (fault : _) → IsErrOf result (RunFault.Text fault)
         → (d : Known) → refusal_of (slice_index_or set.now k d).template.original ≡ Some fault }
     ensures faults { IsOfText result }
@@ -100,11 +106,14 @@ pub fn check<W: Sink>(
         × Appends (W.taken out.old) (W.taken out.new) lines
         × (all ≡ list_all says_yes checked)) }
     // A beginning of the lines.
-    ensures part { OnErr result ((checked : List Checked) (lines : List ℕ) → IsCheckReport (rules_of rules.now) set.now words.now checked lines
+    ensures part { OnErr result
+        ((checked : List Checked) (lines : List ℕ)
+        → IsCheckReport (rules_of rules.now) set.now words.now checked lines
         → BeginsWith (W.taken out.old) (W.taken out.new) lines) }
     // An original text that is refused: nothing is written.
     ensures text { (fault : _) → IsErrOf result (RunFault.Text fault)
-        → (known : Known) × Contains set.now known × (refusal_of known.template.original ≡ Some fault) }
+        → (known : Known) × Contains set.now known
+        × (refusal_of known.template.original ≡ Some fault) }
     ensures keeps { Keeps result out.old out.new }
     // A failure to write comes from the writer, and no other call failed; nothing is read.
     ensures writes { CountsWrites result (W.failed out.old) (W.failed out.new) }

@@ -37,7 +37,8 @@ fn report_all<W: Sink>(
         × AreAllLines name.now set.now ask.now text.now.tokens lines
         × Appends (W.taken out.old) (W.taken out.new) lines
         × (some ≡ nat_lt 0 (length lines))) }
-    ensures part { OnErr result ((lines : List ℕ) → AreAllLines name.now set.now ask.now text.now.tokens lines
+    ensures part { OnErr result
+        ((lines : List ℕ) → AreAllLines name.now set.now ask.now text.now.tokens lines
         → BeginsWith (W.taken out.old) (W.taken out.new) lines) }
     ensures writes { CountsWrites result (W.failed out.old) (W.failed out.new) }
     ensures faults { IsOfWriting result }
@@ -67,7 +68,8 @@ fn report<W: Sink>(
         × IsReportOf name.now set.now ask.now text.now.source text.now.tokens lines
         × Appends (W.taken out.old) (W.taken out.new) lines
         × (some ≡ nat_lt 0 (length lines))) }
-    ensures part { OnErr result ((lines : List ℕ) → IsReportOf name.now set.now ask.now text.now.source text.now.tokens lines
+    ensures part { OnErr result
+        ((lines : List ℕ) → IsReportOf name.now set.now ask.now text.now.source text.now.tokens lines
         → BeginsWith (W.taken out.old) (W.taken out.new) lines) }
     ensures writes { CountsWrites result (W.failed out.old) (W.failed out.new) }
     ensures faults { IsOfWriting result }
@@ -102,9 +104,12 @@ pub fn run<R: Source, W: Sink>(
         × Appends (W.taken out.old) (W.taken out.new) lines
         × (some ≡ nat_lt 0 (length lines))) }
     // A beginning of the report of what was read.
-    ensures part { (fault : _) → IsErrOf result fault → ((fault ≡ RunFault.Write) ⊎ (fault ≡ RunFault.Memory)) → (bytes : List ℕ)
+    ensures part { (fault : _) → IsErrOf result fault
+        → ((fault ≡ RunFault.Write) ⊎ (fault ≡ RunFault.Memory)) → (bytes : List ℕ)
         × IsAccepted (R.left input.old) (R.left input.new) bytes
-        × ((lines : List ℕ) → IsReport (rules_of rules.now) name.now set.now words.now ask.now bytes lines → BeginsWith (W.taken out.old) (W.taken out.new) lines) }
+        × ((lines : List ℕ) → IsReport
+        (rules_of rules.now) name.now set.now words.now ask.now bytes lines
+        → BeginsWith (W.taken out.old) (W.taken out.new) lines) }
     // An input that is too long: it stays refused however it goes on.
     ensures refused { (fault : _) → IsErrOf result (RunFault.Text fault) → fault ≢ TextFault.Memory
         → IsRefused (R.left input.old) (R.left input.new) fault }
@@ -126,9 +131,11 @@ fn report_tokens<W: Sink>(
     text: &Text,
     out: &mut W,
 ) -> Result<bool, RunFault>
-    ensures written { IfOk result (λ some. Appends (W.taken out.old) (W.taken out.new) (token_lines name.now text.now.tokens)
+    ensures written { IfOk result (λ some.
+        Appends (W.taken out.old) (W.taken out.new) (token_lines name.now text.now.tokens)
         × (some ≡ nat_lt 0 (length (token_lines name.now text.now.tokens)))) }
-    ensures part { OnErr result (BeginsWith (W.taken out.old) (W.taken out.new) (token_lines name.now text.now.tokens)) }
+    ensures part { OnErr result
+        (BeginsWith (W.taken out.old) (W.taken out.new) (token_lines name.now text.now.tokens)) }
     ensures writes { CountsWrites result (W.failed out.old) (W.failed out.new) }
     ensures faults { IsOfWriting result }
 {
@@ -158,12 +165,16 @@ pub fn run_tokens<R: Source, W: Sink>(
     // The lines of all tokens of what was read to the end.
     ensures report { IfOk result (λ some. (bytes : List ℕ)
         × IsAccepted (R.left input.old) (R.left input.new) bytes
-        × Appends (W.taken out.old) (W.taken out.new) (token_lines name.now (tokens_of (rules_of rules.now) words.now bytes))
-        × (some ≡ nat_lt 0 (length (token_lines name.now (tokens_of (rules_of rules.now) words.now bytes))))) }
+        × Appends (W.taken out.old) (W.taken out.new)
+        (token_lines name.now (tokens_of (rules_of rules.now) words.now bytes))
+        × (some ≡ nat_lt 0 (length
+        (token_lines name.now (tokens_of (rules_of rules.now) words.now bytes))))) }
     // A beginning of the lines of what was read.
-    ensures part { (fault : _) → IsErrOf result fault → ((fault ≡ RunFault.Write) ⊎ (fault ≡ RunFault.Memory)) → (bytes : List ℕ)
+    ensures part { (fault : _) → IsErrOf result fault
+        → ((fault ≡ RunFault.Write) ⊎ (fault ≡ RunFault.Memory)) → (bytes : List ℕ)
         × IsAccepted (R.left input.old) (R.left input.new) bytes
-        × BeginsWith (W.taken out.old) (W.taken out.new) (token_lines name.now (tokens_of (rules_of rules.now) words.now bytes)) }
+        × BeginsWith (W.taken out.old) (W.taken out.new)
+        (token_lines name.now (tokens_of (rules_of rules.now) words.now bytes)) }
     // An input that is too long: it stays refused however it goes on.
     ensures refused { (fault : _) → IsErrOf result (RunFault.Text fault) → fault ≢ TextFault.Memory
         → IsRefused (R.left input.old) (R.left input.new) fault }

@@ -18,7 +18,7 @@ use lic_stream::stream::Source;
 use std::alloc::Global;
 
 /// The most bytes that are read of an input: one more than an input may have.
-const MOST_READ: usize = 67_108_865;
+const MAX_READ: usize = 67_108_865;
 
 /// How many bytes are asked for in one call.
 const CHUNK: usize = 16_384;
@@ -28,7 +28,8 @@ const CHUNK: usize = 16_384;
 fn feed_all<R: Source>(input: &mut R, feeder: &mut Feeder<'_>) -> Result<(), RunFault>
     requires empty { feeder.old.bytes ≡ [] }
     requires open { feeder.old.refused ≡ None }
-    ensures whole { OnOk result (IsAccepted (R.left input.old) (R.left input.new) feeder.new.bytes) }
+    ensures whole { OnOk result
+        (IsAccepted (R.left input.old) (R.left input.new) feeder.new.bytes) }
     ensures open { OnOk result (feeder.new.refused ≡ None) }
     ensures words { feeder.new.words ≡ feeder.old.words }
     ensures rules { feeder.new.rules ≡ feeder.old.rules }
@@ -40,8 +41,8 @@ fn feed_all<R: Source>(input: &mut R, feeder: &mut Feeder<'_>) -> Result<(), Run
 {
     let mut chunk = [0u8; CHUNK];
     let mut count = 0;
-    while count < MOST_READ {
-        let room = (MOST_READ - count).min(CHUNK);
+    while count < MAX_READ {
+        let room = (MAX_READ - count).min(CHUNK);
         let n = match input.pull(&mut chunk[..room]) {
             Err(_) => return Err(RunFault::Read),
             Ok(n) => n,

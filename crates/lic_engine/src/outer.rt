@@ -12,6 +12,7 @@ use crate::fault::RunFault;
 use lic_auto::set::Set;
 use lic_find::triple::Triple;
 use lic_norm::text::Text;
+use lic_report::assigners::Assigners;
 use lic_report::outer::{add_valued, outer_matches};
 use lic_stream::stream::Sink;
 use lic_stream::transfer::{put_all, put_gathered};
@@ -30,17 +31,20 @@ fn put_valued<W: Sink>(
     requires { All (IsMatch set.now text.now.tokens) triples.now }
     ensures written { OnOk result ((outer : List Valued) × (map triple_of outer ≡ triples.now)
         × All (HasItsValues set.now text.now.tokens) outer
-        × Appends (W.taken out.old) (W.taken out.new) (flat_map (valued_lines name.now set.now text.now.source text.now.tokens) outer)) }
+        × Appends (W.taken out.old) (W.taken out.new)
+        (flat_map (valued_lines name.now set.now text.now.source text.now.tokens) outer)) }
     ensures part { OnErr result ((outer : List Valued) → map triple_of outer ≡ triples.now
         → All (HasItsValues set.now text.now.tokens) outer
-        → BeginsWith (W.taken out.old) (W.taken out.new) (flat_map (valued_lines name.now set.now text.now.source text.now.tokens) outer)) }
+        → BeginsWith (W.taken out.old) (W.taken out.new)
+        (flat_map (valued_lines name.now set.now text.now.source text.now.tokens) outer)) }
     ensures writes { CountsWrites result (W.failed out.old) (W.failed out.new) }
     ensures faults { IsOfWriting result }
 {
     values_are_one_list();
+    let mut assigners = Assigners::new(alloc, set);
     let mut lines = Vec::new(alloc);
     for triple in triples {
-        add_valued(alloc, &mut lines, name, set, text, *triple)?;
+        add_valued(alloc, &mut lines, name, &mut assigners, text, *triple)?;
         put_gathered(out, &mut lines)?;
     }
     put_all(out, lines.as_slice())?;
@@ -59,7 +63,8 @@ pub fn report_outer<W: Sink>(
         × AreOuterLines name.now set.now text.now.source text.now.tokens lines
         × Appends (W.taken out.old) (W.taken out.new) lines
         × (some ≡ nat_lt 0 (length lines))) }
-    ensures part { OnErr result ((lines : List ℕ) → AreOuterLines name.now set.now text.now.source text.now.tokens lines
+    ensures part { OnErr result
+        ((lines : List ℕ) → AreOuterLines name.now set.now text.now.source text.now.tokens lines
         → BeginsWith (W.taken out.old) (W.taken out.new) lines) }
     ensures writes { CountsWrites result (W.failed out.old) (W.failed out.new) }
     ensures faults { IsOfWriting result }

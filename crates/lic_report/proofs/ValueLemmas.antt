@@ -43,7 +43,8 @@ rising_between from (t ∷ ts) (suc i) (suc j) r h lt = rising_between t.span.en
 abbrev pub Fits : List ℕ → Span → Type 0
 Fits source s = (s.start ≤ s.end) × (s.end ≤ length source)
 
-span_fits : (source : List ℕ) (tokens : List TokenValue) (t : Triple) (s : Span) → AreSpans source tokens → t.last < length tokens → RunsFrom tokens t s → Fits source s
+span_fits : (source : List ℕ) (tokens : List TokenValue) (t : Triple) (s : Span) → AreSpans source tokens
+    → t.last < length tokens → RunsFrom tokens t s → Fits source s
 span_fits source tokens t s spans within runs =
     let low : runs.first ≤ runs.last = runs.order in
     let high : runs.last ≤ t.last = runs.ends in
@@ -83,7 +84,8 @@ outer_are_matches set tokens found triples outer tight matches e = λ k d lt.
     ((matches.exact (get_or triples k d)).0 among).0
 
 -- the line of a match and the lines of its values are its lines
-pub valued_line : {E A : Type 0} (r : Result A E) (name : List ℕ) (set : List Known) (source : List ℕ) (tokens : List TokenValue) (t : Triple) (old mid new : List ℕ)
+pub valued_line : {E A : Type 0} (r : Result A E) (name : List ℕ) (set : List Known) (source : List ℕ)
+    (tokens : List TokenValue) (t : Triple) (old mid new : List ℕ)
     (values : List Value) (given : List Value)
     → given ≡ values → AreValues set tokens t (map value_of values) → mid ≡ old ++ match_line name set tokens t
     → IfOk r (λ _. new ≡ mid ++ flat_map (value_line source) (map value_of given))

@@ -15,7 +15,8 @@ all_letters tokens = map (λ t. chars t.text) tokens
 
 -- the template describes all tokens of its original text, and there is one
 abbrev pub DescribesItsOriginal : LineRules → List Phrase → Known → Type 0
-DescribesItsOriginal rules words known = IsDescribed (words_of known) (all_letters (tokens_of rules words known.template.original))
+DescribesItsOriginal rules words known =
+    IsDescribed (words_of known) (all_letters (tokens_of rules words known.template.original))
 
 -- a template, and what is said of it
 pub record Checked : Type 0 where
@@ -39,7 +40,8 @@ check_line c =
     ++ field (if c.yes then codes "yes" else codes "no") 0x0A)
 
 -- What is written is a line for each template of the set, in order, with the verdict on it.
-pub record IsCheckReport (rules : LineRules) (set : List Known) (words : List Phrase) (checked : List Checked) (written : List ℕ) : Type 0 where
+pub record IsCheckReport (rules : LineRules) (set : List Known) (words : List Phrase) (checked : List Checked)
+    (written : List ℕ) : Type 0 where
   pub templates : map known_of checked ≡ set
   pub verdicts : All (IsVerdict rules words) checked
   pub lines : written ≡ flat_map check_line checked

@@ -2,6 +2,7 @@ pub mod Fields
 pub mod Report
 pub mod Checking
 pub mod Wanted
+pub mod Assigners
 pub use Rattle.lic_vars.specs.Values
 pub use Rattle.lic_vars.specs.Views
 pub use Rattle.lic_vars.specs.Filters

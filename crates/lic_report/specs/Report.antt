@@ -36,7 +36,8 @@ first_of None xs = xs
 first_of (Some limit) xs = take limit xs
 
 -- The lines of the first matches, up to the limit, of all that come after the triple that is asked for.
-pub record AreAllLines (name : List ℕ) (set : List Known) (ask : Ask) (tokens : List TokenValue) (written : List ℕ) : Type 0 where
+pub record AreAllLines (name : List ℕ) (set : List Known) (ask : Ask) (tokens : List TokenValue)
+    (written : List ℕ) : Type 0 where
   pub found : List Triple
   pub matches : AreMatches set tokens ask.after found
   pub lines : written ≡ flat_map (match_line name set tokens) (first_of ask.limit found)
@@ -71,7 +72,8 @@ abbrev pub valued_lines : List ℕ → List Known → List ℕ → List TokenVal
 valued_lines name set source tokens m = match_line name set tokens m.triple ++ flat_map (value_line source) m.values
 
 -- The lines of the outer ones of all matches, in order, each with its values.
-pub record AreOuterLines (name : List ℕ) (set : List Known) (source : List ℕ) (tokens : List TokenValue) (written : List ℕ) : Type 0 where
+pub record AreOuterLines (name : List ℕ) (set : List Known) (source : List ℕ) (tokens : List TokenValue)
+    (written : List ℕ) : Type 0 where
   pub found : List Triple
   pub matches : AreMatches set tokens None found
   pub outer : List Valued

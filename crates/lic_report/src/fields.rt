@@ -10,7 +10,8 @@ use std::fmt;
 /// What stands for a byte that may not stand in a field: for a backslash, a line feed, a carriage return and
 /// a tab.
 fn escape_of(byte: u8) -> Option<&'static str>
-    ensures { MatchOption result (escaped_byte byte ≡ byte ∷ []) (λ text. escaped_byte byte ≡ text.now) }
+    ensures { MatchOption result
+        (escaped_byte byte ≡ byte ∷ []) (λ text. escaped_byte byte ≡ text.now) }
 {
     match byte {
         b'\\' => Some("\\\\"),

@@ -2,6 +2,7 @@
 #![tactic(auto)]
 
 pub mod ask;
+pub mod assigners;
 pub mod fields;
 pub mod lines;
 pub mod outer;

@@ -50,7 +50,8 @@ pub fn add_match(
     text: &Text,
     triple: Triple,
 ) -> Result<(), AllocError>
-    ensures { OnOk result (lines.new.items ≡ lines.old.items ++ match_line name.now set.now text.now.tokens triple) }
+    ensures { OnOk result (lines.new.items
+        ≡ lines.old.items ++ match_line name.now set.now text.now.tokens triple) }
 {
     add_file(lines, name)?;
     add_text(lines, id_at(set, triple.template).as_bytes(), b'\t')?;
@@ -62,7 +63,9 @@ pub fn add_match(
 
 /// Adds the line of a token: the file, the first byte of the token and its end, and its text.
 pub fn add_token(lines: &mut Vec<u8>, name: &str, token: Token<'_>) -> Result<(), AllocError>
-    ensures { OnOk result (lines.new.items ≡ lines.old.items ++ token_line name.now (record { text = token.entry.text.now; span = token.entry.span })) }
+    ensures { OnOk result (lines.new.items
+        ≡ lines.old.items ++ token_line name.now
+        (record { text = token.entry.text.now; span = token.entry.span })) }
 {
     add_file(lines, name)?;
     add_number(lines, token.span.start as u64, b'\t')?;
@@ -85,8 +88,10 @@ fn add_place(lines: &mut Vec<u8>, text: &Text, span: Option<Span>) -> Result<(),
 
 /// Adds the line of a variable: an empty field, its name, and the bytes that it stood for.
 pub fn add_value(lines: &mut Vec<u8>, text: &Text, value: &Value<'_>) -> Result<(), AllocError>
-    requires { (s : Span) → value.now.span ≡ Some s → (s.start ≤ s.end) × (s.end ≤ length text.now.source) }
-    ensures { OnOk result (lines.new.items ≡ lines.old.items ++ value_line text.now.source (value_of value.now)) }
+    requires { (s : Span) → value.now.span ≡ Some s
+        → (s.start ≤ s.end) × (s.end ≤ length text.now.source) }
+    ensures { OnOk result (lines.new.items
+        ≡ lines.old.items ++ value_line text.now.source (value_of value.now)) }
 {
     add_text(lines, "".as_bytes(), b'\t')?;
     add_text(lines, value.name.as_bytes(), b'\t')?;
@@ -96,7 +101,9 @@ pub fn add_value(lines: &mut Vec<u8>, text: &Text, value: &Value<'_>) -> Result<
 /// Adds the line of a template: its identifier, its weight, and what is said of it.
 pub fn add_checked(lines: &mut Vec<u8>, set: &Set, k: usize, yes: bool) -> Result<(), AllocError>
     requires { k < length set.now }
-    ensures { OnOk result (lines.new.items ≡ lines.old.items ++ check_line (record { known = slice_index_or set.now k no_known; yes = yes })) }
+    ensures { OnOk result (lines.new.items
+        ≡ lines.old.items ++ check_line
+        (record { known = slice_index_or set.now k no_known; yes = yes })) }
 {
     add_text(lines, set.id(k).as_bytes(), b'\t')?;
     add_number(lines, set.template(k).weight(), b'\t')?;

@@ -9,6 +9,7 @@ ghost use Rattle.lic_vars.specs.Values.{Assigned, AreValues};
 ghost use Rattle.lic_vars.specs.Views.{value_of};
 ghost use Rattle.lic_report.specs.Report.{value_line, valued_lines};
 
+use crate::assigners::Assigners;
 use crate::lines::{add_match, add_value};
 use lic_auto::set::Set;
 use lic_find::laws::matches_exist;
@@ -18,13 +19,15 @@ use lic_norm::text::Text;
 use lic_tight::matches::tight_matches;
 use lic_vars::filters::outer;
 use lic_vars::laws::{outer_ones_are_tight, tight_ones_are_tight, values_run_over_tokens};
-use lic_vars::values::{Value, assign};
+use lic_vars::values::Value;
 use std::alloc::{AllocError, Global};
 
 /// The outer ones of all matches in a text, in the order of triples: those of its tight matches, which are found without a list of all.
 pub fn outer_matches(alloc: Global, set: &Set, text: &Text) -> Result<Vec<Triple>, AllocError>
-    ensures all { IfOk result (λ outer. (found : List Triple) × AreMatches set.now text.now.tokens None found × (outer.items ≡ outer_of found)) }
-    ensures only { IfOk result (λ outer. (others : List Triple) → AreMatches set.now text.now.tokens None others → outer.items ≡ outer_of others) }
+    ensures all { IfOk result (λ outer. (found : List Triple)
+        × AreMatches set.now text.now.tokens None found × (outer.items ≡ outer_of found)) }
+    ensures only { IfOk result (λ outer. (others : List Triple)
+        → AreMatches set.now text.now.tokens None others → outer.items ≡ outer_of others) }
     ensures matches { IfOk result (λ outer. All (IsMatch set.now text.now.tokens) outer.items) }
 {
     let tight = tight_matches(alloc, set, text)?;
@@ -36,8 +39,10 @@ pub fn outer_matches(alloc: Global, set: &Set, text: &Text) -> Result<Vec<Triple
 
 /// Adds the lines of variables.
 fn add_values(lines: &mut Vec<u8>, text: &Text, values: &[Value<'_>]) -> Result<(), AllocError>
-    requires { All (λ value. (s : Span) → value.span ≡ Some s → (s.start ≤ s.end) × (s.end ≤ length text.now.source)) values.now }
-    ensures { OnOk result (lines.new.items ≡ lines.old.items ++ flat_map (value_line text.now.source) (map value_of values.now)) }
+    requires { All (λ value. (s : Span) → value.span ≡ Some s
+        → (s.start ≤ s.end) × (s.end ≤ length text.now.source)) values.now }
+    ensures { OnOk result (lines.new.items
+        ≡ lines.old.items ++ flat_map (value_line text.now.source) (map value_of values.now)) }
 {
     for value in values {
         add_value(lines, text, value)?;
@@ -50,16 +55,20 @@ pub fn add_valued(
     alloc: Global,
     lines: &mut Vec<u8>,
     name: &str,
-    set: &Set,
+    assigners: &mut Assigners<'_>,
     text: &Text,
     triple: Triple,
 ) -> Result<(), AllocError>
-    requires { IsMatch set.now text.now.tokens triple }
-    ensures { OnOk result ((values : List Assigned) × AreValues set.now text.now.tokens triple values
-        × (lines.new.items ≡ lines.old.items ++ valued_lines name.now set.now text.now.source text.now.tokens (record { triple = triple; values = values }))) }
+    requires { IsMatch assigners.old text.now.tokens triple }
+    ensures set { assigners.new ≡ assigners.old }
+    ensures lines { OnOk result
+        ((values : List Assigned) × AreValues assigners.old text.now.tokens triple values
+        × (lines.new.items ≡ lines.old.items
+        ++ valued_lines name.now assigners.old text.now.source text.now.tokens
+        (record { triple = triple; values = values }))) }
 {
-    add_match(lines, name, set, text, triple)?;
-    let values = assign(alloc, set, text, triple)?;
+    add_match(lines, name, assigners.set(), text, triple)?;
+    let values = assigners.assign(alloc, text, triple)?;
     values_run_over_tokens();
     tokens_have_spans(text);
     add_values(lines, text, &values)

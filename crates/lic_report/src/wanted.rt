@@ -28,9 +28,11 @@ impl<'a> Wanted<'a> {
         ask: &Ask,
     ) -> Result<Wanted<'a>, AllocError>
         ensures all { IfOk result (λ w. (found : List Triple)
-            × AreMatches set.now text.now.tokens ask.now.after found × (wanted_of w ≡ first_of ask.now.limit found)) }
+            × AreMatches set.now text.now.tokens ask.now.after found
+            × (wanted_of w ≡ first_of ask.now.limit found)) }
         ensures only { IfOk result (λ w. (others : List Triple)
-            → AreMatches set.now text.now.tokens ask.now.after others → first_of ask.now.limit others ≡ wanted_of w) }
+            → AreMatches set.now text.now.tokens ask.now.after others
+            → first_of ask.now.limit others ≡ wanted_of w) }
     {
         let finder = match ask.after {
             Some(after) => Finder::resume(alloc, set, text, after)?,

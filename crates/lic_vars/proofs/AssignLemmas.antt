@@ -18,6 +18,7 @@ use Rattle.lic_vars.specs.Values.{Assigned, covered, letter_spans, nodes_of, Are
 use Rattle.lic_vars.specs.Moves.{Move, text, variable, optional, moves, CanFinish, Least, NoBlanks}
 use Rattle.lic_vars.specs.Recorded.{recorded}
 use Rattle.lic_vars.specs.Cuts.{gapped_of, spans_of, moves_of}
+use Rattle.lic_vars.specs.Assigners.{AssignerValue, AreStepsOf}
 use Rattle.lic_vars.specs.Views.{value_of}
 use Rattle.lic_vars.specs.declared.letters.Letter.{Letter}
 use Rattle.lic_vars.specs.declared.steps.Step.{Step}
@@ -27,7 +28,8 @@ use Rattle.lic_vars.proofs.MainLemmas.{least-derivation}
 use Rattle.lic_vars.proofs.ValueLemmas.{choice-recorded}
 use Rattle.lic_vars.proofs.DescribedLemmas.{can-finish}
 
-pub assigned : (set : List Known) (tokens : List TokenValue) (t : Triple) (known : Known) (steps : List Step) (letters : List Letter) (r : List ℕ) (values : List Assigned) →
+pub assigned : (set : List Known) (tokens : List TokenValue) (t : Triple) (known : Known) (steps : List Step)
+    (letters : List Letter) (r : List ℕ) (values : List Assigned) →
     slice_get set t.template ≡ Some known → moves_of steps ≡ moves (nodes_of known) → gapped_of letters ≡ gapped (letters_between tokens t.first t.last) →
     spans_of letters ≡ letter_spans (slice_range tokens t.first (t.last + 1)) → Least (moves_of steps) (gapped_of letters) false r →
     values ≡ recorded 0 (moves_of steps) r (spans_of letters) → AreValues set tokens t values
@@ -66,6 +68,12 @@ match-can set tokens t known steps letters h number m g =
 pub parts-of : (set : List Known) (k : ℕ) (known : Known) (parts : List Part) → slice_get set k ≡ Some known →
     ((d : Known) → parts ≡ (get_or set k d).template.parts) → parts ≡ known.template.parts
 parts-of set k known parts e h = h known ∙ ap (λ (x : Known). x.template.parts) (get_or_from_slice_get set k known known e)
+
+-- an assigner's steps are those of the template of its number
+pub moves-of : (set : List Known) (k : ℕ) (steps : List Step) (v : AssignerValue) (number : ℕ) (known : Known) → AreStepsOf set k steps →
+    record { set = set; template = k } ≡ v → number ≡ v.template → slice_get v.set number ≡ Some known → moves_of steps ≡ moves (nodes_of known)
+moves-of set k steps v number known are view same is =
+    are.moves known (ap (λ (a : AssignerValue). slice_get a.set a.template) view ∙ ap (slice_get v.set) (sym same) ∙ is)
 
 -- one step of a record, where it is left out
 less_one : (k : ℕ) → suc k - 1 ≡ k

@@ -71,7 +71,8 @@ module _ (r : Core) (name : List ℕ) (re : Expression) (words : HasWordsOf r (t
   way q f = way-of-finishes r name re words ms letters from within q (subst (λ (x : List Move). Finishes x (left_from letters from.at) from.is_apart q) more f)
 
   of_way : (q : List ℕ) → Way r ms letters from q → All q
-  of_way q w = subst (λ (x : List Move). Finishes x (left_from letters from.at) from.is_apart q) (sym more) (finishes-of-way r name re words ms letters from clean q w)
+  of_way q w = subst (λ (x : List Move). Finishes x (left_from letters from.at) from.is_apart q) (sym more)
+      (finishes-of-way r name re words ms letters from clean q w)
 
   -- no way without letters
   abbrev NoEmpty : Type 0
@@ -107,7 +108,8 @@ module _ (r : Core) (name : List ℕ) (re : Expression) (words : HasWordsOf r (t
     abbrev NoNext : Type 0
     NoNext = CanEnd r letters from.at (suc k) → IsNone (Finishes ms (left_from letters (from.at + suc k)) false)
 
-    next_least : (q p : List ℕ) → IsLeastOf (Finishes ms (left_from letters (from.at + suc k)) false) q → Way r ms letters from p → BeginsAbove k p → NotAfter (suc k ∷ q) p
+    next_least : (q p : List ℕ) → IsLeastOf (Finishes ms (left_from letters (from.at + suc k)) false) q
+        → Way r ms letters from p → BeginsAbove k p → NotAfter (suc k ∷ q) p
     next_least q p h (stays n f) above = absurd (omega arith)
     next_least q p h (goes {q = t} m b l c f) above = elim (split k m above) [
       | inl x ↦ inl (omega arith)
@@ -125,7 +127,8 @@ module _ (r : Core) (name : List ℕ) (re : Expression) (words : HasWordsOf r (t
     above_next none p (stays n f) above = absurd (omega arith)
     above_next none p (goes {q = t} m b l c f) above = elim (split k m above) [
       | inl x ↦ omega arith
-      | inr x ↦ absurd (none (subst (λ (j : ℕ). CanEnd r letters from.at (suc j)) (sym x) c) t (subst (λ (j : ℕ). Finishes ms (left_from letters (from.at + suc j)) false t) (sym x) f))
+      | inr x ↦ absurd (none (subst (λ (j : ℕ). CanEnd r letters from.at (suc j)) (sym x) c) t
+          (subst (λ (j : ℕ). Finishes ms (left_from letters (from.at + suc j)) false t) (sym x) f))
     ]
 
     pub more-least : NoNext → (q : List ℕ) → IsLeastOf (More (suc k)) q → IsLeastOf (More k) q

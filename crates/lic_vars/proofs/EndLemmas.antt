@@ -161,7 +161,8 @@ module _ (r : Core) (name : List ℕ) (re : Expression) (words : HasWordsOf r (t
       let nothing : u ≡ [] = tidy_empty u l.1 n in
       let here : WordsOf r [] = (words []).1 (subst (λ (x : Word). Language (tidy re) x) nothing l) in
       let stay : s ≡ (left_from letters from.at, from.is_apart) =
-      let g : read_word [] (left_from letters from.at) from.is_apart ≡ Some s = subst (λ (x : Word). read_word x (left_from letters from.at) from.is_apart ≡ Some s) nothing e in cc in
+      let g : read_word [] (left_from letters from.at) from.is_apart ≡ Some s =
+      subst (λ (x : Word). read_word x (left_from letters from.at) from.is_apart ≡ Some s) nothing e in cc in
       stays (is_nullable_complete r here) (subst (λ (t : State). Finishes ms t.0 t.1 q) stay f)
 
   -- a word with letters
@@ -184,17 +185,20 @@ module _ (r : Core) (name : List ℕ) (re : Expression) (words : HasWordsOf r (t
   way_at within q zero u s l n e f = way_empty q u s l n e f
   way_at within q (suc k) u s l n e f = way_some within q k u s l n e f
 
-  pub way-of-finishes : from.at ≤ length letters → (q : List ℕ) → Finishes (variable name re ∷ ms) (left_from letters from.at) from.is_apart q → Way r ms letters from q
+  pub way-of-finishes : from.at ≤ length letters → (q : List ℕ)
+      → Finishes (variable name re ∷ ms) (left_from letters from.at) from.is_apart q → Way r ms letters from q
   way-of-finishes within q (takes {n = n} u next after l m e f) = way_at within _ n u (next, after) l m e f
 
-  finishes_goes : NoBlanks (gapped_of letters) → (q : List ℕ) (k : ℕ) → from.at + suc k ≤ length letters → MayFollow letters from → CanEnd r letters from.at (suc k) →
+  finishes_goes : NoBlanks (gapped_of letters) → (q : List ℕ) (k : ℕ) → from.at + suc k ≤ length letters
+      → MayFollow letters from → CanEnd r letters from.at (suc k) →
       Finishes ms (left_from letters (from.at + suc k)) false q → Finishes (variable name re ∷ ms) (left_from letters from.at) from.is_apart (suc k ∷ q)
   finishes_goes clean q k bound fit can f =
       let long : length (left_from letters from.at) ≡ length letters - from.at = length_left letters from.at in
       let u = takes_all (WordsOf r) (left_from letters from.at) from.is_apart k (no_blanks_left letters from.at clean) (omega arith) fit can in
       takes u.0 (left_from letters (from.at + suc k)) false ((words u.0).0 u.1) u.2 (u.3 ∙ ap (λ x. Some (x, false)) (left_drop letters from.at (suc k))) f
 
-  pub finishes-of-way : NoBlanks (gapped_of letters) → (q : List ℕ) → Way r ms letters from q → Finishes (variable name re ∷ ms) (left_from letters from.at) from.is_apart q
+  pub finishes-of-way : NoBlanks (gapped_of letters) → (q : List ℕ) → Way r ms letters from q
+      → Finishes (variable name re ∷ ms) (left_from letters from.at) from.is_apart q
   finishes-of-way clean q (stays nullable f) =
       takes [] (left_from letters from.at) from.is_apart ((words []).0 (is_nullable_sound r nullable)) refl refl f
   finishes-of-way clean q (goes k bound fit can f) = finishes_goes clean _ k bound fit can f

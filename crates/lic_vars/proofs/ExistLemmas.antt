@@ -60,7 +60,8 @@ no_blanks_joined (p ∷ F) n = n
 decide_end : (r : Core) (letters : List Letter) (start n : ℕ) → NoBlanks (gapped_of letters) → CanEnd r letters start n ⊎ (CanEnd r letters start n → ⊥)
 decide_end r letters start n clean = decide_after r _ (no_blanks_joined _ (no_blanks_take n _ (no_blanks_left letters start clean)))
 
-decide_fit : (letters : List Letter) (from : Cut) (left : List (Gap × ℕ)) → left_from letters from.at ≡ left → MayFollow letters from ⊎ (MayFollow letters from → ⊥)
+decide_fit : (letters : List Letter) (from : Cut) (left : List (Gap × ℕ)) → left_from letters from.at ≡ left
+    → MayFollow letters from ⊎ (MayFollow letters from → ⊥)
 decide_fit letters from [] e = inl (λ p left f. absurd cc)
 decide_fit letters from (p ∷ left) e = at (fits p.0 from.is_apart) refl
   where
@@ -96,7 +97,8 @@ module _ (letters : List Letter) (clean : NoBlanks (gapped_of letters)) where
     More n q = Finishes whole (left_from letters from.at) from.is_apart q × BeginsAbove n q
 
     -- one letter more, or more than one
-    longer_of : (k : ℕ) → (CanEnd r letters from.at (suc k) → IsNone (Finishes ms (left_from letters (from.at + suc k)) false)) → Found (More (suc k)) → Found (More k)
+    longer_of : (k : ℕ) → (CanEnd r letters from.at (suc k)
+        → IsNone (Finishes ms (left_from letters (from.at + suc k)) false)) → Found (More (suc k)) → Found (More k)
     longer_of k no_next (least q l) = least q (more-least r name re words ms letters from clean within whole refl k no_next q l)
     longer_of k no_next (none g) = none (more-none r name re words ms letters from clean within whole refl k no_next g)
 
@@ -106,7 +108,8 @@ module _ (letters : List Letter) (clean : NoBlanks (gapped_of letters)) where
     step_of k bound fit (inl can) (none g) more = longer_of k (λ c. g) more
     step_of k bound fit (inr never) found more = longer_of k (λ c. absurd (never c)) more
 
-    scan_step : (k : ℕ) → MayFollow letters from → Found (More (suc k)) → (from.at + suc k ≤ length letters) ⊎ (length letters < from.at + suc k) → Found (More k)
+    scan_step : (k : ℕ) → MayFollow letters from → Found (More (suc k))
+        → (from.at + suc k ≤ length letters) ⊎ (length letters < from.at + suc k) → Found (More k)
     scan_step k fit more (inl b) = step_of k b fit (decide_end r letters from.at (suc k) clean) (rest (from.at + suc k) false b) more
     scan_step k fit more (inr b) = none (ended-none r name re words ms letters from clean within whole refl k (omega arith))
 
@@ -139,7 +142,8 @@ module _ (letters : List Letter) (clean : NoBlanks (gapped_of letters)) where
   finished_found (p ∷ left) apart = none (λ q f. let e = finished-left (p ∷ left) apart q f in cc)
 
   module _ (ms : List Move) (rest : Decides ms) (at : ℕ) (apart : Bool) (within : at ≤ length letters) where
-    text_behind : (w : Word) (s : State) → read_word w (left_from letters at) apart ≡ Some s → Found (Finishes ms s.0 s.1) → Found (Finishes (text w ∷ ms) (left_from letters at) apart)
+    text_behind : (w : Word) (s : State) → read_word w (left_from letters at) apart ≡ Some s
+        → Found (Finishes ms s.0 s.1) → Found (Finishes (text w ∷ ms) (left_from letters at) apart)
     text_behind w s e (least q l) = least q (text-least ms (left_from letters at) apart w s.0 s.1 e q l)
     text_behind w s e (none g) = none (text-none ms (left_from letters at) apart w s.0 s.1 e g)
 
@@ -161,10 +165,12 @@ module _ (letters : List Letter) (clean : NoBlanks (gapped_of letters)) where
   decides k [] h at apart within = finished_found (left_from letters at) apart
   decides zero (m ∷ ms) h at apart within = absurd (omega arith)
   decides (suc k) (text w ∷ ms) h at apart within = text_read ms (decides k ms (omega arith)) at apart within w (read_word w (left_from letters at) apart) refl
-  decides (suc k) (variable name re ∷ ms) h at apart within = variable_found name re ms (decides k ms (omega arith)) (record { at = at; is_apart = apart }) within
+  decides (suc k) (variable name re ∷ ms) h at apart within =
+      variable_found name re ms (decides k ms (omega arith)) (record { at = at; is_apart = apart }) within
   decides (suc k) (optional n ∷ ms) h at apart within =
       let e : length (drop n ms) ≡ length ms - n = length-drop n ms in
-      optional_of ms (decides k ms (omega arith)) at apart within n (decides k ms (omega arith) at apart within) (decides k (drop n ms) (omega arith) at apart within)
+      optional_of ms (decides k ms (omega arith)) at apart within n (decides k ms (omega arith) at apart within)
+      (decides k (drop n ms) (omega arith) at apart within)
 
 -- letters with these gaps
 abbrev made : Gap × ℕ → Letter

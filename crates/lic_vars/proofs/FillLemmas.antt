@@ -34,10 +34,12 @@ skipped-moves steps n i h =
     ap moves_of (drop_same n steps _ _ (either (length steps) n i h) ∙ sym (drop-drop n (i + 1) steps)) ∙ sym (drop-map move_of n (drop (i + 1) steps))
 
 module _ (ms : List Move) (left : List (Gap × ℕ)) (apart : Bool) where
-  pub text-can : (w : Word) (next : List (Gap × ℕ)) (after : Bool) → read_word w left apart ≡ Some (next, after) → CanFinish ms next after → CanFinish (text w ∷ ms) left apart
+  pub text-can : (w : Word) (next : List (Gap × ℕ)) (after : Bool) → read_word w left apart ≡ Some (next, after)
+      → CanFinish ms next after → CanFinish (text w ∷ ms) left apart
   text-can w next after e h = (h.0, reads next after e h.1)
 
-  pub text-could : (w : Word) (next : List (Gap × ℕ)) (after : Bool) → read_word w left apart ≡ Some (next, after) → CanFinish (text w ∷ ms) left apart → CanFinish ms next after
+  pub text-could : (w : Word) (next : List (Gap × ℕ)) (after : Bool) → read_word w left apart ≡ Some (next, after)
+      → CanFinish (text w ∷ ms) left apart → CanFinish ms next after
   text-could w next after e h = (h.0, read_unique w ms left next apart after h.0 e h.1)
 
   text_no : (w : Word) (q : List ℕ) → read_word w left apart ≡ None → Finishes (text w ∷ ms) left apart q → ⊥

@@ -25,7 +25,8 @@ none_of_part test list part within none =
 tight_of-part : (list part : List Triple) → ((s : Triple) → Contains part s → Contains (tight_of list) s) → tight_of part ≡ part
 tight_of-part list part within =
     filter-all (is_tight part) part
-    (λ t h. none_of_part (λ s. is_inside s t) list part (λ s k. Contains-tight_of list s (within s k)) ((Contains-filter (is_tight list) list t).0 (within t h)).1)
+    (λ t h. none_of_part (λ s. is_inside s t) list part (λ s k. Contains-tight_of list s (within s k))
+    ((Contains-filter (is_tight list) list t).0 (within t h)).1)
 
 pub tight_of-tight_of : (list : List Triple) → tight_of (tight_of list) ≡ tight_of list
 tight_of-tight_of list = tight_of-part list (tight_of list) (λ s h. h)
@@ -45,7 +46,8 @@ reached_among : (beats : Triple → Triple → Bool) (list : List Triple) (t s :
 reached_among beats list t s known reached = ⊎_elim (λ (e : s ≡ t). subst (Contains list) (sym e) known) (λ h. h.0) reached
 
 -- t or what lies inside it lies within it
-within_reached : (list : List Triple) (s t : Triple) → (s ≡ t) ⊎ (Contains list s × (is_inside s t ≡ true)) → (s.template ≡ t.template) × (t.first ≤ s.first) × (s.last ≤ t.last)
+within_reached : (list : List Triple) (s t : Triple) → (s ≡ t) ⊎ (Contains list s × (is_inside s t ≡ true))
+    → (s.template ≡ t.template) × (t.first ≤ s.first) × (s.last ≤ t.last)
 within_reached list s t reached =
     ⊎_elim (λ (e : s ≡ t). subst (λ u. (u.template ≡ t.template) × (t.first ≤ u.first) × (u.last ≤ t.last)) (sym e) (refl, omega arith, omega arith))
     (λ h. let inside = IsInside-test s t h.1 in (inside.template, inside.within.first, inside.within.last)) reached

@@ -36,7 +36,11 @@ module _ (steps : List Step) (letters : List Letter) where
       record {
         fits = h.fits;
         least = λ r l. rw (f, append_assoc (take first.count search.found.items) (numbers first.number) r) (h.least r l);
-        otherwise = λ none. let t = h.otherwise none in (t.0, rw f (grown (take first.count search.found.items) (numbers first.number) (reverse next.pending.items) t.1));
+        otherwise = λ none. let t = h.otherwise none in (
+          t.0,
+          rw f (grown (take first.count search.found.items) (numbers first.number)
+              (reverse next.pending.items) t.1),
+        );
         failed = rw g s.failed;
       }
 
@@ -51,13 +55,15 @@ module _ (steps : List Step) (letters : List Letter) where
       ap reverse p.pending ∙ reverse-append search.pending.items (record { count = length search.found.items; number = number; branch = branch } ∷ [])
 
   -- a branch is added in front of the others
-  pub leads-push : (found : List ℕ) (search next : Search) (number : Option ℕ) (branch : Branch) → search.found.items ≡ found → IsPushed search next number branch →
+  pub leads-push : (found : List ℕ) (search next : Search) (number : Option ℕ) (branch : Branch)
+      → search.found.items ≡ found → IsPushed search next number branch →
       Fits steps letters branch →
       ((r : List ℕ) → IsLeastOf (Goes steps letters branch) r → Least (moves_of steps) (gapped_of letters) false (found ++ (numbers number ++ r))) →
       (IsNone (Goes steps letters branch) → HasTried steps letters branch × Leads steps letters found (reverse search.pending.items)) →
       Leads steps letters found (reverse next.pending.items)
   leads-push found search next number branch e p fits least otherwise =
-      let whole : take (length search.found.items) found ≡ found = take_all _ found (let s : length search.found.items ≡ length found = ap length e in omega arith) in
+      let whole : take (length search.found.items) found ≡ found =
+      take_all _ found (let s : length search.found.items ≡ length found = ap length e in omega arith) in
       rw (front search next number branch p) (record {
         count = let s : length search.found.items ≡ length found = ap length e in omega arith;
         fits = fits;

@@ -60,7 +60,9 @@ module _ (tokens : List TokenValue) (first i : ℕ) (d : TokenValue) (order : fi
       ap (λ s. map (λ t. chars t.text) s) (slice_range_more tokens first i d order within)
       ∙ map-append (λ t. chars t.text) (slice_range tokens first i) (get_or tokens i d ∷ [])
 
-  pub gapped-more : gapped (texts tokens first (i + 1)) ≡ gapped (texts tokens first i) ++ gapped_from (last_of blank (texts tokens first i)) true (chars (get_or tokens i d).text)
+  pub gapped-more : gapped (texts tokens first (i + 1))
+      ≡ gapped (texts tokens first i)
+      ++ gapped_from (last_of blank (texts tokens first i)) true (chars (get_or tokens i d).text)
   gapped-more = ap gapped texts_more ∙ gapped-snoc (texts tokens first i) (chars (get_or tokens i d).text)
 
   pub last-more : last_of blank (texts tokens first (i + 1)) ≡ last_letter (last_of blank (texts tokens first i)) (chars (get_or tokens i d).text)
@@ -75,7 +77,8 @@ module _ (tokens : List TokenValue) (first i : ℕ) (d : TokenValue) (order : fi
 
 -- the letters of one token more
 module _ (tokens : List TokenValue) (first i : ℕ) (d : TokenValue) (order : first ≤ i) (within : i < length tokens) where
-  pub gapped-step : (old new : List (Gap × ℕ)) (before : ℕ) (t : List ℕ) → new ≡ old ++ gapped_from before true (chars t) → old ≡ gapped (texts tokens first i) →
+  pub gapped-step : (old new : List (Gap × ℕ)) (before : ℕ) (t : List ℕ)
+      → new ≡ old ++ gapped_from before true (chars t) → old ≡ gapped (texts tokens first i) →
       before ≡ last_of blank (texts tokens first i) → t ≡ (get_or tokens i d).text → new ≡ gapped (texts tokens first (i + 1))
   gapped-step old new before t e f g h =
       e ∙ ap (λ s. s ++ gapped_from before true (chars t)) f ∙ ap (λ b. gapped (texts tokens first i) ++ gapped_from b true (chars t)) g

@@ -31,7 +31,8 @@ not_less_last a b h =
     (λ e high. omega arith)
 
 -- each element of a sorted list is not above any behind it
-pub AllPairs-from_sorted : {X : Type 0} (R : X → X → Ordering) → IsTotalOrder R → (xs : List X) → IsSortedBy (λ x y. is_lt (R x y)) xs → AllPairs (λ x y. is_lt (R y x) ≡ false) xs
+pub AllPairs-from_sorted : {X : Type 0} (R : X → X → Ordering) → IsTotalOrder R → (xs : List X)
+    → IsSortedBy (λ x y. is_lt (R x y)) xs → AllPairs (λ x y. is_lt (R y x) ≡ false) xs
 AllPairs-from_sorted R total xs sorted = λ i j d before low.
     sorted_far (λ x y. is_lt (R x y)) (ranks_by total (λ x. x)) xs sorted i j d (omega arith) low
 
@@ -41,7 +42,8 @@ by_template s t = ordering_then (ordering_then (nat_cmp s.template t.template) (
 
 pub by_template-total : IsTotalOrder by_template
 by_template-total =
-    then_total (then_total (on_total (λ t. t.template) nat_cmp_total) (on_total (λ t. t.first) (back_total nat_cmp_total))) (on_total (λ t. t.last) nat_cmp_total)
+    then_total (then_total (on_total (λ t. t.template) nat_cmp_total)
+    (on_total (λ t. t.first) (back_total nat_cmp_total))) (on_total (λ t. t.last) nat_cmp_total)
 
 -- the order has s before t, or does not tell them apart
 pub record IsAhead (s t : Triple) : Type 0 where

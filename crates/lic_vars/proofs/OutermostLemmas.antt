@@ -79,7 +79,8 @@ is_around-outside s t apart =
     ]) refl
 
 -- so it comes to the same whether the template is asked for
-pub is_outer-outside : (list : List Triple) → tight_of list ≡ list → (t : Triple) → Contains list t → not (list_any (λ s. is_outside s t) list) ≡ is_outer list t
+pub is_outer-outside : (list : List Triple) → tight_of list ≡ list → (t : Triple) → Contains list t
+    → not (list_any (λ s. is_outside s t) list) ≡ is_outer list t
 is_outer-outside list tight t in_t =
     ap not (sym (list_any-agree (λ s. is_around s t) (λ s. is_outside s t) list (λ s in_s. is_around-outside s t (no_inside list tight t s in_t in_s))))
 
@@ -88,7 +89,8 @@ pub outermost_of-swept : (list sorted : List Triple) → tight_of list ≡ list 
     SameMembers (dedup is_under sorted) (outermost_of list)
 outermost_of-swept list sorted tight moved order =
     let pairs = AllPairs-from_sorted by_range by_range-total sorted order in
-    let ranked = Ranked-from_pairs IsBefore is_outside is_under sorted (λ i j d before low. IsBefore-by_range (get_or sorted i d) (get_or sorted j d) (pairs i j d before low)) in
+    let ranked = Ranked-from_pairs IsBefore is_outside is_under sorted (λ i j d before low.
+    IsBefore-by_range (get_or sorted i d) (get_or sorted j d) (pairs i j d before low)) in
     let same : filter (λ t. not (list_any (λ s. is_outside s t) list)) list ≡ outermost_of list =
     filter-agree (λ t. not (list_any (λ s. is_outside s t) list)) (is_outer list) list (is_outer-outside list tight) in
     subst (SameMembers (dedup is_under sorted)) same

@@ -41,7 +41,8 @@ recorded_covers (suc k) (optional n ∷ ms) r spans value span h e = recorded_co
 recorded_covers zero (text w ∷ ms) r spans value span h e =
     covers_drop (letters_in w) spans span (recorded_covers 0 ms r (drop (letters_in w) spans) value span h e)
 recorded_covers zero (variable name re ∷ ms) r spans value span h e =
-    elim (Contains-cons_cases (record { name = name; span = covered (take (get_or r 0 0) spans) }) (recorded 0 ms (drop 1 r) (drop (get_or r 0 0) spans)) value h) [
+    elim (Contains-cons_cases (record { name = name; span = covered (take (get_or r 0 0) spans) })
+    (recorded 0 ms (drop 1 r) (drop (get_or r 0 0) spans)) value h) [
       | inl q ↦ record { from = 0; count = get_or r 0 0; is = ap (λ (v : Assigned). v.span) q ∙ e }
       | inr q ↦ covers_drop (get_or r 0 0) spans span (recorded_covers 0 ms (drop 1 r) (drop (get_or r 0 0) spans) value span q e)
     ]

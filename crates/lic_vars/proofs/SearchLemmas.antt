@@ -35,10 +35,16 @@ on-ok (Err e) P Q h f = h
 
 -- one letter more was taken
 pub joined-step : (letters : List Letter) (start k at n : ℕ) (d : Letter) → at ≡ start + k → at < length letters → n ≡ suc k →
-    joined (take k (left_from letters start)) ++ (gap_of ((get_or letters at d).is_apart && not (nat_eq k 0)) (get_or letters at d).are_words, (get_or letters at d).letter) ∷ []
+    joined (take k (left_from letters start))
+    ++ (
+      gap_of ((get_or letters at d).is_apart && not (nat_eq k 0)) (get_or letters at d).are_words,
+      (get_or letters at d).letter,
+    ) ∷ []
     ≡ joined (take n (left_from letters start))
 joined-step letters start zero at n d e h t = let s : at ≡ start = omega arith in rw s (joined-first letters start n d (omega arith) (omega arith))
-joined-step letters start (suc k) at n d e h t = rw (ne_eqb (suc k) 0 (λ f. cc)) (joined-next letters start at (suc k) n d (omega arith) h (omega arith) (omega arith))
+joined-step letters start (suc k) at n d e h t =
+    rw (ne_eqb (suc k) 0 (λ f. cc))
+    (joined-next letters start at (suc k) n d (omega arith) h (omega arith) (omega arith))
 
 -- what is known of a variable
 pub record Facts (steps : List Step) (i : ℕ) (tree : Node) : Type 0 where
@@ -49,7 +55,8 @@ pub record Facts (steps : List Step) (i : ℕ) (tree : Node) : Type 0 where
   pub measured : IsTrue (is_measured tree)
   pub words : HasWordsOf (core_of tree) (tidy re)
 
-facts_of : (steps : List Step) (i : ℕ) (tree : Node) (step : Step) → i < length steps → get_or steps i step ≡ step → IsCompiled step → HasTree step tree → Facts steps i tree
+facts_of : (steps : List Step) (i : ℕ) (tree : Node) (step : Step) → i < length steps → get_or steps i step ≡ step
+    → IsCompiled step → HasTree step tree → Facts steps i tree
 facts_of steps i tree (Step.Text t) h e c has = absurd has
 facts_of steps i tree (Step.Optional n) h e c has = absurd has
 facts_of steps i tree (Step.Variable name ere node) h e c has = record {
@@ -79,7 +86,8 @@ same-tree steps i t u v w =
     let e : w.0 ≡ v.0 = cc in
     has_same v.0 t u v.2 (subst (λ (s : Step). HasTree s u) e w.2)
 
-pub variable-here : (steps : List Step) (i : ℕ) (step : Step) (t u : Node) → IsVariable steps i u → get_or steps i step ≡ step → HasTree step t → IsVariable steps i t
+pub variable-here : (steps : List Step) (i : ℕ) (step : Step) (t u : Node) → IsVariable steps i u
+    → get_or steps i step ≡ step → HasTree step t → IsVariable steps i t
 variable-here steps i step t u v e h =
     let same : v.0 ≡ step = sym (get_or_from_slice_get steps i v.0 step v.1) ∙ e in
     (step, v.1 ∙ ap Some same, h)
@@ -105,7 +113,8 @@ append_nil : (s : List ℕ) → s ++ [] ≡ s
 append_nil [] = refl
 append_nil (x ∷ s) = ap (λ t. x ∷ t) (append_nil s)
 
-carry-least : (m n : List Move) (left : List (Gap × ℕ)) (apart : Bool) (r : List ℕ) → m ≡ n → IsLeastOf (Finishes n left apart) r → IsLeastOf (Finishes m left apart) r
+carry-least : (m n : List Move) (left : List (Gap × ℕ)) (apart : Bool) (r : List ℕ) → m ≡ n
+    → IsLeastOf (Finishes n left apart) r → IsLeastOf (Finishes m left apart) r
 carry-least m n left apart r e = subst (λ (x : List Move). IsLeastOf (Finishes x left apart) r) (sym e)
 
 carry-none : (m n : List Move) (left : List (Gap × ℕ)) (apart : Bool) → m ≡ n → IsNone (Finishes n left apart) → IsNone (Finishes m left apart)
@@ -117,7 +126,10 @@ module _ (steps : List Step) (letters : List Letter) (place : Place) (search : S
   done e f =
       let none : moves_of (drop place.step steps) ≡ [] = ap moves_of (drop_all place.step steps (omega arith)) in
       let gone : left_from letters place.cut.at ≡ [] = left-end letters place.cut.at (omega arith) in
-      subst (Least (moves_of steps) (gapped_of letters) false) (append_nil search.found.items) (aw.least [] (carry-least _ [] (left_from letters place.cut.at) place.cut.is_apart [] none (subst (λ (l : List (Gap × ℕ)). IsLeastOf (Finishes [] l place.cut.is_apart) []) (sym gone) (ends_least place.cut.is_apart))))
+      subst (Least (moves_of steps) (gapped_of letters) false) (append_nil search.found.items)
+      (aw.least [] (carry-least _ [] (left_from letters place.cut.at) place.cut.is_apart [] none
+      (subst (λ (l : List (Gap × ℕ)). IsLeastOf (Finishes [] l place.cut.is_apart) []) (sym gone)
+      (ends_least place.cut.is_apart))))
 
   pub undone : place.step ≡ length steps → (place.cut.at ≡ length letters → ⊥) → IsSearch steps letters search
   undone e f =
@@ -142,13 +154,30 @@ module _ (steps : List Step) (letters : List Letter) (place : Place) (search : S
         search-of steps letters search next (ap (λ f. f.items) p.found) p.failed
         (leads-push steps letters search.found.items search next None (Branch.Begin (record { step = place.step + 1; cut = cut })) refl p
         (record { step = omega arith; cut = b })
-        (λ r l. aw.least r (carry-least (moves_of (drop place.step steps)) (text w ∷ moves_of (drop (place.step + 1) steps)) (left_from letters place.cut.at) place.cut.is_apart r more (text-least (moves_of (drop (place.step + 1) steps)) (left_from letters place.cut.at) place.cut.is_apart w (left_from letters cut.at) cut.is_apart read r l)))
-        (λ none. (tt, (aw.otherwise (carry-none (moves_of (drop place.step steps)) (text w ∷ moves_of (drop (place.step + 1) steps)) (left_from letters place.cut.at) place.cut.is_apart more (text-none (moves_of (drop (place.step + 1) steps)) (left_from letters place.cut.at) place.cut.is_apart w (left_from letters cut.at) cut.is_apart read none))).1)))
+        (λ r l. aw.least r (carry-least (moves_of (drop place.step steps))
+        (text w ∷ moves_of (drop (place.step + 1) steps))
+        (left_from letters place.cut.at) place.cut.is_apart r more
+        (text-least (moves_of (drop (place.step + 1) steps))
+        (left_from letters place.cut.at) place.cut.is_apart w
+        (left_from letters cut.at) cut.is_apart read r l)))
+        (λ none. (
+          tt,
+          (aw.otherwise (carry-none (moves_of (drop place.step steps))
+              (text w ∷ moves_of (drop (place.step + 1) steps))
+              (left_from letters place.cut.at) place.cut.is_apart more
+              (text-none (moves_of (drop (place.step + 1) steps))
+              (left_from letters place.cut.at) place.cut.is_apart w
+              (left_from letters cut.at) cut.is_apart read none))).1,
+        )))
         aw.failed
 
     pub text-cannot-search : read_word w (left_from letters place.cut.at) place.cut.is_apart ≡ None → IsSearch steps letters search
     text-cannot-search read = record {
-      leads = (aw.otherwise (carry-none (moves_of (drop place.step steps)) (text w ∷ moves_of (drop (place.step + 1) steps)) (left_from letters place.cut.at) place.cut.is_apart more (text-stuck (moves_of (drop (place.step + 1) steps)) (left_from letters place.cut.at) place.cut.is_apart w read))).1;
+      leads = (aw.otherwise (carry-none (moves_of (drop place.step steps))
+          (text w ∷ moves_of (drop (place.step + 1) steps))
+          (left_from letters place.cut.at) place.cut.is_apart more
+          (text-stuck (moves_of (drop (place.step + 1) steps))
+          (left_from letters place.cut.at) place.cut.is_apart w read))).1;
       failed = aw.failed;
     }
 
@@ -179,20 +208,31 @@ module _ (steps : List Step) (letters : List Letter) (place : Place) (search : S
         tt,
         leads-push steps letters found s1 s2 (Some 1) (Branch.Begin (record { step = skip; cut = place.cut })) one q
             (record { step = omega arith; cut = aw.fits.cut })
-            (λ r l. aw.least (1 ∷ r) (carry-least (moves_of (drop place.step steps)) (optional n ∷ ms) left apart (1 ∷ r) more (absent-least ms left apart n r none (carry-least (drop n ms) (moves_of (drop skip steps)) left apart r (sym behind) l))))
-            (λ gone. (tt, tried_leads s1 p (carry-none (moves_of (drop place.step steps)) (optional n ∷ ms) left apart more (optional-none ms left apart n none (carry-none (drop n ms) (moves_of (drop skip steps)) left apart (sym behind) gone))))),
+            (λ r l. aw.least (1 ∷ r) (carry-least (moves_of (drop place.step steps)) (optional n ∷ ms) left apart
+            (1 ∷ r) more (absent-least ms left apart n r none
+            (carry-least (drop n ms) (moves_of (drop skip steps)) left apart r (sym behind) l))))
+            (λ gone. (
+              tt,
+              tried_leads s1 p
+                  (carry-none (moves_of (drop place.step steps)) (optional n ∷ ms) left apart more
+                  (optional-none ms left apart n none
+                  (carry-none (drop n ms) (moves_of (drop skip steps)) left apart (sym behind) gone))),
+            )),
       )))
       aw.failed
 
 module _ (steps : List Step) (letters : List Letter) (place : Place) where
   -- what comes behind the step costs less
   pub place-cost : place.step < length steps →
-      place_cost steps letters place ≡ suc (suc (steps_cost (length letters) (length steps - (place.step + 1)))) + letters_cost (length letters) (suc (steps_cost (length letters) (length steps - (place.step + 1))))
+      place_cost steps letters place
+      ≡ suc (suc (steps_cost (length letters) (length steps - (place.step + 1))))
+      + letters_cost (length letters) (suc (steps_cost (length letters) (length steps - (place.step + 1))))
   place-cost h =
       let e : length steps - place.step ≡ suc (length steps - (place.step + 1)) = omega arith in
       ap (steps_cost (length letters)) e
 
-  pub text-cost : (cut : Cut) (search next : Search) → place.step < length steps → IsPushed search next None (Branch.Begin (record { step = place.step + 1; cut = cut })) →
+  pub text-cost : (cut : Cut) (search next : Search) → place.step < length steps
+      → IsPushed search next None (Branch.Begin (record { step = place.step + 1; cut = cut })) →
       costs steps letters next < place_cost steps letters place + costs steps letters search
   text-cost cut search next h p =
       let e = place-cost h in
@@ -216,6 +256,8 @@ module _ (steps : List Step) (letters : List Letter) (place : Place) where
       let a = costs-push steps letters s0 s1 None (Branch.Tried place) p in
       let b = costs-push steps letters s1 s2 (Some 1) (Branch.Begin (record { step = skip; cut = place.cut })) q in
       let c = costs-push steps letters s2 s3 (Some 0) (Branch.Begin (record { step = place.step + 1; cut = place.cut })) t in
-      let less : steps_cost (length letters) (length steps - skip) ≤ steps_cost (length letters) (length steps - (place.step + 1)) = steps_cost-more (length letters) _ _ (omega arith) in
+      let less : steps_cost (length letters) (length steps - skip)
+      ≤ steps_cost (length letters) (length steps - (place.step + 1)) =
+      steps_cost-more (length letters) _ _ (omega arith) in
       let some = least_letters (length letters) (suc (steps_cost (length letters) (length steps - (place.step + 1)))) in
       omega arith

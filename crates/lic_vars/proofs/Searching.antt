@@ -16,7 +16,8 @@ use Rattle.lic_vars.proofs.Members.{Contains-filter, filter-agree}
 use Rattle.lic_vars.proofs.Ranges.{same_triple}
 
 triple_cmp-total : IsTotalOrder triple_cmp
-triple_cmp-total = then_total (on_total (λ t. t.first) nat_cmp_total) (then_total (on_total (λ t. t.last) nat_cmp_total) (on_total (λ t. t.template) nat_cmp_total))
+triple_cmp-total = then_total (on_total (λ t. t.first) nat_cmp_total)
+    (then_total (on_total (λ t. t.last) nat_cmp_total) (on_total (λ t. t.template) nat_cmp_total))
 
 then_equal : (a b : ℕ) (o : Ordering) → ordering_then (nat_cmp a b) o ≡ Equal → (a ≡ b) × (o ≡ Equal)
 then_equal a b o h =
@@ -44,7 +45,8 @@ search-Contains sorted t (Err i) order low parts =
     let itself : triple_cmp t t ≡ Equal = tied_itself triple_cmp-total t in (
       λ e. absurd (false≢true e),
       λ (k, known, is).
-          let behind : i ≤ k → ⊥ = λ after. let other : Greater ≡ Equal = sym (subst (λ s. triple_cmp s t ≡ Greater) is (split.1 k t after known)) ∙ itself in cc in
+          let behind : i ≤ k → ⊥ = λ after. let other : Greater ≡ Equal =
+          sym (subst (λ s. triple_cmp s t ≡ Greater) is (split.1 k t after known)) ∙ itself in cc in
           by_ranked (k < i) (k ≡ i) (i < k) (nat_cmp k i) (ranked k i (nat_cmp k i) refl)
           (λ _ before. let other : Less ≡ Equal = sym (subst (λ s. triple_cmp s t ≡ Less) is (split.0 k t (omega arith) before)) ∙ itself in absurd (cc))
           (λ _ same. absurd (behind (omega arith))) (λ _ after. absurd (behind (omega arith))),

@@ -35,7 +35,8 @@ more_blanks : (apart : Bool) (F : List (Gap × ℕ)) (w : Word) → NoBlanks F �
 more_blanks true F w h s = one_more F w h s
 more_blanks false F w h s = s
 
-at_letter : (apart : Bool) (g : Gap) (c : ℕ) (F : List (Gap × ℕ)) (w : Word) → fits g apart ≡ true → SpellsGapped w F → SpellsGapped (lead apart (c ∷ w)) ((g, c) ∷ F)
+at_letter : (apart : Bool) (g : Gap) (c : ℕ) (F : List (Gap × ℕ)) (w : Word) → fits g apart ≡ true → SpellsGapped w F
+    → SpellsGapped (lead apart (c ∷ w)) ((g, c) ∷ F)
 at_letter true no_gap c F w h s = absurd cc
 at_letter true free c F w h s = (1, tt, w, refl, s)
 at_letter true needed c F w h s = (1, lit≤ tt, w, refl, s)
@@ -57,7 +58,8 @@ end_cons : (b : Bool) (c : ℕ) (w : Word) (apart after : Bool) → (c == blank)
 end_cons true c w apart after h ih e = rw (eqb-true c blank h) (more_blanks apart [] w tt (ih e))
 end_cons false c w apart after h ih e = absurd cc
 
-letter_cons : (b m : Bool) (c : ℕ) (w : Word) (p : Gap × ℕ) (F : List (Gap × ℕ)) (apart after : Bool) → NoBlanks (p ∷ F) → (c == blank) ≡ b → (c == p.1 && fits p.0 apart) ≡ m →
+letter_cons : (b m : Bool) (c : ℕ) (w : Word) (p : Gap × ℕ) (F : List (Gap × ℕ)) (apart after : Bool)
+    → NoBlanks (p ∷ F) → (c == blank) ≡ b → (c == p.1 && fits p.0 apart) ≡ m →
     (read_word w (p ∷ F) true ≡ Some ([], after) → SpellsGapped (blank ∷ w) (p ∷ F)) →
     (read_word w F false ≡ Some ([], after) → SpellsGapped w F) →
     pick b m (read_word w (p ∷ F) true) (read_word w F false) ≡ Some ([], after) → SpellsGapped (lead apart (c ∷ w)) (p ∷ F)
@@ -89,7 +91,8 @@ abbrev pub apart_by : ℕ → Bool → Bool
 apart_by zero apart = apart
 apart_by (suc n) apart = true
 
-true_fits : (p : Gap × ℕ) (F : List (Gap × ℕ)) (v : Word) (apart b m : Bool) (x : Option State) → b ≡ false → m ≡ true → pick b m x (read_word v F false) ≡ read_word v F false
+true_fits : (p : Gap × ℕ) (F : List (Gap × ℕ)) (v : Word) (apart b m : Bool) (x : Option State) → b ≡ false → m ≡ true
+    → pick b m x (read_word v F false) ≡ read_word v F false
 true_fits p F v apart true m x h k = absurd cc
 true_fits p F v apart false true x h k = refl
 true_fits p F v apart false false x h k = absurd cc

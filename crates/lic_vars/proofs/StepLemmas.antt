@@ -22,7 +22,8 @@ use Rattle.lic_vars.specs.declared.steps.Step.{Step}
 part_of_Text : (t : String Global) → part_of (Text t) ≡ parts.letters (string_bytes t)
 part_of_Text t = ap part_of (sym (rolls-Text t)) ∙ fold-roll-Part Node part_node (Part-F.Text t)
 
-part_of_Var : (name original : String Global) (ere : Ere) → part_of (Var name original ere) ≡ parts.variable (string_bytes name) (string_bytes original) (tree_of ere)
+part_of_Var : (name original : String Global) (ere : Ere)
+    → part_of (Var name original ere) ≡ parts.variable (string_bytes name) (string_bytes original) (tree_of ere)
 part_of_Var name original ere = ap part_of (sym (rolls-Var name original ere)) ∙ fold-roll-Part Node part_node (Part-F.Var name original ere)
 
 part_of_Optional : (body : Vec Part Global) → part_of (Optional body) ≡ parts.optional (row (map part_of body.items))

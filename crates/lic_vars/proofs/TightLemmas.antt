@@ -42,7 +42,12 @@ IsInside-over s t ahead h =
     let first : t.first ≤ s.first = ahead.first (omega arith) in
     (elim (has_range_of s t) as (λ b. has_range_of s t ≡ b → (s ≡ t) ⊎ (is_inside s t ≡ true)) [
       | true ↦ λ e. let same = has_range_is s t e in inl (same_triple s t same.0 same.1 (omega arith))
-      | false ↦ λ e. inr (test-IsInside s t (record { template = omega arith; within = record { first = first; last = omega arith; another = has_another s t e } }))
+      | false ↦ λ e. inr (test-IsInside s t
+          (record {
+            template = omega arith;
+            within =
+                record { first = first; last = omega arith; another = has_another s t e };
+          }))
     ]) refl
 
 IsInside-kept : (s t u : Triple) → IsAhead s t → IsAhead t u → is_over t s ≡ false → IsInside s u → IsInside t u
@@ -73,7 +78,8 @@ pub tight_of-swept : (list sorted : List Triple) → IsPermutation list sorted �
     SameMembers (dedup is_over sorted) (tight_of list)
 tight_of-swept list sorted moved order =
     let pairs = AllPairs-from_sorted by_template by_template-total sorted order in
-    let ranked = Ranked-from_pairs IsAhead is_inside is_over sorted (λ i j d before low. IsAhead-by_template (get_or sorted i d) (get_or sorted j d) (pairs i j d before low)) in
+    let ranked = Ranked-from_pairs IsAhead is_inside is_over sorted (λ i j d before low.
+    IsAhead-by_template (get_or sorted i d) (get_or sorted j d) (pairs i j d before low)) in
     λ t. Contains-swept IsAhead is_inside is_over Sweeps-tight list sorted moved ranked t
 
 -- in a list that is its own tight members none lies inside another of its template

@@ -13,7 +13,9 @@ drop-front : {A : Type 0} (xs ys : List A) → drop (length xs) (xs ++ ys) ≡ y
 drop-front [] ys = refl
 drop-front (x ∷ xs) ys = drop-front xs ys
 
-optional_moves : (body rest : Nodes) (ms : List Move) → moves (one_more (parts.optional body) rest) ++ ms ≡ optional (length (moves body)) ∷ (moves body ++ (moves rest ++ ms))
+optional_moves : (body rest : Nodes) (ms : List Move)
+    → moves (one_more (parts.optional body) rest) ++ ms
+    ≡ optional (length (moves body)) ∷ (moves body ++ (moves rest ++ ms))
 optional_moves body rest ms = ap (λ (xs : List Move). optional (length (moves body)) ∷ xs) (append_assoc (moves body) (moves rest) ms)
 
 -- a derivation, and then a way of the moves behind it

@@ -87,7 +87,8 @@ allowed free n h = tt
 allowed needed zero h = absurd cc
 allowed needed (suc n) h = omega arith
 
-blanks_cons : (b : Bool) (u : Word) → (letters_in u ≡ 0 → ends_apart true u ≡ true) → (if b then letters_in u else suc (letters_in u)) ≡ 0 → ends_apart b u ≡ true
+blanks_cons : (b : Bool) (u : Word) → (letters_in u ≡ 0 → ends_apart true u ≡ true)
+    → (if b then letters_in u else suc (letters_in u)) ≡ 0 → ends_apart b u ≡ true
 blanks_cons true u ih h = ih h
 blanks_cons false u ih h = absurd cc
 

@@ -33,7 +33,8 @@ joined_front (x ∷ L) (suc k) (suc m) h l =
     (take (m - k) (drop k L), ap (λ s. (no_gap, x.1) ∷ s) (ap (λ j. take j L) n ∙ take-add k (m - k) L))
 
 -- where nothing is marked, no more letters can end
-pub never-later : (r : Core) (letters : List Letter) (start k m : ℕ) → StandsAtOnce r false (no_marks r) (joined (take k (left_from letters start))) → 0 < k → k ≤ m →
+pub never-later : (r : Core) (letters : List Letter) (start k m : ℕ)
+    → StandsAtOnce r false (no_marks r) (joined (take k (left_from letters start))) → 0 < k → k ≤ m →
     CanEnd r letters start m → ⊥
 never-later r letters start k m s h l can =
     let f = joined_front (left_from letters start) k m h l in
@@ -71,7 +72,11 @@ joined-first letters start n d h e =
 
 -- one letter more
 pub joined-next : (letters : List Letter) (start at k n : ℕ) (d : Letter) → start < at → at < length letters → k ≡ at - start → n ≡ (at + 1) - start →
-    joined (take k (left_from letters start)) ++ (gap_of ((get_or letters at d).is_apart && true) (get_or letters at d).are_words, (get_or letters at d).letter) ∷ []
+    joined (take k (left_from letters start))
+    ++ (
+      gap_of ((get_or letters at d).is_apart && true) (get_or letters at d).are_words,
+      (get_or letters at d).letter,
+    ) ∷ []
     ≡ joined (take n (left_from letters start))
 joined-next letters start at k n d h l e f =
     let more : n ≡ suc k = omega arith in
@@ -79,7 +84,8 @@ joined-next letters start at k n d h l e f =
     let behind = left_drop letters start k ∙ ap (λ j. left_from letters j) place ∙ left_at letters at d l in
     rw (gap_later (get_or letters at d).is_apart (get_or letters at d).are_words)
     (sym (ap (λ j. joined (take j (left_from letters start))) more
-    ∙ joined_more (left_from letters start) k (gap_before (get_or letters at d), (get_or letters at d).letter) (left_from letters (at + 1)) behind (omega arith)))
+    ∙ joined_more (left_from letters start) k (gap_before (get_or letters at d), (get_or letters at d).letter)
+    (left_from letters (at + 1)) behind (omega arith)))
 
 letter_of : (p : Gap × ℕ) (rest : List (Gap × ℕ)) (all : List (Gap × ℕ)) → all ≡ p ∷ rest → NoBlanks all → (p.1 == blank) ≡ false
 letter_of p rest all e n = let h = subst NoBlanks e n in h.0

@@ -25,7 +25,8 @@ use Rattle.lic_vars.proofs.LeadLemmas.{leads-push, costs-push, search-of, letter
 use Rattle.lic_vars.proofs.SearchLemmas.{Facts, tried_leads, place-cost}
 
 -- whether the letter at a cut may follow
-pub may-follow : (letters : List Letter) (cut : Cut) (d : Letter) (b : Bool) → cut.at < length letters → b ≡ fits (gap_before (get_or letters cut.at d)) cut.is_apart →
+pub may-follow : (letters : List Letter) (cut : Cut) (d : Letter) (b : Bool) → cut.at < length letters
+    → b ≡ fits (gap_before (get_or letters cut.at d)) cut.is_apart →
     IsTrue b ↔ ((cut.at < length letters) × MayFollow letters cut)
 may-follow letters cut d true h e = (
   λ t. (
@@ -52,7 +53,8 @@ Adds steps letters place search next =
     ((state : State) × IsPushed search next None (Branch.Longer (fresh place state)) × IsWalk steps letters (fresh place state))
     ⊎ ((next ≡ search) × (place.cut.at < length letters → MayFollow letters place.cut → ⊥))
 
-pub fresh-adds : (steps : List Step) (letters : List Letter) (place : Place) (tree : Node) (search next other : Search) (state : State) → IsVariable steps place.step tree →
+pub fresh-adds : (steps : List Step) (letters : List Letter) (place : Place) (tree : Node) (search next other : Search)
+    (state : State) → IsVariable steps place.step tree →
     other ≡ next → IsPushed search next None (Branch.Longer (fresh place state)) → (place.cut.at < length letters) × MayFollow letters place.cut →
     weight (core_of tree) ≤ room_of state → HasTaken (core_of tree) state [] → Adds steps letters place search other
 fresh-adds steps letters place tree search next other state v e p f room taken =
@@ -74,7 +76,8 @@ pub none-adds : (steps : List Step) (letters : List Letter) (place : Place) (sea
 none-adds steps letters place before next true e f h = absurd cc
 none-adds steps letters place before next false e f h = inr (e, λ l m. absurd (let t = h.1 (l, m) in search (rules, t)))
 
-module _ (steps : List Step) (letters : List Letter) (clean : NoBlanks (gapped_of letters)) (place : Place) (tree : Node) (v : Facts steps place.step tree) where
+module _ (steps : List Step) (letters : List Letter) (clean : NoBlanks (gapped_of letters)) (place : Place)
+    (tree : Node) (v : Facts steps place.step tree) where
   abbrev ms : List Move
   ms = moves_of (drop (place.step + 1) steps)
 
@@ -97,7 +100,8 @@ module _ (steps : List Step) (letters : List Letter) (clean : NoBlanks (gapped_o
     longer_leads : None0 → Adds steps letters place s1 s2 → Leads steps letters s0.found.items (reverse s2.pending.items)
     longer_leads none (inl a) =
         leads-push steps letters s0.found.items s1 s2 None (Branch.Longer (fresh place a.0)) one_found a.1 a.2
-        (λ q l. aw.least q (longer-least (core_of tree) v.name v.re v.words ms letters place.cut clean aw.fits.cut (moves_of (drop place.step steps)) v.more none q l))
+        (λ q l. aw.least q (longer-least (core_of tree) v.name v.re v.words ms letters place.cut clean aw.fits.cut
+        (moves_of (drop place.step steps)) v.more none q l))
         (λ gone. (
           tt,
           tried_leads steps letters place s0 aw s1 tried
@@ -122,7 +126,8 @@ module _ (steps : List Step) (letters : List Letter) (clean : NoBlanks (gapped_o
         search-of steps letters s0 s3 (ap (λ f. f.items) p.found ∙ two_found a) (p.failed ∙ adds_failed s1 s2 a ∙ tried.failed)
         (leads-push steps letters s0.found.items s2 s3 (Some 0) (Branch.Begin (record { step = place.step + 1; cut = place.cut })) (two_found a) p
         (record { step = let h = v.within in omega arith; cut = aw.fits.cut })
-        (λ q l. aw.least (0 ∷ q) (empty-least (core_of tree) v.name v.re v.words ms letters place.cut clean aw.fits.cut (moves_of (drop place.step steps)) v.more nullable q l))
+        (λ q l. aw.least (0 ∷ q) (empty-least (core_of tree) v.name v.re v.words ms letters place.cut clean aw.fits.cut
+        (moves_of (drop place.step steps)) v.more nullable q l))
         (λ none. (tt, longer_leads (λ e. none) a)))
         aw.failed
 
@@ -170,7 +175,8 @@ module _ (steps : List Step) (letters : List Letter) (clean : NoBlanks (gapped_o
     failed = aw.failed;
   }
 
-  pub dead-search : StandsAtOnce (core_of tree) false (no_marks (core_of tree)) (joined (take (suc walk.taken) (left_from letters walk.place.cut.at))) → IsSearch steps letters search
+  pub dead-search : StandsAtOnce (core_of tree) false (no_marks (core_of tree))
+      (joined (take (suc walk.taken) (left_from letters walk.place.cut.at))) → IsSearch steps letters search
   dead-search s = record {
     leads = (aw.otherwise (dead-none (core_of tree) v.name v.re v.words behind letters walk.place.cut clean within whole v.more walk.taken s)).1;
     failed = aw.failed;
@@ -180,7 +186,8 @@ module _ (steps : List Step) (letters : List Letter) (clean : NoBlanks (gapped_o
   module _ (n : ℕ) (next : n ≡ suc walk.taken) (state : State) (s1 : Search)
       (p : IsPushed search s1 None (Branch.Longer (record { place = walk.place; taken = n; state = state })))
       (fit : IsWalk steps letters (record { place = walk.place; taken = n; state = state })) where
-    more_leads : (CanEnd (core_of tree) letters walk.place.cut.at (suc walk.taken) → IsNone (Finishes behind (left_from letters (walk.place.cut.at + suc walk.taken)) false)) →
+    more_leads : (CanEnd (core_of tree) letters walk.place.cut.at (suc walk.taken)
+        → IsNone (Finishes behind (left_from letters (walk.place.cut.at + suc walk.taken)) false)) →
         Leads steps letters search.found.items (reverse s1.pending.items)
     more_leads none =
         leads-push steps letters search.found.items search s1 None (Branch.Longer (record { place = walk.place; taken = n; state = state })) refl p fit
@@ -200,11 +207,13 @@ module _ (steps : List Step) (letters : List Letter) (clean : NoBlanks (gapped_o
         IsPushed s1 s2 (Some n) (Branch.Begin (record { step = walk.place.step + 1; cut = record { at = at; is_apart = false } })) → IsSearch steps letters s2
     next-search at s2 e bound may can q =
         search-of steps letters search s2 (ap (λ f. f.items) q.found ∙ ap (λ f. f.items) p.found) (q.failed ∙ p.failed)
-        (leads-push steps letters search.found.items s1 s2 (Some n) (Branch.Begin (record { step = walk.place.step + 1; cut = record { at = at; is_apart = false } }))
+        (leads-push steps letters search.found.items s1 s2 (Some n)
+        (Branch.Begin (record { step = walk.place.step + 1; cut = record { at = at; is_apart = false } }))
         (ap (λ f. f.items) p.found) q
         (record { step = let h = v.within in omega arith; cut = bound })
         (λ r l. subst (λ (j : ℕ). Least (moves_of steps) (gapped_of letters) false (search.found.items ++ (j ∷ r))) (sym next)
-        (aw.least (suc walk.taken ∷ r) (next-least (core_of tree) v.name v.re v.words behind letters walk.place.cut clean within whole v.more walk.taken (omega arith) may can r
+        (aw.least (suc walk.taken ∷ r)
+        (next-least (core_of tree) v.name v.re v.words behind letters walk.place.cut clean within whole v.more walk.taken (omega arith) may can r
         (subst (λ (j : ℕ). IsLeastOf (Finishes behind (left_from letters j) false) r) e l))))
         (λ none. (tt, more_leads (λ c. subst (λ (j : ℕ). IsNone (Finishes behind (left_from letters j) false)) e none))))
         aw.failed
@@ -230,7 +239,8 @@ some_letters : (n each : ℕ) → each ≤ letters_cost n each
 some_letters zero each = omega arith
 some_letters (suc n) each = omega arith
 
-pub walk-cost : (steps : List Step) (letters : List Letter) (walk : Walk) (search : Search) → costs steps letters search < walk_cost steps letters walk + costs steps letters search
+pub walk-cost : (steps : List Step) (letters : List Letter) (walk : Walk) (search : Search)
+    → costs steps letters search < walk_cost steps letters walk + costs steps letters search
 walk-cost steps letters walk search =
     let l = some_letters (length letters - (walk.place.cut.at + walk.taken)) (suc (steps_cost (length letters) (length steps - (walk.place.step + 1)))) in
     omega arith

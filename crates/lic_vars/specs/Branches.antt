@@ -18,7 +18,8 @@ use Rattle.lic_vars.specs.declared.search.Search.{Search}
 
 -- from the place the steps can take all letters that are left, with this record
 abbrev pub GoesFrom : List Step → List Letter → Place → List ℕ → Type 0
-GoesFrom steps letters place r = Finishes (moves_of (drop place.step steps)) (left_from letters place.cut.at) place.cut.is_apart r
+GoesFrom steps letters place r =
+    Finishes (moves_of (drop place.step steps)) (left_from letters place.cut.at) place.cut.is_apart r
 
 -- the first number of the record is greater
 abbrev pub BeginsAbove : ℕ → List ℕ → Type 0
@@ -80,7 +81,8 @@ numbers (Some n) = n ∷ []
 
 -- The least way of the branch gives the least record of all, behind what was found in front of it; and where the branch
 -- has no way, the others lead to it.
-pub record Leading (steps : List Step) (letters : List Letter) (found : List ℕ) (first : Pending) (others : Type 0) : Type 0 where
+pub record Leading (steps : List Step) (letters : List Letter) (found : List ℕ) (first : Pending)
+    (others : Type 0) : Type 0 where
   pub count : first.count ≤ length found
   pub fits : Fits steps letters first.branch
   pub least : (r : List ℕ) → IsLeastOf (Goes steps letters first.branch) r →
@@ -90,7 +92,8 @@ pub record Leading (steps : List Step) (letters : List Letter) (found : List ℕ
 -- the first of the branches that has a way leads to the least record, and one has
 abbrev pub Leads : List Step → List Letter → List ℕ → List Pending → Type 0
 Leads steps letters found [] = ⊥
-Leads steps letters found (first ∷ rest) = Leading steps letters found first (Leads steps letters (take first.count found) rest)
+Leads steps letters found (first ∷ rest) =
+    Leading steps letters found first (Leads steps letters (take first.count found) rest)
 
 abbrev pub AreFailed : List Step → List Letter → List Place → Type 0
 AreFailed steps letters places = (place : Place) → Contains places place → IsNone (GoesFrom steps letters place)
@@ -112,7 +115,8 @@ pub record Awaits (steps : List Step) (letters : List Letter) (branch : Branch) 
 pub record IsPushed (search next : Search) (number : Option ℕ) (branch : Branch) : Type 0 where
   pub found : next.found ≡ search.found
   pub failed : next.failed ≡ search.failed
-  pub pending : next.pending.items ≡ search.pending.items ++ record { count = length search.found.items; number = number; branch = branch } ∷ []
+  pub pending : next.pending.items
+      ≡ search.pending.items ++ record { count = length search.found.items; number = number; branch = branch } ∷ []
 
 -- A bound on how many branches come of one, where so many letters and steps are left: a text leads to one place, an optional
 -- part to two, a variable to one for each of its letters.
@@ -129,7 +133,8 @@ place_cost steps letters place = steps_cost (length letters) (length steps - pla
 
 abbrev pub walk_cost : List Step → List Letter → Walk → ℕ
 walk_cost steps letters walk =
-    letters_cost (length letters - (walk.place.cut.at + walk.taken)) (suc (steps_cost (length letters) (length steps - (walk.place.step + 1))))
+    letters_cost (length letters - (walk.place.cut.at + walk.taken))
+    (suc (steps_cost (length letters) (length steps - (walk.place.step + 1))))
 
 abbrev pub branch_cost : List Step → List Letter → Branch → ℕ
 branch_cost steps letters (Branch.Begin place) = place_cost steps letters place

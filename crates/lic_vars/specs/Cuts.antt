@@ -46,5 +46,6 @@ moves_of = map move_of
 -- a variable's compiled expression stands for the tidy words of its pattern
 abbrev pub IsCompiled : Step → Type 0
 IsCompiled (Step.Text letters) = Unit {0}
-IsCompiled (Step.Variable name ere tree) = IsTrue (is_measured tree) × HasWordsOf (core_of tree) (tidy (tree_words (tree_of ere.now)))
+IsCompiled (Step.Variable name ere tree) =
+    IsTrue (is_measured tree) × HasWordsOf (core_of tree) (tidy (tree_words (tree_of ere.now)))
 IsCompiled (Step.Optional n) = Unit {0}

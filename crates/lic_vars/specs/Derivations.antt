@@ -27,7 +27,8 @@ word_of (one_more (optional body) rest) (Some b, d) = word_of body b ++ word_of 
 abbrev pub IsAllowed : (ns : Nodes) → Choice ns → Type 0
 IsAllowed no_node d = Unit {0}
 IsAllowed (one_more (letters text) rest) d = IsAllowed rest d
-IsAllowed (one_more (variable name original pattern) rest) (u, d) = Language (tree_words pattern) u × IsTidy u × IsAllowed rest d
+IsAllowed (one_more (variable name original pattern) rest) (u, d) =
+    Language (tree_words pattern) u × IsTidy u × IsAllowed rest d
 IsAllowed (one_more (optional body) rest) (None, d) = IsAllowed rest d
 IsAllowed (one_more (optional body) rest) (Some b, d) = IsAllowed body b × IsAllowed rest d
 

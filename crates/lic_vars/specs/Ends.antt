@@ -19,7 +19,8 @@ CanEnd r letters start n = After (WordsOf r) (joined (take n (left_from letters 
 
 -- where the first letter behind the cut may follow
 abbrev pub MayFollow : List Letter → Cut → Type 0
-MayFollow letters from = (p : Gap × ℕ) (left : List (Gap × ℕ)) → left_from letters from.at ≡ p ∷ left → fits p.0 from.is_apart ≡ true
+MayFollow letters from = (p : Gap × ℕ) (left : List (Gap × ℕ)) → left_from letters from.at ≡ p ∷ left
+    → fits p.0 from.is_apart ≡ true
 
 -- whether blanks stand before the letters that are left, after a tidy word of n letters
 abbrev pub after_tidy : ℕ → Bool → Bool

@@ -46,7 +46,8 @@ outer_of list = outermost_of (tight_of list)
 
 -- the order of triples: by first token, then by last token, then by template
 abbrev pub triple_cmp : Triple → Triple → Ordering
-triple_cmp s t = ordering_then (nat_cmp s.first t.first) (ordering_then (nat_cmp s.last t.last) (nat_cmp s.template t.template))
+triple_cmp s t = ordering_then (nat_cmp s.first t.first)
+    (ordering_then (nat_cmp s.last t.last) (nat_cmp s.template t.template))
 
 -- the two lists have the same members
 abbrev pub SameMembers : List Triple → List Triple → Type 0

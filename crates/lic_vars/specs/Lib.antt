@@ -6,4 +6,5 @@ pub mod Recorded
 pub mod Cuts
 pub mod Ends
 pub mod Branches
+pub mod Assigners
 pub mod Views

@@ -34,7 +34,8 @@ pick false false x y = None
 abbrev pub read_word : Word → List (Gap × ℕ) → Bool → Option State
 read_word [] left apart = Some (left, apart)
 read_word (c ∷ w) [] apart = pick (c == blank) false (read_word w [] true) None
-read_word (c ∷ w) (p ∷ left) apart = pick (c == blank) (c == p.1 && fits p.0 apart) (read_word w (p ∷ left) true) (read_word w left false)
+read_word (c ∷ w) (p ∷ left) apart =
+    pick (c == blank) (c == p.1 && fits p.0 apart) (read_word w (p ∷ left) true) (read_word w left false)
 
 -- a text, a variable, and an optional part of so many moves
 pub data Move : Type 0 where
@@ -51,9 +52,11 @@ moves (one_more (parts.optional body) rest) = optional (length (moves body)) ∷
 -- the moves can take all letters that are left, with this record
 pub data Finishes : List Move → List (Gap × ℕ) → Bool → List ℕ → Type 0 where
   finished : {apart : Bool} → Finishes [] [] apart []
-  reads : {w : Word} {ms : List Move} {left : List (Gap × ℕ)} {apart : Bool} {r : List ℕ} (next : List (Gap × ℕ)) (after : Bool) →
+  reads : {w : Word} {ms : List Move} {left : List (Gap × ℕ)} {apart : Bool} {r : List ℕ} (next : List (Gap × ℕ))
+      (after : Bool) →
       read_word w left apart ≡ Some (next, after) → Finishes ms next after r → Finishes (text w ∷ ms) left apart r
-  takes : {name : List ℕ} {re : Expression} {ms : List Move} {left : List (Gap × ℕ)} {apart : Bool} {n : ℕ} {r : List ℕ} (u : Word) (next : List (Gap × ℕ)) (after : Bool) →
+  takes : {name : List ℕ} {re : Expression} {ms : List Move} {left : List
+      (Gap × ℕ)} {apart : Bool} {n : ℕ} {r : List ℕ} (u : Word) (next : List (Gap × ℕ)) (after : Bool) →
       Language (tidy re) u → letters_in u ≡ n → read_word u left apart ≡ Some (next, after) → Finishes ms next after r →
       Finishes (variable name re ∷ ms) left apart (n ∷ r)
   enters : {n : ℕ} {ms : List Move} {left : List (Gap × ℕ)} {apart : Bool} {r : List ℕ} →

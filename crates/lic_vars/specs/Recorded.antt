@@ -13,5 +13,6 @@ recorded (suc k) (variable name re ∷ ms) r spans = record { name = name; span 
 recorded (suc k) (optional n ∷ ms) r spans = recorded k ms r spans
 recorded zero (text w ∷ ms) r spans = recorded 0 ms r (drop (letters_in w) spans)
 recorded zero (variable name re ∷ ms) r spans =
-    record { name = name; span = covered (take (slice_index_or r 0 0) spans) } ∷ recorded 0 ms (drop 1 r) (drop (slice_index_or r 0 0) spans)
+    record { name = name; span = covered (take (slice_index_or r 0 0) spans) }
+    ∷ recorded 0 ms (drop 1 r) (drop (slice_index_or r 0 0) spans)
 recorded zero (optional n ∷ ms) r spans = recorded (if slice_index_or r 0 0 == 0 then 0 else n) ms (drop 1 r) spans

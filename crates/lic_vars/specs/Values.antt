@@ -33,7 +33,8 @@ covered (span ∷ rest) = Some (record { start = span.start; end = last_end span
 abbrev pub absent_values : Nodes → List Assigned
 absent_values no_node = []
 absent_values (one_more (letters text) rest) = absent_values rest
-absent_values (one_more (variable name original pattern) rest) = record { name = name; span = None } ∷ absent_values rest
+absent_values (one_more (variable name original pattern) rest) =
+    record { name = name; span = None } ∷ absent_values rest
 absent_values (one_more (optional body) rest) = absent_values body ++ absent_values rest
 
 -- One value for each variable, in the template's order, where the letters of the choice's word have these spans. The n-th
@@ -42,7 +43,8 @@ abbrev pub choice_values : (ns : Nodes) → Choice ns → List Span → List Ass
 choice_values no_node d spans = []
 choice_values (one_more (letters text) rest) d spans = choice_values rest d (drop (letters_in (chars text)) spans)
 choice_values (one_more (variable name original pattern) rest) (u, d) spans =
-    record { name = name; span = covered (take (letters_in u) spans) } ∷ choice_values rest d (drop (letters_in u) spans)
+    record { name = name; span = covered (take (letters_in u) spans) }
+    ∷ choice_values rest d (drop (letters_in u) spans)
 choice_values (one_more (optional body) rest) (None, d) spans = absent_values body ++ choice_values rest d spans
 choice_values (one_more (optional body) rest) (Some b, d) spans =
     choice_values body b spans ++ choice_values rest d (drop (letters_in (word_of body b)) spans)
@@ -57,7 +59,8 @@ pub record AreValues (set : List Known) (tokens : List TokenValue) (t : Triple) 
   pub number : slice_get set t.template ≡ Some known
   pub derivation : Derivation (nodes_of known) (letters_between tokens t.first t.last)
   pub least : IsLeast (nodes_of known) (letters_between tokens t.first t.last) derivation
-  pub same : values ≡ choice_values (nodes_of known) derivation.choice (letter_spans (slice_range tokens t.first (t.last + 1)))
+  pub same : values ≡ choice_values (nodes_of known) derivation.choice
+      (letter_spans (slice_range tokens t.first (t.last + 1)))
 
 -- from the start of a token of the match to the end of one
 pub record RunsFrom (tokens : List TokenValue) (t : Triple) (span : Span) : Type 0 where

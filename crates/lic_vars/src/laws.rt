@@ -25,14 +25,17 @@ pub fn outer_ones_are_outer()
 
 /// Each outer triple is a tight one, and each tight one is a triple of the list.
 pub fn outer_ones_are_tight()
-    ensures outer { (list : List Triple) (t : Triple) → Contains (outer_of list) t → Contains (tight_of list) t }
-    ensures tight { (list : List Triple) (t : Triple) → Contains (tight_of list) t → Contains list t }
+    ensures outer { (list : List Triple) (t : Triple) → Contains (outer_of list) t
+        → Contains (tight_of list) t }
+    ensures tight { (list : List Triple) (t : Triple) → Contains (tight_of list) t
+        → Contains list t }
 {}
 
 /// Each triple has a tight one of its template within its range.
 pub fn each_holds_a_tight_one()
     ensures { (list : List Triple) (t : Triple) → Contains list t
-        → (s : Triple) × Contains (tight_of list) s × (s.template ≡ t.template) × (t.first ≤ s.first) × (s.last ≤ t.last) }
+        → (s : Triple) × Contains (tight_of list) s × (s.template ≡ t.template)
+        × (t.first ≤ s.first) × (s.last ≤ t.last) }
 {}
 
 /// The range of each tight triple lies within that of an outer one.
@@ -67,6 +70,8 @@ pub fn values_are_one_list()
 
 /// A value runs from the start of a token of the match to the end of one.
 pub fn values_run_over_tokens()
-    ensures { (set : List Known) (tokens : List TokenValue) (t : Triple) (values : List Assigned) (value : Assigned) (span : Span)
-        → AreValues set tokens t values → Contains values value → value.span ≡ Some span → RunsFrom tokens t span }
+    ensures { (set : List Known) (tokens : List TokenValue) (t : Triple) (values : List Assigned)
+        (value : Assigned) (span : Span)
+        → AreValues set tokens t values → Contains values value → value.span ≡ Some span
+        → RunsFrom tokens t span }
 {}

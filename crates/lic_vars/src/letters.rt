@@ -42,8 +42,10 @@ pub fn letters_of(
 ) -> Result<Vec<Letter>, AllocError>
     requires order { first ≤ last }
     requires within { last < length text.now.tokens }
-    ensures gapped { IfOk result (λ letters. gapped_of letters.items ≡ gapped (letters_between text.now.tokens first last)) }
-    ensures spans { IfOk result (λ letters. spans_of letters.items ≡ letter_spans (slice_range text.now.tokens first (last + 1))) }
+    ensures gapped { IfOk result (λ letters. gapped_of letters.items
+        ≡ gapped (letters_between text.now.tokens first last)) }
+    ensures spans { IfOk result (λ letters. spans_of letters.items
+        ≡ letter_spans (slice_range text.now.tokens first (last + 1))) }
 {
     let mut letters = Vec::new(alloc);
     let mut before = ' ';
@@ -65,8 +67,12 @@ fn push_letters(
     before: char,
 ) -> Result<char, AllocError>
     ensures last { IfOk result (λ last. last ≡ last_letter before (chars text.now)) }
-    ensures gapped { OnOk result (gapped_of letters.new.items ≡ gapped_of letters.old.items ++ gapped_from before true (chars text.now)) }
-    ensures spans { OnOk result (spans_of letters.new.items ≡ spans_of letters.old.items ++ replicate (letters_in (chars text.now)) span) }
+    ensures gapped { OnOk result
+        (gapped_of letters.new.items
+        ≡ gapped_of letters.old.items ++ gapped_from before true (chars text.now)) }
+    ensures spans { OnOk result
+        (spans_of letters.new.items
+        ≡ spans_of letters.old.items ++ replicate (letters_in (chars text.now)) span) }
 {
     let mut given = Letters::new(text, before, true);
     while let Some(next) = given.next() {
@@ -108,7 +114,8 @@ pub fn may_follow(letter: Letter, is_apart: bool) -> bool
 /// The cut after a text, where the letters go on like that.
 pub fn read_text(text: &[char], letters: &[Letter], from: Cut) -> Option<Cut>
     requires { from.at ≤ length letters.now }
-    ensures reads { read_word text.now (left_from letters.now from.at) from.is_apart ≡ states letters.now result }
+    ensures reads { read_word text.now (left_from letters.now from.at) from.is_apart
+        ≡ states letters.now result }
     ensures within { IfSome result (λ cut. cut.at ≤ length letters.now) }
 {
     let mut at = from.at;

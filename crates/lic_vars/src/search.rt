@@ -40,7 +40,8 @@ pub fn least_record(
     requires compiled { All IsCompiled steps.now }
     requires letters { NoBlanks (gapped_of letters.now) }
     requires can { CanFinish (moves_of steps.now) (gapped_of letters.now) false }
-    ensures { IfOk result (λ found. Least (moves_of steps.now) (gapped_of letters.now) false found.items) }
+    ensures { IfOk result (λ found.
+        Least (moves_of steps.now) (gapped_of letters.now) false found.items) }
 {
     let mut search = begin_search(alloc)?;
     while let Some(branch) = next(&mut search)? {
@@ -63,10 +64,13 @@ fn try_branch(
     requires compiled { All IsCompiled steps.now }
     requires letters { NoBlanks (gapped_of letters.now) }
     requires awaits { Awaits steps.now letters.now branch search.old }
-    ensures done { IfOk result (λ done. IsTrue done → Least (moves_of steps.now) (gapped_of letters.now) false search.new.found.items) }
-    ensures search { IfOk result (λ done. done ≡ false → IsSearch steps.now letters.now search.new) }
+    ensures done { IfOk result (λ done. IsTrue done
+        → Least (moves_of steps.now) (gapped_of letters.now) false search.new.found.items) }
+    ensures search { IfOk result (λ done. done ≡ false
+        → IsSearch steps.now letters.now search.new) }
     ensures cost { IfOk result (λ done. done ≡ false
-        → costs steps.now letters.now search.new < branch_cost steps.now letters.now branch + costs steps.now letters.now search.old) }
+        → costs steps.now letters.now search.new
+        < branch_cost steps.now letters.now branch + costs steps.now letters.now search.old) }
 {
     match branch {
         Branch::Begin(place) => {
@@ -83,7 +87,8 @@ fn try_branch(
 
 // A search that has all ways from the first step and the first letter still to try.
 fn begin_search(alloc: Global) -> Result<Search, AllocError>
-    ensures search { (steps : List Step) (letters : List Letter) → CanFinish (moves_of steps) (gapped_of letters) false
+    ensures search { (steps : List Step) (letters : List Letter)
+        → CanFinish (moves_of steps) (gapped_of letters) false
         → IfOk result (IsSearch steps letters) }
 {
     let mut search = Search {
@@ -102,9 +107,12 @@ fn begin_search(alloc: Global) -> Result<Search, AllocError>
 // What is to be tried next, where `found` has become the record in front of it.
 fn next(search: &mut Search) -> Result<Option<Branch>, AllocError>
     ensures awaits { (steps : List Step) (letters : List Letter) → IsSearch steps letters search.old
-        → IfOk result (λ next. MatchOption next ⊥ (λ branch. Awaits steps letters branch search.new)) }
+        → IfOk result (λ next. MatchOption next ⊥ (λ branch.
+        Awaits steps letters branch search.new)) }
     ensures cost { (steps : List Step) (letters : List Letter)
-        → IfOk result (λ next. MatchOption next (Unit {0}) (λ branch. branch_cost steps letters branch + costs steps letters search.new ≡ costs steps letters search.old)) }
+        → IfOk result (λ next. MatchOption next
+        (Unit {0}) (λ branch. branch_cost steps letters branch + costs steps letters search.new
+        ≡ costs steps letters search.old)) }
 {
     let Some(pending) = search.pending.pop() else {
         return Ok(None);
@@ -150,7 +158,9 @@ fn begin(
     requires is_step { place.step < length steps.now }
     requires awaits { Awaits steps.now letters.now (Begin place) search.old }
     ensures search { OnOk result (IsSearch steps.now letters.now search.new) }
-    ensures cost { OnOk result (costs steps.now letters.now search.new < place_cost steps.now letters.now place + costs steps.now letters.now search.old) }
+    ensures cost { OnOk result
+        (costs steps.now letters.now search.new
+        < place_cost steps.now letters.now place + costs steps.now letters.now search.old) }
 {
     match &steps[place.step] {
         Step::Text(text) => begin_text(steps, text, letters, place, search),
@@ -168,10 +178,13 @@ fn begin_text(
     search: &mut Search,
 ) -> Result<(), AllocError>
     requires is_step { place.step < length steps.now }
-    requires text { moves_of (drop place.step steps.now) ≡ text word.now ∷ moves_of (drop (place.step + 1) steps.now) }
+    requires text { moves_of (drop place.step steps.now)
+        ≡ text word.now ∷ moves_of (drop (place.step + 1) steps.now) }
     requires awaits { Awaits steps.now letters.now (Begin place) search.old }
     ensures search { OnOk result (IsSearch steps.now letters.now search.new) }
-    ensures cost { OnOk result (costs steps.now letters.now search.new < place_cost steps.now letters.now place + costs steps.now letters.now search.old) }
+    ensures cost { OnOk result
+        (costs steps.now letters.now search.new
+        < place_cost steps.now letters.now place + costs steps.now letters.now search.old) }
 {
     let Some(cut) = read_text(word, letters, place.cut) else {
         return Ok(());
@@ -189,10 +202,13 @@ fn begin_optional(
     search: &mut Search,
 ) -> Result<(), AllocError>
     requires is_step { place.step < length steps.now }
-    requires optional { moves_of (drop place.step steps.now) ≡ optional size ∷ moves_of (drop (place.step + 1) steps.now) }
+    requires optional { moves_of (drop place.step steps.now)
+        ≡ optional size ∷ moves_of (drop (place.step + 1) steps.now) }
     requires awaits { Awaits steps.now letters.now (Begin place) search.old }
     ensures search { OnOk result (IsSearch steps.now letters.now search.new) }
-    ensures cost { OnOk result (costs steps.now letters.now search.new < place_cost steps.now letters.now place + costs steps.now letters.now search.old) }
+    ensures cost { OnOk result
+        (costs steps.now letters.now search.new
+        < place_cost steps.now letters.now place + costs steps.now letters.now search.old) }
 {
     if is_noted(&search.failed, place) {
         return Ok(());
@@ -226,7 +242,9 @@ fn begin_variable(
     requires variable { IsVariable steps.now place.step tree.now }
     requires awaits { Awaits steps.now letters.now (Begin place) search.old }
     ensures search { OnOk result (IsSearch steps.now letters.now search.new) }
-    ensures cost { OnOk result (costs steps.now letters.now search.new < place_cost steps.now letters.now place + costs steps.now letters.now search.old) }
+    ensures cost { OnOk result
+        (costs steps.now letters.now search.new
+        < place_cost steps.now letters.now place + costs steps.now letters.now search.old) }
 {
     if is_noted(&search.failed, place) {
         return Ok(());
@@ -273,7 +291,9 @@ fn go_on(
     requires letters { NoBlanks (gapped_of letters.now) }
     requires awaits { Awaits steps.now letters.now (Longer walk) search.old }
     ensures search { OnOk result (IsSearch steps.now letters.now search.new) }
-    ensures cost { OnOk result (costs steps.now letters.now search.new < walk_cost steps.now letters.now walk + costs steps.now letters.now search.old) }
+    ensures cost { OnOk result
+        (costs steps.now letters.now search.new
+        < walk_cost steps.now letters.now walk + costs steps.now letters.now search.old) }
 {
     let mut walk = walk;
     let place = walk.place;
@@ -305,7 +325,8 @@ fn go_on(
 
 // Notes that the steps cannot finish from the place.
 fn note(failed: &mut HashSet<Place>, place: Place) -> Result<(), AllocError>
-    ensures { OnOk result ((other : Place) → Contains failed.new.keys other → (other ≡ place) ⊎ Contains failed.old.keys other) }
+    ensures { OnOk result ((other : Place) → Contains failed.new.keys other
+        → (other ≡ place) ⊎ Contains failed.old.keys other) }
 {
     failed.insert(place)?;
     Ok(())

@@ -37,7 +37,8 @@ pub enum Step<'s> {
 // The tidy words of a pattern, compiled.
 fn tidy_words(alloc: Global, ere: &Ere) -> Result<Node, AllocError>
     ensures measured { IfOk result (λ tree. IsTrue (is_measured tree)) }
-    ensures words { IfOk result (λ tree. HasWordsOf (core_of tree) (tidy (tree_words (tree_of ere.now)))) }
+    ensures words { IfOk result (λ tree.
+        HasWordsOf (core_of tree) (tidy (tree_words (tree_of ere.now)))) }
 {
     let node = compile_pattern(alloc, ere)?;
     Ok(tidy(Box::new(alloc, node)?))
@@ -54,7 +55,8 @@ fn text_letters(alloc: Global, text: &str) -> Result<Vec<char>, AllocError>
 
 /// The steps of the parts.
 pub fn steps_of<'s>(alloc: Global, parts: &'s [Part]) -> Result<Vec<Step<'s>>, AllocError>
-    ensures moves { IfOk result (λ steps. moves_of steps.items ≡ moves (row (map part_of parts.now))) }
+    ensures moves { IfOk result (λ steps. moves_of steps.items
+        ≡ moves (row (map part_of parts.now))) }
     ensures compiled { IfOk result (λ steps. All IsCompiled steps.items) }
 {
     let mut steps = Vec::new(alloc);

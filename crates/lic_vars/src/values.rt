@@ -1,6 +1,6 @@
 //! What the variables of a template stand for in a match.
 
-ghost use Rattle.std.specs.Prelude.{◌≡◌, ◌==◌, IfOk, map, take, drop, slice_index_or, if◌then◌else◌};
+ghost use Rattle.std.specs.Prelude.{◌≡◌, ◌==◌, ◌<◌, IfOk, length, map, take, drop, slice_index_or, if◌then◌else◌};
 ghost use Rattle.lic_find.specs.Matches.{IsMatch};
 ghost use Rattle.lic_vars.specs.Values.{AreValues, covered};
 ghost use Rattle.lic_vars.specs.Cuts.{spans_of, moves_of};
@@ -15,6 +15,7 @@ use lic_find::triple::Triple;
 use lic_norm::text::Text;
 use lic_norm::token::Span;
 use std::alloc::{AllocError, Global};
+use std::marker::Model;
 
 /// What a variable stands for.
 #[derive(Clone, Copy, Debug)]
@@ -26,9 +27,69 @@ pub struct Value<'s> {
     pub span: Option<Span>,
 }
 
-/// The values of a template's variables in a match, one for each variable, in the template's order (this project's
-/// profile of SPDX 2.3 Annex B). Spans are bytes of the text's source. The values are those of the derivation with the
-/// least record: optional parts are present where that is possible, and earlier variables as short as possible.
+/// A template of a set, compiled for the values of its matches: its texts and patterns become steps in a row, once for all matches.
+#[derive(Debug, Drop)]
+pub struct Assigner<'s> {
+    // whose steps they are
+    set: &'s Set,
+    template: usize,
+    steps: Vec<Step<'s>>,
+}
+
+impl<'s> Model for Assigner<'s> {
+    ghost use Rattle.std.specs.Coded.{codes};
+    ghost use Rattle.lic_markup.specs.contracts.part.Part as e;
+    ghost use Rattle.lic_vars.specs.Assigners.{AssignerValue, AreStepsOf};
+
+    ghost Value = { AssignerValue };
+
+    ghost coded = { Prim.hlevel (codes, e.the_row.coded) };
+
+    ghost view = { λ a. record { set = a.set.now; template = a.template } };
+
+    ghost invariant = { λ a. AreStepsOf a.set.now a.template a.steps.items };
+}
+
+impl<'s> Assigner<'s> {
+    /// Compiles the template of this number. Fails if memory runs out.
+    pub fn new(alloc: Global, set: &'s Set, template: usize) -> Result<Assigner<'s>, AllocError>
+        requires { template < length set.now }
+        ensures { IfOk result (λ assigner. assigner
+            ≡ record { set = set.now; template = template }) }
+    {
+        let steps = steps_of(alloc, set.template(template).parts())?;
+        Ok(Assigner {
+            set,
+            template,
+            steps,
+        })
+    }
+
+    /// The values of the template's variables in a match, one for each variable, in the template's order (this project's
+    /// profile of SPDX 2.3 Annex B). Spans are bytes of the text's source. The values are those of the derivation with the
+    /// least record: optional parts are present where that is possible, and earlier variables as short as possible.
+    ///
+    /// # Errors
+    ///
+    /// Fails if memory runs out.
+    pub fn assign(
+        &self,
+        alloc: Global,
+        text: &Text,
+        triple: Triple,
+    ) -> Result<Vec<Value<'s>>, AllocError>
+        requires template { triple.template ≡ self.now.template }
+        requires is_match { IsMatch self.now.set text.now.tokens triple }
+        ensures { IfOk result (λ values.
+            AreValues self.now.set text.now.tokens triple (map value_of values.items)) }
+    {
+        let letters = letters_of(alloc, text, triple.first, triple.last)?;
+        let numbers = least_record(alloc, &self.steps, &letters)?;
+        values_of(alloc, &self.steps, &letters, &numbers)
+    }
+}
+
+/// The values of the variables in one match, whose template is compiled for it alone (see `Assigner`).
 ///
 /// # Errors
 ///
@@ -40,12 +101,11 @@ pub fn assign<'s>(
     triple: Triple,
 ) -> Result<Vec<Value<'s>>, AllocError>
     requires { IsMatch set.now text.now.tokens triple }
-    ensures { IfOk result (λ values. AreValues set.now text.now.tokens triple (map value_of values.items)) }
+    ensures { IfOk result (λ values.
+        AreValues set.now text.now.tokens triple (map value_of values.items)) }
 {
-    let letters = letters_of(alloc, text, triple.first, triple.last)?;
-    let steps = steps_of(alloc, set.template(triple.template).parts())?;
-    let numbers = least_record(alloc, &steps, &letters)?;
-    values_of(alloc, &steps, &letters, &numbers)
+    let assigner = Assigner::new(alloc, set, triple.template)?;
+    assigner.assign(alloc, text, triple)
 }
 
 // The values that a record gives.
@@ -55,7 +115,8 @@ fn values_of<'s>(
     mut letters: &[Letter],
     mut numbers: &[usize],
 ) -> Result<Vec<Value<'s>>, AllocError>
-    ensures { IfOk result (λ values. map value_of values.items ≡ recorded 0 (moves_of steps.now) numbers.now (spans_of letters.now)) }
+    ensures { IfOk result (λ values. map value_of values.items
+        ≡ recorded 0 (moves_of steps.now) numbers.now (spans_of letters.now)) }
 {
     let mut values = Vec::new(alloc);
     let mut left_out = 0;

@@ -19,7 +19,9 @@ pub fn take_letter(tree: &Node, letter: Letter, is_first: bool, state: &mut Stat
     requires letter { letter.letter ≢ blank }
     ensures room { room_of state.new ≡ room_of state.old }
     ensures taken { (before : List (Gap × ℕ)) → HasTaken (core_of tree.now) state.old before
-        → HasTaken (core_of tree.now) state.new (before ++ (gap_of (letter.is_apart && not is_first) letter.are_words, letter.letter) ∷ []) }
+        → HasTaken (core_of tree.now) state.new
+        (before ++ (gap_of (letter.is_apart && not is_first) letter.are_words, letter.letter)
+        ∷ []) }
 {
     let letter = lic_words::letters::Letter {
         letter: letter.letter,

@@ -11,15 +11,19 @@ use Rattle.lic_engine.proofs.check.check.Goals as goal
 
 pub loop-k-init : goal.loop-k-init
 loop-k-init g c = λ a.
-    subst (λ l. AreChecked (rules_of c.args.rules.now) c.args.words.now a a l [] true) (sym c.new-lines.ensures.items) (checked_nothing (rules_of c.args.rules.now) c.args.words.now a)
+    subst (λ l. AreChecked (rules_of c.args.rules.now) c.args.words.now a a l [] true) (sym c.new-lines.ensures.items)
+    (checked_nothing (rules_of c.args.rules.now) c.args.words.now a)
 
 pub returns-in_err-yes-clause-part : goal.returns-in_err-yes-clause-part
 returns-in_err-yes-clause-part g c = nothing_begins (rules_of c.args.rules.now) c.args.words.now _ c.args.set.now _
 
 pub returns-in_err-yes-clause-text : goal.returns-in_err-yes-clause-text
 returns-in_err-yes-clause-text g c = λ fault is.
-    let within : c.loop-k.k < length c.args.set.now = search rules in
-    (get_or c.args.set.now c.loop-k.k no_known, Contains-get_or c.args.set.now c.loop-k.k no_known within, c.describes_original.ensures.text fault (search rules) no_known)
+    let within : c.loop-k.k < length c.args.set.now = search rules in (
+      get_or c.args.set.now c.loop-k.k no_known,
+      Contains-get_or c.args.set.now c.loop-k.k no_known within,
+      c.describes_original.ensures.text fault (search rules) no_known,
+    )
 
 pub returns-in_err-add_checked-clause-part : goal.returns-in_err-add_checked-clause-part
 returns-in_err-add_checked-clause-part g c = nothing_begins (rules_of c.args.rules.now) c.args.words.now _ c.args.set.now _
@@ -28,7 +32,8 @@ pub loop-k-preserved : goal.loop-k-preserved
 loop-k-preserved g c = λ a.
     let k = c.loop-k.k in
     let within : k < length c.args.set.now = search rules in
-    checked_more (rules_of c.args.rules.now) c.args.words.now _ _ _ _ c.args.set.now k no_known _ c.in_ok-yes.yes (c.loop-k.invariant a) within (c.in_ok-yes.ensures.yes no_known) c.in_ok-add_checked.ensures
+    checked_more (rules_of c.args.rules.now) c.args.words.now _ _ _ _ c.args.set.now k no_known _ c.in_ok-yes.yes
+    (c.loop-k.invariant a) within (c.in_ok-yes.ensures.yes no_known) c.in_ok-add_checked.ensures
 
 pub returns-in_err-put_all-clause-part : goal.returns-in_err-put_all-clause-part
 returns-in_err-put_all-clause-part g c =
@@ -45,5 +50,6 @@ returns-clause-report g c =
     let put : Appends (g.W.Sink.taken c.args.out.now) (g.W.Sink.taken c.put_all.new.out) c.loop-k.lines.items =
     subst (λ l. Appends (g.W.Sink.taken c.args.out.now) (g.W.Sink.taken c.put_all.new.out) l) here c.in_ok-put_all.ensures.ok in
     let whole : length c.args.set.now ≤ c.loop-k.k = search rules in
-    check_whole (rules_of c.args.rules.now) c.args.words.now _ (g.W.Sink.taken c.args.out.now) _ c.loop-k.lines.items c.args.set.now (take c.loop-k.k c.args.set.now) _
+    check_whole (rules_of c.args.rules.now) c.args.words.now _
+    (g.W.Sink.taken c.args.out.now) _ c.loop-k.lines.items c.args.set.now (take c.loop-k.k c.args.set.now) _
     (c.loop-k.invariant (g.W.Sink.taken c.args.out.now)) put (take_all c.loop-k.k c.args.set.now whole)

@@ -14,7 +14,8 @@ loop-triple-init g c =
       can = tt;
       finite = tt;
       all = refl;
-      put = subst (λ l. IsPut (g.W.Sink.taken c.args.out.now) (g.W.Sink.taken c.args.out.now) l []) (sym c.new-lines.ensures.items) (put_nothing (g.W.Sink.taken c.args.out.now));
+      put = subst (λ l. IsPut (g.W.Sink.taken c.args.out.now) (g.W.Sink.taken c.args.out.now) l [])
+          (sym c.new-lines.ensures.items) (put_nothing (g.W.Sink.taken c.args.out.now));
       some = refl;
       sound = refl;
     }
@@ -22,9 +23,11 @@ loop-triple-init g c =
 pub returns-in_err-add_match-clause-part : goal.returns-in_err-add_match-clause-part
 returns-in_err-add_match-clause-part g c =
     let same : c.into_iter-triple-iterator.result ≡ c.in_ok-wanted.wanted = search rules in
-    let all : wanted_of c.in_ok-wanted.wanted ≡ c.loop-triple.yielded ++ wanted_of c.loop-triple.triple-iterator = ap wanted_of (sym same) ∙ c.loop-triple.invariant.all in
+    let all : wanted_of c.in_ok-wanted.wanted ≡ c.loop-triple.yielded ++ wanted_of c.loop-triple.triple-iterator =
+    ap wanted_of (sym same) ∙ c.loop-triple.invariant.all in
     begins_report c.args.name.now c.args.set.now c.args.ask.now c.args.text.now.tokens (wanted_of c.in_ok-wanted.wanted) _ _ _ c.in_ok-wanted.ensures.only
-    (put_begins (match_line c.args.name.now c.args.set.now c.args.text.now.tokens) _ c.loop-triple.yielded (wanted_of c.loop-triple.triple-iterator) _ _ _ c.loop-triple.invariant.put all)
+    (put_begins (match_line c.args.name.now c.args.set.now c.args.text.now.tokens) _ c.loop-triple.yielded
+    (wanted_of c.loop-triple.triple-iterator) _ _ _ c.loop-triple.invariant.put all)
 
 pub returns-in_err-put_gathered-clause-part : goal.returns-in_err-put_gathered-clause-part
 returns-in_err-put_gathered-clause-part g c =
@@ -35,14 +38,16 @@ returns-in_err-put_gathered-clause-part g c =
     let put : IsPut _ (g.W.Sink.taken c.loop-triple.out) c.add_match.new.lines.items _ =
     put_line (match_line c.args.name.now c.args.set.now c.args.text.now.tokens) c.loop-triple.yielded c.in-Some.triple _ _ _ _ c.loop-triple.invariant.put c.in_ok-add_match.ensures in
     begins_report c.args.name.now c.args.set.now c.args.ask.now c.args.text.now.tokens (wanted_of c.in_ok-wanted.wanted) _ _ _ c.in_ok-wanted.ensures.only
-    (put_begins_within (match_line c.args.name.now c.args.set.now c.args.text.now.tokens) _ _ (wanted_of c.next.new.self) _ _ _ _ put c.in_err-put_gathered.ensures.part all)
+    (put_begins_within (match_line c.args.name.now c.args.set.now c.args.text.now.tokens) _ _
+    (wanted_of c.next.new.self) _ _ _ _ put c.in_err-put_gathered.ensures.part all)
 
 pub loop-triple-preserved : goal.loop-triple-preserved
 loop-triple-preserved g c =
     record {
       can = tt;
       finite = tt;
-      all = c.loop-triple.invariant.all ∙ ap (λ l. c.loop-triple.yielded ++ l) c.in-Some.ensures.steps ∙ sym (append_assoc c.loop-triple.yielded (c.in-Some.triple ∷ []) (wanted_of c.next.new.self));
+      all = c.loop-triple.invariant.all ∙ ap (λ l. c.loop-triple.yielded ++ l) c.in-Some.ensures.steps
+          ∙ sym (append_assoc c.loop-triple.yielded (c.in-Some.triple ∷ []) (wanted_of c.next.new.self));
       put = put_more _ (g.W.Sink.taken c.loop-triple.out) _ _ _ _
           (put_line (match_line c.args.name.now c.args.set.now c.args.text.now.tokens) c.loop-triple.yielded c.in-Some.triple _ _ _ _ c.loop-triple.invariant.put c.in_ok-add_match.ensures)
           c.in_ok-put_gathered.ensures.ok;
@@ -53,23 +58,29 @@ loop-triple-preserved g c =
 pub returns-in_err-put_all-clause-part : goal.returns-in_err-put_all-clause-part
 returns-in_err-put_all-clause-part g c =
     let same : c.into_iter-triple-iterator.result ≡ c.in_ok-wanted.wanted = search rules in
-    let all : wanted_of c.in_ok-wanted.wanted ≡ c.loop-triple.yielded ++ wanted_of c.loop-triple.triple-iterator = ap wanted_of (sym same) ∙ c.loop-triple.invariant.all in
+    let all : wanted_of c.in_ok-wanted.wanted ≡ c.loop-triple.yielded ++ wanted_of c.loop-triple.triple-iterator =
+    ap wanted_of (sym same) ∙ c.loop-triple.invariant.all in
     let lines : c.as_slice.result.now ≡ c.loop-triple.lines.items = search rules in
     let part : BeginsWith (g.W.Sink.taken c.loop-triple.out) (g.W.Sink.taken c.put_all.new.out) c.loop-triple.lines.items =
     subst (λ l. BeginsWith (g.W.Sink.taken c.loop-triple.out) (g.W.Sink.taken c.put_all.new.out) l) lines c.in_err-put_all.ensures.part in
     begins_report c.args.name.now c.args.set.now c.args.ask.now c.args.text.now.tokens (wanted_of c.in_ok-wanted.wanted) _ _ _ c.in_ok-wanted.ensures.only
-    (put_begins_within (match_line c.args.name.now c.args.set.now c.args.text.now.tokens) _ c.loop-triple.yielded (wanted_of c.loop-triple.triple-iterator) _ (g.W.Sink.taken c.loop-triple.out) _ c.loop-triple.lines.items c.loop-triple.invariant.put part all)
+    (put_begins_within (match_line c.args.name.now c.args.set.now c.args.text.now.tokens) _ c.loop-triple.yielded
+    (wanted_of c.loop-triple.triple-iterator) _
+    (g.W.Sink.taken c.loop-triple.out) _ c.loop-triple.lines.items c.loop-triple.invariant.put part all)
 
 pub returns-clause-written : goal.returns-clause-written
 returns-clause-written g c =
     let same : c.into_iter-triple-iterator.result ≡ c.in_ok-wanted.wanted = search rules in
     let all : c.loop-triple.yielded ≡ wanted_of c.in_ok-wanted.wanted =
-    sym (append-nil c.loop-triple.yielded) ∙ ap (λ l. c.loop-triple.yielded ++ l) (sym c.in-None.ensures.steps.0) ∙ sym c.loop-triple.invariant.all ∙ ap wanted_of same in
+    sym (append-nil c.loop-triple.yielded) ∙ ap (λ l. c.loop-triple.yielded ++ l) (sym c.in-None.ensures.steps.0)
+    ∙ sym c.loop-triple.invariant.all ∙ ap wanted_of same in
     let lines : c.as_slice.result.now ≡ c.loop-triple.lines.items = search rules in
     let put : Appends (g.W.Sink.taken c.loop-triple.out) (g.W.Sink.taken c.put_all.new.out) c.loop-triple.lines.items =
     subst (λ l. Appends (g.W.Sink.taken c.loop-triple.out) (g.W.Sink.taken c.put_all.new.out) l) lines c.in_ok-put_all.ensures.ok in
-    whole_lines c.args.name.now c.args.set.now c.args.ask.now c.args.text.now.tokens (wanted_of c.in_ok-wanted.wanted) c.loop-triple.some _ _ c.in_ok-wanted.ensures.all
-    (subst (λ l. Appends (g.W.Sink.taken c.args.out.now) (g.W.Sink.taken c.put_all.new.out) (flat_map (match_line c.args.name.now c.args.set.now c.args.text.now.tokens) l)) all
+    whole_lines c.args.name.now c.args.set.now c.args.ask.now c.args.text.now.tokens
+    (wanted_of c.in_ok-wanted.wanted) c.loop-triple.some _ _ c.in_ok-wanted.ensures.all
+    (subst (λ l. Appends (g.W.Sink.taken c.args.out.now) (g.W.Sink.taken c.put_all.new.out)
+    (flat_map (match_line c.args.name.now c.args.set.now c.args.text.now.tokens) l)) all
     (put_whole _ (g.W.Sink.taken c.loop-triple.out) _ _ _ c.loop-triple.invariant.put put))
     (c.loop-triple.invariant.some ∙ ap (λ l. nat_lt 0 (length l)) all)
 

@@ -20,7 +20,8 @@ returns-in_err-put_gathered-clause-part g c =
     put_token c.args.name.now c.args.text.now.tokens c.loop-i.i c.token.result.text.now c.token.result.span _ _ _ _
     c.loop-i.invariant.put within (c.token.ensures.text no_token) (c.token.ensures.span no_token) c.in_ok-add_token.ensures in
     begins_tokens _ c.args.name.now c.args.text.now.tokens _ _
-    (put_begins_within (token_line c.args.name.now) c.args.text.now.tokens (take (c.loop-i.i + 1) c.args.text.now.tokens) (drop (c.loop-i.i + 1) c.args.text.now.tokens)
+    (put_begins_within (token_line c.args.name.now) c.args.text.now.tokens
+    (take (c.loop-i.i + 1) c.args.text.now.tokens) (drop (c.loop-i.i + 1) c.args.text.now.tokens)
     _ _ _ _ put c.in_err-put_gathered.ensures.part (sym (take-append-drop (c.loop-i.i + 1) c.args.text.now.tokens)))
 
 pub loop-i-preserved : goal.loop-i-preserved
@@ -49,5 +50,7 @@ returns-clause-written g c =
     let put : Appends (g.W.Sink.taken c.loop-i.out) (g.W.Sink.taken c.put_all.new.out) c.loop-i.lines.items =
     subst (λ l. Appends (g.W.Sink.taken c.loop-i.out) (g.W.Sink.taken c.put_all.new.out) l) lines c.in_ok-put_all.ensures.ok in
     let whole : length c.args.text.now.tokens ≤ c.loop-i.i = search rules in
-    let some : nat_lt 0 (length c.args.text.now.tokens) ≡ nat_lt 0 (length (token_lines c.args.name.now c.args.text.now.tokens)) = some_tokens c.args.name.now c.args.text.now.tokens in
+    let some : nat_lt 0 (length c.args.text.now.tokens)
+    ≡ nat_lt 0 (length (token_lines c.args.name.now c.args.text.now.tokens)) =
+    some_tokens c.args.name.now c.args.text.now.tokens in
     (put_tokens c.args.name.now c.args.text.now.tokens c.loop-i.i _ (g.W.Sink.taken c.loop-i.out) _ c.loop-i.lines.items c.loop-i.invariant.put put whole, cc)

@@ -1,10 +1,11 @@
-use Rattle.std.proofs.Common.{rules, ◌≡◌, ◌<◌, ◌+◌, [], length, take, drop, refl, sym, subst}
+use Rattle.std.proofs.Common.{rules, ◌≡◌, ◌<◌, ◌+◌, [], length, take, drop, get_or, refl, sym, subst, ◌∙◌}
 use Rattle.std.proofs.lemmas.List.{take-append-drop}
+use Rattle.lic_find.specs.Matches.{IsMatch}
 use Rattle.lic_find.specs.declared.triple.Triple.{Triple}
 use Rattle.lic_report.specs.Report.{HasItsValues, Valued, triple_of, valued_lines}
 use Rattle.lic_stream.specs.Stream.{BeginsWith}
 use Rattle.lic_engine.proofs.DoneLemmas.{AreDone, done_nothing, done_put, err_begins, err_begins_within}
-use Rattle.lic_engine.proofs.OuterLemmas.{one_valued, valued_more}
+use Rattle.lic_engine.proofs.OuterLemmas.{one_valued, valued_by, valued_more}
 use Rattle.lic_engine.proofs.outer.put_valued.Goals as goal
 
 abbrev nowhere : Triple
@@ -16,10 +17,18 @@ loop-triple-init g c =
     let tokens = c.args.text.now.tokens in
     let lines = valued_lines c.args.name.now set c.args.text.now.source tokens in
     record {
+      assigners = c.new-assigners.ensures;
       done = subst (λ l. AreDone Triple Valued triple_of (HasItsValues set tokens) lines (g.W.Sink.taken c.args.out.now) (g.W.Sink.taken c.args.out.now) l [])
           (sym c.new-lines.ensures.items) (done_nothing Triple Valued triple_of (HasItsValues set tokens) lines (g.W.Sink.taken c.args.out.now));
       sound = refl;
     }
+
+pub add_valued-requires : goal.add_valued-requires
+add_valued-requires g c =
+    let i = c.loop-triple.triple-index in
+    let within : i < length c.args.triples.now = search rules in
+    subst (λ own. IsMatch own c.args.text.now.tokens (get_or c.args.triples.now i nowhere))
+    (sym c.loop-triple.invariant.assigners) (c.requires i nowhere within)
 
 pub returns-in_err-add_valued-clause-part : goal.returns-in_err-add_valued-clause-part
 returns-in_err-add_valued-clause-part g c =
@@ -40,9 +49,11 @@ returns-in_err-put_gathered-clause-part g c =
     let i = c.loop-triple.triple-index in
     let within : i < length c.args.triples.now = search rules in
     err_begins_within Triple Valued triple_of (HasItsValues set tokens) lines (one_valued set tokens c.values_are_one_list.ensures)
-    c.from_residual-in_err-put_gathered.result (g.W.Sink.taken c.args.out.now) (g.W.Sink.taken c.loop-triple.out) (g.W.Sink.taken c.put_gathered.new.out) c.add_valued.new.lines.items
+    c.from_residual-in_err-put_gathered.result (g.W.Sink.taken c.args.out.now) (g.W.Sink.taken c.loop-triple.out)
+    (g.W.Sink.taken c.put_gathered.new.out) c.add_valued.new.lines.items
     (take (i + 1) c.args.triples.now) (drop (i + 1) c.args.triples.now) c.args.triples.now
-    (valued_more c.args.name.now set source tokens (g.W.Sink.taken c.args.out.now) (g.W.Sink.taken c.loop-triple.out) c.loop-triple.lines.items c.add_valued.new.lines.items c.args.triples.now i nowhere c.loop-triple.invariant.done within c.in_ok-add_valued.ensures)
+    (valued_more c.args.name.now set source tokens (g.W.Sink.taken c.args.out.now)
+    (g.W.Sink.taken c.loop-triple.out) c.loop-triple.lines.items c.add_valued.new.lines.items c.args.triples.now i nowhere c.loop-triple.invariant.done within (valued_by c.args.name.now c.loop-triple.assigners set source tokens c.loop-triple.lines.items c.add_valued.new.lines.items (get_or c.args.triples.now i nowhere) c.loop-triple.invariant.assigners c.in_ok-add_valued.ensures.lines))
     c.in_err-put_gathered.ensures.part (sym (take-append-drop (i + 1) c.args.triples.now))
 
 pub loop-triple-preserved : goal.loop-triple-preserved
@@ -54,8 +65,9 @@ loop-triple-preserved g c =
     let i = c.loop-triple.triple-index in
     let within : i < length c.args.triples.now = search rules in
     record {
+      assigners = c.add_valued.ensures.set ∙ c.loop-triple.invariant.assigners;
       done = done_put Triple Valued triple_of (HasItsValues set tokens) lines _ (g.W.Sink.taken c.loop-triple.out) _ _ _ (take (i + 1) c.args.triples.now)
-          (valued_more c.args.name.now set source tokens _ _ _ _ c.args.triples.now i nowhere c.loop-triple.invariant.done within c.in_ok-add_valued.ensures)
+          (valued_more c.args.name.now set source tokens _ _ _ _ c.args.triples.now i nowhere c.loop-triple.invariant.done within (valued_by c.args.name.now c.loop-triple.assigners set source tokens c.loop-triple.lines.items c.add_valued.new.lines.items (get_or c.args.triples.now i nowhere) c.loop-triple.invariant.assigners c.in_ok-add_valued.ensures.lines))
           c.in_ok-put_gathered.ensures.ok;
       sound = search rules;
     }
@@ -70,6 +82,7 @@ returns-in_err-put_all-clause-part g c =
     let part : BeginsWith (g.W.Sink.taken c.loop-triple.out) (g.W.Sink.taken c.put_all.new.out) c.loop-triple.lines.items =
     subst (λ l. BeginsWith (g.W.Sink.taken c.loop-triple.out) (g.W.Sink.taken c.put_all.new.out) l) here c.in_err-put_all.ensures.part in
     err_begins_within Triple Valued triple_of (HasItsValues set tokens) lines (one_valued set tokens c.values_are_one_list.ensures)
-    c.from_residual-in_err-put_all.result (g.W.Sink.taken c.args.out.now) (g.W.Sink.taken c.loop-triple.out) (g.W.Sink.taken c.put_all.new.out) c.loop-triple.lines.items
+    c.from_residual-in_err-put_all.result (g.W.Sink.taken c.args.out.now) (g.W.Sink.taken c.loop-triple.out)
+    (g.W.Sink.taken c.put_all.new.out) c.loop-triple.lines.items
     (take i c.args.triples.now) (drop i c.args.triples.now) c.args.triples.now c.loop-triple.invariant.done part
     (sym (take-append-drop i c.args.triples.now))

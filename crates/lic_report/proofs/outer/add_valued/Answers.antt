@@ -1,6 +1,7 @@
-use Rattle.std.proofs.Common.{rules, ◌≡◌, Some, subst, sym}
+use Rattle.std.proofs.Common.{rules, ◌≡◌, ◌++◌, ◌∙◌, Some, ap, subst, sym}
 use Rattle.std.specs.List.{All}
 use Rattle.lic_norm.specs.declared.token.Span.{Span}
+use Rattle.lic_report.specs.Report.{match_line}
 use Rattle.lic_report.proofs.ValueLemmas.{Fits, values_fit, valued_line}
 use Rattle.lic_report.proofs.outer.add_valued.Goals as goal
 
@@ -8,12 +9,15 @@ pub add_values-requires : goal.add_values-requires
 add_values-requires c =
     let here : c.deref.result.now ≡ c.in_ok-values.values.items = search rules in
     subst (λ l. All (λ value. (s : Span) → value.span ≡ Some s → Fits c.args.text.now.source s) l) (sym here)
-    (values_fit c.args.text.now.source c.args.set.now c.args.text.now.tokens c.args.triple c.in_ok-values.values.items c.values_run_over_tokens.ensures
-    c.tokens_have_spans.ensures c.requires.within c.in_ok-values.ensures)
+    (values_fit c.args.text.now.source c.args.assigners.now c.args.text.now.tokens c.args.triple c.in_ok-values.values.items c.values_run_over_tokens.ensures
+    c.tokens_have_spans.ensures c.requires.within c.in_ok-values.ensures.values)
 
-pub returns : goal.returns
-returns c =
+pub returns-clause-lines : goal.returns-clause-lines
+returns-clause-lines c =
     let here : c.deref.result.now ≡ c.in_ok-values.values.items = search rules in
-    valued_line c.add_values.result c.args.name.now c.args.set.now c.args.text.now.source c.args.text.now.tokens c.args.triple
-    c.args.lines.now.items c.add_match.new.lines.items c.add_values.new.lines.items c.in_ok-values.values.items c.deref.result.now here c.in_ok-values.ensures
-    c.in_ok-add_match.ensures c.add_values.ensures
+    let line = c.in_ok-add_match.ensures
+    ∙ ap (λ set. c.args.lines.now.items
+    ++ match_line c.args.name.now set c.args.text.now.tokens c.args.triple) c.set.ensures in
+    valued_line c.add_values.result c.args.name.now c.args.assigners.now c.args.text.now.source c.args.text.now.tokens c.args.triple
+    c.args.lines.now.items c.add_match.new.lines.items c.add_values.new.lines.items c.in_ok-values.values.items c.deref.result.now here c.in_ok-values.ensures.values
+    line c.add_values.ensures

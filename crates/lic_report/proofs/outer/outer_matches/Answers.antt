@@ -11,14 +11,20 @@ returns-clause-all c =
     let here : list ≡ c.in_ok-tight.tight.matches.items = search rules in
     let (found, all) = c.matches_exist.ensures c.args.set.now c.args.text.now.tokens None in
     IfOk-weaker c.outer.result (λ x. x.items ≡ outer_of list) _
-    (λ x e. (found, all, e ∙ ap outer_of (here ∙ c.in_ok-tight.ensures.tight found all) ∙ ap outermost_of (c.tight_ones_are_tight.ensures found))) c.outer.ensures
+    (λ x e. (
+      found,
+      all,
+      e ∙ ap outer_of (here ∙ c.in_ok-tight.ensures.tight found all)
+          ∙ ap outermost_of (c.tight_ones_are_tight.ensures found),
+    )) c.outer.ensures
 
 pub returns-clause-only : goal.returns-clause-only
 returns-clause-only c =
     let list : List Triple = c.deref.result.now in
     let here : list ≡ c.in_ok-tight.tight.matches.items = search rules in
     IfOk-weaker c.outer.result (λ x. x.items ≡ outer_of list) _
-    (λ x e others all. e ∙ ap outer_of (here ∙ c.in_ok-tight.ensures.tight others all) ∙ ap outermost_of (c.tight_ones_are_tight.ensures others)) c.outer.ensures
+    (λ x e others all. e ∙ ap outer_of (here ∙ c.in_ok-tight.ensures.tight others all)
+    ∙ ap outermost_of (c.tight_ones_are_tight.ensures others)) c.outer.ensures
 
 pub returns-clause-matches : goal.returns-clause-matches
 returns-clause-matches c =

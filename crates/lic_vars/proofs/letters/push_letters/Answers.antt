@@ -11,7 +11,8 @@ pub loop-next-init : goal.loop-next-init
 loop-next-init c = record {
   gapped = ap (λ (x : List (Gap × ℕ)). gapped_of c.args.letters.now.items ++ x) c.new-given.ensures.letters;
   last = c.new-given.ensures.last;
-  spans = ap (λ (n : ℕ). spans_of c.args.letters.now.items ++ replicate n c.args.span) (ap length c.new-given.ensures.letters ∙ length-gapped_from c.args.before true (chars c.args.text.now));
+  spans = ap (λ (n : ℕ). spans_of c.args.letters.now.items ++ replicate n c.args.span)
+      (ap length c.new-given.ensures.letters ∙ length-gapped_from c.args.before true (chars c.args.text.now));
 }
 
 pub loop-next-preserved : goal.loop-next-preserved

@@ -17,7 +17,9 @@ returns-then-not-is_nullable-clause-search c =
     let v = facts c.args.steps.now c.args.place.step c.args.tree.now c.requires.compiled c.requires.variable in
     let a : Adds c.args.steps.now c.args.letters.now c.args.place c.add_branch.new.search c.if-may_begin.search = elim c.if-may_begin.branch [
       | then-may_begin+in_ok-state+in_ok-add_branch-2 w ↦ fresh-adds c.args.steps.now c.args.letters.now c.args.place c.args.tree.now c.add_branch.new.search _ c.if-may_begin.search w.in_ok-state.state
-          c.requires.variable w.search-is w.in_ok-add_branch-2.ensures (may _ w.if-may_begin.true c.may_begin.ensures) w.in_ok-state.ensures.room (w.in_ok-state.ensures.taken (core_of c.args.tree.now))
+          c.requires.variable w.search-is w.in_ok-add_branch-2.ensures
+          (may _ w.if-may_begin.true c.may_begin.ensures) w.in_ok-state.ensures.room
+          (w.in_ok-state.ensures.taken (core_of c.args.tree.now))
       | else-may_begin w ↦ none-adds c.args.steps.now c.args.letters.now c.args.place c.add_branch.new.search c.if-may_begin.search c.may_begin.result w.search-is w.if-may_begin.false c.may_begin.ensures
     ] in
     longer-search c.args.steps.now c.args.letters.now c.requires.letters c.args.place c.args.tree.now v c.args.search.now c.add_branch.new.search c.if-may_begin.search
@@ -28,7 +30,9 @@ returns-then-not-is_nullable-clause-cost c =
     let v = facts c.args.steps.now c.args.place.step c.args.tree.now c.requires.compiled c.requires.variable in
     let a : Adds c.args.steps.now c.args.letters.now c.args.place c.add_branch.new.search c.if-may_begin.search = elim c.if-may_begin.branch [
       | then-may_begin+in_ok-state+in_ok-add_branch-2 w ↦ fresh-adds c.args.steps.now c.args.letters.now c.args.place c.args.tree.now c.add_branch.new.search _ c.if-may_begin.search w.in_ok-state.state
-          c.requires.variable w.search-is w.in_ok-add_branch-2.ensures (may _ w.if-may_begin.true c.may_begin.ensures) w.in_ok-state.ensures.room (w.in_ok-state.ensures.taken (core_of c.args.tree.now))
+          c.requires.variable w.search-is w.in_ok-add_branch-2.ensures
+          (may _ w.if-may_begin.true c.may_begin.ensures) w.in_ok-state.ensures.room
+          (w.in_ok-state.ensures.taken (core_of c.args.tree.now))
       | else-may_begin w ↦ none-adds c.args.steps.now c.args.letters.now c.args.place c.add_branch.new.search c.if-may_begin.search c.may_begin.result w.search-is w.if-may_begin.false c.may_begin.ensures
     ] in
     longer-cost c.args.steps.now c.args.letters.now c.requires.letters c.args.place c.args.tree.now v c.args.search.now c.add_branch.new.search c.if-may_begin.search
@@ -39,7 +43,9 @@ returns-clause-search c =
     let v = facts c.args.steps.now c.args.place.step c.args.tree.now c.requires.compiled c.requires.variable in
     let a : Adds c.args.steps.now c.args.letters.now c.args.place c.add_branch.new.search c.if-may_begin.search = elim c.if-may_begin.branch [
       | then-may_begin+in_ok-state+in_ok-add_branch-2 w ↦ fresh-adds c.args.steps.now c.args.letters.now c.args.place c.args.tree.now c.add_branch.new.search _ c.if-may_begin.search w.in_ok-state.state
-          c.requires.variable w.search-is w.in_ok-add_branch-2.ensures (may _ w.if-may_begin.true c.may_begin.ensures) w.in_ok-state.ensures.room (w.in_ok-state.ensures.taken (core_of c.args.tree.now))
+          c.requires.variable w.search-is w.in_ok-add_branch-2.ensures
+          (may _ w.if-may_begin.true c.may_begin.ensures) w.in_ok-state.ensures.room
+          (w.in_ok-state.ensures.taken (core_of c.args.tree.now))
       | else-may_begin w ↦ none-adds c.args.steps.now c.args.letters.now c.args.place c.add_branch.new.search c.if-may_begin.search c.may_begin.result w.search-is w.if-may_begin.false c.may_begin.ensures
     ] in
     on-ok c.add_branch-2.result _ _ c.add_branch-2.ensures
@@ -51,7 +57,9 @@ returns-clause-cost c =
     let v = facts c.args.steps.now c.args.place.step c.args.tree.now c.requires.compiled c.requires.variable in
     let a : Adds c.args.steps.now c.args.letters.now c.args.place c.add_branch.new.search c.if-may_begin.search = elim c.if-may_begin.branch [
       | then-may_begin+in_ok-state+in_ok-add_branch-2 w ↦ fresh-adds c.args.steps.now c.args.letters.now c.args.place c.args.tree.now c.add_branch.new.search _ c.if-may_begin.search w.in_ok-state.state
-          c.requires.variable w.search-is w.in_ok-add_branch-2.ensures (may _ w.if-may_begin.true c.may_begin.ensures) w.in_ok-state.ensures.room (w.in_ok-state.ensures.taken (core_of c.args.tree.now))
+          c.requires.variable w.search-is w.in_ok-add_branch-2.ensures
+          (may _ w.if-may_begin.true c.may_begin.ensures) w.in_ok-state.ensures.room
+          (w.in_ok-state.ensures.taken (core_of c.args.tree.now))
       | else-may_begin w ↦ none-adds c.args.steps.now c.args.letters.now c.args.place c.add_branch.new.search c.if-may_begin.search c.may_begin.result w.search-is w.if-may_begin.false c.may_begin.ensures
     ] in
     on-ok c.add_branch-2.result _ _ c.add_branch-2.ensures

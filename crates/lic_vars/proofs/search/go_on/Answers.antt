@@ -29,7 +29,8 @@ to_true false e = absurd cc
 pub returns-in_default : goal.returns-in_default
 returns-in_default c =
     let fits = c.requires.awaits.fits in
-    absurd (no-variable c.args.steps.now c.args.walk.place.step c.index-steps-place.result fits.tree fits.variable (sym c.index-steps-place.is) c.in_default.not-Variable)
+    absurd (no-variable c.args.steps.now c.args.walk.place.step c.index-steps-place.result fits.tree fits.variable
+    (sym c.index-steps-place.is) c.in_default.not-Variable)
 
 pub returns-then-at-letters-clause-search : goal.returns-then-at-letters-clause-search
 returns-then-at-letters-clause-search c =
@@ -64,7 +65,8 @@ take_letter-requires-clause-room c =
 pub take_letter-requires-clause-letter : goal.take_letter-requires-clause-letter
 take_letter-requires-clause-letter c =
     let fits = c.requires.awaits.fits in
-    let short : c.args.walk.place.cut.at + c.args.walk.taken < length c.args.letters.now = let h = fits.within in let n = c.if-at-letters.false in omega arith in
+    let short : c.args.walk.place.cut.at + c.args.walk.taken < length c.args.letters.now = let h = fits.within in
+    let n = c.if-at-letters.false in omega arith in
     letter-at c.args.letters.now (c.args.walk.place.cut.at + c.args.walk.taken) _ short c.requires.letters
 
 pub returns-then-is_clear-clause-search : goal.returns-then-is_clear-clause-search
@@ -75,13 +77,20 @@ returns-then-is_clear-clause-search c =
     let v = facts c.args.steps.now c.args.walk.place.step c.in-Variable.tree c.requires.compiled is in
     let same : fits.tree ≡ c.in-Variable.tree = same-tree c.args.steps.now c.args.walk.place.step fits.tree c.in-Variable.tree fits.variable is in
     let within : c.args.walk.place.cut.at ≤ length c.args.letters.now = let h = fits.within in omega arith in
-    let short : c.args.walk.place.cut.at + c.args.walk.taken < length c.args.letters.now = let h = fits.within in let n = c.if-at-letters.false in omega arith in
-    let before : HasTaken (core_of c.in-Variable.tree) c.args.walk.state (joined (take c.args.walk.taken (left_from c.args.letters.now c.args.walk.place.cut.at))) =
-    subst (λ (t : Node). HasTaken (core_of t) c.args.walk.state (joined (take c.args.walk.taken (left_from c.args.letters.now c.args.walk.place.cut.at)))) same fits.taken in
-    let room : weight (core_of c.in-Variable.tree) ≤ room_of c.args.walk.state = subst (λ (t : Node). weight (core_of t) ≤ room_of c.args.walk.state) same fits.room in
-    let after : HasTaken (core_of c.in-Variable.tree) c.take_letter.new.state (joined (take (suc c.args.walk.taken) (left_from c.args.letters.now c.args.walk.place.cut.at))) =
+    let short : c.args.walk.place.cut.at + c.args.walk.taken < length c.args.letters.now = let h = fits.within in
+    let n = c.if-at-letters.false in omega arith in
+    let before : HasTaken (core_of c.in-Variable.tree) c.args.walk.state
+    (joined (take c.args.walk.taken (left_from c.args.letters.now c.args.walk.place.cut.at))) =
+    subst (λ (t : Node). HasTaken (core_of t) c.args.walk.state
+    (joined (take c.args.walk.taken
+    (left_from c.args.letters.now c.args.walk.place.cut.at)))) same fits.taken in
+    let room : weight (core_of c.in-Variable.tree) ≤ room_of c.args.walk.state =
+    subst (λ (t : Node). weight (core_of t) ≤ room_of c.args.walk.state) same fits.room in
+    let after : HasTaken (core_of c.in-Variable.tree) c.take_letter.new.state
+    (joined (take (suc c.args.walk.taken) (left_from c.args.letters.now c.args.walk.place.cut.at))) =
     subst (λ (f : List (Gap × ℕ)). HasTaken (core_of c.in-Variable.tree) c.take_letter.new.state f)
-    (joined-step c.args.letters.now c.args.walk.place.cut.at c.args.walk.taken (c.args.walk.place.cut.at + c.args.walk.taken) (suc c.args.walk.taken) _ refl short refl)
+    (joined-step c.args.letters.now c.args.walk.place.cut.at c.args.walk.taken
+    (c.args.walk.place.cut.at + c.args.walk.taken) (suc c.args.walk.taken) _ refl short refl)
     (c.take_letter.ensures.taken (joined (take c.args.walk.taken (left_from c.args.letters.now c.args.walk.place.cut.at))) before) in
     dead-search c.args.steps.now c.args.letters.now c.requires.letters c.args.walk c.in-Variable.tree v c.args.search.now c.requires.awaits within (c.is_clear.ensures (core_of c.in-Variable.tree) (joined (take (suc c.args.walk.taken) (left_from c.args.letters.now c.args.walk.place.cut.at))) after (to_true _ c.if-is_clear.true))
 
@@ -106,7 +115,8 @@ ends-ends-requires-clause-room c =
     let v = facts c.args.steps.now c.args.walk.place.step c.in-Variable.tree c.requires.compiled is in
     let same : fits.tree ≡ c.in-Variable.tree = same-tree c.args.steps.now c.args.walk.place.step fits.tree c.in-Variable.tree fits.variable is in
     let within : c.args.walk.place.cut.at ≤ length c.args.letters.now = let h = fits.within in omega arith in
-    let room : weight (core_of c.in-Variable.tree) ≤ room_of c.args.walk.state = subst (λ (t : Node). weight (core_of t) ≤ room_of c.args.walk.state) same fits.room in
+    let room : weight (core_of c.in-Variable.tree) ≤ room_of c.args.walk.state =
+    subst (λ (t : Node). weight (core_of t) ≤ room_of c.args.walk.state) same fits.room in
     omega (arith, room, c.take_letter.ensures.room)
 
 pub returns-then-not-ends-clause-search : goal.returns-then-not-ends-clause-search
@@ -117,15 +127,24 @@ returns-then-not-ends-clause-search c =
     let v = facts c.args.steps.now c.args.walk.place.step c.in-Variable.tree c.requires.compiled is in
     let same : fits.tree ≡ c.in-Variable.tree = same-tree c.args.steps.now c.args.walk.place.step fits.tree c.in-Variable.tree fits.variable is in
     let within : c.args.walk.place.cut.at ≤ length c.args.letters.now = let h = fits.within in omega arith in
-    let short : c.args.walk.place.cut.at + c.args.walk.taken < length c.args.letters.now = let h = fits.within in let n = c.if-at-letters.false in omega arith in
-    let before : HasTaken (core_of c.in-Variable.tree) c.args.walk.state (joined (take c.args.walk.taken (left_from c.args.letters.now c.args.walk.place.cut.at))) =
-    subst (λ (t : Node). HasTaken (core_of t) c.args.walk.state (joined (take c.args.walk.taken (left_from c.args.letters.now c.args.walk.place.cut.at)))) same fits.taken in
-    let room : weight (core_of c.in-Variable.tree) ≤ room_of c.args.walk.state = subst (λ (t : Node). weight (core_of t) ≤ room_of c.args.walk.state) same fits.room in
-    let after : HasTaken (core_of c.in-Variable.tree) c.take_letter.new.state (joined (take (suc c.args.walk.taken) (left_from c.args.letters.now c.args.walk.place.cut.at))) =
+    let short : c.args.walk.place.cut.at + c.args.walk.taken < length c.args.letters.now = let h = fits.within in
+    let n = c.if-at-letters.false in omega arith in
+    let before : HasTaken (core_of c.in-Variable.tree) c.args.walk.state
+    (joined (take c.args.walk.taken (left_from c.args.letters.now c.args.walk.place.cut.at))) =
+    subst (λ (t : Node). HasTaken (core_of t) c.args.walk.state
+    (joined (take c.args.walk.taken
+    (left_from c.args.letters.now c.args.walk.place.cut.at)))) same fits.taken in
+    let room : weight (core_of c.in-Variable.tree) ≤ room_of c.args.walk.state =
+    subst (λ (t : Node). weight (core_of t) ≤ room_of c.args.walk.state) same fits.room in
+    let after : HasTaken (core_of c.in-Variable.tree) c.take_letter.new.state
+    (joined (take (suc c.args.walk.taken) (left_from c.args.letters.now c.args.walk.place.cut.at))) =
     subst (λ (f : List (Gap × ℕ)). HasTaken (core_of c.in-Variable.tree) c.take_letter.new.state f)
-    (joined-step c.args.letters.now c.args.walk.place.cut.at c.args.walk.taken (c.args.walk.place.cut.at + c.args.walk.taken) (suc c.args.walk.taken) _ refl short refl)
+    (joined-step c.args.letters.now c.args.walk.place.cut.at c.args.walk.taken
+    (c.args.walk.place.cut.at + c.args.walk.taken) (suc c.args.walk.taken) _ refl short refl)
     (c.take_letter.ensures.taken (joined (take c.args.walk.taken (left_from c.args.letters.now c.args.walk.place.cut.at))) before) in
-    let fit : IsWalk c.args.steps.now c.args.letters.now (record { place = c.args.walk.place; taken = c.args.walk.taken + 1; state = c.take_letter.new.state }) = record {
+    let fit : IsWalk c.args.steps.now c.args.letters.now
+    (record { place = c.args.walk.place; taken = c.args.walk.taken + 1; state = c.take_letter.new.state }) =
+    record {
       tree = c.in-Variable.tree;
       variable = is;
       within = omega arith;
@@ -144,15 +163,24 @@ returns-then-not-ends-clause-cost c =
     let v = facts c.args.steps.now c.args.walk.place.step c.in-Variable.tree c.requires.compiled is in
     let same : fits.tree ≡ c.in-Variable.tree = same-tree c.args.steps.now c.args.walk.place.step fits.tree c.in-Variable.tree fits.variable is in
     let within : c.args.walk.place.cut.at ≤ length c.args.letters.now = let h = fits.within in omega arith in
-    let short : c.args.walk.place.cut.at + c.args.walk.taken < length c.args.letters.now = let h = fits.within in let n = c.if-at-letters.false in omega arith in
-    let before : HasTaken (core_of c.in-Variable.tree) c.args.walk.state (joined (take c.args.walk.taken (left_from c.args.letters.now c.args.walk.place.cut.at))) =
-    subst (λ (t : Node). HasTaken (core_of t) c.args.walk.state (joined (take c.args.walk.taken (left_from c.args.letters.now c.args.walk.place.cut.at)))) same fits.taken in
-    let room : weight (core_of c.in-Variable.tree) ≤ room_of c.args.walk.state = subst (λ (t : Node). weight (core_of t) ≤ room_of c.args.walk.state) same fits.room in
-    let after : HasTaken (core_of c.in-Variable.tree) c.take_letter.new.state (joined (take (suc c.args.walk.taken) (left_from c.args.letters.now c.args.walk.place.cut.at))) =
+    let short : c.args.walk.place.cut.at + c.args.walk.taken < length c.args.letters.now = let h = fits.within in
+    let n = c.if-at-letters.false in omega arith in
+    let before : HasTaken (core_of c.in-Variable.tree) c.args.walk.state
+    (joined (take c.args.walk.taken (left_from c.args.letters.now c.args.walk.place.cut.at))) =
+    subst (λ (t : Node). HasTaken (core_of t) c.args.walk.state
+    (joined (take c.args.walk.taken
+    (left_from c.args.letters.now c.args.walk.place.cut.at)))) same fits.taken in
+    let room : weight (core_of c.in-Variable.tree) ≤ room_of c.args.walk.state =
+    subst (λ (t : Node). weight (core_of t) ≤ room_of c.args.walk.state) same fits.room in
+    let after : HasTaken (core_of c.in-Variable.tree) c.take_letter.new.state
+    (joined (take (suc c.args.walk.taken) (left_from c.args.letters.now c.args.walk.place.cut.at))) =
     subst (λ (f : List (Gap × ℕ)). HasTaken (core_of c.in-Variable.tree) c.take_letter.new.state f)
-    (joined-step c.args.letters.now c.args.walk.place.cut.at c.args.walk.taken (c.args.walk.place.cut.at + c.args.walk.taken) (suc c.args.walk.taken) _ refl short refl)
+    (joined-step c.args.letters.now c.args.walk.place.cut.at c.args.walk.taken
+    (c.args.walk.place.cut.at + c.args.walk.taken) (suc c.args.walk.taken) _ refl short refl)
     (c.take_letter.ensures.taken (joined (take c.args.walk.taken (left_from c.args.letters.now c.args.walk.place.cut.at))) before) in
-    let fit : IsWalk c.args.steps.now c.args.letters.now (record { place = c.args.walk.place; taken = c.args.walk.taken + 1; state = c.take_letter.new.state }) = record {
+    let fit : IsWalk c.args.steps.now c.args.letters.now
+    (record { place = c.args.walk.place; taken = c.args.walk.taken + 1; state = c.take_letter.new.state }) =
+    record {
       tree = c.in-Variable.tree;
       variable = is;
       within = omega arith;
@@ -165,7 +193,8 @@ returns-then-not-ends-clause-cost c =
 
 pub overflow_add-step : goal.overflow_add-step
 overflow_add-step c =
-    let h : c.args.walk.place.step < length c.args.steps.now = slice_get_within c.args.steps.now c.args.walk.place.step c.requires.awaits.fits.variable.0 c.requires.awaits.fits.variable.1 in
+    let h : c.args.walk.place.step < length c.args.steps.now =
+    slice_get_within c.args.steps.now c.args.walk.place.step c.requires.awaits.fits.variable.0 c.requires.awaits.fits.variable.1 in
     search rules
 
 pub returns-clause-search : goal.returns-clause-search
@@ -176,15 +205,24 @@ returns-clause-search c =
     let v = facts c.args.steps.now c.args.walk.place.step c.in-Variable.tree c.requires.compiled is in
     let same : fits.tree ≡ c.in-Variable.tree = same-tree c.args.steps.now c.args.walk.place.step fits.tree c.in-Variable.tree fits.variable is in
     let within : c.args.walk.place.cut.at ≤ length c.args.letters.now = let h = fits.within in omega arith in
-    let short : c.args.walk.place.cut.at + c.args.walk.taken < length c.args.letters.now = let h = fits.within in let n = c.if-at-letters.false in omega arith in
-    let before : HasTaken (core_of c.in-Variable.tree) c.args.walk.state (joined (take c.args.walk.taken (left_from c.args.letters.now c.args.walk.place.cut.at))) =
-    subst (λ (t : Node). HasTaken (core_of t) c.args.walk.state (joined (take c.args.walk.taken (left_from c.args.letters.now c.args.walk.place.cut.at)))) same fits.taken in
-    let room : weight (core_of c.in-Variable.tree) ≤ room_of c.args.walk.state = subst (λ (t : Node). weight (core_of t) ≤ room_of c.args.walk.state) same fits.room in
-    let after : HasTaken (core_of c.in-Variable.tree) c.take_letter.new.state (joined (take (suc c.args.walk.taken) (left_from c.args.letters.now c.args.walk.place.cut.at))) =
+    let short : c.args.walk.place.cut.at + c.args.walk.taken < length c.args.letters.now = let h = fits.within in
+    let n = c.if-at-letters.false in omega arith in
+    let before : HasTaken (core_of c.in-Variable.tree) c.args.walk.state
+    (joined (take c.args.walk.taken (left_from c.args.letters.now c.args.walk.place.cut.at))) =
+    subst (λ (t : Node). HasTaken (core_of t) c.args.walk.state
+    (joined (take c.args.walk.taken
+    (left_from c.args.letters.now c.args.walk.place.cut.at)))) same fits.taken in
+    let room : weight (core_of c.in-Variable.tree) ≤ room_of c.args.walk.state =
+    subst (λ (t : Node). weight (core_of t) ≤ room_of c.args.walk.state) same fits.room in
+    let after : HasTaken (core_of c.in-Variable.tree) c.take_letter.new.state
+    (joined (take (suc c.args.walk.taken) (left_from c.args.letters.now c.args.walk.place.cut.at))) =
     subst (λ (f : List (Gap × ℕ)). HasTaken (core_of c.in-Variable.tree) c.take_letter.new.state f)
-    (joined-step c.args.letters.now c.args.walk.place.cut.at c.args.walk.taken (c.args.walk.place.cut.at + c.args.walk.taken) (suc c.args.walk.taken) _ refl short refl)
+    (joined-step c.args.letters.now c.args.walk.place.cut.at c.args.walk.taken
+    (c.args.walk.place.cut.at + c.args.walk.taken) (suc c.args.walk.taken) _ refl short refl)
     (c.take_letter.ensures.taken (joined (take c.args.walk.taken (left_from c.args.letters.now c.args.walk.place.cut.at))) before) in
-    let fit : IsWalk c.args.steps.now c.args.letters.now (record { place = c.args.walk.place; taken = c.args.walk.taken + 1; state = c.take_letter.new.state }) = record {
+    let fit : IsWalk c.args.steps.now c.args.letters.now
+    (record { place = c.args.walk.place; taken = c.args.walk.taken + 1; state = c.take_letter.new.state }) =
+    record {
       tree = c.in-Variable.tree;
       variable = is;
       within = omega arith;
@@ -195,7 +233,9 @@ returns-clause-search c =
     let more : c.args.walk.taken + 1 ≡ suc c.args.walk.taken = add-one c.args.walk.taken in
     on-ok c.add_branch-2.result _ _ c.add_branch-2.ensures
     (λ q. next-search c.args.steps.now c.args.letters.now c.requires.letters c.args.walk c.in-Variable.tree v c.args.search.now c.requires.awaits within (c.args.walk.taken + 1) more c.take_letter.new.state c.add_branch.new.search c.in_ok-add_branch.ensures fit (c.args.walk.place.cut.at + c.args.walk.taken + 1) c.add_branch-2.new.search (omega arith) (omega arith) fits.follows
-    (is_true c.ends-ends.result c.if-not-ends.false (c.ends-ends.ensures (joined (take (suc c.args.walk.taken) (left_from c.args.letters.now c.args.walk.place.cut.at))) after)) q)
+    (is_true c.ends-ends.result c.if-not-ends.false
+    (c.ends-ends.ensures (joined
+    (take (suc c.args.walk.taken) (left_from c.args.letters.now c.args.walk.place.cut.at))) after)) q)
 
 pub returns-clause-cost : goal.returns-clause-cost
 returns-clause-cost c =
@@ -205,15 +245,24 @@ returns-clause-cost c =
     let v = facts c.args.steps.now c.args.walk.place.step c.in-Variable.tree c.requires.compiled is in
     let same : fits.tree ≡ c.in-Variable.tree = same-tree c.args.steps.now c.args.walk.place.step fits.tree c.in-Variable.tree fits.variable is in
     let within : c.args.walk.place.cut.at ≤ length c.args.letters.now = let h = fits.within in omega arith in
-    let short : c.args.walk.place.cut.at + c.args.walk.taken < length c.args.letters.now = let h = fits.within in let n = c.if-at-letters.false in omega arith in
-    let before : HasTaken (core_of c.in-Variable.tree) c.args.walk.state (joined (take c.args.walk.taken (left_from c.args.letters.now c.args.walk.place.cut.at))) =
-    subst (λ (t : Node). HasTaken (core_of t) c.args.walk.state (joined (take c.args.walk.taken (left_from c.args.letters.now c.args.walk.place.cut.at)))) same fits.taken in
-    let room : weight (core_of c.in-Variable.tree) ≤ room_of c.args.walk.state = subst (λ (t : Node). weight (core_of t) ≤ room_of c.args.walk.state) same fits.room in
-    let after : HasTaken (core_of c.in-Variable.tree) c.take_letter.new.state (joined (take (suc c.args.walk.taken) (left_from c.args.letters.now c.args.walk.place.cut.at))) =
+    let short : c.args.walk.place.cut.at + c.args.walk.taken < length c.args.letters.now = let h = fits.within in
+    let n = c.if-at-letters.false in omega arith in
+    let before : HasTaken (core_of c.in-Variable.tree) c.args.walk.state
+    (joined (take c.args.walk.taken (left_from c.args.letters.now c.args.walk.place.cut.at))) =
+    subst (λ (t : Node). HasTaken (core_of t) c.args.walk.state
+    (joined (take c.args.walk.taken
+    (left_from c.args.letters.now c.args.walk.place.cut.at)))) same fits.taken in
+    let room : weight (core_of c.in-Variable.tree) ≤ room_of c.args.walk.state =
+    subst (λ (t : Node). weight (core_of t) ≤ room_of c.args.walk.state) same fits.room in
+    let after : HasTaken (core_of c.in-Variable.tree) c.take_letter.new.state
+    (joined (take (suc c.args.walk.taken) (left_from c.args.letters.now c.args.walk.place.cut.at))) =
     subst (λ (f : List (Gap × ℕ)). HasTaken (core_of c.in-Variable.tree) c.take_letter.new.state f)
-    (joined-step c.args.letters.now c.args.walk.place.cut.at c.args.walk.taken (c.args.walk.place.cut.at + c.args.walk.taken) (suc c.args.walk.taken) _ refl short refl)
+    (joined-step c.args.letters.now c.args.walk.place.cut.at c.args.walk.taken
+    (c.args.walk.place.cut.at + c.args.walk.taken) (suc c.args.walk.taken) _ refl short refl)
     (c.take_letter.ensures.taken (joined (take c.args.walk.taken (left_from c.args.letters.now c.args.walk.place.cut.at))) before) in
-    let fit : IsWalk c.args.steps.now c.args.letters.now (record { place = c.args.walk.place; taken = c.args.walk.taken + 1; state = c.take_letter.new.state }) = record {
+    let fit : IsWalk c.args.steps.now c.args.letters.now
+    (record { place = c.args.walk.place; taken = c.args.walk.taken + 1; state = c.take_letter.new.state }) =
+    record {
       tree = c.in-Variable.tree;
       variable = is;
       within = omega arith;

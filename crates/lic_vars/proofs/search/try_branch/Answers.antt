@@ -13,7 +13,8 @@ differ a b h e = let t = eq-eqb a b e in cc
 
 pub returns-then-place-steps-clause-done : goal.returns-then-place-steps-clause-done
 returns-then-place-steps-clause-done c = λ t.
-    done c.args.steps.now c.args.letters.now c.in-Begin.place c.args.search.now (rw c.in-Begin.is at c.requires.awaits) c.if-place-steps.true (eqb-true _ _ (is_true _ t))
+    done c.args.steps.now c.args.letters.now c.in-Begin.place c.args.search.now
+    (rw c.in-Begin.is at c.requires.awaits) c.if-place-steps.true (eqb-true _ _ (is_true _ t))
 
 pub returns-then-place-steps-clause-search : goal.returns-then-place-steps-clause-search
 returns-then-place-steps-clause-search c = λ t.

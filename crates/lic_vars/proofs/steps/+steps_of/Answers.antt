@@ -14,7 +14,8 @@ loop-i-preserved t c = record {
         rw w.steps-is (pushed _ _ _ _ _ _ w.in_ok-push-in-Text.ensures.items (ap text (w.in_ok-letters-in-Text.ensures ∙ ap chars w.as_str.ensures.value))
         (more-Text _ _ _ c.loop-i-test.true c.index-parts-i.is _ w.in-Text.is) ∙ c.loop-i.invariant.moves)
     | in-Var+in_ok-tree-in-Var+in_ok-push-in-Var w ↦
-        rw w.steps-is (pushed _ _ _ _ _ _ w.in_ok-push-in-Var.ensures.items (ap (λ n. variable n (tree_words (tree_of w.in-Var.ere))) w.as_str-in-Var.ensures.value)
+        rw w.steps-is (pushed _ _ _ _ _ _ w.in_ok-push-in-Var.ensures.items
+        (ap (λ n. variable n (tree_words (tree_of w.in-Var.ere))) w.as_str-in-Var.ensures.value)
         (more-Var _ _ _ c.loop-i-test.true c.index-parts-i.is _ _ _ w.in-Var.is) ∙ c.loop-i.invariant.moves)
     | in-Optional+in_ok-inner-in-Optional+in_ok-push-in-Optional+in_ok-append-in-Optional w ↦
         let size : w.len.result ≡ length w.in_ok-inner-in-Optional.inner.items = search rules in

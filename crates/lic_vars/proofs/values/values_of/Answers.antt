@@ -27,7 +27,8 @@ loop-i-preserved-in-Variable-step c =
       placed = omega arith;
       values = value-pushed _ _ _ _ c.in_ok-push-in-Variable-step.ensures.items
           ∙ ap (λ s. map value_of c.loop-i.values.items ++ s)
-          (taken-variable c.loop-i.left_out c.first_number-count.result c.in-Variable-step.name.now (tree_words (tree_of c.in-Variable-step.ere.now)) _ c.loop-i.numbers.now _ c.loop-i.letters.now _ _ _ c.if-left_out-gt0.false
+          (taken-variable c.loop-i.left_out c.first_number-count.result c.in-Variable-step.name.now
+          (tree_words (tree_of c.in-Variable-step.ere.now)) _ c.loop-i.numbers.now _ c.loop-i.letters.now _ _ _ c.if-left_out-gt0.false
           c.first_number-count.ensures c.other_numbers-numbers.ensures c.behind-letters-in-Variable-step.ensures c.front.ensures c.covered-span.ensures)
           ∙ before;
     }
