@@ -11,5 +11,6 @@ IsNamed set id k = (k < length set) × ((d : Known) → (slice_index_or set k d)
 -- a triple is asked for exactly where one is given: the same tokens, and the template of the identifier
 abbrev pub IsTripleOf : List Known → Option After → Option Triple → Type 0
 IsTripleOf set None None = Unit {0}
-IsTripleOf set (Some after) (Some triple) = (triple.first ≡ after.first) × (triple.last ≡ after.last) × IsNamed set after.id.now triple.template
+IsTripleOf set (Some after) (Some triple) =
+    (triple.first ≡ after.first) × (triple.last ≡ after.last) × IsNamed set after.id.now triple.template
 IsTripleOf set _ _ = ⊥

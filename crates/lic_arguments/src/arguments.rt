@@ -333,7 +333,8 @@ pub fn ask_of(alloc: Global, arguments: &ScanArguments<'_>, set: &Set) -> Result
     ensures all { IfOk result (λ ask. ask.all ≡ arguments.now.all) }
     ensures limit { IfOk result (λ ask. ask.limit ≡ arguments.now.limit) }
     ensures after { IfOk result (λ ask. IsTripleOf set.now arguments.now.after ask.after) }
-    ensures fault { IfErr result (λ fault. (fault ≡ ArgumentFault.Memory) ⊎ ForSome arguments.now.after (λ after. (k : ℕ) → ¬ (IsNamed set.now after.id.now k))) }
+    ensures fault { IfErr result (λ fault. (fault ≡ ArgumentFault.Memory)
+        ⊎ ForSome arguments.now.after (λ after. (k : ℕ) → ¬ (IsNamed set.now after.id.now k))) }
 {
     let mut ask = Ask {
         all: arguments.all,

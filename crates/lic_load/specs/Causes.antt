@@ -1,10 +1,20 @@
--- Why a template is left out.
+-- Why a file or a template is refused.
+use Rattle.std.specs.Prelude.{ℕ, List}
+use Rattle.std.specs.Str.{IsUtf8, IsValidUpTo}
 use Rattle.lic_stream.specs.declared.transfer.ReadFault.{ReadFault}
 use Rattle.lic_stream.specs.declared.transfer.ReadFault.TheVariants.{Read, Memory}
+use Rattle.lic_load.specs.declared.fault.FileFault.{FileFault}
+use Rattle.lic_load.specs.declared.fault.FileFault.TheVariants.{Unreadable, NotUtf8, Refused}
 use Rattle.lic_load.specs.declared.templates.TemplateFault.{TemplateFault}
-use Rattle.lic_load.specs.declared.templates.TemplateFault.TheVariants.{Unreadable, Memory as WantsMemory}
+use Rattle.lic_load.specs.declared.templates.TemplateFault.TheVariants.{Unreadable as UnreadableTemplate, Memory as WantsMemory}
 
 -- a failed read leaves it unread, and running out of memory is reported as such
 abbrev pub fault_of_read : ReadFault → TemplateFault
-fault_of_read Read = Unreadable
+fault_of_read Read = UnreadableTemplate
 fault_of_read Memory = WantsMemory
+
+-- why bytes that were read are refused: they are not UTF-8, with the length of the longest front that is, or they are and what they say is at fault
+abbrev pub IsFileFault : {F : Type 0} → List ℕ → (F → Type 0) → FileFault F → Type 0
+IsFileFault bytes IsFault Unreadable = ⊥
+IsFileFault bytes IsFault (NotUtf8 at) = ¬ IsUtf8 bytes × IsValidUpTo bytes at
+IsFileFault bytes IsFault (Refused fault) = IsUtf8 bytes × IsFault fault

@@ -1,21 +1,32 @@
 //! The file of the line rules.
 
-ghost use Rattle.std.specs.Prelude.{◌≡◌, IfOk, None};
+ghost use Rattle.std.specs.Prelude.{◌≡◌, ◌⊎◌, IfOk, IfErr, OnOk, length, None};
+ghost use Rattle.std.specs.Str.{IsUtf8};
 ghost use Rattle.lic_kind.specs.LineRules.{profile, rules_of};
-ghost use Rattle.lic_kind.specs.RuleFiles.{lines_of, rules_in};
+ghost use Rattle.lic_kind.specs.RuleFiles.{lines_of, rules_in, AreSound, IsFirstFault, out_of_memory};
+ghost use Rattle.lic_load.specs.Causes.{IsFileFault};
 
 use crate::fault::{FileFault, LoadFault};
 use crate::file::read_bytes;
 use lic_kind::{Rules, RulesFault};
-use lic_stream::transfer::ReadFault;
+use simdutf8::compat::from_utf8;
 use std::alloc::Global;
 use std::rt::Files;
 
 /// The rules that some bytes hold.
+///
+/// # Errors
+///
+/// Refused are bytes that are not UTF-8, and rules as by `Rules::read`.
 fn read_rules(alloc: Global, bytes: &[u8]) -> Result<Rules, FileFault<RulesFault>>
-    ensures { IfOk result (λ rules. rules_of rules ≡ rules_in (lines_of bytes.now)) }
+    ensures accepted { OnOk result
+        (IsUtf8 bytes.now × AreSound (lines_of bytes.now) (length (lines_of bytes.now))) }
+    ensures rules { IfOk result (λ rules. rules_of rules ≡ rules_in (lines_of bytes.now)) }
+    ensures refused { IfErr result
+        (IsFileFault bytes.now (λ fault. IsFirstFault (lines_of bytes.now) fault
+        ⊎ (fault ≡ out_of_memory))) }
 {
-    match simdutf8::compat::from_utf8(bytes) {
+    match from_utf8(bytes) {
         Ok(text) => Rules::read(alloc, text).map_err(FileFault::Refused),
         Err(e) => Err(FileFault::NotUtf8 {
             at: e.valid_up_to(),
@@ -30,10 +41,8 @@ pub fn load_rules<Rt: Files>(rt: &Rt, alloc: Global, path: Option<&str>) -> Resu
     let Some(path) = path else {
         return Ok(Rules::profile(alloc));
     };
-    let bytes = match read_bytes(rt, alloc, path) {
-        Ok(bytes) => bytes,
-        Err(ReadFault::Read) => return Err(LoadFault::Rules(FileFault::Unreadable)),
-        Err(ReadFault::Memory) => return Err(LoadFault::Memory),
+    let Some(bytes) = read_bytes(rt, alloc, path)? else {
+        return Err(LoadFault::Rules(FileFault::Unreadable));
     };
     read_rules(alloc, bytes.as_slice()).map_err(LoadFault::Rules)
 }

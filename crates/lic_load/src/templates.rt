@@ -21,7 +21,7 @@ use std::{fs, io};
 use thiserror::Error;
 
 /// The most bytes that a template may have.
-const MOST_BYTES: usize = 1_048_576;
+const MAX_BYTES: usize = 1_048_576;
 
 /// What stands behind the identifier in the name of a template's file.
 const ENDING: &str = ".template.txt";
@@ -86,13 +86,13 @@ fn list<Rt: Files + AllocGlobal + Clone + Drop>(
 ) -> Result<Listing, LoadFault> {
     let mut ids = Vec::new(alloc);
     let mut unnamed = 0usize;
-    for entry in fs::read_dir(rt, folder)? {
+    for entry in fs::read_dir(rt, folder).map_err(listing_fault)? {
         match entry {
             Ok(entry) => add_id(alloc, &mut ids, entry.file_name())?,
             Err(e) if e.kind() == io::ErrorKind::InvalidFilename => {
                 unnamed = unnamed.saturating_add(1);
             }
-            Err(e) => return Err(LoadFault::from(e)),
+            Err(e) => return Err(listing_fault(e)),
         }
     }
     ids.sort()?;
@@ -109,18 +109,15 @@ fn add_id(alloc: Global, ids: &mut Vec<String>, name: &str) -> Result<(), LoadFa
     Ok(())
 }
 
-impl From<io::Error> for LoadFault {
-    ghost use Rattle.lic_load.specs.declared.fault.LoadFault.TheVariants.{Listing, Memory};
-
-    ghost from_gives = { λ error fault. (error_kind error ≡ OutOfMemory → fault ≡ Memory)
-        × (error_kind error ≢ OutOfMemory → fault ≡ Listing) };
-
-    fn from(error: io::Error) -> LoadFault {
-        if wants_memory(&error) {
-            LoadFault::Memory
-        } else {
-            LoadFault::Listing
-        }
+/// Why a folder cannot be listed.
+fn listing_fault(error: io::Error) -> LoadFault
+    ensures memory { error_kind error ≡ OutOfMemory → result ≡ LoadFault.Memory }
+    ensures listing { error_kind error ≢ OutOfMemory → result ≡ LoadFault.Listing }
+{
+    if wants_memory(&error) {
+        LoadFault::Memory
+    } else {
+        LoadFault::Listing
     }
 }
 
@@ -136,7 +133,7 @@ fn read_file<Rt: Files + AllocGlobal>(
         return Err(TemplateFault::Unreadable);
     }
     let mut source = Counted::new(File::open(rt, path)?);
-    Ok(read_up_to(alloc, &mut source, MOST_BYTES + 1)?)
+    Ok(read_up_to(alloc, &mut source, MAX_BYTES + 1)?)
 }
 
 /// Reads a template.
@@ -150,7 +147,7 @@ fn load<Rt: Files + AllocGlobal>(
 ) -> Result<Template, TemplateFault> {
     let path = format!(in alloc; "{folder}/{id}{ENDING}")?;
     let bytes = read_file(rt, alloc, path.as_str())?;
-    if bytes.len() > MOST_BYTES {
+    if bytes.len() > MAX_BYTES {
         return Err(TemplateFault::Markup(MarkupFault {
             place: 0,
             cause: MarkupCause::TooLong,

@@ -1,20 +1,30 @@
 //! The file of the list of equivalent words.
 
-ghost use Rattle.std.specs.Prelude.{◌≡◌, [], IfOk, None};
-ghost use Rattle.lic_phrases.specs.WordLists.{AreWords, phrase_lines};
+ghost use Rattle.std.specs.Prelude.{◌≡◌, ◌⊎◌, [], IfOk, IfErr, OnOk, None, Some};
+ghost use Rattle.std.specs.Str.{IsUtf8};
+ghost use Rattle.lic_phrases.specs.WordLists.{AreWords, phrase_lines, first_fault, out_of_memory};
+ghost use Rattle.lic_load.specs.Causes.{IsFileFault};
 
 use crate::fault::{FileFault, LoadFault};
 use crate::file::read_bytes;
 use lic_norm::words::{Words, WordsFault};
-use lic_stream::transfer::ReadFault;
+use simdutf8::compat::from_utf8;
 use std::alloc::Global;
 use std::rt::Files;
 
 /// The list that some bytes hold.
+///
+/// # Errors
+///
+/// Refused are bytes that are not UTF-8, and lists as by `Words::read`.
 fn read_words(alloc: Global, bytes: &[u8]) -> Result<Words, FileFault<WordsFault>>
-    ensures { IfOk result (λ words. AreWords (phrase_lines bytes.now) words) }
+    ensures accepted { OnOk result (IsUtf8 bytes.now × (first_fault bytes.now ≡ None)) }
+    ensures words { IfOk result (λ words. AreWords (phrase_lines bytes.now) words) }
+    ensures refused { IfErr result
+        (IsFileFault bytes.now (λ fault. (first_fault bytes.now ≡ Some fault)
+        ⊎ (fault ≡ out_of_memory))) }
 {
-    match simdutf8::compat::from_utf8(bytes) {
+    match from_utf8(bytes) {
         Ok(text) => Words::read(alloc, text).map_err(FileFault::Refused),
         Err(e) => Err(FileFault::NotUtf8 {
             at: e.valid_up_to(),
@@ -29,10 +39,8 @@ pub fn load_words<Rt: Files>(rt: &Rt, alloc: Global, path: Option<&str>) -> Resu
     let Some(path) = path else {
         return Ok(Words::none(alloc));
     };
-    let bytes = match read_bytes(rt, alloc, path) {
-        Ok(bytes) => bytes,
-        Err(ReadFault::Read) => return Err(LoadFault::Words(FileFault::Unreadable)),
-        Err(ReadFault::Memory) => return Err(LoadFault::Memory),
+    let Some(bytes) = read_bytes(rt, alloc, path)? else {
+        return Err(LoadFault::Words(FileFault::Unreadable));
     };
     read_words(alloc, bytes.as_slice()).map_err(LoadFault::Words)
 }

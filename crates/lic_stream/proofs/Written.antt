@@ -18,7 +18,8 @@ Appends-none a b c xs ys n p q e =
     subst (λ l. Appends a c l) (append-nil xs) (Appends-trans a b c xs [] p r)
 
 -- the first i bytes of xs, and then the next n
-pub Appends-take : (a b c : Option (List ℕ)) (xs : List ℕ) (i n : ℕ) → Appends a b (take i xs) → Appends b c (take n (take (length xs - i) (drop i xs))) → Appends a c (take (i + n) xs)
+pub Appends-take : (a b c : Option (List ℕ)) (xs : List ℕ) (i n : ℕ) → Appends a b (take i xs)
+    → Appends b c (take n (take (length xs - i) (drop i xs))) → Appends a c (take (i + n) xs)
 Appends-take a b c xs i n p q =
     let r : Appends b c (take n (drop i xs)) = subst (λ l. Appends b c (take n l)) (take-rest xs i) q in
     subst (λ l. Appends a c l) (sym (take-add i n xs)) (Appends-trans a b c _ _ p r)

@@ -25,12 +25,14 @@ pub fn read_up_to<R: Source>(
     input: &mut R,
     limit: usize,
 ) -> Result<Vec<u8>, ReadFault>
-    ensures bytes { IfOk result (λ bytes. Consumes (R.left input.old) (R.left input.new) bytes.items) }
+    ensures bytes { IfOk result (λ bytes.
+        Consumes (R.left input.old) (R.left input.new) bytes.items) }
     ensures bound { IfOk result (λ bytes. length bytes.items ≤ limit) }
     ensures end { IfOk result (λ bytes. length bytes.items < limit → IsAtEnd (R.left input.new)) }
     ensures part { OnErr result (ReadsUpTo (R.left input.old) (R.left input.new) limit) }
     ensures sound { OnOk result (R.failed input.new ≡ R.failed input.old) }
-    ensures read { IsErrOf result ReadFault.Read → R.failed input.new ≡ one_more (R.failed input.old) }
+    ensures read { IsErrOf result ReadFault.Read
+        → R.failed input.new ≡ one_more (R.failed input.old) }
     ensures memory { IsErrOf result ReadFault.Memory → R.failed input.new ≡ R.failed input.old }
 {
     let mut bytes = Vec::new(alloc);
@@ -80,7 +82,9 @@ const GATHERED: usize = 65_536;
 /// Writes the gathered lines and empties the list, where there are enough of them.
 pub fn put_gathered<W: Sink>(out: &mut W, lines: &mut Vec<u8>) -> Result<(), WriteFailed>
     ensures few { OnOk result (length lines.new.items < 65_536) }
-    ensures ok { OnOk result ((put : List ℕ) × Appends (W.taken out.old) (W.taken out.new) put × (lines.old.items ≡ put ++ lines.new.items)) }
+    ensures ok { OnOk result
+        ((put : List ℕ) × Appends (W.taken out.old) (W.taken out.new) put
+        × (lines.old.items ≡ put ++ lines.new.items)) }
     ensures part { OnErr result (BeginsWith (W.taken out.old) (W.taken out.new) lines.old.items) }
     ensures sound { OnOk result (W.failed out.new ≡ W.failed out.old) }
     ensures failed { OnErr result (W.failed out.new ≡ one_more (W.failed out.old)) }

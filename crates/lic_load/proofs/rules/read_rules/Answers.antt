@@ -10,7 +10,7 @@ kept Q (Ok x) s P same p = subst (λ q. IfOk q P) (sym same) p
 kept Q (Err e) (Ok x) P not p = absurd not
 kept Q (Err e) (Err y) P is p = tt
 
-pub returns-in-Ok : goal.returns-in-Ok
-returns-in-Ok c =
+pub returns-in-Ok-clause-rules : goal.returns-in-Ok-clause-rules
+returns-in-Ok-clause-rules c =
     kept _ c.read.result c.map_err.result (λ rules. rules_of rules ≡ rules_in (lines_of c.args.bytes.now)) c.map_err.ensures.cases
     (subst (λ bytes. IfOk c.read.result (λ rules. rules_of rules ≡ rules_in (lines_of bytes))) c.in-Ok.ensures.cases.0 c.read.ensures.rules)
