@@ -9,6 +9,8 @@ parts, all of them where none is named:
              files, a megabyte of licence texts; the start alone, and the memory
   shapes     templates that begin or end with wide variables, `foo .+ bar` on `foo ` repeated: twice the text against the text
   report     the report of outer matches on a megabyte, against the list of all matches
+  values     the report of matches of 30,000 letters with texts between their variables, with adjacent variables, and of optional words: twice the
+             match against the match; of a template with a long optional part: 1,000 short matches against 1
   rules      `tokens` of 10 MB by the profile's line rules and 256 texts, against the profile alone: texts that begin with a sign, and with a letter
 Each figure is the quickest of three runs, but for those of more than ten seconds, which are run once.
 """
@@ -201,7 +203,51 @@ def rules(program, at, sources):
         line(f'256 texts, those not in the profile begin with {name}', seconds, base, 'the profile', memory)
 
 
-PARTS = {part.__name__: part for part in (reading, sets, published, shapes, report, rules)}
+def spelled(number):
+    """A word of four letters, another one for each number."""
+    return ''.join(chr(ord('a') + number // 26 ** place % 26) for place in range(4))
+
+
+def values(program, at, sources):
+    def scan(name, template, text):
+        folder = at(name)
+        os.makedirs(folder, exist_ok=True)
+        with open(f'{folder}/values.template.txt', 'w') as out:
+            out.write(template + '\n')
+        with open(at('input.txt'), 'w') as out:
+            out.write(text)
+        return quickest([program, 'scan', '--templates', folder, at('input.txt')])
+
+    def words(count, between=' '):
+        return between.join(' '.join(spelled(number) for number in range(count // 10)) for _ in range(10))
+
+    def variables(count, between):
+        return between.join(f'<<var;name="v{number}";original="x";match=".+">>' for number in range(count))
+
+    def optional_words(count):
+        return ''.join(f'<<beginOptional>> {spelled(number)}<<endOptional>>' for number in range(count))
+
+    def every_other(count):
+        return ' '.join(spelled(number) for number in range(0, count, 2))
+
+    # matches of so many words, and how often they are repeated, so that they cost more than the start of the program
+    shapes = {'texts between ten variables': (7_500, 20, lambda size: variables(10, ' of '), lambda size: words(size, ' of ')),
+              'three adjacent variables': (7_500, 20, lambda size: variables(3, ''), words),
+              'optional words, every other one absent': (2_000, 1, optional_words, every_other)}
+    for number, (name, (most, repeats, inner, text)) in enumerate(shapes.items()):
+        once = None
+        for size in (most // 2, most):
+            seconds, memory = scan(f'values{number}', f'begin {inner(size)} end', f'begin {text(size)} end\n' * repeats)
+            once = once or seconds
+            line(f'{name}: {size}', seconds, once, f'{most // 2} words', memory)
+    once = None
+    for count in (1, 1_000):
+        seconds, memory = scan('long', f'begin<<beginOptional>> {words(24_000)}<<endOptional>> end', 'begin end\n' * count)
+        once = once or seconds
+        line(f'a long optional part: short matches: {count}', seconds, once, '1 match', memory)
+
+
+PARTS = {part.__name__: part for part in (reading, sets, published, shapes, report, values, rules)}
 
 
 def main():

@@ -49,6 +49,9 @@ FILES = {
 # a text with more than two thousand matches, and the most requests by which the report of them all grows
 MANY = b'x of y of z ' * 60
 GROWTH = 20
+# a text without a match, at each token of which one might begin; and the most requests by which a text a thousand times as long grows
+NONE = b'z ' * 50
+LONGER = 60
 # what follows from a template that wants memory
 FOLLOWS = b'licscan: --after: no template A'
 
@@ -59,12 +62,12 @@ def run(program, folder, library, words, given, n):
     return ran.returncode, ran.stdout, ran.stderr
 
 
-def requests(program, folder, library, limit):
-    """How many matches a run of at most so many writes, and how many requests for memory it makes."""
+def requests(program, folder, library, limit, text):
+    """How many matches of a text a run of at most so many writes, and how many requests for memory it makes."""
     count = os.path.join(folder, 'count')
     place = dict(os.environ, LD_PRELOAD=library, COUNT_IN=count)
     words = ['scan', '--all', '--templates', 'V', '--limit', str(limit)]
-    ran = subprocess.run([program] + words, input=MANY, capture_output=True, env=place, cwd=folder)
+    ran = subprocess.run([program] + words, input=text, capture_output=True, env=place, cwd=folder)
     with open(count) as it:
         return len(ran.stdout.splitlines()), int(it.read())
 
@@ -105,11 +108,15 @@ def main():
                     bad += 1
                     print(words, 'request', n, ran)
             runs += n
-        (one, few), (all_of_them, many) = [requests(program, folder, library, limit) for limit in (1, 2000)]
-        runs += 2
+        (one, few), (all_of_them, many) = [requests(program, folder, library, limit, MANY) for limit in (1, 2000)]
+        (none, short), (still_none, long) = [requests(program, folder, library, 1, text) for text in (NONE, NONE * 1000)]
+        runs += 4
         if (one, all_of_them) != (1, 2000) or many - few > GROWTH:
             bad += 1
             print('requests', few, 'for', one, 'match', many, 'for', all_of_them)
+        if (none, still_none) != (0, 0) or long - short > LONGER:
+            bad += 1
+            print('requests', short, 'for a text without a match', long, 'for a long one')
     print(f'{runs} runs, {bad} bad')
     return 1 if bad else 0
 
