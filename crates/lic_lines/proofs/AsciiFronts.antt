@@ -118,4 +118,5 @@ front_mark rules after_blank at (b ∷ bs) ascii some mark letter other alone =
     (ap₂ (λ l e. let t : Token = record { text = l; start = at; end = e; after_blank = after_blank } in t ∷ tokens_after rules false behind) letters end
     ∙ sym (ap (λ l. tokens_from after_blank (groups both_words l) ++ tokens_after rules (blank_behind after_blank (groups both_words l)) behind) runs)
     ∙ ascii_marks rules after_blank at text 1 ascii
-    (omega arith) (λ i lt. let here : i ≡ 0 = omega arith in ap (λ k. kind_of (get_or text k 0)) here ∙ mark) alone)
+    (omega arith) (omega arith) (λ i lt. let here : i ≡ 0 = omega arith in ap (λ k. kind_of (get_or text k 0)) here ∙ mark)
+    (λ lt next. absurd (alone lt next)))

@@ -12,7 +12,7 @@ use Rattle.lic_lines.specs.Texts.{groups}
 use Rattle.lic_lines.specs.Sources.{SourceChar, chars_of, placed}
 use Rattle.lic_lines.specs.LineRules.{LineRules}
 use Rattle.lic_lines.specs.Lines.{Blank, Mark, Word, cell_of}
-use Rattle.lic_lines.specs.Runs.{runs_joined}
+use Rattle.lic_lines.specs.Runs.{may_join, runs_joined}
 use Rattle.lic_lines.specs.Tokens.{Token, both_words, letters_of, tokens_from, blank_behind, tokens_after}
 use Rattle.lic_lines.proofs.GroupLemmas.{join_alone}
 use Rattle.lic_lines.proofs.Gaps.{no_runs, runs_joined-at}
@@ -130,21 +130,25 @@ marks_placed at bs ascii marks = λ i d lt.
 
 -- a row of marks
 pub ascii_marks : (rules : LineRules) (after_blank : Bool) (at : ℕ) (text : List ℕ) (n : ℕ) → IsAscii text → n ≤ length text
-    → ((i : ℕ) → i < n → kind_of (get_or text i 0) ≡ kind.Mark) → (n < length text → kind_of (get_or text n 0) ≢ kind.Mark)
+    → 0 < n → ((i : ℕ) → i < n → kind_of (get_or text i 0) ≡ kind.Mark)
+    → (n < length text → kind_of (get_or text n 0) ≡ kind.Mark → may_join (get_or text (n - 1) 0) (get_or text n 0) ≡ false)
     → tokens_from after_blank (groups both_words (runs_joined rules (map cell_of (placed at (take n text)))))
     ++ tokens_after rules (blank_behind after_blank
     (groups both_words (runs_joined rules (map cell_of (placed at (take n text))))))
     (placed (at + n) (drop n text))
     ≡ tokens_after rules after_blank (placed at text)
-ascii_marks rules after_blank at text n ascii within marks stop =
+ascii_marks rules after_blank at text n ascii within some marks stop =
     let S = placed at text in
     let many : length S ≡ length text = length-placed at text in
     ap₂ (λ m l. tokens_from after_blank (groups both_words (runs_joined rules (map cell_of m)))
     ++ tokens_after rules (blank_behind after_blank (groups both_words (runs_joined rules (map cell_of m)))) l)
     (sym (take-placed n at text)) (sym (drop-placed n at text ascii within))
-    ∙ marks_row rules after_blank S n (omega arith)
+    ∙ marks_row rules after_blank S n (omega arith) some
     (λ i d lt. ap (λ (s : SourceChar). kind_of s.char) (get_or-placed at text i d ascii (omega arith)) ∙ marks i lt)
-    (λ d lt is_mark. stop (omega arith) (sym (ap (λ (s : SourceChar). kind_of s.char) (get_or-placed at text n d ascii (omega arith))) ∙ is_mark))
+    (λ d lt is_mark.
+    let last = ap (λ (s : SourceChar). s.char) (get_or-placed at text (n - 1) d ascii (omega arith)) in
+    let next = ap (λ (s : SourceChar). s.char) (get_or-placed at text n d ascii (omega arith)) in
+    ap₂ may_join last next ∙ stop (omega arith) (sym (ap kind_of next) ∙ is_mark))
 
 -- a character that is neither a mark nor of a word
 pub ascii_blank : (rules : LineRules) (after_blank : Bool) (at : ℕ) (text : List ℕ) → IsAscii text → 0 < length text

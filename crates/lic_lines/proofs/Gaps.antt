@@ -24,7 +24,7 @@ no_mark_after Blank y h = refl
 no_mark_after (Mark s) y h = cc
 no_mark_after (Word s) y h = refl
 
-no_mark_before : (x y : Cell) → is_mark x ≡ false → same_mark y x ≡ false
+pub no_mark_before : (x y : Cell) → is_mark x ≡ false → same_mark y x ≡ false
 no_mark_before x Blank h = refl
 no_mark_before x (Word t) h = refl
 no_mark_before Blank (Mark t) h = refl
@@ -36,7 +36,7 @@ no_family_after Blank y h = refl
 no_family_after (Mark s) y h = cc
 no_family_after (Word s) y h = refl
 
-no_family_before : (x y : Cell) → is_mark x ≡ false → same_family y x ≡ false
+pub no_family_before : (x y : Cell) → is_mark x ≡ false → same_family y x ≡ false
 no_family_before x Blank h = refl
 no_family_before x (Word t) h = refl
 no_family_before Blank (Mark t) h = refl

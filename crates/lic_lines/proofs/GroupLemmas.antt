@@ -69,6 +69,45 @@ module _ {A : Type 0} (t : A → A → Bool) where
   pub groups_head : (y : A) (xs : List A) → (g : List A) × (hs : List (List A)) × (groups t (y ∷ xs) ≡ (y ∷ g) ∷ hs)
   groups_head y xs = head_of y (groups t xs)
 
+  -- two neighbours that do not belong together cut the list
+  pub groups_seam : (xs : List A) (x y : A) (ys : List A) → t x y ≡ false
+      → groups t (xs ++ x ∷ y ∷ ys) ≡ groups t (xs ++ x ∷ []) ++ groups t (y ∷ ys)
+  groups_seam [] x y ys apart =
+      let some = groups_head y ys in
+      ap (join_group t x) some.2 ∙ cond-false (t x y) _ _ apart ∙ ap (λ l. (x ∷ []) ∷ l) (sym some.2)
+  groups_seam (z ∷ xs) x y ys apart =
+      let some = groups_some xs x in
+      ap (join_group t z) (groups_seam xs x y ys apart ∙ ap (λ l. l ++ groups t (y ∷ ys)) some.2)
+      ∙ join_append z some.0 some.1 (groups t (y ∷ ys))
+      ∙ ap (λ l. join_group t z l ++ groups t (y ∷ ys)) (sym some.2)
+
+  end_join : (x z : A) (gs : List (List A)) (g : List A)
+      → (hs : List (List A)) × (h : List A) × (join_group t z (gs ++ (g ++ x ∷ []) ∷ []) ≡ hs ++ (h ++ x ∷ []) ∷ [])
+  end_join x z [] [] =
+      ⊎_elim
+      (λ yes. ([], z ∷ [], cond-true (t z x) _ _ yes))
+      (λ not. ((z ∷ []) ∷ [], [], cond-false (t z x) _ _ not))
+      (cases_Bool (t z x))
+  end_join x z [] (y ∷ g) =
+      ⊎_elim
+      (λ yes. ([], z ∷ y ∷ g, cond-true (t z y) _ _ yes))
+      (λ not. ((z ∷ []) ∷ [], y ∷ g, cond-false (t z y) _ _ not))
+      (cases_Bool (t z y))
+  end_join x z ([] ∷ gs) g = ((z ∷ []) ∷ [] ∷ gs, g, refl)
+  end_join x z ((y ∷ h) ∷ gs) g =
+      ⊎_elim
+      (λ yes. ((z ∷ y ∷ h) ∷ gs, g, cond-true (t z y) _ _ yes))
+      (λ not. ((z ∷ []) ∷ (y ∷ h) ∷ gs, g, cond-false (t z y) _ _ not))
+      (cases_Bool (t z y))
+
+  -- the last group ends in the last element
+  pub groups_end : (xs : List A) (x : A) → (gs : List (List A)) × (g : List A) × (groups t (xs ++ x ∷ []) ≡ gs ++ (g ++ x ∷ []) ∷ [])
+  groups_end [] x = ([], [], refl)
+  groups_end (z ∷ xs) x =
+      let known = groups_end xs x in
+      let more = end_join x z known.0 known.1 in
+      (more.0, more.1, ap (join_group t z) known.2 ∙ more.2)
+
   -- the first group: neighbours belong together up to n, and there they do not
   pub first_group : (xs : List A) (n : ℕ) (d : A) → n < length xs
       → ((i : ℕ) → i < n → t (get_or xs i d) (get_or xs (suc i) d) ≡ true)

@@ -1,21 +1,22 @@
 -- A row of characters of one kind in front of a text gives its tokens by itself, since no run and no token has two kinds.
-use Rattle.std.proofs.Common.{◌≡◌, ◌≢◌, ℕ, zero, suc, ◌<◌, ◌≤◌, Bool, true, false, not, cond, List, [], ◌∷◌, ◌++◌, All, length, take, drop, map, get_or, refl, sym, ap, ap₂, ◌∙◌, subst, ⊎_elim, arith}
-use Rattle.std.specs.Prelude.{nat_le}
+use Rattle.std.proofs.Common.{◌≡◌, ◌≢◌, ℕ, zero, suc, ◌+◌, ◌-◌, ◌<◌, ◌≤◌, Bool, true, false, not, cond, List, [], ◌∷◌, ◌++◌, All, length, take, drop, map, get_or, refl, sym, ap, ap₂, ◌∙◌, subst, ⊎_elim, append_assoc, arith}
+use Rattle.std.specs.Prelude.{nat_le, ◌&&◌, ◌||◌, ◌==◌}
 use Rattle.std.specs.List.{list_all, flat_map}
 use Rattle.std.proofs.lemmas.Bool.{cases_Bool, cases_lt, cond-true, cond-false, and_parts, and_from}
-use Rattle.std.proofs.lemmas.List.{append-nil, map-append, length-take, get_or-take, drop_more, drop_all, take-append-drop}
-use Rattle.lic_kind.specs.Kinds.{kind_of, is_word_kind, is_mark_kind}
+use Rattle.std.proofs.lemmas.List.{append-nil, map-append, length-take, get_or-take, take_more, drop_more, drop_all, take-append-drop}
+use Rattle.lic_kind.specs.Kinds.{kind_of, is_dash, is_quote, is_word_kind, is_mark_kind}
 use Rattle.lic_kind.specs.declared.Kind.{Kind}
 use Rattle.lic_kind.specs.declared.Kind.TheVariants as kind
 use Rattle.lic_lines.specs.Texts.{groups, join_group}
 use Rattle.lic_lines.specs.Sources.{SourceChar}
 use Rattle.lic_lines.specs.LineRules.{LineRules}
 use Rattle.lic_lines.specs.Lines.{Cell, Blank, Mark, Word, cell_of}
-use Rattle.lic_lines.specs.Runs.{same_mark, same_family, without_separator, without_separators, joined, with_joined, runs_joined}
+use Rattle.lic_lines.specs.Runs.{may_join, same_mark, same_family, without_separator, without_separators, joined, with_joined, runs_joined}
 use Rattle.lic_lines.specs.Tokens.{both_words, token_of, tokens_from, blank_behind, tokens_after}
 use Rattle.lic_lines.proofs.GroupLemmas.{join_alone, groups_head}
-use Rattle.lic_lines.proofs.Gaps.{is_word, is_mark, no_runs, without_separators-at, with_joined-at, runs_joined-at}
+use Rattle.lic_lines.proofs.Gaps.{is_word, is_mark, no_family_before, no_mark_before, no_runs, without_separators-at, with_joined-at, runs_joined-at}
 use Rattle.lic_lines.proofs.ItemLemmas.{none}
+use Rattle.lic_lines.proofs.Seams.{runs_joined-seam}
 
 -- the first of these, where there is one, fails
 abbrev NoneFirst : (Cell → Bool) → List Cell → Type 0
@@ -79,14 +80,58 @@ some_front k text (suc n) some is stop = omega arith
 
 -- ---- runs
 
-runs_joined-parted : (rules : LineRules) (xs ys : List Cell) → NoneFirst is_mark ys
-    → runs_joined rules (xs ++ ys) ≡ runs_joined rules xs ++ runs_joined rules ys
-runs_joined-parted rules xs [] h =
-    ap (runs_joined rules) (append-nil xs)
-    ∙ sym (ap (λ l. runs_joined rules xs ++ l) (no_runs rules) ∙ append-nil (runs_joined rules xs))
-runs_joined-parted rules xs (y ∷ ys) h =
-    runs_joined-at rules xs y ys h
-    ∙ ap (λ l. runs_joined rules xs ++ l) (sym (runs_joined-at rules [] y ys h ∙ ap (λ l. l ++ y ∷ runs_joined rules ys) (no_runs rules)))
+no_parts : (a b : Bool) → (a || b) ≡ false → (a ≡ false) × (b ≡ false)
+no_parts false false h = (refl, refl)
+no_parts false true h = cc
+no_parts true b h = cc
+
+-- behind a mark, what is no mark or may not be joined
+apart : (s t : SourceChar) → kind_of s.char ≡ kind.Mark → (kind_of t.char ≡ kind.Mark → may_join s.char t.char ≡ false)
+    → (same_mark (cell_of s) (cell_of t) ≡ false) × (same_family (cell_of s) (cell_of t) ≡ false)
+apart s t mark stop = at (kind_of t.char) refl
+  where
+    at : (k : Kind) → kind_of t.char ≡ k → (same_mark (cell_of s) (cell_of t) ≡ false) × (same_family (cell_of s) (cell_of t) ≡ false)
+    at kind.Mark is =
+        let no = no_parts (s.char == t.char) ((is_quote s.char && is_quote t.char) || (is_dash s.char && is_dash t.char)) (stop is) in
+        let cells : (f : Cell → Cell → Bool) → f (cell_of s) (cell_of t) ≡ f (Mark s) (Mark t) = λ f. ap₂ f (cell_of-Mark s mark) (cell_of-Mark t is) in
+        (cells same_mark ∙ no.0, cells same_family ∙ no.1)
+    at kind.Blank is = let other = cell_of-no_mark t (λ e. let both : kind.Blank ≡ kind.Mark = sym is ∙ e in cc) in
+        (no_mark_before (cell_of t) (cell_of s) other, no_family_before (cell_of t) (cell_of s) other)
+    at kind.Dropped is = let other = cell_of-no_mark t (λ e. let both : kind.Dropped ≡ kind.Mark = sym is ∙ e in cc) in
+        (no_mark_before (cell_of t) (cell_of s) other, no_family_before (cell_of t) (cell_of s) other)
+    at kind.Word is = let other = cell_of-no_mark t (λ e. let both : kind.Word ≡ kind.Mark = sym is ∙ e in cc) in
+        (no_mark_before (cell_of t) (cell_of s) other, no_family_before (cell_of t) (cell_of s) other)
+
+-- a row of marks up to a place where nothing is joined
+marks_parted : (rules : LineRules) (text : List SourceChar) (n : ℕ) → 0 < n → n ≤ length text
+    → ((i : ℕ) (d : SourceChar) → i < n → kind_of (get_or text i d).char ≡ kind.Mark)
+    → ((d : SourceChar) → n < length text → kind_of (get_or text n d).char ≡ kind.Mark
+    → may_join (get_or text (n - 1) d).char (get_or text n d).char ≡ false)
+    → runs_joined rules (map cell_of (take n text) ++ map cell_of (drop n text))
+    ≡ runs_joined rules (map cell_of (take n text)) ++ runs_joined rules (map cell_of (drop n text))
+marks_parted rules text n some within all stop =
+    ⊎_elim
+    (λ inside.
+    let s = get_or text (n - 1) none in
+    let t = get_or text n none in
+    let parts = apart s t (all (n - 1) none (omega arith)) (stop none inside) in
+    let before = map cell_of (take (n - 1) text) in
+    let behind = map cell_of (drop (n + 1) text) in
+    let one : n - 1 + 1 ≡ n = omega arith in
+    let front : map cell_of (take n text) ≡ before ++ cell_of s ∷ [] =
+    ap (λ k. map cell_of (take k text)) (sym one) ∙ ap (map cell_of) (take_more text (n - 1) none (omega arith))
+    ∙ map-append cell_of (take (n - 1) text) (s ∷ []) in
+    let rest : map cell_of (drop n text) ≡ cell_of t ∷ behind = ap (map cell_of) (drop_more text n none inside) in
+    ap (runs_joined rules) (ap₂ (λ a b. a ++ b) front rest ∙ append_assoc before (cell_of s ∷ []) (cell_of t ∷ behind))
+    ∙ runs_joined-seam rules before (cell_of s) (cell_of t) behind parts.0 parts.1
+    ∙ ap₂ (λ a b. runs_joined rules a ++ runs_joined rules b) (sym front) (sym rest))
+    (λ end.
+    let empty : map cell_of (drop n text) ≡ [] = ap (map cell_of) (drop_all n text end) in
+    let marks = map cell_of (take n text) in
+    ap (λ l. runs_joined rules (marks ++ l)) empty ∙ ap (runs_joined rules) (append-nil marks)
+    ∙ sym (ap (λ l. runs_joined rules marks ++ runs_joined rules l) empty
+    ∙ ap (λ l. runs_joined rules marks ++ l) (no_runs rules) ∙ append-nil (runs_joined rules marks)))
+    (cases_lt n (length text))
 
 runs_joined-words : (rules : LineRules) (ws : List SourceChar) (ys : List Cell) → runs_joined rules (map Word ws ++ ys) ≡ map Word ws ++ runs_joined rules ys
 runs_joined-words rules [] ys = refl
@@ -249,19 +294,19 @@ module _ (rules : LineRules) (after_blank : Bool) (text : List SourceChar) (n : 
       ∙ words_front rules after_blank (take n text) (map cell_of (drop n text)) (omega (arith, long))
       (none_first is_word text n (λ d lt. cell_of-no_word (get_or text n d) (stop d lt))))
 
-  pub marks_row : ((i : ℕ) (d : SourceChar) → i < n → kind_of (get_or text i d).char ≡ kind.Mark)
-      → ((d : SourceChar) → n < length text → kind_of (get_or text n d).char ≢ kind.Mark)
+  pub marks_row : 0 < n → ((i : ℕ) (d : SourceChar) → i < n → kind_of (get_or text i d).char ≡ kind.Mark)
+      → ((d : SourceChar) → n < length text → kind_of (get_or text n d).char ≡ kind.Mark
+      → may_join (get_or text (n - 1) d).char (get_or text n d).char ≡ false)
       → tokens_from after_blank (groups both_words (runs_joined rules (map cell_of (take n text))))
       ++ tokens_after rules (blank_behind after_blank
       (groups both_words (runs_joined rules (map cell_of (take n text))))) (drop n text)
       ≡ tokens_after rules after_blank text
-  marks_row all stop =
+  marks_row some all stop =
       let marks = runs_joined rules (map cell_of (take n text)) in
       let rest = runs_joined rules (map cell_of (drop n text)) in
       sym (ap (λ l. tokens_from after_blank (groups both_words l))
       (ap (runs_joined rules) split
-      ∙ runs_joined-parted rules (map cell_of (take n text)) (map cell_of (drop n text))
-      (none_first is_mark text n (λ d lt. cell_of-no_mark (get_or text n d) (stop d lt))))
+      ∙ marks_parted rules text n some within all stop)
       ∙ ap (tokens_from after_blank)
       (groups_no_words marks rest
       (no_words-runs rules (map cell_of (take n text))

@@ -15,6 +15,7 @@ pub mod StandingTexts
 pub mod ItemLemmas
 pub mod NoItems
 pub mod Gaps
+pub mod Seams
 pub mod KindRows
 pub mod CutLemmas
 pub mod TokenLemmas

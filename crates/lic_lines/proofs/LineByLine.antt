@@ -268,11 +268,11 @@ first_tokens-line rules front nl rest is_end =
 -- ---- tokens, signs too
 
 -- nothing stands here, or a token behind a blank
-abbrev BeginsAfterBlank : List Token → Type 0
+abbrev pub BeginsAfterBlank : List Token → Type 0
 BeginsAfterBlank [] = Unit {0}
 BeginsAfterBlank (t ∷ ts) = t.after_blank ≡ true
 
-begins_after_blank : (gs : List (List Cell)) → BeginsAfterBlank (tokens_from true gs)
+pub begins_after_blank : (gs : List (List Cell)) → BeginsAfterBlank (tokens_from true gs)
 begins_after_blank [] = tt
 begins_after_blank ([] ∷ gs) = begins_after_blank gs
 begins_after_blank ((Blank ∷ cells) ∷ gs) = begins_after_blank gs
@@ -287,7 +287,7 @@ no_sign-third : (a b c : Token) → c.after_blank ≡ true → is_sign_in_parent
 no_sign-third a b c blank = and_right _ (not c.after_blank) (ap not blank)
 
 -- a sign of one token or of three does not reach over a blank
-single_signs-append : (xs ys : List Token) → BeginsAfterBlank ys → single_signs (xs ++ ys) ≡ single_signs xs ++ single_signs ys
+pub single_signs-append : (xs ys : List Token) → BeginsAfterBlank ys → single_signs (xs ++ ys) ≡ single_signs xs ++ single_signs ys
 single_signs-append [] ys h = refl
 single_signs-append (a ∷ []) [] h = refl
 single_signs-append (a ∷ []) (b ∷ []) h = refl

@@ -1,7 +1,7 @@
 -- Tokens that are no sign and begin none.
-use Rattle.std.proofs.Common.{◌≡◌, ℕ, ◌+◌, ◌<◌, false, List, [], ◌∷◌, ◌++◌, length, take, drop, get_or, refl, sym, ap, ◌∙◌, add-one, drop-cons, append_assoc}
+use Rattle.std.proofs.Common.{◌≡◌, ℕ, ◌+◌, ◌<◌, Bool, true, false, ⊎_elim, List, [], ◌∷◌, ◌++◌, length, take, drop, get_or, refl, sym, ap, ◌∙◌, add-one, drop-cons, append_assoc}
 use Rattle.std.specs.Prelude.{codes, ◌&&◌, not}
-use Rattle.std.proofs.lemmas.Bool.{cond-false}
+use Rattle.std.proofs.lemmas.Bool.{cases_Bool, cond-false, cond-true}
 use Rattle.std.proofs.lemmas.List.{take_more, map-append}
 use Rattle.lic_lines.specs.Tokens.{Token, is_text, is_sign_in_parentheses, sign_from, as_sign, single_signs, token_in, tokens_in}
 use Rattle.lic_lines.specs.declared.tokens.FirstToken.{FirstToken}
@@ -28,3 +28,50 @@ plain_step xs at d lt no_parenthesis same =
     ∙ ap (λ l. tokens_in (take at xs) ++ l)
     (sym (plain_first (token_in x) (tokens_in (drop (at + 1) xs)) no_parenthesis same)
     ∙ ap (λ l. single_signs (tokens_in l)) (sym next))
+
+no_first : (a b c : Token) → is_text (codes "(") a ≡ false → is_sign_in_parentheses a b c ≡ false
+no_first a b c none = ap (λ v. v && is_text (codes "c") b && not b.after_blank && is_text (codes ")") c && not c.after_blank) none
+
+no_second : (a b c : Token) → is_text (codes "c") b ≡ false → is_sign_in_parentheses a b c ≡ false
+no_second a b c none = at (is_text (codes "(") a)
+  where
+    behind : Bool → Bool
+    behind v = v && not b.after_blank && is_text (codes ")") c && not c.after_blank
+
+    at : (first : Bool) → (first && is_text (codes "c") b && not b.after_blank && is_text (codes ")") c && not c.after_blank) ≡ false
+    at true = ap behind none
+    at false = refl
+
+-- one token, or a sign of three
+signs_step : (a b c : Token) (more front rest : List Token) → single_signs more ≡ single_signs front ++ single_signs rest
+    → single_signs (b ∷ c ∷ more) ≡ single_signs (b ∷ c ∷ front) ++ single_signs rest
+    → single_signs (a ∷ b ∷ c ∷ more) ≡ single_signs (a ∷ b ∷ c ∷ front) ++ single_signs rest
+signs_step a b c more front rest behind_sign behind_token =
+    ⊎_elim
+    (λ yes.
+    cond-true (is_sign_in_parentheses a b c) _ _ yes ∙ ap (λ l. sign_from a c ∷ l) behind_sign
+    ∙ ap (λ l. l ++ single_signs rest)
+    (sym (cond-true (is_sign_in_parentheses a b c) (sign_from a c ∷ single_signs front)
+    (as_sign a ∷ single_signs (b ∷ c ∷ front)) yes)))
+    (λ none.
+    cond-false (is_sign_in_parentheses a b c) _ _ none ∙ ap (λ l. as_sign a ∷ l) behind_token
+    ∙ ap (λ l. l ++ single_signs rest)
+    (sym (cond-false (is_sign_in_parentheses a b c) (sign_from a c ∷ single_signs front)
+    (as_sign a ∷ single_signs (b ∷ c ∷ front)) none)))
+    (cases_Bool (is_sign_in_parentheses a b c))
+
+-- a sign does not reach over a token that neither begins one nor is its letter
+pub signs_apart : (xs : List Token) (x : Token) (ys : List Token) → is_text (codes "(") x ≡ false → is_text (codes "c") x ≡ false
+    → single_signs ((xs ++ x ∷ []) ++ ys) ≡ single_signs (xs ++ x ∷ []) ++ single_signs ys
+signs_apart [] x [] no_parenthesis no_letter = refl
+signs_apart [] x (b ∷ []) no_parenthesis no_letter = refl
+signs_apart [] x (b ∷ c ∷ ys) no_parenthesis no_letter = cond-false (is_sign_in_parentheses x b c) _ _ (no_first x b c no_parenthesis)
+signs_apart (a ∷ []) x [] no_parenthesis no_letter = refl
+signs_apart (a ∷ []) x (c ∷ ys) no_parenthesis no_letter =
+    cond-false (is_sign_in_parentheses a x c) _ _ (no_second a x c no_letter)
+    ∙ ap (λ l. as_sign a ∷ l) (signs_apart [] x (c ∷ ys) no_parenthesis no_letter)
+signs_apart (a ∷ b ∷ []) x ys no_parenthesis no_letter =
+    signs_step a b x ([] ++ ys) [] ys refl (signs_apart (b ∷ []) x ys no_parenthesis no_letter)
+signs_apart (a ∷ b ∷ c ∷ xs) x ys no_parenthesis no_letter =
+    signs_step a b c ((xs ++ x ∷ []) ++ ys) (xs ++ x ∷ []) ys (signs_apart xs x ys no_parenthesis no_letter)
+    (signs_apart (b ∷ c ∷ xs) x ys no_parenthesis no_letter)

@@ -1,7 +1,7 @@
 -- What tells that a text stands not in front of a way.
-use Rattle.std.proofs.Common.{◌≡◌, ◌≢◌, ℕ, zero, suc, ◌<◌, ◌&&◌, ◌||◌, ◌==◌, Bool, true, false, List, [], ◌∷◌, length, get_or, refl, sym, ap, ap₂, ◌∙◌, arith}
+use Rattle.std.proofs.Common.{◌≡◌, ◌≢◌, ℕ, zero, suc, ◌<◌, ◌&&◌, ◌==◌, Bool, true, false, List, [], ◌∷◌, length, get_or, refl, ap, arith}
 use Rattle.std.specs.Char.{is_whitespace}
-use Rattle.std.proofs.lemmas.Bool.{cases_Bool, eqb-true, false≢true, and_right}
+use Rattle.std.proofs.lemmas.Bool.{eqb-true, and_right}
 use Rattle.lic_lines.specs.Walks.{stands_in, may_stand}
 use Rattle.lic_lines.proofs.SpaceRows.{or_off}
 

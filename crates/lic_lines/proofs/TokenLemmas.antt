@@ -9,9 +9,10 @@ use Rattle.std.proofs.lemmas.List.{append-nil, map-append, take-map, drop-map, l
 use Rattle.lic_kind.specs.Kinds.{spell}
 use Rattle.lic_lines.specs.Sources.{SourceChar}
 use Rattle.lic_lines.specs.LineRules.{LineRules}
+use Rattle.lic_lines.specs.Texts.{groups}
 use Rattle.lic_lines.specs.Lines.{Cell, Blank, Word, cell_of, blank_for, LineCut, left_of, cells_of_cut}
 use Rattle.lic_lines.specs.Runs.{end_after, runs_joined}
-use Rattle.lic_lines.specs.Tokens.{Token, tokens_from, cell_letters, letters_of, first_tokens, stretch_tokens, tokens_of_cells, is_sign_in_parentheses, sign_from, as_sign, single_signs, token_in, tokens_in}
+use Rattle.lic_lines.specs.Tokens.{Token, both_words, tokens_after, tokens_from, cell_letters, letters_of, first_tokens, stretch_tokens, tokens_of_cells, is_sign_in_parentheses, sign_from, as_sign, single_signs, token_in, tokens_in}
 use Rattle.lic_lines.specs.declared.tokens.FirstToken.{FirstToken}
 use Rattle.lic_lines.proofs.Gaps.{no_runs, runs_joined-gap, first_tokens-gap}
 
@@ -234,3 +235,7 @@ module _ (xs : List FirstToken) (kept at : ℕ) (order : kept ≤ at) (within : 
           ap₂ (λ b c. is_sign_in_parentheses (token_in (get_or xs at d)) (token_in b) (token_in c))
           (get_or-drop (at + 1) xs 0 d ∙ ap (λ i. get_or xs i d) first) (get_or-drop (at + 1) xs 1 d ∙ ap (λ i. get_or xs i d) second)
           ∙ no_sign (omega (arith, length-drop (at + 1) xs))
+
+-- no characters have no tokens
+pub no_tokens_after : (rules : LineRules) (after_blank : Bool) → tokens_after rules after_blank [] ≡ []
+no_tokens_after rules after_blank = ap (λ l. tokens_from after_blank (groups both_words l)) (no_runs rules)

@@ -16,6 +16,10 @@ abbrev pub same_family : Cell → Cell → Bool
 same_family (Mark s) (Mark t) = (is_quote s.char && is_quote t.char) || (is_dash s.char && is_dash t.char)
 same_family _ _ = false
 
+-- marks that may be joined where one stands before the other, or be of one separator
+abbrev pub may_join : ℕ → ℕ → Bool
+may_join a b = (a == b) || ((is_quote a && is_quote b) || (is_dash a && is_dash b))
+
 -- a run of one same mark, which is a blank if it is a separator: three or more of them
 abbrev pub without_separator : List Cell → List Cell
 without_separator [] = []

@@ -110,6 +110,10 @@ tokens_after rules after_blank text = tokens_from after_blank (groups both_words
 abbrev pub stretch_tokens : LineRules → List SourceChar → List Token
 stretch_tokens rules text = first_tokens (runs_joined rules (map cell_of text))
 
+-- and with each copyright sign by itself
+abbrev pub text_tokens_after : LineRules → Bool → List SourceChar → List Token
+text_tokens_after rules after_blank text = single_signs (tokens_after rules after_blank text)
+
 -- the bytes of a string
 abbrev pub small_bytes : SmallString → List ℕ
 small_bytes s = bytes_at s.place

@@ -8,17 +8,18 @@ ghost use Rattle.lic_lines.specs.Runs.{runs_joined};
 ghost use Rattle.lic_lines.specs.Sources.{placed};
 ghost use Rattle.lic_lines.specs.Texts.{groups};
 ghost use Rattle.lic_lines.specs.AsciiFronts.{ascii_tokens};
-ghost use Rattle.lic_lines.specs.Tokens.{both_words, blank_behind, line_tokens, tokens_after, tokens_from, tokens_in};
+ghost use Rattle.lic_lines.specs.Tokens.{both_words, blank_behind, line_tokens, single_signs, tokens_after, tokens_from, tokens_in};
 
 use crate::ascii_cut::quick_cut;
 use crate::ascii_front::kind_count;
 use crate::cut::{LineCut, cut_line};
 use crate::line_part::LinePart;
+use crate::mark_rows::ascii_mark_count;
 use crate::room::Room;
-use crate::signs::join_single_signs;
+use crate::signs::{join_single_signs, signs_end};
 use crate::small_string::SmallString;
 use crate::source::SourceChar;
-use crate::text::{FrontRow, push_marks};
+use crate::text::{FrontPart, push_marks};
 use crate::tokens::FirstToken;
 use lic_kind::laws::words_are_folded;
 use lic_kind::{Kind, Rules, kind_of};
@@ -113,7 +114,7 @@ fn push_front(
     lowered: &str,
     room: &mut Room,
     out: &mut Vec<FirstToken>,
-) -> Result<FrontRow, AllocError>
+) -> Result<FrontPart, AllocError>
     requires some { 0 < length text.now }
     requires ascii { IsAscii text.now }
     requires fits { at + length text.now < 2 ^ 32 }
@@ -127,7 +128,7 @@ fn push_front(
         ++ tokens_after (rules_of rules.now) after_blank (placed at text.now)) }
 {
     match kind_of(text[0] as char) {
-        Kind::Blank | Kind::Dropped => Ok(FrontRow {
+        Kind::Blank | Kind::Dropped => Ok(FrontPart {
             length: 1,
             blank_behind: true,
         }),
@@ -141,16 +142,16 @@ fn push_front(
                 after_blank,
             };
             out.push(token)?;
-            Ok(FrontRow {
+            Ok(FrontPart {
                 length,
                 blank_behind: false,
             })
         }
         Kind::Mark => {
-            let length = kind_count(Kind::Mark, text);
+            let length = ascii_mark_count(text);
             let row = &text[..length];
             let blank_behind = push_row_of_marks(alloc, rules, after_blank, at, row, room, out)?;
-            Ok(FrontRow {
+            Ok(FrontPart {
                 length,
                 blank_behind,
             })
@@ -158,42 +159,58 @@ fn push_front(
     }
 }
 
-/// Adds the first tokens of a text that begins at this byte and of which nothing is taken, where a blank stands before
-/// it or does not; its small letters are given too.
-fn push_text(
+/// Adds the first tokens in front of a text that begins at this byte and of which nothing is taken, up to a place that no
+/// copyright sign reaches over; the small letters of the text are given too.
+fn push_rows(
     alloc: Global,
     rules: &Rules,
-    mut after_blank: bool,
+    after_blank: bool,
     at: u32,
     text: &[u8],
     lowered: &str,
     room: &mut Room,
     out: &mut Vec<FirstToken>,
-) -> Result<(), AllocError>
+) -> Result<FrontPart, AllocError>
+    requires some { 0 < length text.now }
     requires ascii { IsAscii text.now }
     requires fits { at + length text.now < 2 ^ 32 }
     requires lowered { lowered.now ≡ map to_ascii_lowercase text.now }
-    ensures { OnOk result (tokens_in out.new.items
+    ensures some { IfOk result (λ part. 0 < part.length) }
+    ensures within { IfOk result (λ part. part.length ≤ length text.now) }
+    ensures tokens { IfOk result (λ part. tokens_in out.new.items
+        ++ tokens_after (rules_of rules.now) part.blank_behind
+        (placed (at + part.length) (drop part.length text.now))
         ≡ tokens_in out.old.items
         ++ tokens_after (rules_of rules.now) after_blank (placed at text.now)) }
+    ensures apart { IfOk result (λ part. single_signs (tokens_in out.new.items
+        ++ tokens_after (rules_of rules.now) part.blank_behind
+        (placed (at + part.length) (drop part.length text.now)))
+        ≡ single_signs (tokens_in out.new.items)
+        ++ ascii_tokens (rules_of rules.now) part.blank_behind (at + part.length)
+        (drop part.length text.now)) }
 {
-    let mut place = 0;
-    while place < text.len() {
-        let start = at + place as u32;
+    let first = push_front(alloc, rules, after_blank, at, text, lowered, room, out)?;
+    let mut blank_behind = first.blank_behind;
+    let mut length = first.length;
+    while length < text.len() && !signs_end(out, blank_behind) {
+        let start = at + length as u32;
         let row = push_front(
             alloc,
             rules,
-            after_blank,
+            blank_behind,
             start,
-            &text[place..],
-            &lowered[place..],
+            &text[length..],
+            &lowered[length..],
             room,
             out,
         )?;
-        after_blank = row.blank_behind;
-        place += row.length;
+        blank_behind = row.blank_behind;
+        length += row.length;
     }
-    Ok(())
+    Ok(FrontPart {
+        length,
+        blank_behind,
+    })
 }
 
 /// What is left of a whole line of ASCII that begins at this byte: the byte where that begins, and its text. The room
@@ -219,11 +236,12 @@ pub fn left_of_ascii<'a>(
     Ok((at + lead as u32, &line[lead..line.len() - cut.tail]))
 }
 
-/// Adds the tokens of the rest of a line of ASCII, which begins at this byte and of which nothing is taken, where a blank
-/// stands before it or does not; its small letters are given too. The room may hold anything.
+/// Puts the tokens of a part in front of a text of ASCII, which begins at this byte and of which nothing is taken, in the
+/// place of those that are there, where a blank stands before the text or does not; its small letters are given too. The
+/// room may hold anything.
 ///
-/// The error is that memory ran out; `out` then holds some of the tokens, and is of no use.
-pub fn push_rest_of_ascii(
+/// The error is that memory ran out; what `out` then holds is of no use.
+pub fn front_part_of_ascii(
     alloc: Global,
     rules: &Rules,
     after_blank: bool,
@@ -232,25 +250,21 @@ pub fn push_rest_of_ascii(
     lowered: &str,
     room: &mut Room,
     out: &mut Vec<FirstToken>,
-) -> Result<(), AllocError>
+) -> Result<FrontPart, AllocError>
+    requires some { 0 < length text.now }
     requires ascii { IsAscii text.now }
     requires fits { at + length text.now < 2 ^ 32 }
     requires lowered { lowered.now ≡ map to_ascii_lowercase text.now }
-    ensures { OnOk result (tokens_in out.new.items
-        ≡ tokens_in out.old.items
-        ++ ascii_tokens (rules_of rules.now) after_blank at text.now) }
+    ensures some { IfOk result (λ part. 0 < part.length) }
+    ensures within { IfOk result (λ part. part.length ≤ length text.now) }
+    ensures tokens { IfOk result (λ part. tokens_in out.new.items
+        ++ ascii_tokens (rules_of rules.now) part.blank_behind (at + part.length)
+        (drop part.length text.now)
+        ≡ ascii_tokens (rules_of rules.now) after_blank at text.now) }
 {
-    let from = out.len();
-    push_text(
-        alloc,
-        rules,
-        after_blank,
-        at,
-        text.as_bytes(),
-        lowered,
-        room,
-        out,
-    )?;
-    join_single_signs(out, from);
-    Ok(())
+    out.clear();
+    let bytes = text.as_bytes();
+    let part = push_rows(alloc, rules, after_blank, at, bytes, lowered, room, out)?;
+    join_single_signs(out, 0);
+    Ok(part)
 }

@@ -1,9 +1,9 @@
 //! From a line to its tokens.
-ghost use Rattle.std.specs.Prelude.{◌≡◌, ◌++◌, map, IfOk, OnOk};
+ghost use Rattle.std.specs.Prelude.{◌≡◌, ◌++◌, true, map, IfOk, OnOk};
 ghost use Rattle.lic_lines.specs.LineRules.{rules_of};
 ghost use Rattle.lic_lines.specs.Lines.{cell_of, blank_for, line_cells};
 ghost use Rattle.lic_lines.specs.Runs.{runs_joined};
-ghost use Rattle.lic_lines.specs.Tokens.{line_tokens, tokens_in};
+ghost use Rattle.lic_lines.specs.Tokens.{line_tokens, text_tokens_after, tokens_in};
 
 use crate::cell::Cell;
 use crate::cut::cut_line;
@@ -74,6 +74,22 @@ pub fn cells_of_line(
     Vec::from_slice(alloc, joined)
 }
 
+/// What is left of a line, or of a part of one, when its lead, item and tail are taken away.
+///
+/// The error is that memory ran out.
+pub fn left_of_line<'a>(
+    alloc: Global,
+    rules: &Rules,
+    part: LinePart,
+    line: &'a [SourceChar],
+) -> Result<&'a [SourceChar], AllocError>
+    ensures { IfOk result (λ left. text_tokens_after (rules_of rules.now) true left.now
+        ≡ line_tokens (rules_of rules.now) part line.now) }
+{
+    let cut = cut_line(alloc, rules, part, line)?;
+    Ok(&line[cut.lead + cut.item..line.len() - cut.tail])
+}
+
 /// Adds the tokens of one line, by this project's profile of the matching guidelines of SPDX 2.3, Annex B: without
 /// its lead, item and tail, its separators taken as blanks, each run of quotes and of dashes as one, and each
 /// copyright sign by itself as the token `copyright`. Dropped characters are taken out of the line already; spans
@@ -91,8 +107,7 @@ pub fn push_tokens_of_line(
     ensures { OnOk result (tokens_in out.new.items
         ≡ tokens_in out.old.items ++ line_tokens (rules_of rules.now) part line.now) }
 {
-    let cut = cut_line(alloc, rules, part, line)?;
-    let left = &line[cut.lead + cut.item..line.len() - cut.tail];
+    let left = left_of_line(alloc, rules, part, line)?;
     let from = out.len();
     push_text(alloc, rules, left, room, out)?;
     join_single_signs(out, from);

@@ -1,6 +1,7 @@
 //! Single copyright signs.
-ghost use Rattle.std.specs.Prelude.{◌≡◌, ◌+◌, ◌++◌, ◌<◌, ◌≤◌, length, false, take, drop, codes};
-ghost use Rattle.lic_lines.specs.Tokens.{is_text, is_sign_in_parentheses, as_sign, single_signs, token_in, tokens_in};
+ghost use Rattle.std.specs.Prelude.{◌≡◌, ◌+◌, ◌++◌, ◌<◌, ◌≤◌, List, IsTrue, length, false, take, drop, codes};
+ghost use Rattle.lic_lines.specs.Lines.{Cell};
+ghost use Rattle.lic_lines.specs.Tokens.{is_text, is_sign_in_parentheses, as_sign, single_signs, token_in, tokens_from, tokens_in};
 
 use crate::small_string::SmallString;
 use crate::tokens::FirstToken;
@@ -83,6 +84,22 @@ fn first_sign(tokens: &[FirstToken], from: usize) -> usize
         at += 1;
     }
     at
+}
+
+/// Whether no sign that begins in these tokens can go on behind them, where a blank stands there or does not.
+#[inline(always)]
+pub(crate) fn signs_end(tokens: &[FirstToken], blank_behind: bool) -> bool
+    ensures { IsTrue result → (gs : List (List Cell))
+        → single_signs (tokens_in tokens.now ++ tokens_from blank_behind gs)
+        ≡ single_signs (tokens_in tokens.now) ++ single_signs (tokens_from blank_behind gs) }
+{
+    if blank_behind {
+        return true;
+    }
+    match tokens {
+        [] => true,
+        [.., last] => !has_text(last, "(") & !has_text(last, "c"),
+    }
 }
 
 /// Makes each copyright sign from this token on one token by itself.

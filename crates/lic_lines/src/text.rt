@@ -5,37 +5,25 @@ ghost use Rattle.lic_lines.specs.Texts.{groups};
 ghost use Rattle.lic_lines.specs.LineRules.{rules_of};
 ghost use Rattle.lic_lines.specs.Lines.{cell_of};
 ghost use Rattle.lic_lines.specs.Runs.{runs_joined};
-ghost use Rattle.lic_lines.specs.Tokens.{both_words, tokens_from, blank_behind, tokens_after, stretch_tokens, tokens_in};
+ghost use Rattle.lic_lines.specs.Tokens.{both_words, tokens_from, blank_behind, single_signs, text_tokens_after, tokens_after, stretch_tokens, tokens_in};
 
 use crate::cell::Cell;
 use crate::line::push_cells;
+use crate::mark_rows::mark_count;
 use crate::room::Room;
+use crate::signs::{join_single_signs, signs_end};
 use crate::source::SourceChar;
 use crate::tokens::{FirstToken, mark_token, push_first_tokens, spell_word, word_token};
 use lic_kind::{Kind, Rules, kind_of};
 use std::alloc::{AllocError, Global};
 
-/// A row of characters of one kind that stands in front of a text.
+/// A part in front of a text across whose end nothing is joined.
 #[derive(Clone, Copy)]
-pub(crate) struct FrontRow {
-    pub(crate) length: usize,
+pub struct FrontPart {
+    /// How many characters it has; of a text of ASCII these are bytes.
+    pub length: usize,
     /// Whether a blank stands between its last token and what follows.
-    pub(crate) blank_behind: bool,
-}
-
-/// How many characters in front of a text are marks.
-fn mark_count(text: &[SourceChar]) -> usize
-    ensures within { result ≤ length text.now }
-    ensures all { (i : ℕ) (d : SourceChar) → i < result
-        → kind_of (slice_index_or text.now i d).char ≡ Kind.Mark }
-    ensures stop { (d : SourceChar) → result < length text.now
-        → kind_of (slice_index_or text.now result d).char ≢ Kind.Mark }
-{
-    let mut end = 0;
-    while end < text.len() && kind_of(text[end].char) == Kind::Mark {
-        end += 1;
-    }
-    end
+    pub blank_behind: bool,
 }
 
 /// Adds the tokens of a row of marks, where a blank stands before it or does not, and says whether one
@@ -76,7 +64,7 @@ fn push_front(
     text: &[SourceChar],
     room: &mut Room,
     out: &mut Vec<FirstToken>,
-) -> Result<FrontRow, AllocError>
+) -> Result<FrontPart, AllocError>
     requires { 0 < length text.now }
     ensures some { IfOk result (λ row. 0 < row.length) }
     ensures within { IfOk result (λ row. row.length ≤ length text.now) }
@@ -85,7 +73,7 @@ fn push_front(
         ≡ tokens_in out.old.items ++ tokens_after (rules_of rules.now) after_blank text.now) }
 {
     match kind_of(text[0].char) {
-        Kind::Blank | Kind::Dropped => Ok(FrontRow {
+        Kind::Blank | Kind::Dropped => Ok(FrontPart {
             length: 1,
             blank_behind: true,
         }),
@@ -93,7 +81,7 @@ fn push_front(
             let length = spell_word(alloc, text, &mut room.letters)?;
             let letters = room.letters.as_str();
             out.push(word_token(alloc, after_blank, &text[..length], letters)?)?;
-            Ok(FrontRow {
+            Ok(FrontPart {
                 length,
                 blank_behind: false,
             })
@@ -101,7 +89,7 @@ fn push_front(
         Kind::Mark => {
             let length = mark_count(text);
             let blank_behind = push_marks(alloc, rules, after_blank, &text[..length], room, out)?;
-            Ok(FrontRow {
+            Ok(FrontPart {
                 length,
                 blank_behind,
             })
@@ -129,4 +117,64 @@ pub(crate) fn push_text(
         at += row.length;
     }
     Ok(())
+}
+
+/// Adds the first tokens in front of a text of which nothing is taken, up to a place that no copyright sign reaches over.
+fn push_rows(
+    alloc: Global,
+    rules: &Rules,
+    after_blank: bool,
+    text: &[SourceChar],
+    room: &mut Room,
+    out: &mut Vec<FirstToken>,
+) -> Result<FrontPart, AllocError>
+    requires some { 0 < length text.now }
+    ensures some { IfOk result (λ part. 0 < part.length) }
+    ensures within { IfOk result (λ part. part.length ≤ length text.now) }
+    ensures tokens { IfOk result (λ part. tokens_in out.new.items
+        ++ tokens_after (rules_of rules.now) part.blank_behind (drop part.length text.now)
+        ≡ tokens_in out.old.items ++ tokens_after (rules_of rules.now) after_blank text.now) }
+    ensures apart { IfOk result (λ part. single_signs (tokens_in out.new.items
+        ++ tokens_after (rules_of rules.now) part.blank_behind (drop part.length text.now))
+        ≡ single_signs (tokens_in out.new.items)
+        ++ single_signs (tokens_after (rules_of rules.now) part.blank_behind
+        (drop part.length text.now))) }
+{
+    let first = push_front(alloc, rules, after_blank, text, room, out)?;
+    let mut blank_behind = first.blank_behind;
+    let mut length = first.length;
+    while length < text.len() && !signs_end(out, blank_behind) {
+        let row = push_front(alloc, rules, blank_behind, &text[length..], room, out)?;
+        blank_behind = row.blank_behind;
+        length += row.length;
+    }
+    Ok(FrontPart {
+        length,
+        blank_behind,
+    })
+}
+
+/// Puts the tokens of a part in front of a text, of which nothing is taken, in the place of those that are there, where
+/// a blank stands before the text or does not. The room may hold anything.
+///
+/// The error is that memory ran out; what `out` then holds is of no use.
+pub fn front_part(
+    alloc: Global,
+    rules: &Rules,
+    after_blank: bool,
+    text: &[SourceChar],
+    room: &mut Room,
+    out: &mut Vec<FirstToken>,
+) -> Result<FrontPart, AllocError>
+    requires some { 0 < length text.now }
+    ensures some { IfOk result (λ part. 0 < part.length) }
+    ensures within { IfOk result (λ part. part.length ≤ length text.now) }
+    ensures tokens { IfOk result (λ part. tokens_in out.new.items
+        ++ text_tokens_after (rules_of rules.now) part.blank_behind (drop part.length text.now)
+        ≡ text_tokens_after (rules_of rules.now) after_blank text.now) }
+{
+    out.clear();
+    let part = push_rows(alloc, rules, after_blank, text, room, out)?;
+    join_single_signs(out, 0);
+    Ok(part)
 }

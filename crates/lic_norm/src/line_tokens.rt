@@ -1,14 +1,14 @@
 //! The first tokens of a line of an input.
 
-ghost use Rattle.std.specs.Prelude.{◌≡◌, ◌+◌, ◌++◌, ◌<◌, ◌≤◌, ◌^◌, List, length, IfOk, IfSome, OnOk, IsAscii, IsUtf8};
+ghost use Rattle.std.specs.Prelude.{◌≡◌, ◌+◌, ◌++◌, ◌<◌, ◌≤◌, ◌^◌, List, length, IfSome, OnOk, IsAscii, IsUtf8};
 ghost use Rattle.lic_lines.specs.LineRules.{rules_of};
-ghost use Rattle.lic_lines.specs.Tokens.{Token, tokens_in};
+ghost use Rattle.lic_lines.specs.Tokens.{Token};
 ghost use Rattle.lic_norm.specs.Reading.{HasTaken};
 ghost use Rattle.lic_norm.specs.Tokens.{line_tokens_of};
 
 use crate::characters::read_characters;
-use crate::rewriting::Rewriting;
-use lic_lines::{FirstToken, LinePart, Room, Rules, SourceChar, push_tokens_of_line};
+use crate::rewriting::{PartRoom, Rewriting};
+use lic_lines::{LinePart, Room, Rules, SourceChar, left_of_line};
 use simdutf8::compat::from_utf8;
 use std::alloc::{AllocError, Global};
 
@@ -41,7 +41,7 @@ pub(crate) struct LineRoom {
     characters: Vec<SourceChar>,
     /// A line of ASCII in small letters.
     lowered: String,
-    room: Room,
+    room: PartRoom,
 }
 
 impl LineRoom {
@@ -50,12 +50,15 @@ impl LineRoom {
         LineRoom {
             characters: Vec::new(alloc),
             lowered: String::new(alloc),
-            room: Room::new(alloc),
+            room: PartRoom {
+                room: Room::new(alloc),
+                tokens: Vec::new(alloc),
+            },
         }
     }
 }
 
-/// Lets go of the characters of a long line, so that their room is free while its tokens are rewritten.
+/// Lets go of the characters of a long line.
 fn give_back(alloc: Global, characters: &mut Vec<SourceChar>)
     ensures { length characters.new.items ≤ length characters.old.items }
 {
@@ -64,26 +67,27 @@ fn give_back(alloc: Global, characters: &mut Vec<SourceChar>)
     }
 }
 
-/// The first tokens, by these line rules, of a line that begins at this byte of the input. The characters are room for
-/// those of the line, whatever they hold, and so is the room.
-fn tokens_of_line(
+/// Takes the first tokens, by these line rules, of a line of any bytes that begins at this byte of the input. The
+/// characters are room for those of the line, whatever they hold, and so is the room.
+fn take_any_line(
     alloc: Global,
     rules: &Rules,
     at: u32,
     line: &[u8],
     characters: &mut Vec<SourceChar>,
-    room: &mut Room,
-) -> Result<Vec<FirstToken>, AllocError>
+    room: &mut PartRoom,
+    rewriting: &mut Rewriting<'_>,
+) -> Result<(), AllocError>
     requires { at + length line.now < 2 ^ 32 }
-    ensures { IfOk result (λ tokens. tokens_in tokens.items
-        ≡ line_tokens_of (rules_of rules.now) at line.now) }
+    ensures taken { OnOk result ((taken : List Token) → HasTaken rewriting.old taken
+        → HasTaken rewriting.new (taken ++ line_tokens_of (rules_of rules.now) at line.now)) }
+    ensures phrases { rewriting.new.phrases.now ≡ rewriting.old.phrases.now }
 {
     read_characters(characters, at, line)?;
-    // A token takes some five bytes of an input.
-    let mut tokens = Vec::with_capacity(alloc, line.len() / 4)?;
-    push_tokens_of_line(alloc, rules, WHOLE_LINE, characters, room, &mut tokens)?;
+    let left = left_of_line(alloc, rules, WHOLE_LINE, characters)?;
+    rewriting.take_characters(alloc, rules, left, room)?;
     give_back(alloc, characters);
-    Ok(tokens)
+    Ok(())
 }
 
 /// Takes the first tokens, by these line rules, of a line that begins at this byte of the input. A line of ASCII is read
@@ -104,6 +108,13 @@ pub(crate) fn take_line(
     if let Some(text) = ascii_text(line) {
         return rewriting.take_line(alloc, rules, at, text, &mut room.room, &mut room.lowered);
     }
-    let tokens = tokens_of_line(alloc, rules, at, line, &mut room.characters, &mut room.room)?;
-    rewriting.take(tokens)
+    take_any_line(
+        alloc,
+        rules,
+        at,
+        line,
+        &mut room.characters,
+        &mut room.room,
+        rewriting,
+    )
 }

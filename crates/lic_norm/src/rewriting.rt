@@ -1,22 +1,30 @@
 //! From first tokens to the tokens of the rewriting, as they are kept.
-ghost use Rattle.std.specs.Prelude.{◌≡◌, ◌++◌, ◌∷◌, ◌+◌, ◌<◌, ◌^◌, [], true, List, length, map, IfOk, OnOk, IsAscii};
+ghost use Rattle.std.specs.Prelude.{◌≡◌, ◌++◌, ◌∷◌, ◌+◌, ◌<◌, ◌≤◌, ◌^◌, [], true, List, length, drop, map, IfOk, OnOk, IsAscii};
 ghost use Rattle.std.specs.Char.{to_ascii_lowercase};
 ghost use Rattle.lic_lines.specs.AsciiFronts.{ascii_tokens};
 ghost use Rattle.lic_lines.specs.LineRules.{rules_of};
 ghost use Rattle.lic_lines.specs.Lines.{whole_line};
 ghost use Rattle.lic_lines.specs.Sources.{placed};
-ghost use Rattle.lic_lines.specs.Tokens.{Token, line_tokens, token_in, tokens_in};
+ghost use Rattle.lic_lines.specs.Tokens.{Token, line_tokens, text_tokens_after, token_in, tokens_in};
 ghost use Rattle.lic_phrases.specs.Rewriting.{rewritten};
 ghost use Rattle.lic_norm.specs.Reading.{HasTaken};
 ghost use Rattle.lic_norm.specs.Tokens.{reported};
 
 use crate::token_list::TokenList;
 use lic_lines::{
-    AsciiFront, FirstToken, Room, Rules, SmallString, front_of_ascii, left_of_ascii,
-    push_rest_of_ascii,
+    AsciiFront, FirstToken, FrontPart, Room, Rules, SmallString, SourceChar, front_of_ascii,
+    front_part, front_part_of_ascii, left_of_ascii,
 };
 use lic_phrases::{FinalToken, Phrases, Rewriter};
 use std::alloc::{AllocError, Global};
+
+/// Room for the work on a part of a line, kept from one part to the next. What it holds has no effect.
+#[derive(Drop)]
+pub(crate) struct PartRoom {
+    pub(crate) room: Room,
+    /// The first tokens of the part.
+    pub(crate) tokens: Vec<FirstToken>,
+}
 
 /// Takes the first tokens of a text, and lists the tokens of its rewriting.
 #[derive(Drop)]
@@ -110,9 +118,25 @@ impl<'w> Rewriting<'w> {
         self.push(token)
     }
 
-    /// Takes the rest of a line of ASCII, of which nothing is taken, and lists the tokens that are settled then.
+    /// Takes these tokens, and lists those that are settled then.
+    #[inline(always)]
+    fn take_all(&mut self, alloc: Global, tokens: &[FirstToken]) -> Result<(), AllocError>
+        requires { self.old.settled.items ≡ [] }
+        ensures taken { OnOk result ((taken : List Token) → HasTaken self.old taken
+            → HasTaken self.new (taken ++ tokens_in tokens.now)) }
+        ensures phrases { self.new.phrases.now ≡ self.old.phrases.now }
+        ensures emptied { OnOk result (self.new.settled.items ≡ []) }
+    {
+        for token in tokens {
+            let text = token.text.as_str();
+            self.take_text(alloc, text, token.start, token.end, token.after_blank)?;
+        }
+        Ok(())
+    }
+
+    /// Takes a part in front of a text of ASCII, of which nothing is taken, and lists the tokens that are settled then.
     #[inline(never)]
-    fn take_rest(
+    fn take_part(
         &mut self,
         alloc: Global,
         rules: &Rules,
@@ -120,28 +144,27 @@ impl<'w> Rewriting<'w> {
         at: u32,
         text: &str,
         lowered: &str,
-        room: &mut Room,
-    ) -> Result<(), AllocError>
+        room: &mut PartRoom,
+    ) -> Result<FrontPart, AllocError>
+        requires emptied { self.old.settled.items ≡ [] }
+        requires some { 0 < length text.now }
         requires ascii { IsAscii text.now }
         requires fits { at + length text.now < 2 ^ 32 }
         requires lowered { lowered.now ≡ map to_ascii_lowercase text.now }
-        ensures taken { OnOk result ((taken : List Token) → HasTaken self.old taken
-            → HasTaken self.new (taken
-            ++ ascii_tokens (rules_of rules.now) after_blank at text.now)) }
+        ensures some { IfOk result (λ part. 0 < part.length) }
+        ensures within { IfOk result (λ part. part.length ≤ length text.now) }
+        ensures taken { IfOk result (λ part. (taken : List Token) → HasTaken self.old taken
+            → (front : List Token) × HasTaken self.new (taken ++ front)
+            × (front ++ ascii_tokens (rules_of rules.now) part.blank_behind (at + part.length)
+            (drop part.length text.now)
+            ≡ ascii_tokens (rules_of rules.now) after_blank at text.now)) }
         ensures phrases { self.new.phrases.now ≡ self.old.phrases.now }
+        ensures emptied { OnOk result (self.new.settled.items ≡ []) }
     {
-        let mut tokens = Vec::with_capacity(alloc, text.len() / 4)?;
-        push_rest_of_ascii(
-            alloc,
-            rules,
-            after_blank,
-            at,
-            text,
-            lowered,
-            room,
-            &mut tokens,
-        )?;
-        self.take(tokens)
+        let PartRoom { room, tokens } = room;
+        let part = front_part_of_ascii(alloc, rules, after_blank, at, text, lowered, room, tokens)?;
+        self.take_all(alloc, tokens)?;
+        Ok(part)
     }
 
     /// Takes a text of ASCII, of which nothing is taken and before which a blank stands, and lists the tokens that are
@@ -153,7 +176,7 @@ impl<'w> Rewriting<'w> {
         at: u32,
         text: &str,
         lowered: &str,
-        room: &mut Room,
+        room: &mut PartRoom,
     ) -> Result<(), AllocError>
         requires emptied { self.old.settled.items ≡ [] }
         requires ascii { IsAscii text.now }
@@ -181,15 +204,18 @@ impl<'w> Rewriting<'w> {
                 }
                 AsciiFront::Marks => {
                     let rest = &text[place..];
-                    return self.take_rest(
+                    let letters = &lowered[place..];
+                    let part = self.take_part(
                         alloc,
                         rules,
                         after_blank,
                         start,
                         rest,
-                        &lowered[place..],
+                        letters,
                         room,
-                    );
+                    )?;
+                    after_blank = part.blank_behind;
+                    place += part.length;
                 }
             }
         }
@@ -204,7 +230,7 @@ impl<'w> Rewriting<'w> {
         rules: &Rules,
         at: u32,
         line: &str,
-        room: &mut Room,
+        room: &mut PartRoom,
         lowered: &mut String,
     ) -> Result<(), AllocError>
         requires ascii { IsAscii line.now }
@@ -214,12 +240,37 @@ impl<'w> Rewriting<'w> {
             ++ line_tokens (rules_of rules.now) whole_line (placed at line.now))) }
         ensures phrases { self.new.phrases.now ≡ self.old.phrases.now }
     {
-        let (start, text) = left_of_ascii(alloc, rules, at, line, room)?;
+        let (start, text) = left_of_ascii(alloc, rules, at, line, &mut room.room)?;
         lowered.clear();
         lowered.push_str(text)?;
         lowered.make_ascii_lowercase();
         self.settled.clear();
         self.take_ascii(alloc, rules, start, text, lowered.as_str(), room)
+    }
+
+    /// Takes a text, of which nothing is taken and before which a blank stands, and lists the tokens that are settled then.
+    pub(crate) fn take_characters(
+        &mut self,
+        alloc: Global,
+        rules: &Rules,
+        text: &[SourceChar],
+        room: &mut PartRoom,
+    ) -> Result<(), AllocError>
+        ensures taken { OnOk result ((taken : List Token) → HasTaken self.old taken
+            → HasTaken self.new (taken ++ text_tokens_after (rules_of rules.now) true text.now)) }
+        ensures phrases { self.new.phrases.now ≡ self.old.phrases.now }
+    {
+        self.settled.clear();
+        let PartRoom { room, tokens } = room;
+        let mut after_blank = true;
+        let mut place = 0;
+        while place < text.len() {
+            let part = front_part(alloc, rules, after_blank, &text[place..], room, tokens)?;
+            self.take_all(alloc, tokens)?;
+            after_blank = part.blank_behind;
+            place += part.length;
+        }
+        Ok(())
     }
 
     /// Takes the next tokens, and lists those that are settled then.

@@ -48,10 +48,10 @@ returns-in_ok-blank_behind-in-Mark-clause-tokens c =
     let rules = rules_of c.args.rules.now in
     let text = c.args.text.now in
     let old = tokens_in c.args.out.now.items in
-    let n = c.kind_count-length-in-Mark.result in
-    let row = c.kind_count-length-in-Mark.ensures in
+    let n = c.ascii_mark_count-length.result in
+    let row = c.ascii_mark_count-length.ensures in
     let told = c.in_ok-blank_behind-in-Mark.ensures in
     let gs = groups both_words (runs_joined rules (map cell_of (placed c.args.at (take n text)))) in
     ap₂ (λ l b. l ++ tokens_after rules b (placed (c.args.at + n) (drop n text))) told.tokens told.blank
     ∙ append_assoc old (tokens_from c.args.after_blank gs) _
-    ∙ ap (λ l. old ++ l) (ascii_marks rules c.args.after_blank c.args.at text n c.requires.ascii row.within row.all row.stop)
+    ∙ ap (λ l. old ++ l) (ascii_marks rules c.args.after_blank c.args.at text n c.requires.ascii row.within row.some row.all row.stop)

@@ -1,4 +1,4 @@
-use Rattle.std.proofs.Common.{◌≡◌, ◌∙◌, length, drop, sym, length-drop, arith}
+use Rattle.std.proofs.Common.{◌∙◌, drop, sym, length-drop, arith}
 use Rattle.std.proofs.lemmas.List.{get_or-drop}
 use Rattle.lic_lines.specs.Walks.{walked}
 use Rattle.lic_lines.proofs.StandingTexts.{stands_short, stands_other}

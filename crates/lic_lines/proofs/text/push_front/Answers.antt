@@ -36,4 +36,4 @@ returns-in_ok-blank_behind-in-Mark-clause-tokens c =
     let gs = groups both_words (runs_joined rules (map cell_of (take n text))) in
     ap₂ (λ l b. l ++ tokens_after rules b (drop n text)) told.tokens told.blank
     ∙ append_assoc old (tokens_from c.args.after_blank gs) _
-    ∙ ap (λ l. old ++ l) (marks_row rules c.args.after_blank text n row.within row.all row.stop)
+    ∙ ap (λ l. old ++ l) (marks_row rules c.args.after_blank text n row.within row.some row.all row.stop)

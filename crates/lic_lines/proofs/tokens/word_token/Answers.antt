@@ -1,6 +1,4 @@
-use Rattle.std.proofs.Common.{◌≡◌, ◌∙◌, ◌∷◌, List, [], length, map, sym, ap, ap₂, arith}
-use Rattle.lic_lines.specs.Lines.{Word}
-use Rattle.lic_lines.specs.Sources.{SourceChar}
+use Rattle.std.proofs.Common.{◌∙◌}
 use Rattle.lic_lines.proofs.TokenLemmas.{word_is_token}
 use Rattle.lic_lines.proofs.tokens.word_token.Goals as goal
 

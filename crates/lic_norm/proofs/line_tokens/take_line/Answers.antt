@@ -22,9 +22,3 @@ returns-in-Some-clause-taken c =
     (ap (line_tokens rules whole_line) characters) refl)
     (done taken has))
     c.take_line.ensures.taken
-
-pub returns-clause-taken : goal.returns-clause-taken
-returns-clause-taken c =
-    on_ok_weaker c.take.result
-    (λ done taken has. subst (λ ts. HasTaken c.take.new.self (taken ++ ts)) c.in_ok-tokens.ensures (done taken has))
-    c.take.ensures.taken

@@ -1,8 +1,7 @@
-use Rattle.std.proofs.Common.{◌≡◌, ◌+◌, ◌-◌, ◌++◌, ◌∷◌, [], List, true, length, take, drop, map, ap, sym, subst, ◌∙◌, append_assoc, append-nil, length-drop, arith}
+use Rattle.std.proofs.Common.{◌≡◌, ◌+◌, ◌-◌, ◌++◌, ◌∷◌, [], List, true, length, take, drop, map, ap, ap₂, sym, subst, ◌∙◌, append_assoc, append-nil, length-drop, arith}
 use Rattle.std.specs.Char.{to_ascii_lowercase}
 use Rattle.std.specs.Prelude.{IsAscii}
-use Rattle.std.proofs.lemmas.List.{take_rest, drop-map, length-map}
-use Rattle.std.proofs.lemmas.Result.{on_ok_weaker}
+use Rattle.std.proofs.lemmas.List.{drop-drop, take_rest, drop-map, length-map}
 use Rattle.std.proofs.lemmas.Str.{IsCharBoundary-from_ascii}
 use Rattle.std.proofs.lemmas.Str.Ascii.{IsAscii-map, lowercase_ascii}
 use Rattle.lic_lines.specs.AsciiFronts.{IsFront, ascii_tokens}
@@ -65,8 +64,8 @@ range-letters-requires-clause-end_boundary c =
     IsCharBoundary-from_ascii c.args.lowered.now (place + c.in-Token.length) (lowered_ascii text c.args.lowered.now c.requires.lowered c.requires.ascii)
     (omega (arith, told.1, length-drop place text, ap length same, lowered_length text c.args.lowered.now c.requires.lowered))
 
-pub loop-place-preserved : goal.loop-place-preserved
-loop-place-preserved c =
+pub loop-place-preserved-in-Token : goal.loop-place-preserved-in-Token
+loop-place-preserved-in-Token c =
     let text = c.args.text.now in
     let place = c.loop-place.place in
     let n = c.in-Token.length in
@@ -99,34 +98,48 @@ loop-place-preserved c =
       emptied = done.emptied;
     }
 
-pub range_from-requires : goal.range_from-requires
-range_from-requires c = λ _.
+pub range_from-letters-requires : goal.range_from-letters-requires
+range_from-letters-requires c = λ _.
     let text = c.args.text.now in
     let same : c.as_bytes-bytes.result.now ≡ text = c.as_bytes-bytes.ensures.value in
     IsCharBoundary-from_ascii c.args.lowered.now c.loop-place.place (lowered_ascii text c.args.lowered.now c.requires.lowered c.requires.ascii)
     (omega (arith, ap length same, lowered_length text c.args.lowered.now c.requires.lowered))
 
-pub take_rest-requires-clause-lowered : goal.take_rest-requires-clause-lowered
-take_rest-requires-clause-lowered c =
+pub take_part-requires-clause-lowered : goal.take_part-requires-clause-lowered
+take_part-requires-clause-lowered c =
     let text = c.args.text.now in
     let place = c.loop-place.place in
-    c.range_from.ensures.value ∙ ap (drop place) c.requires.lowered ∙ drop-map to_ascii_lowercase place text
+    c.range_from-letters.ensures.value ∙ ap (drop place) c.requires.lowered ∙ drop-map to_ascii_lowercase place text
     ∙ ap (map to_ascii_lowercase) (sym c.range_from-rest.ensures.value)
 
-pub returns-in-Marks-clause-taken : goal.returns-in-Marks-clause-taken
-returns-in-Marks-clause-taken c =
+pub loop-place-preserved : goal.loop-place-preserved
+loop-place-preserved c =
     let rules = rules_of c.args.rules.now in
-    let start = c.args.at + c.loop-place.place in
-    let after_blank = c.loop-place.after_blank in
-    on_ok_weaker c.take_rest.result
-    (λ done taken has.
-    let before = c.loop-place.invariant.taken taken has in
-    subst (HasTaken c.take_rest.new.self)
-    (append_assoc taken before.0 _
-    ∙ ap (λ l. taken ++ l) (ap (λ l. before.0
-    ++ ascii_tokens rules after_blank start l) c.range_from-rest.ensures.value ∙ before.2))
-    (done (taken ++ before.0) before.1))
-    c.take_rest.ensures.taken
+    let text = c.args.text.now in
+    let place = c.loop-place.place in
+    let start = c.args.at + place in
+    let known = c.loop-place.invariant in
+    let same : c.as_bytes-bytes.result.now ≡ text = c.as_bytes-bytes.ensures.value in
+    let rest : c.range_from-rest.result.now ≡ drop place text = c.range_from-rest.ensures.value in
+    let part = c.in_ok-part-in-Marks.part in
+    let done = c.in_ok-part-in-Marks.ensures in
+    let next : start + part.length ≡ c.args.at + (place + part.length) = omega arith in
+    record {
+      within = omega (arith, done.within, ap length rest, length-drop place text, ap length same);
+      taken = λ taken has.
+          let before = known.taken taken has in
+          let more = done.taken (taken ++ before.0) before.1 in (
+            before.0 ++ more.0,
+            subst (HasTaken c.take_part.new.self) (append_assoc taken before.0 more.0) more.1,
+            append_assoc before.0 more.0 _
+                ∙ ap (λ l. before.0 ++ l) (ap (λ l. more.0 ++ l)
+                (sym (ap₂ (ascii_tokens rules part.blank_behind) next (ap (drop part.length) rest ∙ drop-drop part.length place text)))
+                ∙ more.2 ∙ ap (ascii_tokens rules c.loop-place.after_blank start) rest)
+                ∙ before.2,
+          );
+      phrases = c.take_part.ensures.phrases ∙ known.phrases;
+      emptied = done.emptied;
+    }
 
 pub returns-clause-taken : goal.returns-clause-taken
 returns-clause-taken c = λ taken has.

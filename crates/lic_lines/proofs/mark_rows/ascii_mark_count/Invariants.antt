@@ -1,0 +1,14 @@
+use Rattle.std.proofs.Common.{◌≡◌, ℕ, ◌-◌, ◌<◌, ◌≤◌, length, get_or}
+use Rattle.lic_kind.specs.Kinds.{kind_of}
+use Rattle.lic_kind.specs.declared.Kind.TheVariants as kind
+use Rattle.lic_lines.proofs.mark_rows.ascii_mark_count.Given as goal
+
+abbrev pub invariant-loop-count : goal.invariant-loop-count
+invariant-loop-count l = record {
+  some : 0 < l.count;
+  within : l.count ≤ length l.text;
+  all : (i : ℕ) → i < l.count → kind_of (get_or l.text i 0) ≡ kind.Mark;
+}
+
+abbrev pub decreases-loop-count : goal.decreases-loop-count
+decreases-loop-count l = length l.text - l.count

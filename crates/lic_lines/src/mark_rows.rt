@@ -1,0 +1,62 @@
+//! Rows of marks in front of a text, of which each may be joined to the next.
+ghost use Rattle.std.specs.Prelude.{◌≡◌, ◌<◌, ◌≤◌, ◌-◌, ℕ, false, length, slice_index, slice_index_or, IsTrue};
+ghost use Rattle.lic_kind.specs.Kinds.{kind_of};
+ghost use Rattle.lic_lines.specs.Runs.{may_join};
+
+use crate::source::SourceChar;
+use lic_kind::{Kind, is_dash, is_quote, kind_of};
+
+/// Whether two marks may be joined, or be of one separator.
+#[inline(always)]
+fn may_join(a: char, b: char) -> bool
+    ensures { result ≡ may_join a b }
+{
+    (a == b) | ((is_quote(a) & is_quote(b)) | (is_dash(a) & is_dash(b)))
+}
+
+/// Whether a character behind a mark is a mark that may be joined to it.
+#[inline(always)]
+fn goes_on(mark: char, next: char) -> bool
+    ensures mark { IsTrue result → kind_of next ≡ Kind.Mark }
+    ensures stop { result ≡ false → kind_of next ≡ Kind.Mark → may_join mark next ≡ false }
+{
+    kind_of(next) == Kind::Mark && may_join(mark, next)
+}
+
+/// How many bytes in front of a text are a row of marks across whose end nothing is joined.
+#[inline(always)]
+pub(crate) fn ascii_mark_count(text: &[u8]) -> usize
+    requires some { 0 < length text.now }
+    requires mark { kind_of (slice_index text.now 0) ≡ Kind.Mark }
+    ensures some { 0 < result }
+    ensures within { result ≤ length text.now }
+    ensures all { (i : ℕ) → i < result → kind_of (slice_index text.now i) ≡ Kind.Mark }
+    ensures stop { result < length text.now → kind_of (slice_index text.now result) ≡ Kind.Mark
+        → may_join (slice_index text.now (result - 1)) (slice_index text.now result) ≡ false }
+{
+    let mut count = 1;
+    while count < text.len() && goes_on(text[count - 1] as char, text[count] as char) {
+        count += 1;
+    }
+    count
+}
+
+/// How many characters in front of a text are a row of marks across whose end nothing is joined.
+pub(crate) fn mark_count(text: &[SourceChar]) -> usize
+    requires some { 0 < length text.now }
+    requires mark { (d : SourceChar) → kind_of (slice_index_or text.now 0 d).char ≡ Kind.Mark }
+    ensures some { 0 < result }
+    ensures within { result ≤ length text.now }
+    ensures all { (i : ℕ) (d : SourceChar) → i < result
+        → kind_of (slice_index_or text.now i d).char ≡ Kind.Mark }
+    ensures stop { (d : SourceChar) → result < length text.now
+        → kind_of (slice_index_or text.now result d).char ≡ Kind.Mark
+        → may_join (slice_index_or text.now (result - 1) d).char
+        (slice_index_or text.now result d).char ≡ false }
+{
+    let mut count = 1;
+    while count < text.len() && goes_on(text[count - 1].char, text[count].char) {
+        count += 1;
+    }
+    count
+}
