@@ -1,11 +1,11 @@
 -- A word that begins with a letter, beside those that go on with it.
-use Rattle.std.proofs.Common.{◌≡◌, ℕ, zero, suc, Bool, true, false, ◌==◌, List, [], ◌∷◌, ◌++◌, ◌⊎◌, inl, inr, refl, sym, ap, ◌∙◌, subst, arith, ne_eqb}
+use Rattle.std.proofs.Common.{◌≡◌, ℕ, zero, suc, Bool, true, false, ◌==◌, List, [], ◌∷◌, ◌++◌, ◌⊎◌, inl, inr, refl, sym, ap, ◌∙◌, subst, arith}
 use Rattle.lic_words.specs.Words.{Word, blank, blanks}
 use Rattle.lic_words.specs.Spelling.{Gap, free, gap_of}
 use Rattle.lic_marks.specs.Cores.{Core, WordsOf}
 use Rattle.lic_marks.specs.Marks.{Marks, no_marks, shift, join}
 use Rattle.lic_marks.specs.Rests.{Completes, GoesOn}
-use Rattle.lic_marks.specs.Rows.{marks_of, flags_of}
+use Rattle.lic_marks.specs.Rows.{marks_of}
 use Rattle.lic_marks.specs.Standing.{After, Then, AfterAny, each_with, Leads, LeadsOverBlanks}
 use Rattle.lic_marks.specs.Deciding.{over_blanks}
 use Rattle.lic_marks.specs.States.{HasFirstBlanks}

@@ -23,6 +23,7 @@ pub mod LoneMarks
 pub mod Untouched
 pub mod WindowRows
 pub mod Deciding
+pub mod Superposing
 pub mod Closing
 pub mod Entering
 pub mod Seeking

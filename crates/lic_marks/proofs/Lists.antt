@@ -1,7 +1,7 @@
 -- What may follow lists of letters, all together.
-use Rattle.std.proofs.Common.{◌≡◌, ℕ, List, [], ◌∷◌, ◌++◌, ◌⊎◌, inl, inr, refl, ap, ◌∙◌, append_assoc}
+use Rattle.std.proofs.Common.{◌≡◌, ℕ, List, [], ◌∷◌, ◌++◌, ◌⊎◌, inl, inr, refl, ap, append_assoc}
 use Rattle.lic_words.specs.Words.{Word, blanks}
-use Rattle.lic_words.specs.Spelling.{Gap, Allows}
+use Rattle.lic_words.specs.Spelling.{Gap}
 use Rattle.lic_marks.specs.Standing.{After, Then, AfterAny, each_with}
 use Rattle.lic_marks.proofs.Standing.{After-snoc, snoc-After}
 

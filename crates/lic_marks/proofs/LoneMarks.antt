@@ -1,10 +1,10 @@
 -- A row in which one flag alone is set, and how it moves within a stretch of letters.
-use Rattle.std.proofs.Common.{◌≡◌, ℕ, zero, suc, ◌+◌, ◌-◌, ◌<◌, ◌≤◌, ◌==◌, ◌&&◌, Bool, true, false, List, [], ◌∷◌, ◌++◌, length, take, drop, get_or, inl, inr, refl, sym, ap, ◌∙◌, subst, arith, length-drop, length-append, if◌then◌else◌, eq-eqb, ne_eqb}
+use Rattle.std.proofs.Common.{◌≡◌, ℕ, zero, suc, ◌+◌, ◌-◌, ◌<◌, ◌≤◌, ◌==◌, ◌&&◌, Bool, true, false, List, [], ◌∷◌, length, take, drop, get_or, inl, inr, refl, sym, ap, ◌∙◌, arith, length-drop, if◌then◌else◌, eq-eqb, ne_eqb}
 use Rattle.std.proofs.lemmas.Bool.{cases_Bool, cases_lt}
 use Rattle.std.proofs.lemmas.List.{get_or-drop, take-append-drop, ext_get_or}
 use Rattle.std.proofs.Math.Seq.{take-add}
 use Rattle.lic_marks.specs.Cores.{Core, empty, one, cat, none, alt, plus, tidy}
-use Rattle.lic_marks.specs.Marks.{Marks, no_marks, can_leave, shift}
+use Rattle.lic_marks.specs.Marks.{no_marks, can_leave, shift}
 use Rattle.lic_marks.specs.Rows.{weight, flags_of, marks_of, first_flag, Leaves, Shifts}
 use Rattle.lic_marks.specs.Stretches.{mark_at, GoesTo, IsStretch, IsLone, LeadsTo}
 use Rattle.lic_marks.proofs.Stretches.{left_mark, right_mark, left_alt, right_alt}

@@ -228,3 +228,17 @@ no_ends e r last = record {
   sound = λ v h. absurd h;
   complete = λ n more inside described v h. absurd (omega (arith, inside));
 }
+
+-- where nothing goes on behind the lists, any letter may be the last
+pub any_last : (e : Expression) (r : Core) (l m : ℕ) (lists : List (List (Gap × ℕ))) (ts : List (List ℕ)) → GoOnAsEnds e r l lists ts →
+    ((v : Word) → AfterAny (WordsOf r) lists v → ⊥) → GoOnAsEnds e r m lists ts
+any_last e r l m lists ts g none = record {
+  sound = λ v h. absurd (none v h);
+  complete = λ n more inside described v h. absurd (none v (g.complete n more inside described v h).1);
+}
+
+-- the last letter is known, or nothing goes on
+pub known_last : (e : Expression) (r : Core) (l m : ℕ) (lists : List (List (Gap × ℕ))) (ts : List (List ℕ)) → GoOnAsEnds e r l lists ts →
+    (m ≡ l) ⊎ ((v : Word) → AfterAny (WordsOf r) lists v → ⊥) → GoOnAsEnds e r m lists ts
+known_last e r l m lists ts g (inl same) = subst (λ k. GoOnAsEnds e r k lists ts) (sym same) g
+known_last e r l m lists ts g (inr none) = any_last e r l m lists ts g none

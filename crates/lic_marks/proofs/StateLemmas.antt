@@ -1,18 +1,31 @@
 -- What a state's marks stand for, from step to step.
-use Rattle.std.proofs.Common.{◌≡◌, ℕ, Bool, true, false, suc, List, [], ◌++◌, inl, inr, refl, sym, ap, ◌∙◌, subst}
+use Rattle.std.proofs.Common.{◌≡◌, ℕ, Bool, not, true, false, suc, List, [], ◌++◌, inl, inr, refl, sym, ap, ◌∙◌, subst, ne_eqb}
 use Rattle.std.specs.Prelude.{replicate}
-use Rattle.lic_words.specs.Words.{Word, blanks}
+use Rattle.lic_words.specs.Words.{Word, blank, blanks}
+use Rattle.lic_words.specs.Spelling.{Gap}
 use Rattle.lic_marks.specs.Cores.{Core, WordsOf}
-use Rattle.lic_marks.specs.Marks.{Marks, no_marks}
+use Rattle.lic_marks.specs.Marks.{Marks, no_marks, shift}
 use Rattle.lic_marks.specs.Rows.{marks_of}
 use Rattle.lic_marks.specs.Rests.{Completes, GoesOn}
-use Rattle.lic_marks.specs.Standing.{After, AfterAny, Leads, LeadsOverBlanks, LeadsSoFar, StandsAtOnce}
+use Rattle.lic_marks.specs.Standing.{After, AfterAny, Then, Leads, LeadsOverBlanks, LeadsSoFar, StandsAtOnce, shift_over}
+use Rattle.lic_marks.specs.Deciding.{over_blanks}
+use Rattle.lic_marks.specs.Memories.{kept_marks}
+use Rattle.lic_marks.specs.States.{HasLeft, HasTakenAny, IsRemembering}
+use Rattle.lic_marks.specs.declared.state.State.{State}
+use Rattle.lic_marks.proofs.Deciding.{LeadsOverBlanks-over_blanks}
 use Rattle.lic_marks.proofs.RowWalks.{marks_of-replicate}
 use Rattle.lic_marks.proofs.Shifting.{Completes-no_marks}
-use Rattle.lic_marks.proofs.Standing.{Leads-same, StandsAtOnce-begin}
+use Rattle.lic_marks.proofs.Standing.{Leads-same, LeadsOverBlanks-letter, StandsAtOnce-begin}
 
 never : {X : Type 0} → false ≡ true → X
 never h = cc
+
+pub nothing_kept : false ≡ true → ⊥
+nothing_kept h = cc
+
+pub not_so : (b : Bool) → not b ≡ true → b ≡ false
+not_so true h = cc
+not_so false h = refl
 
 -- no mark, and nothing taken
 pub begins : (r : Core) (row : List Bool) (n : ℕ) (after_blanks : Marks r) → row ≡ replicate n false →
@@ -72,3 +85,52 @@ cleared r at_once after_blanks n m e f = with_gap r false (marks_of r at_once) (
   blanks_sound = λ v h. absurd (Completes-no_marks r true v (subst (λ (x : Marks r). Completes r true x v) (ap (marks_of r) f ∙ marks_of-replicate r m) h));
   blanks_complete = λ v n h. absurd h;
 }
+
+-- a state that stands for no list stands for any set of no words
+pub none_left : (r : Core) (state : State) (A : Word → Type 0) → HasTakenAny r state [] → ((v : Word) → A v → ⊥) → HasLeft r state A
+none_left r state A s none = record {
+  leads = LeadsSoFar-same r state.entry (marks_of r state.at_once) (marks_of r state.after_blanks) state.is_apart (AfterAny (WordsOf r) []) A
+      (λ v h. absurd h) (λ v h. none v h) s.leads;
+  kept = s.kept;
+}
+
+-- where it also stands for a set, that has no word
+pub none_of : (r : Core) (state : State) (A : Word → Type 0) → HasTakenAny r state [] → HasLeft r state A → (v : Word) → A v → ⊥
+none_of r state A none s v h = none.leads.now.sound v (s.leads.now.complete v h)
+
+-- a letter that is known to leave the marks as they are, behind any gap
+pub steady_letter : (r : Core) (entry : Bool) (at_once : Marks r) (A : Word → Type 0) → Leads r entry at_once A → entry ≡ false →
+    (gap : Gap) (c : ℕ) → (c ≡ blank → ⊥) → shift_over r false at_once (over_blanks r false at_once) gap c ≡ at_once → Leads r false at_once (Then gap c A)
+steady_letter r entry at_once A s none gap c letter same =
+    let now : Leads r false at_once A = subst (λ b. Leads r b at_once A) none s in
+    let both = LeadsOverBlanks-over_blanks r false at_once A now in
+    subst (λ (m : Marks r). Leads r false m (Then gap c A)) same
+    (LeadsOverBlanks-letter r false at_once (over_blanks r false at_once) A both c (ne_eqb c blank letter) gap)
+
+-- where the marks after blanks are the closure of those at once, a gap opens as it is
+pub gap_closed : (r : Core) (entry : Bool) (at_once after_blanks : Marks r) (is_apart : Bool) (A : Word → Type 0) →
+    LeadsSoFar r entry at_once after_blanks is_apart A → after_blanks ≡ over_blanks r entry at_once → LeadsSoFar r entry at_once after_blanks true A
+gap_closed r entry at_once after_blanks is_apart A s closed =
+    subst (λ (m : Marks r). LeadsSoFar r entry at_once m true A) (sym closed)
+    (with_gap r entry at_once (over_blanks r entry at_once) A (LeadsOverBlanks-over_blanks r entry at_once A s.now))
+
+-- the letter goes over the marks where none may begin, at once
+pub goes_at_once : (r : Core) (entry : Bool) (m : Marks r) (c : ℕ) (n : Marks r) → entry ≡ false → n ≡ shift r false entry m c → shift r false false m c ≡ n
+goes_at_once r entry m c n none e = ap (λ b. shift r false b m c) (sym none) ∙ sym e
+
+-- and behind blanks
+pub goes_apart : (r : Core) (entry : Bool) (m over : Marks r) (c : ℕ) (n : Marks r) → entry ≡ false → over ≡ over_blanks r entry m →
+    n ≡ shift r true false over c → shift r true false (over_blanks r false m) c ≡ n
+goes_apart r entry m over c n none closed e =
+    ap (λ b. shift r true false (over_blanks r b m) c) (sym none) ∙ ap (λ x. shift r true false x c) (sym closed) ∙ sym e
+
+-- where the marks that are kept stand at once, those after blanks are the closure of them
+pub closure_stands : (r : Core) (state : State) → IsRemembering r state → state.is_closed ≡ true → state.at_once ≡ kept_marks state.memory →
+    marks_of r state.after_blanks ≡ over_blanks r state.entry (marks_of r state.at_once)
+closure_stands r state s closed same = rw (s.begun closed, same) (s.closed closed)
+
+-- the closure of marks that are kept then, and where none may begin
+pub closes : (r : Core) (entry : Bool) (at_once kept after_blanks : List Bool) → marks_of r after_blanks ≡ over_blanks r entry (marks_of r at_once) →
+    entry ≡ false → at_once ≡ kept → marks_of r after_blanks ≡ over_blanks r false (marks_of r kept)
+closes r entry at_once kept after_blanks e none same =
+    e ∙ ap (λ b. over_blanks r b (marks_of r at_once)) none ∙ ap (λ row. over_blanks r false (marks_of r row)) same

@@ -1,8 +1,8 @@
 -- Stretches of positions: those of letters in a row, and those of a child in its parent.
-use Rattle.std.proofs.Common.{◌≡◌, ℕ, zero, suc, ◌+◌, ◌-◌, ◌<◌, ◌≤◌, ◌==◌, nat_lt, Option, Some, None, IfSome, Bor, Bool, true, false, List, [], ◌∷◌, drop, length, refl, sym, ap, ◌∙◌, subst, arith, if◌then◌else◌}
+use Rattle.std.proofs.Common.{◌≡◌, ℕ, zero, suc, ◌+◌, ◌-◌, ◌<◌, ◌≤◌, ◌==◌, Option, Some, None, IfSome, Bor, Bool, true, false, List, [], ◌∷◌, drop, length, refl, sym, ap, ◌∙◌, arith, if◌then◌else◌}
 use Rattle.std.proofs.lemmas.Bool.{lt-ltb, le-ltb}
-use Rattle.lic_marks.specs.Cores.{Core, empty, one, cat, alt, plus, cat_all}
-use Rattle.lic_marks.specs.Marks.{Marks, no_marks, can_leave, shift}
+use Rattle.lic_marks.specs.Cores.{Core, one, cat, alt, plus, cat_all}
+use Rattle.lic_marks.specs.Marks.{no_marks, can_leave, shift}
 use Rattle.lic_marks.specs.Rows.{weight}
 use Rattle.lic_marks.specs.Nodes.{letter_cores}
 use Rattle.lic_marks.specs.Stretches.{mark_at, GoesTo, IsStretch}

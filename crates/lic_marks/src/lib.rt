@@ -4,6 +4,8 @@
 
 pub mod build;
 pub mod laws;
+mod letter_set;
+mod memory;
 mod moves;
 pub mod node;
 mod row;

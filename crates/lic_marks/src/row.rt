@@ -56,6 +56,13 @@ impl Row {
         rows::is_clear_within(&self.flags, self.window)
     }
 
+    /// Whether it is the other row. One with another window is not looked at.
+    pub fn is_same(&self, other: &Row) -> bool
+        ensures { IsTrue result → self.now ≡ other.now }
+    {
+        self.window.is_same(other.window) && self.flags.is_same(&other.flags)
+    }
+
     /// Takes back all flags.
     pub fn clear(&mut self)
         ensures clear { self.new ≡ replicate (length self.old) false }

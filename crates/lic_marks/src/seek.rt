@@ -94,6 +94,7 @@ impl<'a> Seeker<'a> {
         } else {
             self.state.letter(self.tree, self.stretch, letter);
         }
+        self.stretch = self.state.stretch_of(self.tree, self.stretch);
         self.last = self.state.rest_of_token(self.tree, self.stretch, letters);
     }
 

@@ -1,6 +1,6 @@
 //! The state of a position automaton (Glushkov's) that reads letters and gaps: which positions are marked.
 
-ghost use Rattle.std.specs.Prelude.{◌≡◌, ℕ, ◌≤◌, ◌↔◌, true, false, IsTrue, IfOk, List, [], ◌∷◌, ◌++◌, length};
+ghost use Rattle.std.specs.Prelude.{◌≡◌, ℕ, ◌≤◌, ◌↔◌, ◌⊎◌, true, false, IsTrue, IfOk, List, [], ◌∷◌, ◌++◌, length};
 ghost use Rattle.std.specs.Str.{chars};
 ghost use Rattle.lic_words.specs.Words.{Word, blanks};
 ghost use Rattle.lic_words.specs.Spelling.{Gap, free, gapped_from, last_letter, SpellsGapped};
@@ -12,7 +12,9 @@ ghost use Rattle.lic_marks.specs.Nodes.{core_of, is_measured};
 ghost use Rattle.lic_marks.specs.Stretches.{IsStretchOf};
 ghost use Rattle.lic_marks.specs.Standing.{After, AfterAny, StandsAtOnce, each_with, shift_over};
 ghost use Rattle.lic_marks.specs.Deciding.{over_blanks};
+ghost use Rattle.lic_marks.specs.Memories.{Remembers, kept_marks, room_in};
 
+use crate::memory::Memory;
 use crate::node::Node;
 use crate::row::Row;
 use crate::stretch::Stretch;
@@ -33,12 +35,17 @@ pub struct State {
     entry: bool,
     /// A gap is open: it stands behind the last letter, and the marks after blanks are made.
     is_apart: bool,
+    /// The marks after blanks are the closure over blanks of those that are kept, and none may begin.
+    is_closed: bool,
+    /// Letters that leave the marks at once as they are.
+    memory: Memory,
     ghost after_blanks_len: { length after_blanks ≡ length at_once },
     ghost spare_len: { length spare ≡ length at_once },
+    ghost memory_len: { room_in memory ≡ length at_once },
 }
 
 impl State {
-    ghost use Rattle.lic_marks.specs.States.{HasFirstBlanks, HasTaken, HasTakenAny, IsFresh, has_gap, room_of};
+    ghost use Rattle.lic_marks.specs.States.{HasFirstBlanks, HasTaken, HasTakenAny, IsFresh, IsRemembering, NoneGoesOn, has_gap, room_of};
 
     /// A state that has taken nothing, with room for the positions of this expression.
     ///
@@ -55,12 +62,15 @@ impl State {
         let at_once = Row::new(alloc, weight)?;
         let after_blanks = Row::new(alloc, weight)?;
         let spare = Row::new(alloc, weight)?;
+        let memory = Memory::new(alloc, weight)?;
         Ok(State {
             at_once,
             after_blanks,
             spare,
             entry: true,
             is_apart: false,
+            is_closed: false,
+            memory,
         })
     }
 
@@ -72,6 +82,8 @@ impl State {
         self.at_once.clear();
         self.entry = true;
         self.is_apart = false;
+        self.is_closed = false;
+        self.memory.forget();
     }
 
     /// Takes one letter more, behind the gap before it.
@@ -87,10 +99,15 @@ impl State {
             → HasTakenAny (core_of tree.now) self.new
             (each_with (gapped_letter letter ∷ []) lists) }
     {
+        if !self.entry && self.memory.is_steady(letter) {
+            self.is_apart = false;
+            return;
+        }
         if letter.is_apart {
             self.gap(tree, stretch);
         }
         self.shift(tree, stretch, letter);
+        self.memory.compare(&self.at_once);
         self.entry = false;
         self.is_apart = false;
     }
@@ -108,8 +125,18 @@ impl State {
             → HasTakenAny (core_of tree.now) self.new lists }
         ensures open { IsTrue (has_gap self.new) }
     {
-        if !self.is_apart {
+        if self.is_apart {
+            return;
+        }
+        let has_closure = self.is_closed & self.memory.is_current();
+        if self.is_dead() {
+            self.clear();
+        } else if has_closure {
+            self.is_apart = true;
+        } else {
             self.close(tree, stretch);
+            self.memory.begin(&self.at_once);
+            self.is_closed = !self.entry & self.memory.is_current();
             self.is_apart = true;
         }
     }
@@ -172,9 +199,7 @@ impl State {
 
     /// Whether no position is marked, and no word may begin: then no word goes on.
     pub fn is_dead(&self) -> bool
-        ensures { (r : Core) (lists : List (List (Gap × ℕ))) → HasTakenAny r self.now lists
-            → IsTrue result
-            → (v : Word) → ¬ (AfterAny (WordsOf r) lists v) }
+        ensures { (r : Core) → IsTrue result → NoneGoesOn r self.now }
     {
         !self.entry & self.at_once.is_clear()
     }
@@ -189,6 +214,8 @@ impl State {
         self.after_blanks.clear();
         self.entry = false;
         self.is_apart = true;
+        self.is_closed = false;
+        self.memory.forget();
     }
 
     /// The marks after blanks at the beginning of a word, made by a state that has taken nothing.
@@ -233,12 +260,14 @@ impl State {
         self.after_blanks.join(first);
         self.after_blanks.shift_in(tree, stretch, true, false, c);
         self.at_once.join(&self.after_blanks);
+        self.memory.compare(&self.at_once);
         self.entry = false;
         self.is_apart = false;
+        self.is_closed = false;
     }
 
     /// Takes the letters that are left of a token, which is read from its end, and opens a gap behind them. Answers the
-    /// last of them, or else the letter before.
+    /// last of them, or else the letter before; where no word goes on any more, some letter.
     pub fn rest_of_token(
         &mut self,
         tree: &Node,
@@ -254,10 +283,15 @@ impl State {
             → HasTakenAny (core_of tree.now) self.new
             (each_with (turned_letters_left letters.entry) lists) }
         ensures open { IsTrue (has_gap self.new) }
-        ensures last { result ≡ turned_last_in letters.entry }
+        ensures last { (result ≡ turned_last_in letters.entry)
+            ⊎ ((r : Core) → HasTakenAny r self.new []) }
     {
         let mut letters = letters;
         while let Some(letter) = letters.next() {
+            if self.is_dead() {
+                self.clear();
+                return letter.letter;
+            }
             self.letter(tree, stretch, letter);
         }
         self.gap(tree, stretch);
@@ -287,13 +321,15 @@ impl State {
             (marks_of (core_of tree.now) self.old.at_once) }
         ensures at_once { self.new.at_once ≡ self.old.at_once }
         ensures entry { self.new.entry ≡ self.old.entry }
+        ensures memory { self.new.memory ≡ self.old.memory }
     {
         self.after_blanks.copy_from(&self.at_once);
         self.after_blanks
             .shift_in(tree, stretch, false, self.entry, ' ');
+        // the marks that the last blank made lead on; those before have led to these
+        self.spare.copy_from(&self.after_blanks);
         let mut grew = true;
         while grew {
-            self.spare.copy_from(&self.after_blanks);
             self.spare.shift_in(tree, stretch, true, false, ' ');
             grew = self.after_blanks.join(&self.spare);
         }
@@ -310,17 +346,28 @@ impl State {
             (marks_of (core_of tree.now) self.old.at_once)
             (marks_of (core_of tree.now) self.old.after_blanks)
             (gapped_letter letter).0 letter.letter }
+        ensures after_blanks { self.new.after_blanks ≡ self.old.after_blanks }
+        ensures closed { self.new.is_closed ≡ self.old.is_closed }
+        ensures kept { kept_marks self.new.memory ≡ kept_marks self.old.memory }
+        ensures known { IsRemembering (core_of tree.now) self.old
+            → Remembers (core_of tree.now) self.new.memory self.old.at_once }
     {
         let c = letter.letter;
+        let is_begun = !self.entry;
+        let is_closed = is_begun & (self.is_closed & self.memory.is_current());
         if !letter.is_apart {
             self.at_once.shift_in(tree, stretch, false, self.entry, c);
+            self.memory.learn(&self.at_once, c, false, is_begun);
         } else if letter.are_words {
             self.at_once.copy_from(&self.after_blanks);
             self.at_once.shift_in(tree, stretch, true, false, c);
+            self.memory.learn(&self.at_once, c, true, is_closed);
         } else {
             self.spare.copy_from(&self.after_blanks);
             self.spare.shift_in(tree, stretch, true, false, c);
+            self.memory.learn(&self.spare, c, true, is_closed);
             self.at_once.shift_in(tree, stretch, false, self.entry, c);
+            self.memory.learn(&self.at_once, c, false, is_begun);
             self.at_once.join(&self.spare);
         }
     }

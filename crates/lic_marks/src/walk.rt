@@ -9,7 +9,7 @@ ghost use Rattle.lic_marks.specs.Windows.{IsClearOutside};
 ghost use Rattle.lic_marks.specs.Nodes.{core_of, is_measured, letter_cores, so_many};
 
 use crate::node::{Node, Times};
-use crate::rows::is_any_set;
+use crate::rows::{is_any_set, next_marked};
 use crate::window::Window;
 use lic_rows::bits::Bits;
 
@@ -211,12 +211,20 @@ fn leaves_row(
     prove!(at <= room);
     let mut place = at;
     let mut flag = entry;
+    // from `place` to before `next` nothing is marked
+    let mut next = live.from;
     for child in children {
         if !flag && live.to <= place {
             return false;
         }
+        let end = place + child.weight();
+        if !flag && end <= next {
+            place = end;
+            continue;
+        }
         flag = leaves(child, row, place, live, after, flag);
-        place += child.weight();
+        place = end;
+        next = next_marked(row, place, live);
     }
     flag
 }

@@ -30,6 +30,13 @@ impl Window {
         (self.from < end) & (at < self.to)
     }
 
+    /// Whether it is the other window.
+    pub fn is_same(self, other: Window) -> bool
+        ensures { IsTrue result → (self.from ≡ other.from) × (self.to ≡ other.to) }
+    {
+        (self.from == other.from) & (self.to == other.to)
+    }
+
     /// Takes the place in.
     pub fn add(&mut self, place: usize)
         requires { place < usize.MAX }

@@ -100,6 +100,14 @@ impl Bits {
         self.next_set(from, to).is_some()
     }
 
+    /// Whether it has the same bits as the other row.
+    #[inline]
+    pub fn is_same(&self, other: &Bits) -> bool
+        ensures { IsTrue result → self.now ≡ other.now }
+    {
+        (self.len == other.len) & (self.words == other.words)
+    }
+
     /// Clears the bits of the stretch.
     #[inline]
     pub fn clear(&mut self, from: usize, to: usize)

@@ -1,4 +1,4 @@
-use Rattle.std.proofs.Common.{◌+◌, ◌<◌, ◌≤◌, refl, ⊎_elim, inl, inr, arith}
+use Rattle.std.proofs.Common.{refl, ⊎_elim, inl, inr, arith}
 use Rattle.std.proofs.lemmas.Bool.{cases_lt}
 use Rattle.lic_marks.proofs.Moving.{Moves-slid, Moves-cleared, Moves-idle, clear_around, clear_idle}
 use Rattle.lic_marks.proofs.Taken.{TakesIn-clear, TakesIn-around}

@@ -1,4 +1,3 @@
-use Rattle.std.proofs.Common.{arith}
 use Rattle.lic_marks.proofs.WindowRows.{clear_if_none}
 use Rattle.lic_marks.proofs.rows.is_clear_within.Goals as goal
 

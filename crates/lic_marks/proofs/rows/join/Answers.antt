@@ -1,4 +1,4 @@
-use Rattle.std.proofs.Common.{◌≡◌, ℕ, false, ◌||◌, get_or, length, refl, sym, ap, ◌∙◌, ⊎_elim, arith}
+use Rattle.std.proofs.Common.{false, ◌||◌, get_or, refl, sym, ap, ◌∙◌, ⊎_elim, arith}
 use Rattle.std.proofs.lemmas.Bool.{cases_lt}
 use Rattle.lic_marks.proofs.WindowRows.{or_clear, joined_flags, outside_before, outside_behind, unset_less}
 use Rattle.lic_marks.proofs.rows.join.Goals as goal

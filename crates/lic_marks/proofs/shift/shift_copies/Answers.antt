@@ -1,4 +1,3 @@
-use Rattle.std.proofs.Common.{arith}
 use Rattle.lic_marks.specs.Nodes.{passes}
 use Rattle.lic_marks.proofs.Moving.{Shifts-copies}
 use Rattle.lic_marks.proofs.shift.shift_copies.Goals as goal

@@ -1,4 +1,4 @@
-use Rattle.std.proofs.Common.{◌+◌, ◌-◌, ◌<◌, ◌||◌, false, ap, rules, arith}
+use Rattle.std.proofs.Common.{◌≡◌, ℕ, ◌+◌, ◌-◌, ◌<◌, ◌≤◌, ◌||◌, false, get_or, ap, rules, arith}
 use Rattle.lic_marks.specs.Cores.{cat_all, alt_all, up_to}
 use Rattle.lic_marks.specs.Rows.{weight}
 use Rattle.lic_marks.specs.Nodes.{core_of, passes}
@@ -125,10 +125,26 @@ pub leaves_row-loop-child-preserved : goal.leaves_row-loop-child-preserved
 leaves_row-loop-child-preserved t c =
     let more = ap cat_all (cores_more c.args.children.now c.loop-child.child-index _ c.loop-child-test.true c.child-item.is) in
     let rest = rw more at c.loop-child.invariant.rest in
-    rw c.weight-place.ensures record {
+    rw c.weight.ensures record {
       begun = omega (arith, c.loop-child.invariant.begun);
       rest = omega (arith, rest);
+      quiet = (rw c.weight.ensures at c.next_marked-next.ensures) _ (omega (arith, c.requires.room))
+          (clear_part _ _ _ _ _ _ c.requires.live (omega (arith, c.loop-child.invariant.begun)) (omega arith));
       walk = λ y q. c.loop-child.invariant.walk y (rw more (Leaves-cat _ _ _ _ _ _ _ _ c.leaves-flag.ensures q));
+    }
+
+pub leaves_row-loop-child-preserved-then-end-next : goal.leaves_row-loop-child-preserved-then-end-next
+leaves_row-loop-child-preserved-then-end-next t c =
+    let more = ap cat_all (cores_more c.args.children.now c.loop-child.child-index _ c.loop-child-test.true c.child-item.is) in
+    let rest = rw more at c.loop-child.invariant.rest in
+    let quiet : (k : ℕ) → c.loop-child.place ≤ k → k < c.loop-child.place + weight (core_of c.child-item.result) → get_or c.args.row.now k false ≡ false =
+    λ k low high. c.loop-child.invariant.quiet k low (omega (arith, rest, high)) (omega (arith, high, c.if-end-next.true, c.weight.ensures)) in
+    let none = Leaves-clear (core_of c.child-item.result) c.args.after c.args.row.now c.loop-child.place (omega (arith, rest, c.requires.room)) quiet in
+    rw c.weight.ensures record {
+      begun = omega (arith, c.loop-child.invariant.begun);
+      rest = omega (arith, rest);
+      quiet = λ k low high far. c.loop-child.invariant.quiet k (omega (arith, low)) high far;
+      walk = λ y q. c.loop-child.invariant.walk y (rw more (Leaves-cat _ _ _ _ _ _ _ _ (rw c.if-not-flag-2.true none) q));
     }
 
 pub leaves_row-returns : goal.leaves_row-returns

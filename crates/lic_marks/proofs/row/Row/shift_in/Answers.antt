@@ -1,5 +1,4 @@
-use Rattle.std.proofs.Common.{◌+◌, ◌==◌, ◌&&◌, refl, sym, ap, arith, subst, add-one}
-use Rattle.lic_marks.specs.Rows.{Shifts}
+use Rattle.std.proofs.Common.{add-one}
 use Rattle.lic_marks.specs.Nodes.{core_of}
 use Rattle.lic_marks.proofs.LoneMarks.{Shifts-lone}
 use Rattle.lic_marks.proofs.row.Row.shift_in.Goals as goal

@@ -1,15 +1,16 @@
-use Rattle.std.proofs.Common.{◌≡◌, ℕ, List, [], ◌∷◌, ◌++◌, true, false, length, reverse, refl, sym, ap, ◌∙◌, subst, arith}
+use Rattle.std.proofs.Common.{◌≡◌, ℕ, List, [], ◌∷◌, ◌++◌, ◌⊎◌, inl, inr, true, false, length, reverse, refl, sym, ap, ◌∙◌, subst, arith}
 use Rattle.std.specs.Str.{chars}
-use Rattle.lic_words.specs.Words.{blank}
+use Rattle.lic_words.specs.Words.{Word}
 use Rattle.lic_words.specs.Letters.{letters_in}
 use Rattle.lic_words.specs.Spelling.{Gap, free, gapped_from, last_letter}
-use Rattle.lic_words.specs.Reading.{gapped_letter, turned_letters_left}
+use Rattle.lic_words.specs.Reading.{gapped_letter, turned_last_in, turned_letters_left}
 use Rattle.lic_words.proofs.Counts.{length-gapped_from, letters_in-reverse}
 use Rattle.lic_marks.specs.Nodes.{core_of}
-use Rattle.lic_marks.specs.Standing.{each_with}
-use Rattle.lic_marks.specs.Seeks.{GoOnAsEnds}
+use Rattle.lic_marks.specs.Cores.{WordsOf}
+use Rattle.lic_marks.specs.Standing.{AfterAny, each_with}
 use Rattle.lic_marks.specs.States.{HasTakenAny}
-use Rattle.lic_marks.proofs.Seeking.{first_apart, last_letter-own, with_token, goes_on, enters, passed, entered}
+use Rattle.lic_marks.proofs.Seeking.{first_apart, last_letter-own, with_token, goes_on, enters, passed, entered, known_last}
+use Rattle.lic_marks.proofs.StateLemmas.{none_of}
 use Rattle.lic_marks.proofs.seek.Seeker.push_turned.Goals as goal
 use Rattle.lic_marks.proofs.seek.Seeker.push_turned.Goals.{then-may_begin, else-may_begin}
 
@@ -39,23 +40,35 @@ returns-clause-stands c = λ e ts s none.
     let p : Gap × ℕ = gapped_letter c.in-Some.letter in
     let rest : List (Gap × ℕ) = turned_letters_left c.next.new.self in
     let split : gapped_from last true t ≡ p ∷ rest = sym c.new-letters.ensures.letters ∙ c.in-Some.ensures.steps.first in
-    let new_last : c.rest_of_token-self.result ≡ last_letter last t =
-    c.rest_of_token-self.ensures.last ∙ c.in-Some.ensures.steps.last ∙ c.new-letters.ensures.last in
+    let right : ℕ = last_letter last t in
+    let step : turned_last_in c.next.new.self ≡ right = c.in-Some.ensures.steps.last ∙ c.new-letters.ensures.last in
+    let known : (lists : List (List (Gap × ℕ))) → HasTakenAny r c.rest_of_token-self.new.self lists
+    → (c.rest_of_token-self.result ≡ right) ⊎ ((v : Word) → AfterAny (WordsOf r) lists v → ⊥) = λ lists taken.
+    elim c.rest_of_token-self.ensures.last [
+      | inl same ↦ inl (same ∙ step)
+      | inr none ↦ inr (none_of r _ (AfterAny (WordsOf r) lists) (none r) taken)
+    ] in
     elim c.if-may_begin.branch [
-      | then-may_begin w ↦ record {
-        words = s.words;
-        lists = with_token true last t s.lists;
-        taken = subst (HasTakenAny r c.rest_of_token-self.new.self) (enters last t p rest split s.lists)
-            ((rw w.self-is at c.rest_of_token-self.ensures.any) (((free, p.1) ∷ []) ∷ each_with (p ∷ []) s.lists) (w.enter.ensures.any s.lists s.taken));
-        ends = subst (λ l. GoOnAsEnds e r l (with_token true last t s.lists) (ts ++ t ∷ [])) (sym new_last)
-            (entered e r last s.lists ts s.ends t (last_letter-own last t p rest split));
-      }
-      | else-may_begin w ↦ record {
-        words = s.words;
-        lists = with_token false last t s.lists;
-        taken = subst (HasTakenAny r c.rest_of_token-self.new.self) (goes_on last t p rest split s.lists)
-            ((rw w.self-is at c.rest_of_token-self.ensures.any) (each_with (p ∷ []) s.lists) (w.letter.ensures.any s.lists s.taken));
-        ends = subst (λ l. GoOnAsEnds e r l (with_token false last t s.lists) (ts ++ t ∷ [])) (sym new_last)
-            (passed e r last s.lists ts s.ends t (none w.if-may_begin.false));
-      }
+      | then-may_begin w ↦
+          let lists = with_token true last t s.lists in
+          let taken : HasTakenAny r c.rest_of_token-self.new.self lists =
+          subst (HasTakenAny r c.rest_of_token-self.new.self) (enters last t p rest split s.lists)
+          ((rw w.self-is at c.rest_of_token-self.ensures.any) (((free, p.1) ∷ []) ∷ each_with (p ∷ []) s.lists) (w.enter.ensures.any s.lists s.taken)) in
+          record {
+            words = s.words;
+            lists = lists;
+            taken = taken;
+            ends = known_last e r right _ lists (ts ++ t ∷ []) (entered e r last s.lists ts s.ends t (last_letter-own last t p rest split)) (known lists taken);
+          }
+      | else-may_begin w ↦
+          let lists = with_token false last t s.lists in
+          let taken : HasTakenAny r c.rest_of_token-self.new.self lists =
+          subst (HasTakenAny r c.rest_of_token-self.new.self) (goes_on last t p rest split s.lists)
+          ((rw w.self-is at c.rest_of_token-self.ensures.any) (each_with (p ∷ []) s.lists) (w.letter.ensures.any s.lists s.taken)) in
+          record {
+            words = s.words;
+            lists = lists;
+            taken = taken;
+            ends = known_last e r right _ lists (ts ++ t ∷ []) (passed e r last s.lists ts s.ends t (none w.if-may_begin.false)) (known lists taken);
+          }
     ]

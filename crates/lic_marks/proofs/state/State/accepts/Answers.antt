@@ -11,7 +11,7 @@ pub returns-clause-one : goal.returns-clause-one
 returns-clause-one c = λ letters s.
     let r = core_of c.args.tree.now in
     let state = c.args.self.now in
-    let both = s.apart c.requires.open in
+    let both = s.leads.apart c.requires.open in
     let answer : (c.leaves_in-at_once.result || c.leaves_in-after_blanks.result)
     ≡ (can_leave r false state.entry (marks_of r state.at_once) || can_leave r true false (marks_of r state.after_blanks)) =
     rw (c.leaves_in-at_once.ensures.answer, c.leaves_in-after_blanks.ensures.answer) refl in (
@@ -23,7 +23,7 @@ pub returns-clause-any : goal.returns-clause-any
 returns-clause-any c = λ lists s.
     let r = core_of c.args.tree.now in
     let state = c.args.self.now in
-    let both = s.apart c.requires.open in
+    let both = s.leads.apart c.requires.open in
     let answer : (c.leaves_in-at_once.result || c.leaves_in-after_blanks.result)
     ≡ (can_leave r false state.entry (marks_of r state.at_once) || can_leave r true false (marks_of r state.after_blanks)) =
     rw (c.leaves_in-at_once.ensures.answer, c.leaves_in-after_blanks.ensures.answer) refl in (

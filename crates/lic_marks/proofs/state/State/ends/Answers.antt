@@ -9,6 +9,6 @@ returns c = λ letters s.
     let r = core_of c.args.tree.now in
     let entry = c.args.self.now.entry in
     let marks = marks_of r c.args.self.now.at_once in (
-      λ h. s.now.sound [] (can_leave_sound r false entry marks (sym c.leaves.ensures.answer ∙ h)),
-      λ h. c.leaves.ensures.answer ∙ can_leave_complete r false entry marks (s.now.complete [] h),
+      λ h. s.leads.now.sound [] (can_leave_sound r false entry marks (sym c.leaves.ensures.answer ∙ h)),
+      λ h. c.leaves.ensures.answer ∙ can_leave_complete r false entry marks (s.leads.now.complete [] h),
     )

@@ -8,7 +8,7 @@ use Rattle.lic_marks.specs.Nodes.{core_of}
 use Rattle.lic_marks.specs.Standing.{AfterAny, Leads}
 use Rattle.lic_marks.proofs.RowWalks.{marks_of-replicate, Shifts-marks_of}
 use Rattle.lic_marks.proofs.JoinedRows.{marks_of-either_row}
-use Rattle.lic_marks.proofs.StateLemmas.{without_gap}
+use Rattle.lic_marks.proofs.StateLemmas.{without_gap, nothing_kept}
 use Rattle.lic_marks.proofs.Entering.{Entered, begun, Leads-entered, entered_lists, first_marks, first_sound, first_complete}
 use Rattle.lic_marks.proofs.state.State.enter.Goals as goal
 use Rattle.lic_marks.proofs.state.State.enter.Goals.{then-letter, else-letter}
@@ -51,7 +51,10 @@ returns-clause-any c = λ lists s.
     ∙ ap (join r (shift r false true (begun r words (marks_of r old.at_once)) letter)) after_blanks in
     let blanks_first = first_marks r first c.requires.first in
     let leads = Leads-entered r old.entry (marks_of r old.at_once) (marks_of r old.after_blanks) (marks_of r first) (AfterAny (WordsOf r) lists)
-    (s.apart c.requires.open) (first_sound r (marks_of r first) blanks_first) (first_complete r (marks_of r first) blanks_first)
+    (s.leads.apart c.requires.open) (first_sound r (marks_of r first) blanks_first) (first_complete r (marks_of r first) blanks_first)
     letter (ne_eqb letter blank c.args.letter.is_letter) words in
-    without_gap r false _ _ _ (entered_lists r lists c.args.letter.is_apart words letter (marks_of r c.join-2.new.self) c.requires.apart
-    (subst (λ (m : Marks r). Leads r false m (Entered r (gap_of true words) letter (AfterAny (WordsOf r) lists))) (sym all) leads))
+    record {
+      leads = without_gap r false _ _ _ (entered_lists r lists c.args.letter.is_apart words letter (marks_of r c.join-2.new.self) c.requires.apart
+          (subst (λ (m : Marks r). Leads r false m (Entered r (gap_of true words) letter (AfterAny (WordsOf r) lists))) (sym all) leads));
+      kept = record { letters = c.compare.ensures.known r old.at_once s.kept.letters; begun = λ e. absurd (nothing_kept e); closed = λ e. absurd (nothing_kept e) };
+    }

@@ -5,11 +5,9 @@ use Rattle.lic_marks.specs.Nodes.{core_of}
 use Rattle.lic_marks.proofs.Standing.{shift_over-joined, shift_over-needed, shift_over-free}
 use Rattle.lic_marks.proofs.RowWalks.{Shifts-marks_of}
 use Rattle.lic_marks.proofs.JoinedRows.{marks_of-either_row}
+use Rattle.lic_marks.proofs.Cuts.{and_left, and_right}
+use Rattle.lic_marks.proofs.StateLemmas.{goes_at_once, goes_apart, closure_stands, not_so}
 use Rattle.lic_marks.proofs.state.State.shift.Goals as goal
-
-not_so : (b : Bool) → not b ≡ true → b ≡ false
-not_so true h = cc
-not_so false h = refl
 
 so : (b : Bool) → not b ≡ false → b ≡ true
 so true h = refl
@@ -35,3 +33,36 @@ returns-else-letter-clause-marks c =
     ap (marks_of (core_of c.args.tree.now)) c.join.ensures.row
     ∙ marks_of-either_row (core_of c.args.tree.now) _ _ long ∙ rw (at_once, after_blanks) refl
     ∙ sym (shift_over-free (core_of c.args.tree.now) _ _ _ _ _ _ (so _ c.if-not-letter.false) c.if-letter.false)
+
+pub returns-then-not-letter-clause-known : goal.returns-then-not-letter-clause-known
+returns-then-not-letter-clause-known c = λ s.
+    let r = core_of c.args.tree.now in
+    let old = c.args.self.now in
+    c.learn.ensures.known r old.at_once s.letters (λ learns.
+    goes_at_once r old.entry (marks_of r old.at_once) c.args.letter.letter _ (not_so old.entry learns) (Shifts-marks_of r _ _ _ _ _ _ c.shift_in.ensures.shifts))
+
+pub returns-then-letter-clause-known : goal.returns-then-letter-clause-known
+returns-then-letter-clause-known c = λ s.
+    let r = core_of c.args.tree.now in
+    let old = c.args.self.now in
+    let after = Shifts-marks_of r _ _ _ _ _ _ c.shift_in-then-letter.ensures.shifts
+    ∙ ap (λ t. shift r true false (marks_of r t) c.args.letter.letter) c.copy_from.ensures.same in
+    c.learn-then-letter.ensures.known r old.at_once s.letters (λ learns.
+    goes_apart r old.entry (marks_of r old.at_once) (marks_of r old.after_blanks) c.args.letter.letter _
+    (not_so old.entry (and_left (not old.entry) _ learns))
+    (closure_stands r old s (and_left old.is_closed _ (and_right (not old.entry) _ learns))
+    (c.is_current.ensures r _ s.letters (and_right old.is_closed _ (and_right (not old.entry) _ learns)))) after)
+
+pub returns-else-letter-clause-known : goal.returns-else-letter-clause-known
+returns-else-letter-clause-known c = λ s.
+    let r = core_of c.args.tree.now in
+    let old = c.args.self.now in
+    let after = Shifts-marks_of r _ _ _ _ _ _ c.shift_in-else-letter.ensures.shifts
+    ∙ ap (λ t. shift r true false (marks_of r t) c.args.letter.letter) c.copy_from-else-letter.ensures.same in
+    let first = c.learn-else-letter.ensures.known r old.at_once s.letters (λ learns.
+    goes_apart r old.entry (marks_of r old.at_once) (marks_of r old.after_blanks) c.args.letter.letter _
+    (not_so old.entry (and_left (not old.entry) _ learns))
+    (closure_stands r old s (and_left old.is_closed _ (and_right (not old.entry) _ learns))
+    (c.is_current.ensures r _ s.letters (and_right old.is_closed _ (and_right (not old.entry) _ learns)))) after) in
+    c.learn-else-letter-2.ensures.known r old.at_once first (λ learns.
+    goes_at_once r old.entry (marks_of r old.at_once) c.args.letter.letter _ (not_so old.entry learns) (Shifts-marks_of r _ _ _ _ _ _ c.shift_in-else-letter-2.ensures.shifts))

@@ -1,0 +1,31 @@
+-- For which letters it is known that they leave marks as they are.
+use Rattle.std.specs.Prelude.{◌≡◌, ℕ, Bool, true, false, ◌&&◌, nat_lt, List, length, slice_index_or}
+use Rattle.lic_marks.specs.Cores.{Core}
+use Rattle.lic_marks.specs.Marks.{shift}
+use Rattle.lic_marks.specs.Rows.{marks_of}
+use Rattle.lic_marks.specs.Deciding.{over_blanks}
+use Rattle.lic_marks.specs.declared.letter_set.LetterSet.{LetterSet}
+use Rattle.lic_marks.specs.declared.memory.Memory.{Memory}
+
+-- whether the set has the letter
+abbrev pub has : LetterSet → ℕ → Bool
+has set c = nat_lt c 128 && slice_index_or set.flags c false
+
+-- how many marks there is room for
+abbrev pub room_in : Memory → ℕ
+room_in memory = length memory.marks
+
+-- the marks that are kept
+abbrev pub kept_marks : Memory → List Bool
+kept_marks memory = memory.marks
+
+-- where none may begin, the letter takes the marks of the one row to those of the other, at once or behind blanks
+abbrev pub GoesOver : Core → Bool → List Bool → ℕ → List Bool → Type 0
+GoesOver r false before c after = shift r false false (marks_of r before) c ≡ marks_of r after
+GoesOver r true before c after = shift r true false (over_blanks r false (marks_of r before)) c ≡ marks_of r after
+
+-- The row has the marks that are kept, if it is said to, and each letter of a set leaves these as they are.
+pub record Remembers (r : Core) (memory : Memory) (row : List Bool) : Type 0 where
+  pub current : memory.is_current ≡ true → row ≡ memory.marks
+  pub joined : memory.is_kept ≡ true → (c : ℕ) → has memory.joined c ≡ true → GoesOver r false memory.marks c memory.marks
+  pub apart : memory.is_kept ≡ true → (c : ℕ) → has memory.apart c ≡ true → GoesOver r true memory.marks c memory.marks
