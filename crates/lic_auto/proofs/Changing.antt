@@ -104,3 +104,29 @@ module _ {X : Type 0} (nothing : X → Type 0) (seen kept : List ℕ) (n : ℕ) 
         subst nothing (sym is) good)
         (Contains-push_cases seen n k h);
   }
+
+-- the same where no machine changes
+module _ {X : Type 0} (nothing : X → Type 0) (seen kept : List ℕ) (n : ℕ) (machines : List X) where
+  pub Named-kept : AreKeptOf nothing seen kept machines → AreKeptOf nothing (seen ++ n ∷ []) (kept ++ n ∷ []) machines
+  Named-kept m = record {
+    within = λ k h.
+        ⊎_elim
+        (λ (inside : Contains kept k). Contains-append_left seen (n ∷ []) k (m.within k inside))
+        (λ (same : n ≡ k). subst (Contains (seen ++ n ∷ [])) same (Contains-push seen n))
+        (Contains-push_cases kept n k h);
+    dropped = λ k x h gone p.
+        ⊎_elim
+        (λ (inside : Contains seen k). m.dropped k x inside (λ there. gone (Contains-append_left kept (n ∷ []) k there)) p)
+        (λ (same : n ≡ k). absurd (gone (subst (Contains (kept ++ n ∷ [])) same (Contains-push kept n))))
+        (Contains-push_cases seen n k h);
+  }
+
+  pub Named-dropped : (b : X) → AreKeptOf nothing seen kept machines → slice_get machines n ≡ Some b → nothing b → AreKeptOf nothing (seen ++ n ∷ []) kept machines
+  Named-dropped b m here good = record {
+    within = λ k h. Contains-append_left seen (n ∷ []) k (m.within k h);
+    dropped = λ k x h gone p.
+        ⊎_elim
+        (λ (inside : Contains seen k). m.dropped k x inside gone p)
+        (λ (same : n ≡ k). subst nothing (sym (same_Some x b (sym p ∙ ap (slice_get machines) (sym same) ∙ here))) good)
+        (Contains-push_cases seen n k h);
+  }

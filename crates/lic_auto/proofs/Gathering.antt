@@ -2,7 +2,7 @@
 use Rattle.std.proofs.Common.{◌≡◌, ◌≢◌, ◌⊎◌, ℕ, zero, suc, Bool, true, false, ◌==◌, ◌||◌, List, [], ◌∷◌, ◌++◌, map, replicate, ne_eqb, append-nil, String, string_bytes, Global, refl, sym, ap, ◌∙◌, subst, inl, inr, take}
 use Rattle.std.specs.Str.{chars, IsUtf8}
 use Rattle.std.proofs.Math.Utf8.{encodes}
-use Rattle.std.proofs.lemmas.Str.{encodes-chars}
+use Rattle.std.proofs.lemmas.Str.{encodes-chars, chars_from_encodes}
 use Rattle.std.proofs.lemmas.List.{map-append}
 use Rattle.std.specs.List.{Contains}
 use Rattle.std.proofs.lemmas.List.Elements.{Contains-push, Contains-append_left}
@@ -13,6 +13,7 @@ use Rattle.lic_words.specs.Words.{Word, blank}
 use Rattle.lic_marks.specs.Cores.{Core, one, plus, tidy, WordsOf, cat_all, alt_all, any_front}
 use Rattle.lic_auto.specs.Heads.{head_of, letter_of, BeginsWithLetter, IsBehindBlanks}
 use Rattle.lic_auto.specs.Beginnings.{Begins, HasBlanks}
+use Rattle.lic_auto.specs.Fronts.{BeginsWith, HasFront}
 use Rattle.lic_auto.specs.Firsts.{IsFirst, AddsHead, Gathers, GathersRow}
 use Rattle.lic_auto.specs.declared.direction.Direction.TheVariants.{Forward}
 use Rattle.lic_auto.specs.declared.first.Firsts.{Firsts}
@@ -224,7 +225,7 @@ Gathers-letter d old new passes g = record {
 -- the head is the same whatever stands behind the letters
 module _ (letters head : List ℕ) (old new : Firsts) (text : String Global) (known : (more : List ℕ) → head_of (letters ++ more) ≡ head)
     (spelled : string_bytes text ≡ encodes head) (same : new.any ≡ old.any)
-    (same_letters : new.letters.items ≡ old.letters.items)
+    (same_letters : new.letters.items ≡ old.letters.items) (same_fronts : new.fronts.items ≡ old.fronts.items)
     (more_heads : new.heads.items ≡ old.heads.items ++ text ∷ []) where
   texts_more : map string_bytes new.heads.items ≡ map string_bytes old.heads.items ++ string_bytes text ∷ []
   texts_more = ap (map string_bytes) more_heads ∙ map-append string_bytes old.heads.items (text ∷ [])
@@ -234,7 +235,11 @@ module _ (letters head : List ℕ) (old new : Firsts) (text : String Global) (kn
   IsFirst-kept q (inr (inl there)) =
       inr (inl (subst (λ xs. Contains xs q) (sym texts_more)
       (Contains-append_left (map string_bytes old.heads.items) (string_bytes text ∷ []) q there)))
-  IsFirst-kept q (inr (inr there)) = inr (inr (subst (λ xs. Contains (map string_bytes xs) (letter_of Forward q)) (sym same_letters) there))
+  IsFirst-kept q (inr (inr there)) =
+      inr (inr (
+        subst (λ xs. Contains (map string_bytes xs) (letter_of Forward q)) (sym same_letters) there.0,
+        subst (λ xs. HasFront Forward (map string_bytes xs) q) (sym same_fronts) there.1,
+      ))
 
   pub AddsHead-known : AddsHead letters old new
   AddsHead-known = record {
@@ -245,26 +250,48 @@ module _ (letters head : List ℕ) (old new : Firsts) (text : String Global) (kn
         (subst (λ xs. Contains xs (string_bytes text)) (sym texts_more) (Contains-push (map string_bytes old.heads.items) (string_bytes text)))));
   }
 
--- the head begins with the first letter
-module _ (letters : List ℕ) (old new : Firsts) (text : String Global) (begins : BeginsWithLetter letters)
-    (spelled : string_bytes text ≡ encodes (take 1 letters)) (same : new.any ≡ old.any) (same_heads : new.heads.items ≡ old.heads.items)
-    (more_letters : new.letters.items ≡ old.letters.items ++ text ∷ []) where
+-- a front that was there, and the one that is put behind them
+HasFront-more : (fronts more : List (List ℕ)) (front q : List ℕ) → more ≡ fronts ++ front ∷ [] → HasFront Forward fronts q → HasFront Forward more q
+HasFront-more fronts more front q e (f, utf8, there, begins) = (f, utf8, subst (λ xs. Contains xs f) (sym e) (Contains-append_left fronts (front ∷ []) f there), begins)
+
+-- the head begins with the letters
+module _ (letters : List ℕ) (old new : Firsts) (text front : String Global) (begins : BeginsWithLetter letters)
+    (goes_on : (more : List ℕ) → BeginsWith (head_of (letters ++ more)) letters) (utf8_front : IsUtf8 (string_bytes front))
+    (spelled : string_bytes text ≡ encodes (take 1 letters)) (spelled_front : string_bytes front ≡ encodes letters)
+    (same : new.any ≡ old.any) (same_heads : new.heads.items ≡ old.heads.items)
+    (more_letters : new.letters.items ≡ old.letters.items ++ text ∷ []) (more_fronts : new.fronts.items ≡ old.fronts.items ++ front ∷ []) where
   letters_more : map string_bytes new.letters.items ≡ map string_bytes old.letters.items ++ string_bytes text ∷ []
   letters_more = ap (map string_bytes) more_letters ∙ map-append string_bytes old.letters.items (text ∷ [])
+
+  fronts_more : map string_bytes new.fronts.items ≡ map string_bytes old.fronts.items ++ string_bytes front ∷ []
+  fronts_more = ap (map string_bytes) more_fronts ∙ map-append string_bytes old.fronts.items (front ∷ [])
 
   IsFirst-kept_heads : (q : List ℕ) → IsFirst Forward old q → IsFirst Forward new q
   IsFirst-kept_heads q (inl any) = inl (same ∙ any)
   IsFirst-kept_heads q (inr (inl there)) = inr (inl (subst (λ xs. Contains (map string_bytes xs) q) (sym same_heads) there))
   IsFirst-kept_heads q (inr (inr there)) =
-      inr (inr (subst (λ xs. Contains xs (letter_of Forward q)) (sym letters_more)
-      (Contains-append_left (map string_bytes old.letters.items) (string_bytes text ∷ [])
-      (letter_of Forward q) there)))
+      inr (inr (
+        subst (λ xs. Contains xs (letter_of Forward q)) (sym letters_more)
+            (Contains-append_left (map string_bytes old.letters.items) (string_bytes text ∷ [])
+            (letter_of Forward q) there.0),
+        HasFront-more (map string_bytes old.fronts.items) (map string_bytes new.fronts.items) (string_bytes front) q fronts_more there.1,
+      ))
 
   pub AddsHead-letter : AddsHead letters old new
   AddsHead-letter = record {
     kept = IsFirst-kept_heads;
     added = λ q more utf8 is.
         let this : string_bytes text ≡ letter_of Forward q = spelled ∙ ap encodes (sym (head-first letters begins more) ∙ ap (take 1) is) in
-        inr (inr (subst (Contains (map string_bytes new.letters.items)) this
-        (subst (λ xs. Contains xs (string_bytes text)) (sym letters_more) (Contains-push (map string_bytes old.letters.items) (string_bytes text)))));
+        let known : letters ≡ chars (string_bytes front) = chars_from_encodes letters (string_bytes front) utf8_front (sym spelled_front) in
+        let (rest, split) = goes_on more in
+        inr (inr (
+          subst (Contains (map string_bytes new.letters.items)) this
+              (subst (λ xs. Contains xs (string_bytes text)) (sym letters_more) (Contains-push (map string_bytes old.letters.items) (string_bytes text))),
+          (
+            string_bytes front,
+            utf8_front,
+            subst (λ xs. Contains xs (string_bytes front)) (sym fronts_more) (Contains-push (map string_bytes old.fronts.items) (string_bytes front)),
+            (rest, sym is ∙ split ∙ ap (λ cs. cs ++ rest) known),
+          ),
+        ));
   }

@@ -188,6 +188,13 @@ front-all [] all = refl
 front-all (c ∷ text) all =
     front-word c text (all 0 c (omega arith)) ∙ ap (λ x. c ∷ x) (front-all text (λ k d h. all (suc k) d (omega arith)))
 
+-- and what stands behind them
+pub front-through : (text : Word) → ((k d : ℕ) → k < length text → is_word (get_or text k d) ≡ true)
+    → (more : Word) → front_of (text ++ more) ≡ text ++ front_of more
+front-through [] all more = refl
+front-through (c ∷ text) all more =
+    front-word c (text ++ more) (all 0 c (omega arith)) ∙ ap (λ x. c ∷ x) (front-through text (λ k d h. all (suc k) d (omega arith)) more)
+
 -- a text that begins with a letter
 module _ (text : Word) (begins : BeginsWithLetter text) where
   first_is : (x : ℕ) (xs : Word) → text ≡ x ∷ xs → (x == blank) ≡ false

@@ -1,6 +1,9 @@
 pub mod PlainLengths
 pub mod Ordered
 pub mod TurnedTexts
+pub mod TurnedFirsts
+pub mod FrontTexts
+pub mod AllFirsts
 pub mod Changing
 pub mod Heads
 mod HeadExamples

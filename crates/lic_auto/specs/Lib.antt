@@ -3,6 +3,7 @@ pub mod Sets
 pub mod Listing
 pub mod Heads
 pub mod Beginnings
+pub mod Fronts
 pub mod Firsts
 pub mod Indexes
 pub mod Picked

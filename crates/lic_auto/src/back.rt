@@ -30,6 +30,8 @@ pub struct Back<'s> {
     // the places of the seekers that may not be dead in rising order, and then anything
     marked: Vec<usize>,
     marked_count: usize,
+    // room for the places of those that are entered at a token
+    entered: Vec<usize>,
     // room for the places of those that take a token
     turns: Vec<usize>,
     // the numbers of the live templates in rising order, and then anything
@@ -44,6 +46,7 @@ pub struct Back<'s> {
     ghost marked_rising: { IsRising (take marked_count marked.items)
         (length (templates_of chosen)) },
     ghost quiet: { AreQuietBut (take marked_count marked.items) seekers.items },
+    ghost entered_room: { vec_len entered ≡ length (templates_of chosen) },
     ghost turns_room: { vec_len turns ≡ length (templates_of chosen) },
     ghost live_room: { vec_len live ≡ length (templates_of chosen) },
     ghost live_within: { live_count ≤ vec_len live },
@@ -76,6 +79,7 @@ impl<'s> Back<'s> {
         let count = chosen.len();
         let mut marked = vec![in alloc; 0usize; count]?;
         name_all(&mut marked);
+        let entered = vec![in alloc; 0usize; count]?;
         let turns = vec![in alloc; 0usize; count]?;
         let live = vec![in alloc; 0usize; count]?;
         let seekers = seekers_of(alloc, &chosen)?;
@@ -84,6 +88,7 @@ impl<'s> Back<'s> {
             seekers,
             marked,
             marked_count: count,
+            entered,
             turns,
             live,
             live_count: 0,
@@ -122,10 +127,11 @@ impl<'s> Back<'s> {
         ensures never_fall { steps_behind self.old ≤ steps_behind self.new }
     {
         self.steps = count_steps(self.steps, text);
-        let entered = self.chosen.entered_by(text);
+        let count = self.chosen.enter(text, &mut self.entered);
+        let entered = &self.entered[..count];
         let marked = &self.marked[..self.marked_count];
-        let count = join_rising(marked, entered, &mut self.turns);
-        let turns = &self.turns[..count];
+        let turn_count = join_rising(marked, entered, &mut self.turns);
+        let turns = &self.turns[..turn_count];
         self.marked_count = take_turned(&mut self.seekers, turns, entered, text, &mut self.marked);
         let marked = &self.marked[..self.marked_count];
         self.live_count = gather_live(&self.chosen, &self.seekers, marked, &mut self.live);

@@ -1,6 +1,6 @@
 //! Templates chosen from a set, with what the search needs to look for all of them at once.
 
-ghost use Rattle.std.specs.Prelude.{◌≡◌, ◌<◌, ◌≤◌, ◌↔◌, ◌∷◌, ℕ, List, map, length, slice_index, IfOk, IfSome, IfNone, IsTrue, Some, Contains};
+ghost use Rattle.std.specs.Prelude.{◌≡◌, ◌<◌, ◌≤◌, ◌↔◌, ◌∷◌, ℕ, List, map, length, slice_index, take, IfOk, IfSome, IfNone, IsTrue, Some, Contains};
 ghost use Rattle.std.specs.List.{slice_get};
 ghost use Rattle.std.specs.Str.{chars};
 ghost use Rattle.lic_words.specs.Describing.{IsDescribed};
@@ -9,10 +9,12 @@ ghost use Rattle.lic_keys.specs.Rising.{IsRising};
 ghost use Rattle.lic_marks.specs.Cores.{HasWordsOf};
 ghost use Rattle.lic_marks.specs.Nodes.{core_of, is_measured};
 ghost use Rattle.lic_auto.specs.Directions.{ordered, read};
+ghost use Rattle.lic_auto.specs.Firsts.{AreFirsts};
 ghost use Rattle.lic_auto.specs.Picked.{HaveTheirTrees, IsIndexed, picked};
 ghost use Rattle.lic_auto.specs.Sets.{Known, words_of};
 
 use crate::direction::Direction;
+use crate::first::{Firsts, keep_beginning};
 use crate::head::read_head;
 use crate::index::Index;
 use crate::set::Set;
@@ -30,9 +32,12 @@ pub struct Chosen<'s> {
     trees: Vec<&'s Node>,
     direction: Direction,
     index: Index,
+    // with which heads the words of each begin
+    firsts: Vec<Firsts>,
     ghost rising: { IsRising numbers.items (length set.now) },
     ghost indexed: { IsIndexed direction (picked set.now numbers.items)
         (map (λ tree. tree.now) trees.items) index },
+    ghost begin: { AreFirsts direction (map (λ tree. tree.now) trees.items) firsts.items },
 }
 
 impl<'s> Chosen<'s> {
@@ -51,13 +56,15 @@ impl<'s> Chosen<'s> {
         ensures numbers { IfOk result (λ chosen. chosen.numbers.items ≡ numbers.items) }
     {
         let trees = trees_of(alloc, set, &numbers, direction)?;
-        let index = Index::build(alloc, &trees, direction)?;
+        let mut firsts = Vec::new(alloc);
+        let index = Index::build(alloc, &trees, direction, &mut firsts)?;
         Ok(Chosen {
             set,
             numbers,
             trees,
             direction,
             index,
+            firsts,
         })
     }
 
@@ -137,6 +144,25 @@ impl<'s> Chosen<'s> {
             (ordered self.now.direction (chars token.now) ∷ more)) }
     {
         self.index.entered_by(read_head(token, self.direction))
+    }
+
+    /// Writes the places of the templates that a text can enter whose first token, as it is read, this is, in rising order, and
+    /// gives how many they are. It looks at more of the head than `entered_by`, so that they are fewer.
+    pub fn enter(&self, token: &str, entered: &mut [usize]) -> usize
+        requires token { IsTokenText token.now }
+        requires room { length entered.old ≡ length (templates_of self.now) }
+        ensures room { length entered.new ≡ length entered.old }
+        ensures count { result ≤ length entered.new }
+        ensures rising { IsRising (take result entered.new) (length (templates_of self.now)) }
+        ensures rest { (k : ℕ) (known : Known) → slice_get (templates_of self.now) k ≡ Some known
+            → ¬ (Contains (take result entered.new) k)
+            → (more : List (List ℕ))
+            → ¬ (IsDescribed (read self.now.direction (words_of known))
+            (ordered self.now.direction (chars token.now) ∷ more)) }
+    {
+        let head = read_head(token, self.direction);
+        let places = self.entered_by(token);
+        keep_beginning(&self.firsts, places, head, self.direction, entered)
     }
 }
 

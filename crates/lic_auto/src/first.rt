@@ -1,6 +1,6 @@
 //! The heads with which the words of a compiled expression can begin.
 
-ghost use Rattle.std.specs.Prelude.{◌≡◌, ◌≢◌, ℕ, [], List, IfOk, OnOk, map, replicate, reverse, string_bytes};
+ghost use Rattle.std.specs.Prelude.{◌≡◌, ◌≢◌, ◌≤◌, ℕ, [], List, IfOk, OnOk, Contains, false, length, map, replicate, reverse, string_bytes, take};
 ghost use Rattle.lic_auto.specs.declared.direction.Direction.TheVariants.{Forward, Backward};
 ghost use Rattle.std.specs.Str.{chars, IsUtf8, encode_utf8_all};
 ghost use Rattle.lic_auto.specs.Heads.{BeginsWithLetter, head_of};
@@ -8,6 +8,9 @@ ghost use Rattle.lic_marks.specs.Cores.{WordsOf, one, cat_all, alt_all, any_fron
 ghost use Rattle.lic_marks.specs.Nodes.{core_of, letter_cores, passes, so_many};
 ghost use Rattle.lic_auto.specs.Beginnings.{HasHead};
 ghost use Rattle.lic_auto.specs.Directions.{ordered};
+ghost use Rattle.lic_auto.specs.Changes.{AreKeptOf};
+ghost use Rattle.lic_auto.specs.Fronts.{HasFront, IsFrontOf, turned_bytes};
+ghost use Rattle.lic_keys.specs.Rising.{IsRising};
 
 use crate::direction::Direction;
 use crate::head::{known_head, letters_from};
@@ -22,6 +25,8 @@ pub struct Firsts {
     pub heads: Vec<String>,
     /// The first letters of all other heads, as they are read, each a text of its own.
     pub letters: Vec<String>,
+    /// The letters with which all those heads begin as they are read, as parts of their texts.
+    pub fronts: Vec<String>,
     /// Whether any head can.
     pub any: bool,
 }
@@ -38,6 +43,7 @@ impl Firsts {
         let mut firsts = Firsts {
             heads: Vec::new(alloc),
             letters: Vec::new(alloc),
+            fronts: Vec::new(alloc),
             any: false,
         };
         gather_whole(alloc, node, &mut firsts)?;
@@ -53,16 +59,95 @@ impl Firsts {
             → IsFirst Forward self (encode_utf8_all (reverse (chars text)))
             → IsFirst Backward firsts text) }
     {
-        let mut heads = Vec::with_capacity(alloc, self.heads.len())?;
-        for head in &self.heads {
-            heads.push(turned_text(alloc, head.as_str())?)?;
-        }
+        let heads = turned_texts(alloc, &self.heads)?;
+        let fronts = turned_texts(alloc, &self.fronts)?;
         Ok(Firsts {
             heads,
             letters: self.letters,
+            fronts,
             any: self.any,
         })
     }
+
+    /// Whether a word may begin with the head, as it is read in this direction.
+    pub fn may_begin(&self, head: &str, direction: Direction) -> bool
+        ensures { result ≡ false → ¬ (IsFirst direction self.now head.now) }
+    {
+        self.any || is_among(&self.heads, head) || has_front(&self.fronts, head, direction)
+    }
+}
+
+// Whether one of the texts is this one.
+fn is_among(texts: &[String], head: &str) -> bool
+    ensures { result ≡ false → ¬ (Contains (map string_bytes texts.now) head.now) }
+{
+    for text in texts {
+        if text.as_str() == head {
+            return true;
+        }
+    }
+    false
+}
+
+// Whether the head begins with one of these fronts.
+fn has_front(fronts: &[String], head: &str, direction: Direction) -> bool
+    ensures { result ≡ false → ¬ (HasFront direction (map string_bytes fronts.now) head.now) }
+{
+    for front in fronts {
+        if is_front(front.as_str(), head, direction) {
+            return true;
+        }
+    }
+    false
+}
+
+fn is_front(front: &str, head: &str, direction: Direction) -> bool
+    ensures { result ≡ false → ¬ (IsFrontOf direction front.now head.now) }
+{
+    match direction {
+        Direction::Forward => head.as_bytes().starts_with(front.as_bytes()),
+        Direction::Backward => head.as_bytes().ends_with(front.as_bytes()),
+    }
+}
+
+// Each of the texts from its end.
+fn turned_texts(alloc: Global, texts: &[String]) -> Result<Vec<String>, AllocError>
+    ensures { IfOk result (λ turned. map string_bytes turned.items
+        ≡ map turned_bytes (map string_bytes texts.now)) }
+{
+    let mut turned = Vec::with_capacity(alloc, texts.len())?;
+    for text in texts {
+        turned.push(turned_text(alloc, text.as_str())?)?;
+    }
+    Ok(turned)
+}
+
+/// Of the templates at these places, those that may begin with the head: writes their places, and gives how many they are.
+pub fn keep_beginning(
+    firsts: &[Firsts],
+    places: &[usize],
+    head: &str,
+    direction: Direction,
+    kept: &mut [usize],
+) -> usize
+    requires rising { IsRising places.now (length firsts.now) }
+    requires room { length places.now ≤ length kept.old }
+    ensures room { length kept.new ≡ length kept.old }
+    ensures count { result ≤ length kept.new }
+    ensures rising { IsRising (take result kept.new) (length firsts.now) }
+    ensures kept { AreKeptOf (λ of. ¬ (IsFirst direction of head.now)) places.now
+        (take result kept.new) firsts.now }
+{
+    let mut count = 0;
+    for place in places {
+        let place = *place;
+        let of = &firsts[place];
+        if of.may_begin(head, direction) {
+            kept[count] = place;
+            count += 1;
+        }
+    }
+    count
 }
 
 // The letters of a text from the last to the first.
@@ -192,7 +277,9 @@ fn add_head(alloc: Global, text: &[char], firsts: &mut Firsts) -> Result<(), All
         }
         None => {
             let letter = text_of(alloc, &text[..1])?;
+            let front = text_of(alloc, text)?;
             firsts.letters.push(letter)?;
+            firsts.fronts.push(front)?;
         }
     }
     Ok(())

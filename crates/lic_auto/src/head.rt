@@ -6,6 +6,7 @@ ghost use Rattle.lic_words.specs.Words.{blank};
 ghost use Rattle.lic_phrases.specs.TokenTexts.{IsTokenText};
 ghost use Rattle.lic_auto.specs.Directions.{ordered};
 ghost use Rattle.lic_auto.specs.Heads.{head_of, letter_of, BeginsWithLetter, IsBehindBlanks};
+ghost use Rattle.lic_auto.specs.Fronts.{BeginsWith};
 
 use crate::direction::Direction;
 use lic_kind::is_word;
@@ -114,10 +115,12 @@ pub fn letters_from(text: &[char]) -> Option<&[char]>
     Some(&text[first..])
 }
 
-/// The head of a text with all that may stand behind it; none where letters that stand behind may belong to the head.
+/// The head of a text with all that may stand behind it; none where letters that stand behind may belong to the head, which begins
+/// with the whole text then.
 pub fn known_head(text: &[char]) -> Option<&[char]>
     requires { BeginsWithLetter text.now }
-    ensures { IfSome result (λ head. (more : List ℕ) → head_of (text.now ++ more) ≡ head.now) }
+    ensures some { IfSome result (λ head. (more : List ℕ) → head_of (text.now ++ more) ≡ head.now) }
+    ensures none { IfNone result ((more : List ℕ) → BeginsWith (head_of (text.now ++ more)) text.now) }
 {
     if !is_word(text[0]) {
         return Some(&text[..1]);

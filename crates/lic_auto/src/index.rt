@@ -36,12 +36,19 @@ pub struct Index {
 
 impl Index {
     ghost use Rattle.lic_auto.specs.Indexes.{IsIndexOf, Adds, listed, place_for};
-    ghost use Rattle.lic_auto.specs.Firsts.{IsFirst};
+    ghost use Rattle.lic_auto.specs.Firsts.{AreFirsts, IsFirst};
 
-    /// An index of trees whose words are read in a direction, each under its place.
-    pub fn build(alloc: Global, trees: &[&Node], direction: Direction) -> Result<Index, AllocError>
-        ensures { IfOk result (λ index.
+    /// An index of trees whose words are read in a direction, each under its place; puts the heads of each into a list.
+    pub fn build(
+        alloc: Global,
+        trees: &[&Node],
+        direction: Direction,
+        all: &mut Vec<Firsts>,
+    ) -> Result<Index, AllocError>
+        requires { vec_len all.old ≡ 0 }
+        ensures index { IfOk result (λ index.
             IsIndexOf direction index (map (λ tree. tree.now) trees.now)) }
+        ensures firsts { OnOk result (AreFirsts direction (map (λ tree. tree.now) trees.now) all.new.items) }
     {
         let mut index = Index {
             direction,
@@ -53,6 +60,7 @@ impl Index {
         for (number, tree) in trees.iter().enumerate() {
             let firsts = Firsts::of(alloc, tree, direction)?;
             index.add(alloc, number, &firsts)?;
+            all.push(firsts)?;
         }
         Ok(index)
     }

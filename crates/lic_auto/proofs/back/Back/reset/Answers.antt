@@ -53,6 +53,7 @@ invariant_of-self c =
           (subst (λ xs. AreQuietBut xs (with_items self.seekers c.begin_anew.new.seekers).items) (sym all)
           (subst (AreQuietBut places) (sym items)
           (AreQuietBut-all places c.begin_anew.new.seekers (λ k h. c.name_all.ensures.all k (omega (arith, h, seekers, size))))));
+      entered_room = self.entered_room;
       turns_room = self.turns_room;
       live_room = self.live_room;
       live_within = omega arith;

@@ -5,6 +5,7 @@ use Rattle.std.proofs.lemmas.Bool.{false≢true}
 use Rattle.std.proofs.lemmas.Result.{IfOk-weaker}
 use Rattle.std.proofs.Math.Logic.{⊎_elim}
 use Rattle.lic_auto.specs.Firsts.{IsFirst}
+use Rattle.lic_auto.specs.Fronts.{HasFront}
 use Rattle.lic_auto.specs.Heads.{letter_of}
 use Rattle.lic_auto.proofs.IndexLemmas.{Adds-fewer, Adds-then}
 use Rattle.lic_auto.proofs.index.Index.add.Goals as goal
@@ -33,10 +34,11 @@ returns c =
     Contains (map string_bytes c.deref-2.result.now) (letter_of mid.direction q)) (IsFirst d firsts)
     c.args.number old mid c.add_to_letters.new.self each adds
     (λ q h. ⊎_elim (λ (any : IsTrue firsts.any). absurd (false≢true (sym c.if-firsts.false ∙ any)))
-    (λ (other : Contains (map string_bytes firsts.heads.items) q ⊎ Contains (map string_bytes firsts.letters.items) (letter_of d q)).
+    (λ (other : Contains (map string_bytes firsts.heads.items) q
+    ⊎ (Contains (map string_bytes firsts.letters.items) (letter_of d q) × HasFront d (map string_bytes firsts.fronts.items) q)).
     ⊎_elim (λ (there : Contains (map string_bytes firsts.heads.items) q). inl (subst (λ xs. Contains xs q) (sym heads) there))
-    (λ (there : Contains (map string_bytes firsts.letters.items) (letter_of d q)).
+    (λ (there : Contains (map string_bytes firsts.letters.items) (letter_of d q) × HasFront d (map string_bytes firsts.fronts.items) q).
     inr (subst (λ e. Contains (map string_bytes c.deref-2.result.now) (letter_of e q)) (sym each.reads)
-    (subst (λ xs. Contains xs (letter_of d q)) (sym letters) there)))
+    (subst (λ xs. Contains xs (letter_of d q)) (sym letters) there.0)))
     other) h))
     c.add_to_letters.ensures
