@@ -8,7 +8,7 @@ use Rattle.std.proofs.lemmas.List.{drop-drop}
 use Rattle.lic_ere.specs.declared.class.Member.{Member}
 use Rattle.lic_ere.specs.declared.fault.EreFault.{EreFault}
 use Rattle.lic_ere.specs.declared.fault.EreCause.TheVariants.{BracketExtension, RangeOutOfOrder}
-use Rattle.lic_ere.specs.Signs.{colon, dot, equals, dash, open_bracket, close_bracket, caret}
+use Rattle.lic_ere.specs.Signs.{dash, open_bracket, close_bracket, caret}
 use Rattle.lic_ere.specs.Sets.{Brackets}
 use Rattle.lic_ere.specs.declared.rest.Rest.{Rest}
 use Rattle.lic_ere.specs.Views.{left, seen}
@@ -44,7 +44,7 @@ three_of_one c a b d e =
 begins-IsExtension : (c : ℕ) (rest : List Located) → begins_extension c rest ≡ true → IsExtension c rest
 begins-IsExtension c [] e = absurd (false≢true e)
 begins-IsExtension c (next ∷ rest) e =
-    let (one, others) = and_cases (c == open_bracket) (next.1 == colon || next.1 == dot || next.1 == equals) e in
+    let (one, others) = and_cases (c == open_bracket) _ e in
     extension (eqb-true c open_bracket one) (three_of_one next.1 _ _ _ others)
 
 one_of_three : (c a b d : ℕ) → (c ≡ a) ⊎ ((c ≡ b) ⊎ (c ≡ d)) → (c == a || c == b || c == d) ≡ true
