@@ -8,7 +8,7 @@ status 2, report that memory ran out, and write and tell nothing else that the w
 take no more requests than one match, but for the growth of the report: giving a match takes no memory. Needs a C
 compiler. Prints each run that breaks this; the last line is 'N runs, M bad', and the status is 1 if M is not 0.
 """
-import os, subprocess, sys, tempfile
+import os, shutil, subprocess, sys, tempfile
 
 HERE = os.path.dirname(os.path.abspath(__file__))
 SCAN = ['scan', '--all', '--templates', 'T']
@@ -52,13 +52,29 @@ GROWTH = 20
 # a text without a match, at each token of which one might begin; and the most requests by which a text a thousand times as long grows
 NONE = b'z ' * 50
 LONGER = 60
+# after so many seconds a run is stopped
+SECONDS = 20
 # what follows from a template that wants memory
 FOLLOWS = b'licscan: --after: no template A'
 
 
+def build(folder):
+    """The library that refuses requests, built in a folder."""
+    compiler = shutil.which('cc')
+    if not compiler:
+        sys.exit('no C compiler: fail_nth.c, which refuses the requests for memory, is built by cc')
+    library = os.path.join(folder, 'fail_nth.so')
+    subprocess.run([compiler, '-shared', '-fPIC', '-O1', '-o', library, os.path.join(HERE, 'fail_nth.c'), '-ldl'], check=True)
+    return library
+
+
 def run(program, folder, library, words, given, n):
+    """The status of a run whose Nth request is refused, its output and its errors; a run that is stopped has no status."""
     place = dict(os.environ, LD_PRELOAD=library, FAIL_NTH=str(n))
-    ran = subprocess.run([program] + words, input=given, capture_output=True, env=place, cwd=folder)
+    try:
+        ran = subprocess.run([program] + words, input=given, capture_output=True, env=place, cwd=folder, timeout=SECONDS)
+    except subprocess.TimeoutExpired:
+        return None, b'', b''
     return ran.returncode, ran.stdout, ran.stderr
 
 
@@ -87,8 +103,7 @@ def main():
     program = os.path.abspath(sys.argv[1])
     runs = bad = 0
     with tempfile.TemporaryDirectory() as folder:
-        library = os.path.join(folder, 'fail_nth.so')
-        subprocess.run(['cc', '-shared', '-fPIC', '-O1', '-o', library, os.path.join(HERE, 'fail_nth.c'), '-ldl'], check=True)
+        library = build(folder)
         os.makedirs(os.path.join(folder, 'T', 'D.template.txt'))
         os.makedirs(os.path.join(folder, 'V'))
         with open(os.path.join(folder.encode(), b'T', b'\xff.template.txt'), 'wb'):

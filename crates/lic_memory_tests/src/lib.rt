@@ -1,0 +1,11 @@
+//! Tests of the libraries where memory runs out: each call either answers as ever or that memory ran out, and then, made again, as ever.
+#![tactic(auto)]
+
+#[cfg(test)]
+mod lent;
+#[cfg(test)]
+mod matches;
+#[cfg(test)]
+mod reading;
+#[cfg(test)]
+mod refused;

@@ -1,0 +1,62 @@
+#!/usr/bin/env python3
+"""Refuses each request for memory of each test of a built crate of tests in turn; each test must pass all the same.
+
+  sweep_tests.py PROGRAM
+
+PROGRAM is what `rt test` and `rt ci` build: crates/lic_memory_tests/out/lic_memory_tests_tests, whose tests make a call again where memory
+ran out, and fail where a call says anything else, changes what it was lent, or answers otherwise the second time. Needs a C compiler.
+Prints a line for each test, with the first requests after which it failed; the last line is 'N runs, M bad', and the status is 1 if M is not 0.
+"""
+import os, subprocess, sys, tempfile
+
+from sweep import SECONDS, build
+
+# so many failures of a test are shown
+SHOWN = 8
+
+
+def run(program, name, library, count, n):
+    """Whether a test passes while its Nth request is refused, and how many requests it makes (0 if it is stopped)."""
+    place = dict(os.environ, LD_PRELOAD=library, FAIL_NTH=str(n), COUNT_IN=count)
+    open(count, 'w').close()
+    try:
+        ran = subprocess.run([program, name], capture_output=True, env=place, stdin=subprocess.DEVNULL, timeout=SECONDS)
+    except subprocess.TimeoutExpired:
+        return False, 0
+    with open(count) as it:
+        return ran.returncode == 0 and (ran.stdout + ran.stderr).strip() == b'test result: ok', int(it.read() or 0)
+
+
+def sweep(program, name, library, count):
+    """Refuses the requests of a test one by one, until a run ends in which none was refused.
+
+    Gives how many were refused, and the numbers of the runs that failed (0 is the run in which none is refused)."""
+    passed, requests = run(program, name, library, count, 0)
+    failed, n = [] if passed and requests else [0], 0
+    while n <= requests:
+        n += 1
+        passed, made = run(program, name, library, count, n)
+        if passed:
+            requests = made
+        else:
+            failed.append(n)
+    return n - 1, failed
+
+
+def main():
+    program = os.path.abspath(sys.argv[1])
+    listed = subprocess.run([program, '--list'], capture_output=True, check=True).stdout.decode().splitlines()
+    runs = bad = 0
+    with tempfile.TemporaryDirectory() as folder:
+        library, count = build(folder), os.path.join(folder, 'count')
+        for name in (line.removesuffix(': test') for line in listed if line.endswith(': test')):
+            refused, failed = sweep(program, name, library, count)
+            runs += refused + 2
+            bad += len(failed)
+            print(f'{name}: {refused} requests refused', *[f'failed at {n}' for n in failed[:SHOWN]], *['..'] * (len(failed) > SHOWN))
+    print(f'{runs} runs, {bad} bad')
+    return 1 if bad or not runs else 0
+
+
+if __name__ == '__main__':
+    sys.exit(main())
