@@ -45,9 +45,14 @@ fn shown(alloc: Global, rules: &Rules, part: LinePart, line: &str) -> Result<Str
     Ok(shown)
 }
 
+/// Those by the profile.
+fn shown_by_the_profile(alloc: Global, part: LinePart, line: &str) -> Result<String, AllocError> {
+    shown(alloc, &Rules::profile(alloc), part, line)
+}
+
 #[test]
 fn lines_of_the_profile(rt: HostRuntime) -> Result<(), AllocError> {
-    let cases = [
+    let cases: &[(&str, &str)] = &[
         ("// 1. Foo", "6-9 foo,"),
         ("/****", ""),
         ("foo ***/", "0-3 foo,"),
@@ -85,58 +90,83 @@ fn lines_of_the_profile(rt: HostRuntime) -> Result<(), AllocError> {
         ("a-\u{2014}-b \"'\"", "0-1 a,1-6 -,6-7 b,8-11 ',"),
         ("REM x -}", "4-5 x,"),
     ];
-    let alloc = rt.alloc();
-    let rules = Rules::profile(alloc);
-    for (line, tokens) in &cases {
-        assert!(&rt;
-            shown(alloc, &rules, WHOLE, line)?.as_str() == *tokens,
-            "{line}"
-        );
+    for (line, tokens) in cases {
+        let shown = shown_by_the_profile(rt.alloc(), WHOLE, line)?;
+        assert!(&rt; shown.as_str() == *tokens, "{line}");
     }
     Ok(())
 }
 
+// Parts that are cut off before the end of their line.
+const BEFORE_DIGIT: LinePart = LinePart {
+    has_front: true,
+    has_end: false,
+    behind: Some('0'),
+};
+
+const BEFORE_LETTER: LinePart = LinePart {
+    has_front: true,
+    has_end: false,
+    behind: Some('a'),
+};
+
+const BEFORE_NOTHING: LinePart = LinePart {
+    has_front: true,
+    has_end: false,
+    behind: None,
+};
+
+const BEHIND_FRONT: LinePart = LinePart {
+    has_front: false,
+    has_end: true,
+    behind: None,
+};
+
 #[test]
 fn parts_of_a_line(rt: HostRuntime) -> Result<(), AllocError> {
-    let alloc = rt.alloc();
-    let rules = Rules::profile(alloc);
-    let cut_off = |behind| LinePart {
-        has_front: true,
-        has_end: false,
-        behind,
-    };
-    let inside = LinePart {
-        has_front: false,
-        has_end: true,
-        behind: None,
-    };
-    assert!(&rt; shown(alloc, &rules, cut_off(Some('0')), "c) ")?.is_empty());
-    assert!(&rt; shown(alloc, &rules, cut_off(Some('a')), "(c) ")?.is_empty());
-    assert!(&rt; shown(alloc, &rules, cut_off(Some('0')), "(c) ")?.as_str() == "0-3 copyright,");
-    assert!(&rt; shown(alloc, &rules, cut_off(Some('a')), "1.")?.as_str() == "0-1 1,1-2 .,");
-    assert!(&rt; shown(alloc, &rules, cut_off(None), "1. ")?.as_str() == "0-1 1,1-2 .,");
-    assert!(&rt; shown(alloc, &rules, inside, "# x #")?.as_str() == "0-1 #,2-3 x,");
+    let cases: &[(LinePart, &str, &str)] = &[
+        (BEFORE_DIGIT, "c) ", ""),
+        (BEFORE_LETTER, "(c) ", ""),
+        (BEFORE_DIGIT, "(c) ", "0-3 copyright,"),
+        (BEFORE_LETTER, "1.", "0-1 1,1-2 .,"),
+        (BEFORE_NOTHING, "1. ", "0-1 1,1-2 .,"),
+        (BEHIND_FRONT, "# x #", "0-1 #,2-3 x,"),
+    ];
+    for (part, line, tokens) in cases {
+        let shown = shown_by_the_profile(rt.alloc(), *part, line)?;
+        assert!(&rt; shown.as_str() == *tokens, "{line}");
+    }
     Ok(())
+}
+
+/// The tokens of a whole line, by other rules than the profile's.
+fn shown_by_other_rules(alloc: Global, line: &str) -> Result<String, Fail> {
+    let rules = Rules::read(alloc, "lead @@\nitems off\nseparators off")?;
+    Ok(shown(alloc, &rules, WHOLE, line)?)
 }
 
 #[test]
 fn other_rules(rt: HostRuntime) -> Result<(), Fail> {
-    let alloc = rt.alloc();
-    let rules = Rules::read(alloc, "lead @@\nitems off\nseparators off")?;
-    assert!(&rt;
-        shown(alloc, &rules, WHOLE, "@@ foo // b")?.as_str() == "3-6 foo,7-8 /,8-9 /,10-11 b,"
-    );
-    assert!(&rt;
-        shown(alloc, &rules, WHOLE, "1. ab---c")?.as_str() == "0-1 1,1-2 .,3-5 ab,5-8 -,8-9 c,"
-    );
+    let cases: &[(&str, &str)] = &[
+        ("@@ foo // b", "3-6 foo,7-8 /,8-9 /,10-11 b,"),
+        ("1. ab---c", "0-1 1,1-2 .,3-5 ab,5-8 -,8-9 c,"),
+    ];
+    for (line, tokens) in cases {
+        let shown = shown_by_other_rules(rt.alloc(), line)?;
+        assert!(&rt; shown.as_str() == *tokens, "{line}");
+    }
     Ok(())
+}
+
+/// The cells of a whole line of the profile.
+fn cells_of(alloc: Global, line: &str) -> Result<Vec<Cell>, AllocError> {
+    let line = source_chars(alloc, line)?;
+    cells_of_line(alloc, &Rules::profile(alloc), WHOLE, &line)
 }
 
 #[test]
 fn cells(rt: HostRuntime) -> Result<(), AllocError> {
-    let alloc = rt.alloc();
-    let line = source_chars(alloc, "// -- x\n")?;
-    let cells = cells_of_line(alloc, &Rules::profile(alloc), WHOLE, &line)?;
+    let cells = cells_of(rt.alloc(), "// -- x\n")?;
     let x = SourceChar {
         char: 'x',
         start: 6,
@@ -148,7 +178,7 @@ fn cells(rt: HostRuntime) -> Result<(), AllocError> {
 
 #[test]
 fn short_and_long_strings(rt: HostRuntime) -> Result<(), AllocError> {
-    let texts = [
+    let texts: &[&str] = &[
         "",
         "copyright",
         "abcdefghijklmnopqrstuvwx",
@@ -156,7 +186,7 @@ fn short_and_long_strings(rt: HostRuntime) -> Result<(), AllocError> {
         "\u{4E2D}\u{6587}\u{4E2D}\u{6587}\u{4E2D}\u{6587}\u{4E2D}\u{6587}\u{4E2D}",
     ];
     let alloc = rt.alloc();
-    for text in &texts {
+    for text in texts {
         let string = SmallString::from_str(alloc, text)?;
         assert!(&rt; string.as_str() == *text, "{text}");
     }

@@ -24,9 +24,23 @@ pub fn show_tokens(alloc: Global, text: &Text) -> Result<String, Fail> {
     Ok(shown)
 }
 
+/// The tokens of a source, whose text has to have all its bytes.
+fn tokens_by(alloc: Global, source: &[u8], words: &Words, rules: &Rules) -> Result<String, Fail> {
+    let text = Text::read(alloc, source.to_vec(alloc)?, words, rules)?;
+    if text.source() != source {
+        return Err(Fail::from("a text that is not its source"));
+    }
+    show_tokens(alloc, &text)
+}
+
+/// Those by the profile and with no equivalent words.
+fn tokens_of(alloc: Global, source: &[u8]) -> Result<String, Fail> {
+    tokens_by(alloc, source, &Words::none(alloc), &Rules::profile(alloc))
+}
+
 #[test]
 fn tokens_have_letters_and_bytes(rt: HostRuntime) -> Result<(), Fail> {
-    let table = [
+    let table: &[(&str, &str)] = &[
         ("", ""),
         (" \n\u{3000}", ""),
         ("/* Foo\n * bar\n */\n", "foo 3-6, bar 10-13, "),
@@ -62,57 +76,43 @@ fn tokens_have_letters_and_bytes(rt: HostRuntime) -> Result<(), Fail> {
             "a 0-1, b 4-5, - 6-11, c 12-13, ' 13-16, ",
         ),
     ];
-    let words = Words::none(rt.alloc());
-    let rules = Rules::profile(rt.alloc());
     for (source, wanted) in table {
-        let text = Text::read(
-            rt.alloc(),
-            source.as_bytes().to_vec(rt.alloc())?,
-            &words,
-            &rules,
-        )?;
-        let shown = show_tokens(rt.alloc(), &text)?;
-        assert_eq!(rt; shown.as_str(), wanted);
-        assert_eq!(rt; text.source(), source.as_bytes());
+        let shown = tokens_of(rt.alloc(), source.as_bytes())?;
+        assert_eq!(rt; shown.as_str(), *wanted);
     }
     Ok(())
 }
 
+/// The tokens of a source, and its letters as a piece of a template, by other line rules than the profile's.
+fn by_other_rules(alloc: Global, source: &str) -> Result<(String, String), Fail> {
+    let words = Words::none(alloc);
+    let rules = Rules::read(alloc, "lead @@\nitems off\nseparators off")?;
+    let tokens = tokens_by(alloc, source.as_bytes(), &words, &rules)?;
+    let letters = piece(alloc, source, true, Next::LineEnd, &words, &rules)?;
+    Ok((tokens, letters))
+}
+
 #[test]
 fn other_line_rules_are_heeded(rt: HostRuntime) -> Result<(), Fail> {
-    let words = Words::none(rt.alloc());
-    let rules = Rules::read(rt.alloc(), "lead @@\nitems off\nseparators off")?;
-    let source = "@@ 1. Foo\n// ab---cd */";
-    let text = Text::read(
-        rt.alloc(),
-        source.as_bytes().to_vec(rt.alloc())?,
-        &words,
-        &rules,
-    )?;
+    let (tokens, letters) = by_other_rules(rt.alloc(), "@@ 1. Foo\n// ab---cd */")?;
     assert_eq!(rt;
-        show_tokens(rt.alloc(), &text)?.as_str(),
+        tokens.as_str(),
         "1 3-4, . 4-5, foo 6-9, / 10-11, / 11-12, ab 13-15, - 15-18, cd 18-20, * 21-22, / 22-23, "
     );
-    let letters = piece(rt.alloc(), source, true, Next::LineEnd, &words, &rules)?;
     assert_eq!(rt; letters.as_str(), " 1.foo//ab-cd*/");
     Ok(())
 }
 
+/// The tokens of a source, with the equivalent words of a list.
+fn tokens_by_words(alloc: Global, list: &str, source: &str) -> Result<String, Fail> {
+    let words = Words::read(alloc, list)?;
+    tokens_by(alloc, source.as_bytes(), &words, &Rules::profile(alloc))
+}
+
 #[test]
 fn equivalent_words_are_one_token(rt: HostRuntime) -> Result<(), Fail> {
-    let words = Words::read(
-        rt.alloc(),
-        "sub-license,sublicense\nsub license,sublicense\n",
-    )?;
-    let rules = Rules::profile(rt.alloc());
-    let source = "sub-license sublicense Sub License";
-    let text = Text::read(
-        rt.alloc(),
-        source.as_bytes().to_vec(rt.alloc())?,
-        &words,
-        &rules,
-    )?;
-    let shown = show_tokens(rt.alloc(), &text)?;
+    let list = "sub-license,sublicense\nsub license,sublicense\n";
+    let shown = tokens_by_words(rt.alloc(), list, "sub-license sublicense Sub License")?;
     assert_eq!(rt;
         shown.as_str(),
         "sub-license 0-11, sub-license 12-22, sub-license 23-34, "
@@ -120,9 +120,21 @@ fn equivalent_words_are_one_token(rt: HostRuntime) -> Result<(), Fail> {
     Ok(())
 }
 
+/// The letters of a piece, with two equivalent words.
+fn letters_of(
+    alloc: Global,
+    source: &str,
+    at_line_start: bool,
+    before: Next,
+) -> Result<String, Fail> {
+    let words = Words::read(alloc, "sub-license,sub license\n")?;
+    let rules = Rules::profile(alloc);
+    Ok(piece(alloc, source, at_line_start, before, &words, &rules)?)
+}
+
 #[test]
 fn pieces_have_letters(rt: HostRuntime) -> Result<(), Fail> {
-    let table = [
+    let table: &[(&str, bool, Next, &str)] = &[
         ("", true, Next::LineEnd, ""),
         (" \n ", false, Next::Var, " "),
         ("The Foo, Bar", false, Next::Var, "the foo,bar"),
@@ -146,33 +158,36 @@ fn pieces_have_letters(rt: HostRuntime) -> Result<(), Fail> {
         ("Sub-License", false, Next::LineEnd, "sub-license"),
         ("a Sub License ", false, Next::Var, "a sub-license "),
     ];
-    let words = Words::read(rt.alloc(), "sub-license,sub license\n")?;
-    let rules = Rules::profile(rt.alloc());
     for (source, at_line_start, before, wanted) in table {
-        let letters = piece(rt.alloc(), source, at_line_start, before, &words, &rules)?;
-        assert_eq!(rt; letters.as_str(), wanted, "in {source:?}");
+        let letters = letters_of(rt.alloc(), source, *at_line_start, *before)?;
+        assert_eq!(rt; letters.as_str(), *wanted, "in {source:?}");
     }
     Ok(())
 }
 
+/// The bytes of each token's span, with a comma behind each.
+fn slices_of(alloc: Global, source: &str) -> Result<Vec<u8>, Fail> {
+    let words = Words::none(alloc);
+    let rules = Rules::profile(alloc);
+    let text = Text::read(alloc, source.as_bytes().to_vec(alloc)?, &words, &rules)?;
+    let mut slices = Vec::new(alloc);
+    for i in 0..text.len() {
+        slices.extend_from_slice(text.slice(text.token(i).span))?;
+        slices.push(b',')?;
+    }
+    Ok(slices)
+}
+
 #[test]
 fn a_span_has_its_bytes(rt: HostRuntime) -> Result<(), Fail> {
-    let words = Words::none(rt.alloc());
-    let rules = Rules::profile(rt.alloc());
-    let text = Text::read(
-        rt.alloc(),
-        "a Bé".as_bytes().to_vec(rt.alloc())?,
-        &words,
-        &rules,
-    )?;
-    assert_eq!(rt; text.len(), 2);
-    assert_eq!(rt; text.slice(text.token(1).span), "Bé".as_bytes());
+    let slices = slices_of(rt.alloc(), "a Bé")?;
+    assert_eq!(rt; slices.as_slice(), "a,Bé,".as_bytes());
     Ok(())
 }
 
 #[test]
 fn any_byte_is_read(rt: HostRuntime) -> Result<(), Fail> {
-    let table: [(&[u8], &str); 9] = [
+    let table: &[(&[u8], &str)] = &[
         (&[b'a', 0xFF, b'b'], "a\u{FFFD}b 0-3, "),
         // Each byte of a character that is cut, or that no character can begin with, stands by itself.
         (&[0xE2, 0x80], "\u{FFFD}\u{FFFD} 0-2, "),
@@ -192,15 +207,9 @@ fn any_byte_is_read(rt: HostRuntime) -> Result<(), Fail> {
         ),
         (&[b'#', b' ', 0x80, b'#', b'\n'], "\u{FFFD} 2-3, # 3-4, "),
     ];
-    let words = Words::none(rt.alloc());
-    let rules = Rules::profile(rt.alloc());
     for (source, wanted) in table {
-        let text = Text::read(rt.alloc(), source.to_vec(rt.alloc())?, &words, &rules)?;
-        assert_eq!(rt;
-            show_tokens(rt.alloc(), &text)?.as_str(),
-            wanted,
-            "{source:?}"
-        );
+        let shown = tokens_of(rt.alloc(), source)?;
+        assert_eq!(rt; shown.as_str(), *wanted, "{source:?}");
     }
     Ok(())
 }
@@ -218,18 +227,21 @@ fn refusals_have_texts(rt: HostRuntime) -> Result<(), Fail> {
     Ok(())
 }
 
+/// Why a source of one byte more than a text may have is refused, which is all `a` but for one byte.
+fn refusal_of_a_long_source(alloc: Global, place: usize, byte: u8) -> Result<TextFault, Fail> {
+    let mut source = vec![in alloc; b'a'; MAX_BYTES + 1]?;
+    if place >= source.len() {
+        return Err(Fail::from("no such place"));
+    }
+    source[place] = byte;
+    let read = Text::read(alloc, source, &Words::none(alloc), &Rules::profile(alloc));
+    Ok(read.err().ok_or("accepted")?)
+}
+
 #[test]
 fn long_inputs_are_refused(rt: HostRuntime) -> Result<(), Fail> {
-    let table = [(0, b'a'), (MAX_BYTES, 0xFF), (5, 0xFF)];
-    let words = Words::none(rt.alloc());
-    let rules = Rules::profile(rt.alloc());
-    for (place, byte) in table {
-        let mut source = vec![in rt.alloc(); b'a'; MAX_BYTES + 1]?;
-        assert!(rt; place < source.len());
-        source[place] = byte;
-        let fault = Text::read(rt.alloc(), source, &words, &rules)
-            .err()
-            .ok_or("accepted")?;
+    for (place, byte) in [(0, b'a'), (MAX_BYTES, 0xFF), (5, 0xFF)] {
+        let fault = refusal_of_a_long_source(rt.alloc(), place, byte)?;
         assert_eq!(rt; fault, TextFault::TooLong);
     }
     Ok(())

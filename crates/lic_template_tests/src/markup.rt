@@ -3,8 +3,21 @@
 use lic_kind::Rules;
 use lic_markup::{MarkupCause, MarkupFault, Part, Template, read_template};
 use lic_norm::words::Words;
-use std::alloc::Global;
+use std::alloc::{AllocError, Global};
 use std::test::Fail;
+
+/// The template of a text, by the profile and with no equivalent words.
+fn template_of(alloc: Global, text: &str) -> Result<Template, MarkupFault> {
+    read_template(alloc, text, &Words::none(alloc), &Rules::profile(alloc))
+}
+
+/// Why a text is no template; nothing where it is one.
+fn told(alloc: Global, text: &str) -> Result<String, AllocError> {
+    match template_of(alloc, text) {
+        Ok(_) => Ok(String::new(alloc)),
+        Err(fault) => format!(in alloc; "{fault}"),
+    }
+}
 
 #[test]
 fn the_fault_that_decides_is_told(rt: HostRuntime) -> Result<(), Fail> {
@@ -74,16 +87,17 @@ fn the_fault_that_decides_is_told(rt: HostRuntime) -> Result<(), Fail> {
             "M10 at 0: no letter in it",
         ),
     ];
-    let words = Words::none(rt.alloc());
-    let rules = Rules::profile(rt.alloc());
     for (text, expected) in table {
-        let told = match read_template(rt.alloc(), text, &words, &rules) {
-            Ok(_) => String::new(rt.alloc()),
-            Err(fault) => format!(in rt.alloc(); "{fault}")?,
-        };
+        let told = told(rt.alloc(), text)?;
         assert_eq!(&rt; told.as_str(), *expected, "{text:?}");
     }
     Ok(())
+}
+
+/// The original text of a template, and its weight.
+fn original_and_weight(alloc: Global, text: &str) -> Result<(String, u64), Fail> {
+    let template = template_of(alloc, text)?;
+    Ok((template.original().to_string(alloc)?, template.weight()))
 }
 
 #[test]
@@ -113,12 +127,10 @@ fn originals_and_weights(rt: HostRuntime) -> Result<(), Fail> {
             131_072,
         ),
     ];
-    let words = Words::none(rt.alloc());
-    let rules = Rules::profile(rt.alloc());
     for (text, original, weight) in table {
-        let template = read_template(rt.alloc(), text, &words, &rules)?;
-        assert_eq!(&rt; template.original(), *original, "{text:?}");
-        assert_eq!(&rt; template.weight(), *weight, "{text:?}");
+        let (read, weighed) = original_and_weight(rt.alloc(), text)?;
+        assert_eq!(&rt; read.as_str(), *original, "{text:?}");
+        assert_eq!(&rt; weighed, *weight, "{text:?}");
     }
     Ok(())
 }
@@ -134,30 +146,36 @@ fn texts_are_normalised(rt: HostRuntime) -> Result<(), Fail> {
             28,
         ),
     ];
-    let words = Words::none(rt.alloc());
-    let rules = Rules::profile(rt.alloc());
     for (text, original, weight) in table {
-        let template = read_template(rt.alloc(), text, &words, &rules)?;
-        assert_eq!(&rt; template.original(), *original);
-        assert_eq!(&rt; template.weight(), *weight, "{text:?}");
+        let (read, weighed) = original_and_weight(rt.alloc(), text)?;
+        assert_eq!(&rt; read.as_str(), *original);
+        assert_eq!(&rt; weighed, *weight, "{text:?}");
     }
     Ok(())
 }
 
+/// The parts of a template, as they are printed, by some words and line rules.
+fn parts_by(alloc: Global, text: &str, words: &Words, rules: &Rules) -> Result<String, Fail> {
+    let template = read_template(alloc, text, words, rules)?;
+    Ok(format!(in alloc; "{:?}", template.parts())?)
+}
+
+/// Those by the line rules of a file.
+fn parts_by_rules(alloc: Global, text: &str, file: &str) -> Result<String, Fail> {
+    let rules = Rules::read(alloc, file)?;
+    parts_by(alloc, text, &Words::none(alloc), &rules)
+}
+
 #[test]
 fn texts_are_read_by_the_rules_that_are_handed_in(rt: HostRuntime) -> Result<(), Fail> {
-    let words = Words::none(rt.alloc());
-    let rules = Rules::read(rt.alloc(), "lead @@\nitems off")?;
-    let template = read_template(rt.alloc(), "@@ 1. Foo", &words, &rules)?;
-    let told = format!(in rt.alloc(); "{:?}", template.parts())?;
+    let told = parts_by_rules(rt.alloc(), "@@ 1. Foo", "lead @@\nitems off")?;
     assert_eq!(&rt; told.as_str(), r#"[Text(" 1.foo")]"#);
     Ok(())
 }
 
-/// The parts of a template, as they are printed.
-fn parts_of(alloc: Global, text: &str, words: &Words) -> Result<String, Fail> {
-    let template = read_template(alloc, text, words, &Rules::profile(alloc))?;
-    Ok(format!(in alloc; "{:?}", template.parts())?)
+/// Those by the profile and with no equivalent words.
+fn parts_of(alloc: Global, text: &str) -> Result<String, Fail> {
+    parts_by(alloc, text, &Words::none(alloc), &Rules::profile(alloc))
 }
 
 #[test]
@@ -181,9 +199,8 @@ fn parts_hold_letters_and_variables(rt: HostRuntime) -> Result<(), Fail> {
             r#"[Optional([Text(" ")]), Text("foo "), Var { name: "n", original: "o", ere: Char('a') }]"#,
         ),
     ];
-    let words = Words::none(rt.alloc());
     for (text, expected) in table {
-        let told = parts_of(rt.alloc(), text, &words)?;
+        let told = parts_of(rt.alloc(), text)?;
         assert_eq!(&rt; told.as_str(), *expected, "{text:?}");
     }
     Ok(())
@@ -245,22 +262,23 @@ fn pieces_lose_what_their_lines_do(rt: HostRuntime) -> Result<(), Fail> {
             r#"[Text("foo*/"), Optional([Text("x")])]"#,
         ),
     ];
-    let words = Words::none(rt.alloc());
     for (text, expected) in table {
-        let told = parts_of(rt.alloc(), text, &words)?;
+        let told = parts_of(rt.alloc(), text)?;
         assert_eq!(&rt; told.as_str(), *expected, "{text:?}");
     }
     Ok(())
 }
 
+/// The parts of a template with the equivalent words of a list.
+fn parts_by_words(alloc: Global, text: &str, list: &str) -> Result<String, Fail> {
+    let words = Words::read(alloc, list)?;
+    parts_by(alloc, text, &words, &Rules::profile(alloc))
+}
+
 #[test]
 fn texts_are_spelled_by_the_words(rt: HostRuntime) -> Result<(), Fail> {
-    let words = Words::read(rt.alloc(), "color,colour\n").expect(&rt, "two phrases");
-    let told = parts_of(
-        rt.alloc(),
-        "the colour<<beginOptional>> Colour<<endOptional>>",
-        &words,
-    )?;
+    let text = "the colour<<beginOptional>> Colour<<endOptional>>";
+    let told = parts_by_words(rt.alloc(), text, "color,colour\n")?;
     assert_eq!(&rt;
         told.as_str(),
         r#"[Text("the color"), Optional([Text(" color")])]"#
@@ -268,97 +286,92 @@ fn texts_are_spelled_by_the_words(rt: HostRuntime) -> Result<(), Fail> {
     Ok(())
 }
 
+/// The weight of a template, or why the text is none.
+fn weight_of(alloc: Global, text: &str) -> Result<u64, MarkupCause> {
+    match template_of(alloc, text) {
+        Ok(template) => Ok(template.weight()),
+        Err(fault) => Err(fault.cause),
+    }
+}
+
 #[test]
 fn great_repetitions_are_weighed_at_once(rt: HostRuntime) -> Result<(), Fail> {
-    let words = Words::none(rt.alloc());
-    let rules = Rules::profile(rt.alloc());
     let text = "x<<var;name=n;original=o;match=(((){65535}){65535}){65535}>>";
-    assert_eq!(&rt;
-        read_template(rt.alloc(), text, &words, &rules)?.weight(),
-        1
-    );
+    assert_eq!(&rt; weight_of(rt.alloc(), text).ok(), Some(1));
     let text = "x<<var;name=n;original=o;match=((a{65535}){65535}){0}>>";
-    assert_eq!(&rt;
-        read_template(rt.alloc(), text, &words, &rules)?.weight(),
-        1
-    );
+    assert_eq!(&rt; weight_of(rt.alloc(), text).ok(), Some(1));
     let text = "x<<var;name=n;original=o;match=((a{65535}){65535}){65535}>>";
-    let fault = read_template(rt.alloc(), text, &words, &rules).err();
-    assert_eq!(&rt; fault.map(|fault| fault.cause), Some(MarkupCause::TooHeavy));
+    assert_eq!(&rt;
+        weight_of(rt.alloc(), text).err(),
+        Some(MarkupCause::TooHeavy)
+    );
     Ok(())
+}
+
+/// The code of the fault for which a text is no template; nothing where it is one.
+fn code(alloc: Global, text: &str) -> &'static str {
+    match template_of(alloc, text) {
+        Ok(_) => "",
+        Err(fault) => fault.cause.code(),
+    }
 }
 
 #[test]
 fn fronts_of_a_template(rt: HostRuntime) -> Result<(), Fail> {
-    let words = Words::none(rt.alloc());
-    let rules = Rules::profile(rt.alloc());
     let text = r#"name of <<var;name="n";original="x";match=".+">> nor"#;
     for end in 0..=text.len() {
         let front = text.get(..end).expect(&rt, "all its characters are ASCII");
-        let code = match read_template(rt.alloc(), front, &words, &rules) {
-            Ok(_) => "",
-            Err(fault) => fault.cause.code(),
-        };
         let expected = match end {
             0 => "M10",
             13..=47 => "M1",
             _ => "",
         };
-        assert_eq!(&rt; code, expected, "{end}");
+        assert_eq!(&rt; code(rt.alloc(), front), expected, "{end}");
     }
     Ok(())
+}
+
+/// What is said of a pattern of `a` inside so many groups.
+fn told_of_groups(alloc: Global, depth: usize) -> Result<String, AllocError> {
+    let begins = "(".repeat(alloc, depth)?;
+    let ends = ")".repeat(alloc, depth)?;
+    let text = format!(in alloc; r#"x <<var;name="n";original="o";match="{begins}a{ends}">>"#)?;
+    told(alloc, &text)
 }
 
 #[test]
 fn groups_in_a_pattern(rt: HostRuntime) -> Result<(), Fail> {
-    let words = Words::none(rt.alloc());
-    let rules = Rules::profile(rt.alloc());
-    for (depth, expected) in [(64, ""), (65, "M7 at 37: E11 at 64: deeper than 64")] {
-        let mut text = String::new(rt.alloc());
-        text.push_str(r#"x <<var;name="n";original="o";match=""#)?;
-        text.push_str(&"(".repeat(rt.alloc(), depth)?)?;
-        text.push('a')?;
-        text.push_str(&")".repeat(rt.alloc(), depth)?)?;
-        text.push_str(r#"">>"#)?;
-        let told = match read_template(rt.alloc(), &text, &words, &rules) {
-            Ok(_) => String::new(rt.alloc()),
-            Err(fault) => format!(in rt.alloc(); "{fault}")?,
-        };
-        assert_eq!(&rt; told.as_str(), expected);
-    }
+    assert_eq!(&rt; told_of_groups(rt.alloc(), 64)?.as_str(), "");
+    assert_eq!(&rt;
+        told_of_groups(rt.alloc(), 65)?.as_str(),
+        "M7 at 37: E11 at 64: deeper than 64"
+    );
     Ok(())
+}
+
+/// What is said of `a` behind so many begins of optional parts and before so many ends.
+fn told_of_parts(alloc: Global, begins: usize, ends: usize) -> Result<String, AllocError> {
+    let mut text = "<<beginOptional>>".repeat(alloc, begins)?;
+    text.push('a')?;
+    text.push_str(&"<<endOptional>>".repeat(alloc, ends)?)?;
+    told(alloc, &text)
 }
 
 #[test]
 fn depth_and_length(rt: HostRuntime) -> Result<(), Fail> {
-    let words = Words::none(rt.alloc());
-    let rules = Rules::profile(rt.alloc());
-    for (begins, ends, expected) in [
+    let table: &[(usize, usize, &str)] = &[
         (64, 64, ""),
         (65, 65, "M8 at 1088: deeper than 64"),
         (64, 0, "M3 at 1071: optional not ended"),
-    ] {
-        let mut text = "<<beginOptional>>".repeat(rt.alloc(), begins)?;
-        text.push('a')?;
-        text.push_str(&"<<endOptional>>".repeat(rt.alloc(), ends)?)?;
-        let told = match read_template(rt.alloc(), &text, &words, &rules) {
-            Ok(_) => String::new(rt.alloc()),
-            Err(fault) => format!(in rt.alloc(); "{fault}")?,
-        };
-        assert_eq!(&rt; told.as_str(), expected);
+    ];
+    for (begins, ends, expected) in table {
+        let told = told_of_parts(rt.alloc(), *begins, *ends)?;
+        assert_eq!(&rt; told.as_str(), *expected);
     }
     let mut text = "<<var".repeat(rt.alloc(), 209_715)?;
-    assert_eq!(&rt; code(rt.alloc(), &text, &words), "M1");
+    assert_eq!(&rt; code(rt.alloc(), &text), "M1");
     text.push_str("<<")?;
-    let fault = read_template(rt.alloc(), &text, &words, &rules).err();
-    let told = format!(in rt.alloc(); "{}", fault.expect(&rt, "a template that is too long"))?;
+    let told = told(rt.alloc(), &text)?;
     assert_eq!(&rt; told.as_str(), "M11 at 0: more than 1048576 bytes");
     Ok(())
-}
-
-fn code(alloc: Global, text: &str, words: &Words) -> &'static str {
-    match read_template(alloc, text, words, &Rules::profile(alloc)) {
-        Ok(_) => "",
-        Err(fault) => fault.cause.code(),
-    }
 }

@@ -144,9 +144,9 @@ fn told(alloc: Global, pattern: &str) -> Result<String, AllocError> {
 
 #[test]
 fn patterns(rt: HostRuntime) -> Result<(), Fail> {
-    for (pattern, expected) in PATTERNS {
+    for (pattern, expected) in &PATTERNS {
         let told = told(rt.alloc(), pattern)?;
-        assert_eq!(rt; told.as_str(), expected, "{pattern}");
+        assert_eq!(rt; told.as_str(), *expected, "{pattern}");
     }
     Ok(())
 }
@@ -191,21 +191,28 @@ fn a_long_pattern(rt: HostRuntime) -> Result<(), Fail> {
     Ok(())
 }
 
+/// The letters of a copy of a bracket's set.
+fn copied(alloc: Global, pattern: &str) -> Result<String, Fail> {
+    let tree = read(alloc, pattern)?;
+    let Ere::Set(class) = tree else {
+        return Err(Fail::from("a pattern that is no set"));
+    };
+    let copy = class.copy(alloc)?;
+    let mut out = String::new(alloc);
+    write_set(&copy, &mut out)?;
+    Ok(out)
+}
+
 #[test]
 fn a_copy_has_the_same_letters(rt: HostRuntime) -> Result<(), Fail> {
-    for (pattern, expected) in [
+    let table: &[(&str, &str)] = &[
         ("[^A-C]", "{xz-]' [:/A}"),
         ("[]x]", "{x]}"),
         ("[a-]", "{a-}"),
-    ] {
-        let tree = read(rt.alloc(), pattern).expect(&rt, "a bracket");
-        let Ere::Set(class) = tree else {
-            panic!(rt; "a set: {pattern}");
-        };
-        let copy = class.copy(rt.alloc())?;
-        let mut out = String::new(rt.alloc());
-        write_set(&copy, &mut out)?;
-        assert_eq!(rt; out.as_str(), expected);
+    ];
+    for (pattern, expected) in table {
+        let copied = copied(rt.alloc(), pattern)?;
+        assert_eq!(rt; copied.as_str(), *expected);
     }
     Ok(())
 }
