@@ -11,6 +11,8 @@ parts, all of them where none is named:
   report     the report of outer matches on a megabyte, against the list of all matches
   values     the report of matches of 30,000 letters with texts between their variables, with adjacent variables, and of optional words: twice the
              match against the match; of a template with a long optional part: 1,000 short matches against 1
+  live       what a token costs the default report beyond `tokens` while one template is on its way: one mark in a long text, `.{0,5000}` in front,
+             `.+` between two words; and while twenty are
   rules      `tokens` of 10 MB by the profile's line rules and 256 texts, against the profile alone: texts that begin with a sign, and with a letter
 Each figure is the quickest of three runs, but for those of more than ten seconds, which are run once.
 """
@@ -247,7 +249,33 @@ def values(program, at, sources):
         line(f'a long optional part: short matches: {count}', seconds, once, '1 match', memory)
 
 
-PARTS = {part.__name__: part for part in (reading, sets, published, shapes, report, values, rules)}
+def live(program, at, sources):
+    def nanoseconds(name, templates, text):
+        folder = at(name)
+        os.makedirs(folder)
+        for number, template in enumerate(templates):
+            with open(f'{folder}/t{number:02}.template.txt', 'w') as out:
+                out.write(template + '\n')
+        with open(at('input.txt'), 'w') as out:
+            out.write(text)
+        base, _ = quickest([program, 'tokens', at('input.txt')])
+        start, _ = quickest([program, 'scan', '--templates', folder, '/dev/null'])
+        seconds, memory = quickest([program, 'scan', '--templates', folder, at('input.txt')])
+        print(f'{name:52} {(seconds - start - base) / len(text.split()) * 1e9:9.0f} ns a token {memory:45} MB', flush=True)
+
+    # words in which nothing repeats soon, and which end as the templates do; the first word of a template never stands before them
+    count, repeats = 15_000, 20
+    text = ' '.join(spelled(number) for number in range(count))
+    wide = '<<var;name="v";original="x";match=".+">>'
+    front = '<<var;name="v";original="";match=".{0,5000}">>'
+    filler = ' '.join(spelled(number) for number in range(1_000))
+    nanoseconds('one mark in a long text', [f'begin <<var;name="v";original="x";match="x">> {text}'], f'other x {text}\n' * repeats)
+    nanoseconds('.{0,5000} in front', [f'{front} the end of it all'], f'{filler} the end of it all\n' * 200)
+    nanoseconds('a wide .+', [f'begin {wide} the end of it all'], f'{text} the end of it all\n' * repeats)
+    nanoseconds('twenty of them', [f'begin{number} {wide} the end of it all' for number in range(20)], f'{text} the end of it all\n' * repeats)
+
+
+PARTS = {part.__name__: part for part in (reading, sets, published, shapes, report, values, live, rules)}
 
 
 def main():
