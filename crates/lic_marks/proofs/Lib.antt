@@ -11,6 +11,9 @@ pub mod RowWalks
 pub mod JoinedRows
 pub mod Counted
 pub mod Children
+pub mod LetterSets
+pub mod Joining
+pub mod Steady
 pub mod StateLemmas
 pub mod Lists
 pub mod TokenRows
@@ -20,6 +23,7 @@ pub mod Taken
 pub mod Moving
 pub mod Stretches
 pub mod LoneMarks
+pub mod Following
 pub mod Untouched
 pub mod WindowRows
 pub mod Deciding

@@ -34,12 +34,12 @@ length-push (u ∷ ts) t = omega (arith, length-push ts t)
 -- ---- the first letter of a token
 
 -- behind another letter, the first gap of a token alone is another
-abbrev HasFirst : ℕ → ℕ → Gap × ℕ → List (Gap × ℕ) → List ℕ → Type 0
+abbrev pub HasFirst : ℕ → ℕ → Gap × ℕ → List (Gap × ℕ) → List ℕ → Type 0
 HasFirst l m p rest xs =
     (p.0 ≡ gap_of true (is_word l && is_word p.1)) × (gapped_from m true xs ≡ (gap_of true (is_word m && is_word p.1), p.1) ∷ rest)
     × (last_letter l xs ≡ last_letter m xs)
 
-first_letter : (l m : ℕ) (xs : List ℕ) (p : Gap × ℕ) (rest : List (Gap × ℕ)) → gapped_from l true xs ≡ p ∷ rest → HasFirst l m p rest xs
+pub first_letter : (l m : ℕ) (xs : List ℕ) (p : Gap × ℕ) (rest : List (Gap × ℕ)) → gapped_from l true xs ≡ p ∷ rest → HasFirst l m p rest xs
 first_letter l m [] p rest e = cc
 first_letter l m (c ∷ xs) p rest e = by_letter (λ f. first_letter l m xs p rest f) (c == blank) refl
   where

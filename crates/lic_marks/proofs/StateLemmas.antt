@@ -1,15 +1,15 @@
 -- What a state's marks stand for, from step to step.
-use Rattle.std.proofs.Common.{◌≡◌, ℕ, Bool, not, true, false, suc, List, [], ◌++◌, inl, inr, refl, sym, ap, ◌∙◌, subst, ne_eqb}
+use Rattle.std.proofs.Common.{◌≡◌, ℕ, Bool, not, true, false, ◌||◌, suc, List, [], ◌++◌, inl, inr, refl, sym, ap, ◌∙◌, subst, ne_eqb}
 use Rattle.std.specs.Prelude.{replicate}
 use Rattle.lic_words.specs.Words.{Word, blank, blanks}
 use Rattle.lic_words.specs.Spelling.{Gap}
 use Rattle.lic_marks.specs.Cores.{Core, WordsOf}
-use Rattle.lic_marks.specs.Marks.{Marks, no_marks, shift}
+use Rattle.lic_marks.specs.Marks.{Marks, no_marks, can_leave, shift}
 use Rattle.lic_marks.specs.Rows.{marks_of}
 use Rattle.lic_marks.specs.Rests.{Completes, GoesOn}
 use Rattle.lic_marks.specs.Standing.{After, AfterAny, Then, Leads, LeadsOverBlanks, LeadsSoFar, StandsAtOnce, shift_over}
 use Rattle.lic_marks.specs.Deciding.{over_blanks}
-use Rattle.lic_marks.specs.Memories.{kept_marks}
+use Rattle.lic_marks.specs.Memories.{can_end, kept_marks}
 use Rattle.lic_marks.specs.States.{HasLeft, HasTakenAny, IsRemembering}
 use Rattle.lic_marks.specs.declared.state.State.{State}
 use Rattle.lic_marks.proofs.Deciding.{LeadsOverBlanks-over_blanks}
@@ -134,3 +134,14 @@ pub closes : (r : Core) (entry : Bool) (at_once kept after_blanks : List Bool) �
     entry ≡ false → at_once ≡ kept → marks_of r after_blanks ≡ over_blanks r false (marks_of r kept)
 closes r entry at_once kept after_blanks e none same =
     e ∙ ap (λ b. over_blanks r b (marks_of r at_once)) none ∙ ap (λ row. over_blanks r false (marks_of r row)) same
+
+-- one can leave the marks that are kept and their closure as one can leave those that are kept
+pub closed_end : (r : Core) (state : State) → IsRemembering r state → state.is_closed ≡ true → state.at_once ≡ kept_marks state.memory →
+    (can_leave r false state.entry (marks_of r state.at_once) || can_leave r true false (marks_of r state.after_blanks)) ≡ can_end r (kept_marks state.memory)
+closed_end r state s closed same = rw (s.begun closed, s.closed closed, same) refl
+
+-- the answer that is kept is that of the marks
+pub known_end : (r : Core) (state : State) → IsRemembering r state → state.is_closed ≡ true → (answer : Bool) →
+    (state.at_once ≡ kept_marks state.memory) × (answer ≡ can_end r state.at_once) →
+    answer ≡ (can_leave r false state.entry (marks_of r state.at_once) || can_leave r true false (marks_of r state.after_blanks))
+known_end r state s closed answer h = h.1 ∙ ap (can_end r) h.0 ∙ sym (closed_end r state s closed h.0)

@@ -7,6 +7,7 @@ pub mod Windows
 pub mod Stretches
 pub mod Nodes
 pub mod Memories
+pub mod Plain
 pub mod States
 pub mod Runs
 pub mod Seeks

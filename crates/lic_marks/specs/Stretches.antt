@@ -1,5 +1,7 @@
 -- Stretches of positions that take given letters one by one.
-use Rattle.std.specs.Prelude.{◌≡◌, ℕ, suc, ◌+◌, ◌-◌, ◌<◌, ◌==◌, nat_lt, Bool, true, false, List, [], ◌∷◌, length, get_or, if◌then◌else◌}
+use Rattle.std.specs.Prelude.{◌≡◌, ℕ, suc, ◌+◌, ◌-◌, ◌<◌, ◌==◌, ◌⊎◌, nat_lt, Bool, true, false, List, [], ◌∷◌, length, get_or, if◌then◌else◌}
+use Rattle.lic_words.specs.Words.{blank}
+use Rattle.lic_words.specs.Spelling.{Gap, no_gap, free, gap_of}
 use Rattle.lic_marks.specs.Cores.{Core, empty, one, cat, none, alt, plus, tidy}
 use Rattle.lic_marks.specs.Marks.{Marks, no_marks, can_leave, shift}
 use Rattle.lic_marks.specs.Rows.{weight, flags_of}
@@ -43,3 +45,19 @@ pub record LeadsTo (r : Core) (k d : ℕ) : Type 0 where
 abbrev pub IsStretchOf : Core → Stretch → Type 0
 IsStretchOf r stretch = (i : ℕ) → i < length stretch.letters.now
     → LeadsTo r (stretch.place + i) (get_or stretch.letters.now i 0)
+
+-- from this position on these letters, each at once, lead on one by one
+abbrev pub LeadsAlong : Core → ℕ → List (Gap × ℕ) → Type 0
+LeadsAlong r k [] = Unit {0}
+LeadsAlong r k (p ∷ rest) = (p.0 ≡ no_gap) × (p.1 ≡ blank → ⊥) × LeadsTo r k p.1 × LeadsAlong r (suc k) rest
+
+-- a letter behind a gap leads from the one position to the other: over one blank, or at once where the gap may be none
+abbrev pub LeadsOverGap : Core → ℕ → Gap → ℕ → ℕ → Type 0
+LeadsOverGap r k gap c end = (LeadsTo r k blank × LeadsTo r (suc k) c × (end ≡ suc (suc k)))
+    ⊎ ((gap ≡ free) × LeadsTo r k c × (end ≡ suc k))
+
+-- these letters, of which the first stands behind a gap and the others come at once, lead from the one position to the other
+abbrev pub LeadsOver : Core → ℕ → List (Gap × ℕ) → ℕ → Type 0
+LeadsOver r k [] end = ⊥
+LeadsOver r k (p ∷ rest) end = (at : ℕ) × (words : Bool) × (p.0 ≡ gap_of true words) × (p.1 ≡ blank → ⊥)
+    × LeadsOverGap r k (gap_of true words) p.1 at × LeadsAlong r at rest × (end ≡ at + length rest)

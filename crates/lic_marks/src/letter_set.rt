@@ -1,11 +1,12 @@
 //! Sets of ASCII letters.
 
-ghost use Rattle.std.specs.Prelude.{◌≡◌, ◌⊎◌, ℕ, true, false};
+ghost use Rattle.std.specs.Prelude.{◌≡◌, ◌⊎◌, ℕ, true, false, IsTrue};
+ghost use Rattle.std.specs.Char.{is_ascii};
 
-/// A set of ASCII letters.
-#[derive(Drop, Debug)]
+/// A set of ASCII letters: a bit for each.
+#[derive(Clone, Copy, Debug)]
 pub struct LetterSet {
-    flags: [bool; 128],
+    bits: u128,
 }
 
 impl LetterSet {
@@ -15,17 +16,18 @@ impl LetterSet {
     pub fn none() -> LetterSet
         ensures { (c : ℕ) → has result c ≡ false }
     {
-        LetterSet {
-            flags: [false; 128],
-        }
+        LetterSet { bits: 0 }
     }
 
     /// Adds the letter, if it is one of ASCII.
+    #[inline]
     pub fn add(&mut self, letter: char)
-        ensures { (c : ℕ) → has self.new c ≡ true → (has self.old c ≡ true) ⊎ (c ≡ letter) }
+        ensures only { (c : ℕ) → has self.new c ≡ true → (has self.old c ≡ true) ⊎ (c ≡ letter) }
+        ensures kept { (c : ℕ) → has self.old c ≡ true → has self.new c ≡ true }
+        ensures added { is_ascii letter ≡ true → has self.new letter ≡ true }
     {
         if letter.is_ascii() {
-            self.flags[letter as usize] = true;
+            self.bits |= 1u128 << letter as u32;
         }
     }
 
@@ -34,6 +36,14 @@ impl LetterSet {
     pub fn has(&self, letter: char) -> bool
         ensures { result ≡ has self.now letter }
     {
-        letter.is_ascii() && self.flags[letter as usize]
+        letter.is_ascii() && self.bits >> letter as u32 & 1 == 1
+    }
+
+    /// Whether the other set has each letter of this one.
+    #[inline]
+    pub fn is_within(self, other: LetterSet) -> bool
+        ensures { IsTrue result → (c : ℕ) → has self c ≡ true → has other c ≡ true }
+    {
+        self.bits & other.bits == self.bits
     }
 }

@@ -8,6 +8,7 @@ mod letter_set;
 mod memory;
 mod moves;
 pub mod node;
+pub mod plain;
 mod row;
 mod rows;
 pub mod run;

@@ -1,6 +1,6 @@
-//! Letters that are known to leave the marks as they are.
+//! What is known of marks while they stay: the letters that leave them as they are, and whether a word may end behind them.
 
-ghost use Rattle.std.specs.Prelude.{◌≡◌, ℕ, Bool, List, true, false, IsTrue, IfOk, length};
+ghost use Rattle.std.specs.Prelude.{◌≡◌, ℕ, Bool, List, true, false, IsTrue, IfOk, IfSome, length};
 ghost use Rattle.lic_words.specs.Reading.{gapped_letter};
 ghost use Rattle.lic_marks.specs.Cores.{Core};
 ghost use Rattle.lic_marks.specs.Rows.{marks_of};
@@ -15,7 +15,7 @@ use std::alloc::{AllocError, Global};
 // How often other marks may stand where a token ends before those that are kept are given up.
 const MAX_MISSES: u8 = 4;
 
-/// Letters that leave some marks as they are, and whether these are the marks that stand now.
+/// Letters that leave some marks as they are, whether one can leave these, and whether they are the marks that stand now.
 #[derive(Drop, Debug)]
 pub struct Memory {
     marks: Row,
@@ -29,10 +29,12 @@ pub struct Memory {
     joined: LetterSet,
     /// Those that do so behind blanks.
     apart: LetterSet,
+    /// Where it is known: whether one can leave the marks, at once or behind blanks.
+    answer: Option<bool>,
 }
 
 impl Memory {
-    ghost use Rattle.lic_marks.specs.Memories.{GoesOver, Remembers, kept_marks, room_in};
+    ghost use Rattle.lic_marks.specs.Memories.{GoesOver, Remembers, can_end, has, kept_marks, room_in};
 
     /// Nothing is known, with room for so many marks.
     ///
@@ -50,16 +52,18 @@ impl Memory {
             misses: 0,
             joined: LetterSet::none(),
             apart: LetterSet::none(),
+            answer: None,
         })
     }
 
-    /// Forgets all letters.
+    /// Forgets all that is known.
     pub fn forget(&mut self)
         ensures room { room_in self.new ≡ room_in self.old }
         ensures none { (r : Core) (row : List Bool) → Remembers r self.new row }
     {
         self.is_kept = false;
         self.is_current = false;
+        self.answer = None;
     }
 
     /// These marks stand where a token ends. Where others have stood so often, they are kept in place of those that are, of which
@@ -87,6 +91,7 @@ impl Memory {
         self.marks.copy_from(row);
         self.joined = LetterSet::none();
         self.apart = LetterSet::none();
+        self.answer = None;
         self.is_kept = true;
         self.is_current = true;
         self.misses = 0;
@@ -145,5 +150,32 @@ impl Memory {
         } else {
             self.joined.has(c) & self.apart.has(c)
         }
+    }
+
+    /// Whether each letter of the set is known to leave the marks that stand now as they are, where it comes at once.
+    pub fn are_steady(&self, letters: LetterSet) -> bool
+        ensures { (r : Core) (row : List Bool) → Remembers r self.now row → IsTrue result
+            → (row ≡ kept_marks self.now)
+            × ((c : ℕ) → has letters c ≡ true → GoesOver r false row c row) }
+    {
+        self.is_kept & self.is_current & letters.is_within(self.joined)
+    }
+
+    /// Where the marks that are kept stand now and it is known: whether one can leave them, at once or behind blanks.
+    pub fn answer(&self) -> Option<bool>
+        ensures { (r : Core) (row : List Bool) → Remembers r self.now row
+            → IfSome result (λ answer. (row ≡ kept_marks self.now) × (answer ≡ can_end r row)) }
+    {
+        if self.is_current { self.answer } else { None }
+    }
+
+    /// Keeps whether one can leave the marks that are kept.
+    pub fn note(&mut self, answer: bool)
+        ensures room { room_in self.new ≡ room_in self.old }
+        ensures kept { kept_marks self.new ≡ kept_marks self.old }
+        ensures known { (r : Core) (row : List Bool) → Remembers r self.old row
+            → answer ≡ can_end r (kept_marks self.old) → Remembers r self.new row }
+    {
+        self.answer = Some(answer);
     }
 }

@@ -196,6 +196,24 @@ impl Row {
         };
     }
 
+    /// Moves the one flag on to a later place.
+    pub fn move_to(&mut self, place: usize, end: usize)
+        requires lone { IsLone self.old place }
+        requires order { place < end }
+        requires room { end < length self.old }
+        ensures flags { (k : ℕ) → get_or self.new k false ≡ (k == end) }
+        ensures len { length self.new ≡ length self.old }
+    {
+        let count = self.flags.len();
+        prove!(end < count);
+        self.flags.put(place, false);
+        self.flags.put(end, true);
+        self.window = Window {
+            from: end,
+            to: end + 1,
+        };
+    }
+
     /// Whether one may stand behind the expression. `after` says that the last letter was a blank, and `entry` that one
     /// may begin with the next letter.
     pub fn leaves(&self, tree: &Node, after: bool, entry: bool) -> bool

@@ -1,16 +1,18 @@
 //! A compiled expression on its way over a list of tokens, entered at every token. The tokens are read from their ends.
 
-ghost use Rattle.std.specs.Prelude.{◌≡◌, ℕ, ◌<◌, ◌≤◌, ◌↔◌, IsTrue, IfOk, List, [], ◌∷◌, ◌++◌, false, length, reverse};
+ghost use Rattle.std.specs.Prelude.{◌≡◌, ℕ, ◌<◌, ◌≤◌, ◌↔◌, IsTrue, IfOk, List, [], ◌∷◌, ◌++◌, IfSome, false, length, reverse};
 ghost use Rattle.std.specs.Str.{chars};
 ghost use Rattle.lic_words.specs.Letters.{letters_in};
 ghost use Rattle.lic_words.specs.Expressions.{Expression};
 ghost use Rattle.lic_marks.specs.Cores.{HasWordsOf};
 ghost use Rattle.lic_marks.specs.Rows.{weight};
 ghost use Rattle.lic_marks.specs.Nodes.{core_of, is_measured};
+ghost use Rattle.lic_marks.specs.Plain.{IsPlain};
 ghost use Rattle.lic_marks.specs.States.{HasFirstBlanks, has_gap, room_of};
 ghost use Rattle.lic_marks.specs.Stretches.{IsStretchOf};
 
 use crate::node::Node;
+use crate::plain::Plain;
 use crate::row::Row;
 use crate::state::State;
 use crate::stretch::Stretch;
@@ -96,6 +98,50 @@ impl<'a> Seeker<'a> {
         }
         self.stretch = self.state.stretch_of(self.tree, self.stretch);
         self.last = self.state.rest_of_token(self.tree, self.stretch, letters);
+    }
+
+    /// As `push_turned`, of a token of which the caller may know that it is plain: where its letters are known to leave the
+    /// marks as they are, it is not read.
+    pub fn push_known(&mut self, token: &str, known: Option<Plain>, may_begin: bool)
+        requires letters { 0 < letters_in (chars token.now) }
+        requires known { IfSome known (λ plain. IsPlain plain (reverse (chars token.now))) }
+        ensures stands { (e : Expression) (ts : List (List ℕ)) → Seeks self.old e ts
+            → (may_begin ≡ false → NoneBegins e (reverse (chars token.now)))
+            → Seeks self.new e (ts ++ reverse (chars token.now) ∷ []) }
+        ensures tree { tree_of self.new ≡ tree_of self.old }
+    {
+        if self.passes(token, known, may_begin) {
+            return;
+        }
+        self.push_turned(token, may_begin);
+    }
+
+    // Takes a token that is not entered at once, where its letters are known to leave the marks as they are, or where a lone mark
+    // goes on over all of them. Otherwise nothing is done.
+    fn passes(&mut self, token: &str, known: Option<Plain>, may_begin: bool) -> bool
+        requires { IfSome known (λ plain. IsPlain plain (reverse (chars token.now))) }
+        ensures none { (e : Expression) (ts : List (List ℕ)) → Seeks self.old e ts
+            → result ≡ false → Seeks self.new e ts }
+        ensures stands { (e : Expression) (ts : List (List ℕ)) → Seeks self.old e ts → IsTrue result
+            → (may_begin ≡ false → NoneBegins e (reverse (chars token.now)))
+            → Seeks self.new e (ts ++ reverse (chars token.now) ∷ []) }
+        ensures tree { tree_of self.new ≡ tree_of self.old }
+    {
+        let Some(plain) = known else {
+            return false;
+        };
+        if may_begin {
+            return false;
+        }
+        if self.state.stays(plain, self.last) {
+            self.last = plain.last;
+            return true;
+        }
+        if !self.state.follow(self.tree, self.stretch, token, self.last) {
+            return false;
+        }
+        self.last = plain.last;
+        true
     }
 
     /// Whether the expression describes some end of the list of tokens.

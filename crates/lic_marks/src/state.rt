@@ -1,23 +1,26 @@
 //! The state of a position automaton (Glushkov's) that reads letters and gaps: which positions are marked.
 
-ghost use Rattle.std.specs.Prelude.{◌≡◌, ℕ, ◌≤◌, ◌↔◌, ◌⊎◌, true, false, IsTrue, IfOk, List, [], ◌∷◌, ◌++◌, length};
+ghost use Rattle.std.specs.Prelude.{◌≡◌, ℕ, ◌≤◌, ◌↔◌, ◌⊎◌, ◌||◌, true, false, IsTrue, IfOk, IfSome, List, [], ◌∷◌, ◌++◌, length, reverse};
 ghost use Rattle.std.specs.Str.{chars};
 ghost use Rattle.lic_words.specs.Words.{Word, blanks};
 ghost use Rattle.lic_words.specs.Spelling.{Gap, free, gapped_from, last_letter, SpellsGapped};
 ghost use Rattle.lic_words.specs.Reading.{gapped_letter, turned_last_in, turned_letters_left};
 ghost use Rattle.lic_marks.specs.Cores.{Core, WordsOf};
-ghost use Rattle.lic_marks.specs.Marks.{no_marks};
+ghost use Rattle.lic_marks.specs.Marks.{can_leave, no_marks};
 ghost use Rattle.lic_marks.specs.Rows.{weight, marks_of};
 ghost use Rattle.lic_marks.specs.Nodes.{core_of, is_measured};
-ghost use Rattle.lic_marks.specs.Stretches.{IsStretchOf};
+ghost use Rattle.lic_marks.specs.Stretches.{IsLone, IsStretchOf, LeadsOver};
 ghost use Rattle.lic_marks.specs.Standing.{After, AfterAny, StandsAtOnce, each_with, shift_over};
 ghost use Rattle.lic_marks.specs.Deciding.{over_blanks};
 ghost use Rattle.lic_marks.specs.Memories.{Remembers, kept_marks, room_in};
+ghost use Rattle.lic_marks.specs.Plain.{IsPlain};
 
 use crate::memory::Memory;
 use crate::node::Node;
+use crate::plain::Plain;
 use crate::row::Row;
 use crate::stretch::Stretch;
+use lic_kind::is_word;
 use lic_words::letters::{Letter, Letters};
 use lic_words::turned_letters::TurnedLetters;
 use std::alloc::{AllocError, Global};
@@ -132,6 +135,7 @@ impl State {
         if self.is_dead() {
             self.clear();
         } else if has_closure {
+            self.note_answer(tree, stretch);
             self.is_apart = true;
         } else {
             self.close(tree, stretch);
@@ -173,9 +177,47 @@ impl State {
             → HasTakenAny (core_of tree.now) self.now lists
             → IsTrue result ↔ ((n : ℕ) × AfterAny (WordsOf (core_of tree.now)) lists (blanks n)) }
     {
+        if self.is_closed {
+            if let Some(answer) = self.memory.answer() {
+                return answer;
+            }
+        }
+        self.leaves(tree, stretch)
+    }
+
+    // Whether one can leave the marks, at once or after blanks.
+    fn leaves(&self, tree: &Node, stretch: Stretch<'_>) -> bool
+        requires measured { IsTrue (is_measured tree.now) }
+        requires room { weight (core_of tree.now) ≤ room_of self.now }
+        requires stretch { IsStretchOf (core_of tree.now) stretch }
+        ensures { result ≡ (can_leave (core_of tree.now) false self.now.entry
+            (marks_of (core_of tree.now) self.now.at_once)
+            || can_leave (core_of tree.now) true false
+            (marks_of (core_of tree.now) self.now.after_blanks)) }
+    {
         let at_once = self.at_once.leaves_in(tree, stretch, false, self.entry);
         let after_blanks = self.after_blanks.leaves_in(tree, stretch, true, false);
         at_once | after_blanks
+    }
+
+    // Notes whether one can leave the marks, where that is not known. They are those that are kept, and their closure.
+    fn note_answer(&mut self, tree: &Node, stretch: Stretch<'_>)
+        requires measured { IsTrue (is_measured tree.now) }
+        requires room { weight (core_of tree.now) ≤ room_of self.old }
+        requires stretch { IsStretchOf (core_of tree.now) stretch }
+        requires closed { self.old.is_closed ≡ true }
+        ensures at_once { self.new.at_once ≡ self.old.at_once }
+        ensures after_blanks { self.new.after_blanks ≡ self.old.after_blanks }
+        ensures entry { self.new.entry ≡ self.old.entry }
+        ensures apart { self.new.is_apart ≡ self.old.is_apart }
+        ensures known { IsRemembering (core_of tree.now) self.old
+            → self.old.at_once ≡ kept_marks self.old.memory
+            → IsRemembering (core_of tree.now) self.new }
+    {
+        if self.memory.answer().is_none() {
+            let answer = self.leaves(tree, stretch);
+            self.memory.note(answer);
+        }
     }
 
     /// Whether a word of the expression ends with the last letter that was taken.
@@ -296,6 +338,66 @@ impl State {
         }
         self.gap(tree, stretch);
         letters.last_letter()
+    }
+
+    /// Whether the letters of a plain token, behind the letter `last` and a gap, are known to leave the state as it is.
+    pub fn stays(&self, plain: Plain, last: char) -> bool
+        ensures { (r : Core) (row : List ℕ) (lists : List (List (Gap × ℕ)))
+            → IsPlain plain row → HasTakenAny r self.now lists → IsTrue result
+            → HasTakenAny r self.now (each_with (gapped_from last true row) lists) }
+    {
+        if self.entry | !self.is_closed {
+            return false;
+        }
+        let first = Letter {
+            letter: plain.first,
+            is_apart: true,
+            are_words: is_word(last) & is_word(plain.first),
+        };
+        self.memory.are_steady(plain.others) & self.memory.is_steady(first)
+    }
+
+    /// Takes a token, read from its end behind the letter `last`, and opens a gap behind it, where one position alone is marked
+    /// and the stretch has the token's letters behind it: the mark then moves on by as many places at once. Otherwise nothing
+    /// is done.
+    pub fn follow(&mut self, tree: &Node, stretch: Stretch<'_>, token: &str, last: char) -> bool
+        requires measured { IsTrue (is_measured tree.now) }
+        requires room { weight (core_of tree.now) ≤ room_of self.old }
+        requires stretch { IsStretchOf (core_of tree.now) stretch }
+        requires open { IsTrue (has_gap self.old) }
+        ensures room { room_of self.new ≡ room_of self.old }
+        ensures none { (lists : List (List (Gap × ℕ)))
+            → HasTakenAny (core_of tree.now) self.old lists
+            → result ≡ false → HasTakenAny (core_of tree.now) self.new lists }
+        ensures any { (lists : List (List (Gap × ℕ)))
+            → HasTakenAny (core_of tree.now) self.old lists
+            → IsTrue result → HasTakenAny (core_of tree.now) self.new
+            (each_with (gapped_from last true (reverse (chars token.now))) lists) }
+        ensures open { IsTrue (has_gap self.new) }
+    {
+        let Some((place, end)) = self.way(stretch, token, last) else {
+            return false;
+        };
+        self.at_once.move_to(place, end);
+        self.memory.compare(&self.at_once);
+        self.is_apart = false;
+        self.gap(tree, stretch);
+        true
+    }
+
+    // The place of the one mark, and that to which the token leads from there along the stretch.
+    fn way(&self, stretch: Stretch<'_>, token: &str, last: char) -> Option<(usize, usize)>
+        ensures begun { IfSome result (λ way. self.now.entry ≡ false) }
+        ensures lone { IfSome result (λ way. IsLone self.now.at_once way.0) }
+        ensures leads { IfSome result (λ way. (r : Core) → IsStretchOf r stretch.entry
+            → LeadsOver r way.0 (gapped_from last true (reverse (chars token.now))) way.1) }
+    {
+        if self.entry {
+            return None;
+        }
+        let place = self.at_once.lone()?;
+        let end = stretch.over(place, token, last)?;
+        Some((place, end))
     }
 
     /// The stretch in which the one mark stands, where one position alone is marked: this one, or another that is looked up.

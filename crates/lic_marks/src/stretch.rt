@@ -1,12 +1,17 @@
 //! Stretches of text in a compiled expression: literals, in which a lone mark moves on letter by letter.
 
-ghost use Rattle.std.specs.Prelude.{IfSome, IsTrue, map};
+ghost use Rattle.std.specs.Prelude.{◌≡◌, ◌+◌, true, IfSome, IsTrue, length, map, reverse};
+ghost use Rattle.std.specs.Str.{chars};
 ghost use Rattle.std.specs.List.{list_all};
 ghost use Rattle.lic_marks.specs.Cores.{cat_all, alt_all};
 ghost use Rattle.lic_marks.specs.Nodes.{core_of, is_measured};
 ghost use Rattle.lic_marks.specs.Stretches.{IsStretch};
+ghost use Rattle.lic_words.specs.Spelling.{gap_of, gapped_from};
+ghost use Rattle.lic_words.specs.Reading.{turned_letters_left};
 
 use crate::node::Node;
+use lic_words::letters::Letter;
+use lic_words::turned_letters::TurnedLetters;
 
 /// The letters behind a place of a compiled expression in its stretch of text: from a mark at that place alone they lead on one by one.
 #[derive(Clone, Copy, Debug)]
@@ -17,7 +22,7 @@ pub struct Stretch<'a> {
 
 impl<'a> Stretch<'a> {
     ghost use Rattle.lic_marks.specs.Cores.{Core};
-    ghost use Rattle.lic_marks.specs.Stretches.{LeadsTo, IsStretchOf};
+    ghost use Rattle.lic_marks.specs.Stretches.{LeadsAlong, LeadsOver, LeadsOverGap, LeadsTo, IsStretchOf};
 
     /// No letters.
     pub fn none() -> Stretch<'a>
@@ -53,6 +58,61 @@ impl<'a> Stretch<'a> {
             return None;
         }
         Some(self.letters[distance])
+    }
+
+    /// The place to which a token leads from a place of the stretch on. It is read from its end, behind the letter `last` and a gap.
+    pub fn over(self, place: usize, token: &str, last: char) -> Option<usize>
+        ensures { IfSome result (λ end. (r : Core) → IsStretchOf r self.entry
+            → LeadsOver r place (gapped_from last true (reverse (chars token.now))) end) }
+    {
+        let mut letters = TurnedLetters::new(token, last, true);
+        let first = letters.next()?;
+        let at = self.over_gap(place, first)?;
+        let end = self.along(at, letters)?;
+        Some(end)
+    }
+
+    // The place to which a letter behind a gap leads: over one blank, or at once where the gap may be none.
+    fn over_gap(self, place: usize, letter: Letter) -> Option<usize>
+        ensures { IfSome result (λ end. (r : Core) → IsStretchOf r self.entry
+            → LeadsOverGap r place (gap_of true letter.are_words) letter.letter end) }
+    {
+        let next = self.letter_behind(place)?;
+        let behind = place.checked_add(1)?;
+        if next == ' ' {
+            let after_blank = self.letter_behind(behind)?;
+            let end = behind.checked_add(1)?;
+            if after_blank == letter.letter {
+                Some(end)
+            } else {
+                None
+            }
+        } else if letter.are_words {
+            None
+        } else if next == letter.letter {
+            Some(behind)
+        } else {
+            None
+        }
+    }
+
+    // The place to which the letters lead one by one, each at once.
+    fn along(self, place: usize, letters: TurnedLetters<'_>) -> Option<usize>
+        ensures place { IfSome result (λ end.
+            end ≡ place + length (turned_letters_left letters.entry)) }
+        ensures leads { IfSome result (λ end. (r : Core) → IsStretchOf r self.entry
+            → LeadsAlong r place (turned_letters_left letters.entry)) }
+    {
+        let mut letters = letters;
+        let mut at = place;
+        while let Some(letter) = letters.next() {
+            let next = self.letter_behind(at)?;
+            if letter.is_apart | (next != letter.letter) {
+                return None;
+            }
+            at = at.checked_add(1)?;
+        }
+        Some(at)
     }
 }
 

@@ -20,12 +20,27 @@ returns-then-is_dead-clause-any c = λ lists s.
 pub returns-then-has_closure-clause-taken : goal.returns-then-has_closure-clause-taken
 returns-then-has_closure-clause-taken c = λ letters s.
     let r = core_of c.args.tree.now in
-    record { leads = gap_closed r _ _ _ _ (After (WordsOf r) letters) s.leads (closure_stands r c.args.self.now s.kept (and_left _ _ c.if-has_closure.true) (c.is_current.ensures r _ s.kept.letters (and_right _ _ c.if-has_closure.true))); kept = record { letters = s.kept.letters; begun = s.kept.begun; closed = s.kept.closed } }
+    let same = c.is_current.ensures r _ s.kept.letters (and_right _ _ c.if-has_closure.true) in
+    let noted = c.note_answer.ensures.known s.kept same in
+    record {
+      leads = rw (c.note_answer.ensures.entry, c.note_answer.ensures.at_once, c.note_answer.ensures.after_blanks)
+          (gap_closed r _ _ _ _ (After (WordsOf r) letters) s.leads (closure_stands r c.args.self.now s.kept (and_left _ _ c.if-has_closure.true) same));
+      kept = record { letters = noted.letters; begun = noted.begun; closed = noted.closed };
+    }
 
 pub returns-then-has_closure-clause-any : goal.returns-then-has_closure-clause-any
 returns-then-has_closure-clause-any c = λ lists s.
     let r = core_of c.args.tree.now in
-    record { leads = gap_closed r _ _ _ _ (AfterAny (WordsOf r) lists) s.leads (closure_stands r c.args.self.now s.kept (and_left _ _ c.if-has_closure.true) (c.is_current.ensures r _ s.kept.letters (and_right _ _ c.if-has_closure.true))); kept = record { letters = s.kept.letters; begun = s.kept.begun; closed = s.kept.closed } }
+    let same = c.is_current.ensures r _ s.kept.letters (and_right _ _ c.if-has_closure.true) in
+    let noted = c.note_answer.ensures.known s.kept same in
+    record {
+      leads = rw (c.note_answer.ensures.entry, c.note_answer.ensures.at_once, c.note_answer.ensures.after_blanks)
+          (gap_closed r _ _ _ _ (AfterAny (WordsOf r) lists) s.leads (closure_stands r c.args.self.now s.kept (and_left _ _ c.if-has_closure.true) same));
+      kept = record { letters = noted.letters; begun = noted.begun; closed = noted.closed };
+    }
+
+pub note_answer-requires-clause-closed : goal.note_answer-requires-clause-closed
+note_answer-requires-clause-closed c = and_left _ _ c.if-has_closure.true
 
 pub returns-else-has_closure-clause-taken : goal.returns-else-has_closure-clause-taken
 returns-else-has_closure-clause-taken c = λ letters s.
