@@ -82,3 +82,13 @@ module _ (texts texts' text : List ℕ) (rows rows' : List Row) (r : Row) (utf8 
       ap (map (row_value texts')) added ∙ map_push (row_value texts') rows r
       ∙ ap₂ (λ vs l. vs ++ (record { text = l; span = record { start = r.start; end = r.end } }) ∷ [])
       (ap (λ t. map (row_value t) rows) grown ∙ row_values-grown texts text rows within) last
+
+-- one more row, whose text is that of a row before it
+pub row_values-again : (texts text : List ℕ) (rows rows' : List Row) (i : ℕ) (d r : Row) → rows' ≡ rows ++ r ∷ []
+    → r.text_start ≡ (get_or rows i d).text_start → r.text_end ≡ (get_or rows i d).text_end
+    → (row_value texts (get_or rows i d)).text ≡ text → map (row_value texts) rows'
+    ≡ map (row_value texts) rows ++ (record { text = text; span = record { start = r.start; end = r.end } }) ∷ []
+row_values-again texts text rows rows' i d r added starts ends same =
+    let last : slice_range texts r.text_start r.text_end ≡ text = ap₂ (λ a b. slice_range texts a b) starts ends ∙ same in
+    ap (map (row_value texts)) added ∙ map_push (row_value texts) rows r
+    ∙ ap (λ l. map (row_value texts) rows ++ (record { text = l; span = record { start = r.start; end = r.end } }) ∷ []) last

@@ -3,8 +3,9 @@ ghost use Rattle.std.specs.Prelude.{◌≡◌, ◌<◌, ◌++◌, ◌∷◌, [],
 ghost use Rattle.lic_phrases.specs.Waiting.{AreKnown, spanned_in};
 
 use crate::token::{Span, Token};
-use lic_phrases::{FinalToken, Phrases};
+use lic_phrases::{FinalToken, Phrases, TokenText};
 use std::alloc::{AllocError, Global};
+use std::collections::HashMap;
 use std::marker::Model;
 
 /// A token as it is kept: where its text lies among the texts, and its bytes of the source.
@@ -16,11 +17,13 @@ struct Row {
     end: u32,
 }
 
-/// Tokens, with their texts in one string.
+/// Tokens, with their texts in one string. What a class of words is written as stands there once.
 #[derive(Debug, Drop)]
 pub(crate) struct TokenList {
     texts: String,
     rows: Vec<Row>,
+    /// For classes of words, a token that was written so.
+    written: HashMap<usize, usize>,
 }
 
 impl Model for TokenList {
@@ -46,6 +49,7 @@ impl TokenList {
         TokenList {
             texts: String::new(alloc),
             rows: Vec::new(alloc),
+            written: HashMap::new(alloc),
         }
     }
 
@@ -77,6 +81,39 @@ impl TokenList {
         Ok(())
     }
 
+    /// Adds a token that is written as this class of words is, with the text of one before where it has that.
+    fn push_class(
+        &mut self,
+        class: usize,
+        text: &str,
+        start: u32,
+        end: u32,
+    ) -> Result<(), AllocError>
+        ensures { OnOk result (self.new
+            ≡ self.old ++ (record {
+              text = text.now;
+              span = record { start = start; end = end };
+            }) ∷ []) }
+    {
+        let written = self.written.get(&class).copied().unwrap_or(0);
+        if written < self.rows.len() && self.get(written).text == text {
+            let Row {
+                text_start,
+                text_end,
+                ..
+            } = self.rows[written];
+            self.rows.push(Row {
+                text_start,
+                text_end,
+                start,
+                end,
+            })?;
+            return Ok(());
+        }
+        self.written.insert(class, self.rows.len())?;
+        self.push(text, start, end)
+    }
+
     /// Adds tokens as the rewriting gives them.
     #[inline(always)]
     pub(crate) fn extend(
@@ -89,7 +126,11 @@ impl TokenList {
             ≡ self.old ++ map reported (map (spanned_in phrases.now.spellings) settled.now)) }
     {
         for token in settled {
-            self.push(phrases.text_of(token), token.start, token.end)?;
+            let text = phrases.text_of(token);
+            match token.text {
+                TokenText::Own(_) => self.push(text, token.start, token.end)?,
+                TokenText::Class(class) => self.push_class(class, text, token.start, token.end)?,
+            }
         }
         Ok(())
     }

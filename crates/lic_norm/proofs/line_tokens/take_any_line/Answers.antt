@@ -1,4 +1,4 @@
-use Rattle.std.proofs.Common.{◌++◌, ◌∙◌, ap, sym, subst, refl}
+use Rattle.std.proofs.Common.{◌++◌, ◌∙◌, ap, subst, refl}
 use Rattle.lic_lines.specs.LineRules.{rules_of}
 use Rattle.lic_lines.specs.Lines.{whole_line}
 use Rattle.lic_lines.specs.Sources.{without_dropped}
