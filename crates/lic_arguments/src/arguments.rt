@@ -8,7 +8,7 @@ use crate::fault::ArgumentFault;
 use clap::{Arg, ArgAction, ArgMatches, Command, Error, value_parser};
 use lic_auto::set::Set;
 use lic_find::triple::Triple;
-use lic_report::ask::Ask;
+use lic_find::ask::Ask;
 use std::alloc::{AllocError, Global};
 
 /// The version of the program, for whoever names it in a bill of materials.

@@ -3,7 +3,7 @@
 ghost use Rattle.std.specs.Prelude.{◌≡◌};
 ghost use Rattle.lic_arguments.specs.declared.fault.ArgumentFault.TheVariants.{Memory};
 
-use lic_report::fields::Escaped;
+use lic_fields::Escaped;
 use std::alloc::{AllocError, AllocFailed};
 use thiserror::Error;
 

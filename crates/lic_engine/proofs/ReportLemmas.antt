@@ -10,11 +10,11 @@ use Rattle.lic_auto.specs.Sets.{Known}
 use Rattle.lic_find.specs.Matches.{AreMatches}
 use Rattle.lic_find.specs.declared.triple.Triple.{Triple}
 use Rattle.lic_stream.specs.Stream.{BeginsWith}
-use Rattle.lic_report.specs.Fields.{escaped}
+use Rattle.lic_fields.specs.Fields.{escaped}
 use Rattle.lic_report.specs.Report.{match_line, token_line, token_lines, no_token, first_of, AreAllLines, AreLines}
 use Rattle.lic_stream.proofs.Written.{IsPut, put_line, put_whole}
 use Rattle.lic_norm.specs.declared.token.Span.{Span}
-use Rattle.lic_report.specs.declared.ask.Ask.{Ask}
+use Rattle.lic_find.specs.declared.ask.Ask.{Ask}
 
 pub some_more : {X : Type 0} (xs : List X) (x : X) → true ≡ nat_lt 0 (length (xs ++ x ∷ []))
 some_more xs x = let h = length-append xs (x ∷ []) in grind (arith, nat_tests, h)

@@ -7,7 +7,7 @@ use Rattle.lic_phrases.specs.Rewriting.{Phrase}
 use Rattle.lic_auto.specs.Sets.{Known}
 use Rattle.lic_stream.specs.Stream.{BeginsWith}
 use Rattle.lic_report.specs.Report.{IsReport, IsReportOf, token_lines}
-use Rattle.lic_report.specs.declared.ask.Ask.{Ask}
+use Rattle.lic_find.specs.declared.ask.Ask.{Ask}
 use Rattle.lic_engine.specs.Inputs.{IsAccepted}
 
 -- these bytes were read to the end, are accepted, and have these tokens

@@ -17,7 +17,7 @@ use lic_kind::Rules;
 use lic_norm::fault::TextFault;
 use lic_norm::text::Text;
 use lic_norm::words::Words;
-use lic_report::ask::Ask;
+use lic_find::ask::Ask;
 use lic_report::lines::{add_match, add_token};
 use lic_report::wanted::Wanted;
 use lic_stream::stream::{Sink, Source};

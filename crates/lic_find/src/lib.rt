@@ -1,6 +1,7 @@
 //! The walk over a text: where templates describe ranges of its tokens.
 #![tactic(auto)]
 
+pub mod ask;
 pub mod finder;
 pub mod kept;
 pub mod laws;

@@ -11,7 +11,7 @@ use lic_auto::set::Set;
 use lic_kind::Rules;
 use lic_markup::{MarkupCause, MarkupFault, Template, read_template};
 use lic_norm::words::Words;
-use lic_report::fields::Escaped;
+use lic_fields::Escaped;
 use lic_stream::stream::{Counted, Sink};
 use lic_stream::transfer::{ReadFault, read_up_to};
 use std::alloc::{AllocError, AllocFailed, Global};

@@ -1,4 +1,3 @@
-pub mod Fields
 pub mod Report
 pub mod Checking
 pub mod Wanted
@@ -6,3 +5,4 @@ pub mod Assigners
 pub use Rattle.lic_vars.specs.Values
 pub use Rattle.lic_vars.specs.Views
 pub use Rattle.lic_vars.specs.Filters
+pub use Rattle.lic_fields.specs.Fields

@@ -10,8 +10,8 @@ use Rattle.lic_find.specs.Matches.{AreMatches}
 use Rattle.lic_find.specs.declared.triple.Triple.{Triple}
 use Rattle.lic_vars.specs.Filters.{outer_of}
 use Rattle.lic_vars.specs.Values.{Assigned, AreValues}
-use Rattle.lic_report.specs.declared.ask.Ask.{Ask}
-use Rattle.lic_report.specs.Fields.{escaped, field}
+use Rattle.lic_find.specs.declared.ask.Ask.{Ask}
+use Rattle.lic_fields.specs.Fields.{escaped, field}
 
 abbrev pub no_known : Known
 no_known = record { id = []; template = record { parts = []; weight = 0; original = [] } }

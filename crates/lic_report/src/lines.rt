@@ -2,13 +2,13 @@
 
 ghost use Rattle.std.specs.Prelude.{◌≡◌, ◌<◌, ◌≤◌, ◌++◌, length, OnOk, Some};
 ghost use Rattle.std.specs.List.{slice_index_or};
-ghost use Rattle.lic_report.specs.Fields.{escaped, field};
+ghost use Rattle.lic_fields.specs.Fields.{escaped, field};
 ghost use Rattle.lic_norm.specs.declared.token.Span.{Span};
 ghost use Rattle.lic_vars.specs.Views.{value_of};
 ghost use Rattle.lic_report.specs.Checking.{check_line};
 ghost use Rattle.lic_report.specs.Report.{match_line, token_line, place_fields, value_line, no_known, no_token};
 
-use crate::fields::{add_number, add_text};
+use lic_fields::{add_number, add_text};
 use lic_auto::set::Set;
 use lic_find::triple::Triple;
 use lic_norm::text::Text;

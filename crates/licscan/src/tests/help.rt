@@ -130,66 +130,29 @@ For more information, try '--help'.
 
 #[test]
 fn help_and_usage_are_shown(rt: HostRuntime) {
-    let bad_limit = ["scan", "--all", "--templates", "t", "--limit", "0"];
-    expect(
-        &rt,
-        &[
-            Case {
-                args: &["--help"],
-                input: "",
-                status: 0,
-                out: HELP,
-                err: "",
-            },
-            Case {
-                args: &["--version"],
-                input: "",
-                status: 0,
-                out: "licscan 0.1.0\n",
-                err: "",
-            },
-            Case {
-                args: &["scan", "--help"],
-                input: "",
-                status: 0,
-                out: SCAN_HELP,
-                err: "",
-            },
-            Case {
-                args: &["check", "--help"],
-                input: "",
-                status: 0,
-                out: CHECK_HELP,
-                err: "",
-            },
-            Case {
-                args: &["tokens", "--help"],
-                input: "",
-                status: 0,
-                out: TOKENS_HELP,
-                err: "",
-            },
-            Case {
-                args: &[],
-                input: "",
-                status: 2,
-                out: "",
-                err: NO_COMMAND,
-            },
-            Case {
-                args: &["scan", "--all"],
-                input: "",
-                status: 2,
-                out: "",
-                err: NO_TEMPLATES,
-            },
-            Case {
-                args: &bad_limit,
-                input: "",
-                status: 2,
-                out: "",
-                err: BAD_LIMIT,
-            },
-        ],
-    );
+    let table: &[(&[&str], u8, &str, &str)] = &[
+        (&["--help"], 0, HELP, ""),
+        (&["--version"], 0, "licscan 0.1.0\n", ""),
+        (&["scan", "--help"], 0, SCAN_HELP, ""),
+        (&["check", "--help"], 0, CHECK_HELP, ""),
+        (&["tokens", "--help"], 0, TOKENS_HELP, ""),
+        (&[], 2, "", NO_COMMAND),
+        (&["scan", "--all"], 2, "", NO_TEMPLATES),
+        (
+            &["scan", "--all", "--templates", "t", "--limit", "0"],
+            2,
+            "",
+            BAD_LIMIT,
+        ),
+    ];
+    for (args, status, out, err) in table {
+        let case = Case {
+            args,
+            input: "",
+            status: *status,
+            out,
+            err,
+        };
+        expect(&rt, &[case]);
+    }
 }

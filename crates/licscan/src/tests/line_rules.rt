@@ -1,6 +1,6 @@
 //! Files of line rules.
 
-use crate::tests::cases::{Case, expect, make_folder};
+use crate::tests::cases::{Case, expect, expect_in, make_folder};
 use std::fs;
 use std::test::Fail;
 
@@ -8,30 +8,30 @@ use std::test::Fail;
 fn a_file_says_what_lines_lose(rt: HostRuntime) -> Result<(), Fail> {
     let folder = "licscan-test-rules";
     let path = "licscan-test-rules/file";
-    for (rules, input, out) in [
+    let table: &[(&[u8], &str, &str)] = &[
         (
-            "lead @@",
+            b"lead @@",
             "@@ foo // bar\n",
             "-\t3\t6\tfoo\n-\t7\t8\t/\n-\t8\t9\t/\n-\t10\t13\tbar\n",
         ),
         (
-            "items off",
+            b"items off",
             "(c) 2012 X\n(c) the licensee\n",
             "-\t0\t3\tcopyright\n-\t4\t8\t2012\n-\t9\t10\tx\n-\t11\t14\tcopyright\n\
                 -\t15\t18\tthe\n-\t19\t27\tlicensee\n",
         ),
         (
-            "separators off",
+            b"separators off",
             "ab===cd",
             "-\t0\t2\tab\n-\t2\t3\t=\n-\t3\t4\t=\n-\t4\t5\t=\n-\t5\t7\tcd\n",
         ),
         (
-            "separators off",
+            b"separators off",
             "ab---cd",
             "-\t0\t2\tab\n-\t2\t5\t-\n-\t5\t7\tcd\n",
         ),
-    ] {
-        make_folder(&rt, folder, &[("file", rules.as_bytes())])?;
+    ];
+    for (rules, input, out) in table {
         let case = Case {
             args: &["tokens", "--rules", path],
             input,
@@ -39,95 +39,90 @@ fn a_file_says_what_lines_lose(rt: HostRuntime) -> Result<(), Fail> {
             out,
             err: "",
         };
-        expect(&rt, &[case]);
+        expect_in(&rt, folder, &[("file", *rules)], &[case])?;
     }
-    fs::remove_dir_all(&rt, folder)?;
     Ok(())
 }
 
 #[test]
 fn templates_and_texts_have_the_same_rules(rt: HostRuntime) -> Result<(), Fail> {
     let folder = "licscan-test-same-rules";
-    make_folder(
-        &rt,
-        folder,
-        &[
-            ("A.template.txt", b"@@ foo\n@@ bar"),
-            ("rules", b"lead @@\n"),
+    let files: &[(&str, &[u8])] = &[
+        ("A.template.txt", b"@@ foo\n@@ bar"),
+        ("rules", b"lead @@\n"),
+    ];
+    let scan = Case {
+        args: &[
+            "scan",
+            "--templates",
+            "licscan-test-same-rules",
+            "--rules",
+            "licscan-test-same-rules/rules",
         ],
-    )?;
-    let rules = "licscan-test-same-rules/rules";
-    let scan = ["scan", "--templates", folder, "--rules", rules];
-    let check = ["check", "--templates", folder, "--rules", rules];
-    expect(
-        &rt,
-        &[
-            Case {
-                args: &scan,
-                input: "@@ @@ Foo\n@@ bar\n",
-                status: 0,
-                out: "-\tA\t0\t1\t6\t16\n",
-                err: "",
-            },
-            Case {
-                args: &scan[..3],
-                input: "@@ @@ Foo\n@@ bar\n",
-                status: 0,
-                out: "-\tA\t2\t7\t3\t16\n",
-                err: "",
-            },
-            Case {
-                args: &check,
-                input: "",
-                status: 0,
-                out: "A\t8\tyes\n",
-                err: "",
-            },
-            Case {
-                args: &check[..3],
-                input: "",
-                status: 0,
-                out: "A\t10\tyes\n",
-                err: "",
-            },
+        input: "@@ @@ Foo\n@@ bar\n",
+        status: 0,
+        out: "-\tA\t0\t1\t6\t16\n",
+        err: "",
+    };
+    let plain_scan = Case {
+        args: &["scan", "--templates", "licscan-test-same-rules"],
+        input: "@@ @@ Foo\n@@ bar\n",
+        status: 0,
+        out: "-\tA\t2\t7\t3\t16\n",
+        err: "",
+    };
+    let check = Case {
+        args: &[
+            "check",
+            "--templates",
+            "licscan-test-same-rules",
+            "--rules",
+            "licscan-test-same-rules/rules",
         ],
-    );
-    fs::remove_dir_all(&rt, folder)?;
-    Ok(())
+        input: "",
+        status: 0,
+        out: "A\t8\tyes\n",
+        err: "",
+    };
+    let plain_check = Case {
+        args: &["check", "--templates", "licscan-test-same-rules"],
+        input: "",
+        status: 0,
+        out: "A\t10\tyes\n",
+        err: "",
+    };
+    expect_in(&rt, folder, files, &[scan, plain_scan, check, plain_check])
 }
 
 #[test]
 fn a_refused_file_ends_the_run(rt: HostRuntime) -> Result<(), Fail> {
     let folder = "licscan-test-refused-rules";
     let path = "licscan-test-refused-rules/file";
+    let commands: &[&[&str]] = &[
+        &["tokens", "--rules", path],
+        &["scan", "--templates", folder, "--rules", path],
+        &["check", "--templates", folder, "--rules", path],
+    ];
     let many = "lead x\n".repeat(rt.alloc(), 257)?;
-    for (rules, err) in [
+    let table: &[(&[u8], &str)] = &[
         (
-            b"# none\nleads x\n".as_slice(),
+            b"# none\nleads x\n",
             "licscan: rules: L1 at line 2: unknown rule\n",
         ),
         (
-            b"items maybe".as_slice(),
+            b"items maybe",
             "licscan: rules: L1 at line 1: unknown rule\n",
         ),
-        (
-            b"lead".as_slice(),
-            "licscan: rules: L2 at line 1: bad text\n",
-        ),
+        (b"lead", "licscan: rules: L2 at line 1: bad text\n"),
         (
             many.as_bytes(),
             "licscan: rules: L3 at line 257: more than 256 texts\n",
         ),
-        (
-            b"lead x\xFF".as_slice(),
-            "licscan: rules: not UTF-8 at byte 6\n",
-        ),
-    ] {
-        make_folder(&rt, folder, &[("file", rules), ("E.template.txt", b" ")])?;
-        let tokens = ["tokens", "--rules", path];
-        let scan = ["scan", "--templates", folder, "--rules", path];
-        let check = ["check", "--templates", folder, "--rules", path];
-        for args in [&tokens[..], &scan[..], &check[..]] {
+        (b"lead x\xFF", "licscan: rules: not UTF-8 at byte 6\n"),
+    ];
+    for (rules, err) in table {
+        make_folder(&rt, folder, &[("file", *rules), ("E.template.txt", b" ")])?;
+        for args in commands {
             let case = Case {
                 args,
                 input: "foo bar",
@@ -146,54 +141,56 @@ fn a_refused_file_ends_the_run(rt: HostRuntime) -> Result<(), Fail> {
 fn a_file_that_cannot_be_read_ends_the_run(rt: HostRuntime) -> Result<(), Fail> {
     let folder = "licscan-test-unread-rules";
     make_folder(&rt, folder, &[])?;
+    let none = "licscan-test-unread-rules/none";
     let unread = "licscan: rules: cannot be read\n";
-    // `-` is a file of that name, and none is there.
-    let given = [
-        "tokens",
-        "--rules",
-        "licscan-test-unread-rules/none",
-        "licscan-test-unread-rules/none",
+    let table: &[(&[&str], &str)] = &[
+        (&["tokens", "--rules", none, none], unread),
+        (&["tokens", "--rules", folder], unread),
+        // `-` is a file of that name, and none is there.
+        (&["tokens", "--rules", "-"], unread),
+        // The arguments are looked at before the rules, and the rules before the word list and the templates.
+        (
+            &[
+                "scan",
+                "--after=0:0:A",
+                "--templates",
+                "none",
+                "--rules",
+                "none",
+            ],
+            "licscan: --after needs --all\n",
+        ),
+        (
+            &[
+                "scan",
+                "--templates",
+                "none",
+                "--words",
+                "none",
+                "--rules",
+                "none",
+            ],
+            unread,
+        ),
+        (
+            &[
+                "check",
+                "--templates",
+                "none",
+                "--words",
+                "none",
+                "--rules",
+                "none",
+            ],
+            unread,
+        ),
+        (&["tokens", "--words", "none", "--rules", "none"], unread),
+        (
+            &["scan", "--templates", "none", "--words", "none"],
+            "licscan: words: cannot be read\n",
+        ),
     ];
-    let listed = ["tokens", "--rules", folder];
-    let dash = ["tokens", "--rules", "-"];
-    // The arguments are looked at before the rules, and the rules before the word list and the templates.
-    let after = [
-        "scan",
-        "--after=0:0:A",
-        "--templates",
-        "none",
-        "--rules",
-        "none",
-    ];
-    let scan = [
-        "scan",
-        "--templates",
-        "none",
-        "--words",
-        "none",
-        "--rules",
-        "none",
-    ];
-    let check = [
-        "check",
-        "--templates",
-        "none",
-        "--words",
-        "none",
-        "--rules",
-        "none",
-    ];
-    let tokens = ["tokens", "--words", "none", "--rules", "none"];
-    for (args, err) in [
-        (&given[..], unread),
-        (&listed[..], unread),
-        (&dash[..], unread),
-        (&after[..], "licscan: --after needs --all\n"),
-        (&scan[..], unread),
-        (&check[..], unread),
-        (&tokens[..], unread),
-        (&scan[..5], "licscan: words: cannot be read\n"),
-    ] {
+    for (args, err) in table {
         let case = Case {
             args,
             input: "a,b",

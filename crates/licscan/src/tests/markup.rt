@@ -2,6 +2,8 @@
 
 use crate::tests::cases::{Case, expect, make_folder};
 use std::fs;
+use std::process::Abort;
+use std::rt::Files;
 use std::test::Fail;
 
 /// Templates, and inputs with the lines of all their matches.
@@ -116,22 +118,32 @@ const ROWS: &[Row<'static>] = &[
     ),
 ];
 
+/// Expects that a scan for all matches writes these lines of the inputs, where the templates are these.
+fn expect_lines<'x, Rt: Files + AllocGlobal + Clone + Drop + Abort>(
+    rt: &Rt,
+    templates: &[(&str, &[u8])],
+    inputs: &'x [(&'x str, &'x str)],
+) -> Result<(), Fail> {
+    let folder = "licscan-test-markup-ranges";
+    make_folder(rt, folder, templates)?;
+    for (input, out) in inputs {
+        let case = Case {
+            args: &["scan", "--all", "--templates", folder],
+            input,
+            status: u8::from(out.is_empty()),
+            out,
+            err: "",
+        };
+        expect(rt, &[case]);
+    }
+    fs::remove_dir_all(rt, folder)?;
+    Ok(())
+}
+
 #[test]
 fn each_described_range_has_a_line(rt: HostRuntime) -> Result<(), Fail> {
-    let folder = "licscan-test-markup-ranges";
     for (templates, inputs) in ROWS {
-        make_folder(&rt, folder, templates)?;
-        for (input, out) in *inputs {
-            let case = Case {
-                args: &["scan", "--all", "--templates", folder],
-                input,
-                status: u8::from(out.is_empty()),
-                out,
-                err: "",
-            };
-            expect(&rt, &[case]);
-        }
+        expect_lines(&rt, templates, inputs)?;
     }
-    fs::remove_dir_all(&rt, folder)?;
     Ok(())
 }

@@ -1,44 +1,47 @@
 //! What is written for matches.
 
-use crate::tests::cases::{Case, expect, make_folder};
+use crate::tests::cases::{Case, expect, expect_in, make_folder};
 use std::fs;
 use std::test::Fail;
 
 #[test]
 fn each_match_has_a_line(rt: HostRuntime) -> Result<(), Fail> {
     let folder = "licscan-test-matches";
-    make_folder(&rt, folder, &[("A.template.txt", b"foo bar")])?;
-    let scan = ["scan", "--all", "--templates", folder];
-    let first = ["scan", "--all", "--templates", folder, "--limit", "1"];
     let input = "Foo   bar foo bar";
-    expect(
-        &rt,
-        &[
-            Case {
-                args: &scan,
-                input: "",
-                status: 1,
-                out: "",
-                err: "",
-            },
-            Case {
-                args: &scan,
-                input,
-                status: 0,
-                out: "-\tA\t0\t1\t0\t9\n-\tA\t2\t3\t10\t17\n",
-                err: "",
-            },
-            Case {
-                args: &first,
-                input,
-                status: 0,
-                out: "-\tA\t0\t1\t0\t9\n",
-                err: "",
-            },
+    let empty = Case {
+        args: &["scan", "--all", "--templates", "licscan-test-matches"],
+        input: "",
+        status: 1,
+        out: "",
+        err: "",
+    };
+    let whole = Case {
+        args: &["scan", "--all", "--templates", "licscan-test-matches"],
+        input,
+        status: 0,
+        out: "-\tA\t0\t1\t0\t9\n-\tA\t2\t3\t10\t17\n",
+        err: "",
+    };
+    let first = Case {
+        args: &[
+            "scan",
+            "--all",
+            "--templates",
+            "licscan-test-matches",
+            "--limit",
+            "1",
         ],
-    );
-    fs::remove_dir_all(&rt, folder)?;
-    Ok(())
+        input,
+        status: 0,
+        out: "-\tA\t0\t1\t0\t9\n",
+        err: "",
+    };
+    expect_in(
+        &rt,
+        folder,
+        &[("A.template.txt", b"foo bar")],
+        &[empty, whole, first],
+    )
 }
 
 #[test]
@@ -55,27 +58,28 @@ fn a_scan_goes_on_behind_a_triple(rt: HostRuntime) -> Result<(), Fail> {
     let second = "-\tB\t0\t1\t0\t9\n";
     let later = "-\tA\t2\t3\t10\t17\n-\tB\t2\t3\t10\t17\n";
     let both = "-\tB\t0\t1\t0\t9\n-\tA\t2\t3\t10\t17\n-\tB\t2\t3\t10\t17\n";
-    for (after, limit, status, out) in [
+    let table: &[(&str, &str, u8, &str)] = &[
         ("0:1:A", "9", 0, both),
         ("0:1:A", "1", 0, second),
         ("0:3:A", "9", 0, later),
         ("0:1:B", "9", 0, later),
         ("9:0:A", "9", 1, ""),
-    ] {
+    ];
+    for (after, limit, status, out) in table {
         let args = [
             "scan",
             "--all",
             "--templates",
             folder,
             "--after",
-            after,
+            *after,
             "--limit",
-            limit,
+            *limit,
         ];
         let case = Case {
             args: &args,
             input: "Foo   bar foo bar",
-            status,
+            status: *status,
             out,
             err: "",
         };
@@ -88,16 +92,12 @@ fn a_scan_goes_on_behind_a_triple(rt: HostRuntime) -> Result<(), Fail> {
 #[test]
 fn files_are_scanned_as_given(rt: HostRuntime) -> Result<(), Fail> {
     let folder = "licscan-test-files";
-    make_folder(
-        &rt,
-        folder,
-        &[
-            ("A\\1.template.txt", b"foo bar"),
-            ("a\tb.txt", b"a foo bar"),
-            ("good.txt", b"foo bar"),
-            ("-x", b"foo bar foo bar"),
-        ],
-    )?;
+    let files: &[(&str, &[u8])] = &[
+        ("A\\1.template.txt", b"foo bar"),
+        ("a\tb.txt", b"a foo bar"),
+        ("good.txt", b"foo bar"),
+        ("-x", b"foo bar foo bar"),
+    ];
     let args = [
         "scan",
         "--all",
@@ -123,7 +123,5 @@ fn files_are_scanned_as_given(rt: HostRuntime) -> Result<(), Fail> {
         out,
         err: "",
     };
-    expect(&rt, &[case]);
-    fs::remove_dir_all(&rt, folder)?;
-    Ok(())
+    expect_in(&rt, folder, files, &[case])
 }

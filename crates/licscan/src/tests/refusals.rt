@@ -1,14 +1,14 @@
 //! What is reported for what is refused.
 
-use crate::tests::cases::{Case, expect, make_folder};
-use std::fs;
+use crate::tests::cases::{Case, expect, expect_in, make_folder};
+use std::rt::Files;
 use std::test::Fail;
+use std::{fs, io};
 
 #[test]
 fn a_refused_template_is_told_and_left_out(rt: HostRuntime) -> Result<(), Fail> {
     let folder = "licscan-test-templates";
-    let mut long = Vec::new(rt.alloc());
-    long.resize(1_048_577, 0xFF)?;
+    let long = vec![in rt.alloc(); 0xFF; 1_048_577]?;
     make_folder(
         &rt,
         folder,
@@ -40,42 +40,31 @@ fn a_refused_template_is_told_and_left_out(rt: HostRuntime) -> Result<(), Fail> 
 #[test]
 fn a_folder_may_be_empty_or_missing(rt: HostRuntime) -> Result<(), Fail> {
     let folder = "licscan-test-empty";
-    make_folder(&rt, folder, &[])?;
-    expect(
-        &rt,
-        &[
-            Case {
-                args: &["scan", "--all", "--templates", folder],
-                input: "foo bar",
-                status: 1,
-                out: "",
-                err: "",
-            },
-            Case {
-                args: &["scan", "--all", "--templates", "licscan-test-missing"],
-                input: "foo bar",
-                status: 2,
-                out: "",
-                err: "licscan: templates: cannot be listed\n",
-            },
-        ],
-    );
-    fs::remove_dir_all(&rt, folder)?;
-    Ok(())
+    let empty = Case {
+        args: &["scan", "--all", "--templates", folder],
+        input: "foo bar",
+        status: 1,
+        out: "",
+        err: "",
+    };
+    let missing = Case {
+        args: &["scan", "--all", "--templates", "licscan-test-missing"],
+        input: "foo bar",
+        status: 2,
+        out: "",
+        err: "licscan: templates: cannot be listed\n",
+    };
+    expect_in(&rt, folder, &[], &[empty, missing])
 }
 
 #[test]
 fn a_file_that_cannot_be_read_is_told_and_the_rest_go_on(rt: HostRuntime) -> Result<(), Fail> {
     let folder = "licscan-test-inputs";
-    make_folder(
-        &rt,
-        folder,
-        &[
-            ("A.template.txt", b"foo bar"),
-            ("bytes.txt", b"foo bar \xFF"),
-            ("good.txt", b"foo bar"),
-        ],
-    )?;
+    let files: &[(&str, &[u8])] = &[
+        ("A.template.txt", b"foo bar"),
+        ("bytes.txt", b"foo bar \xFF"),
+        ("good.txt", b"foo bar"),
+    ];
     let case = Case {
         args: &[
             "scan",
@@ -94,19 +83,23 @@ fn a_file_that_cannot_be_read_is_told_and_the_rest_go_on(rt: HostRuntime) -> Res
         err: "licscan: licscan-test-inputs/none\\t.txt: cannot be read\n\
             licscan: licscan-test-inputs: cannot be read\n",
     };
-    expect(&rt, &[case]);
-    fs::remove_dir_all(&rt, folder)?;
+    expect_in(&rt, folder, files, &[case])
+}
+
+/// Makes a folder with so many templates.
+fn make_templates<Rt: Files + AllocGlobal>(rt: &Rt, folder: &str, count: u32) -> io::Result<()> {
+    make_folder(rt, folder, &[])?;
+    for k in 0..count {
+        let path = format!(in rt.alloc(); "{folder}/{k}.template.txt")?;
+        fs::write(rt, path.as_str(), b"foo")?;
+    }
     Ok(())
 }
 
 #[test]
 fn more_templates_than_a_set_may_have_end_the_run(rt: HostRuntime) -> Result<(), Fail> {
     let folder = "licscan-test-many";
-    make_folder(&rt, folder, &[])?;
-    for k in 0..4097u32 {
-        let path = format!(in rt.alloc(); "{folder}/{k}.template.txt")?;
-        fs::write(&rt, path.as_str(), b"foo")?;
-    }
+    make_templates(&rt, folder, 4097)?;
     let case = Case {
         args: &["scan", "--all", "--templates", folder],
         input: "foo",
@@ -122,23 +115,19 @@ fn more_templates_than_a_set_may_have_end_the_run(rt: HostRuntime) -> Result<(),
 #[test]
 fn a_fault_of_markup_is_told_with_its_place(rt: HostRuntime) -> Result<(), Fail> {
     let folder = "licscan-test-markup";
-    make_folder(
-        &rt,
-        folder,
-        &[
-            ("A.template.txt", b"foo bar"),
-            ("P1.template.txt", b"x <<beginOptional>> y"),
-            (
-                "P2.template.txt",
-                b"x <<var;name=\"n\";original=\"o\";match=\"[[:alpha:]]\">>",
-            ),
-            (
-                "P3.template.txt",
-                b"x <<var;name=\"n\";original=\"o\";match=\"a**\">>",
-            ),
-            ("P4.template.txt", b"x <<var;name>>"),
-        ],
-    )?;
+    let files: &[(&str, &[u8])] = &[
+        ("A.template.txt", b"foo bar"),
+        ("P1.template.txt", b"x <<beginOptional>> y"),
+        (
+            "P2.template.txt",
+            b"x <<var;name=\"n\";original=\"o\";match=\"[[:alpha:]]\">>",
+        ),
+        (
+            "P3.template.txt",
+            b"x <<var;name=\"n\";original=\"o\";match=\"a**\">>",
+        ),
+        ("P4.template.txt", b"x <<var;name>>"),
+    ];
     let case = Case {
         args: &["scan", "--templates", folder],
         input: "foo bar",
@@ -149,7 +138,5 @@ fn a_fault_of_markup_is_told_with_its_place(rt: HostRuntime) -> Result<(), Fail>
             licscan: template P3: M7 at 37: E2 at 2: two repetition signs\n\
             licscan: template P4: M6 at 8: field without =\n",
     };
-    expect(&rt, &[case]);
-    fs::remove_dir_all(&rt, folder)?;
-    Ok(())
+    expect_in(&rt, folder, files, &[case])
 }

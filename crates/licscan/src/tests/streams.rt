@@ -1,18 +1,21 @@
 //! Readers and writers that fail.
 
 use crate::program::command;
+use crate::tests::cases::make_folder;
 use lic_auto::set::Set;
 use lic_engine::check::check;
 use lic_engine::engine::run;
 use lic_engine::fault::RunFault;
+use lic_find::ask::Ask;
 use lic_kind::Rules;
-use lic_markup::read_template;
+use lic_markup::{MarkupFault, Template, read_template};
 use lic_norm::words::Words;
-use lic_report::ask::Ask;
 use lic_stream::stream::{Counted, Sink, Source};
 use std::alloc::Global;
-use std::io;
+use std::process::Abort;
+use std::rt::Files;
 use std::test::Fail;
+use std::{fs, io};
 
 /// A reader that gives one byte a call, and whose call number `fails_at` fails.
 #[derive(Drop)]
@@ -78,7 +81,7 @@ impl Sink for Full {
     }
 }
 
-const ASK: Ask = Ask {
+const ALL: Ask = Ask {
     all: true,
     after: None,
     limit: None,
@@ -90,164 +93,233 @@ const OUTER: Ask = Ask {
     limit: Some(1),
 };
 
-const INPUT: &[u8] = b"foo bar foo bar";
+const INPUT: &str = "foo bar foo bar";
 
 const REPORT: &[u8] = b"-\tA\t0\t1\t0\t7\n-\tA\t2\t3\t8\t15\n";
 
-/// The set with this one template, of the identifier `A`, by the rules of the profile.
-fn set_of(alloc: Global, text: &str, words: &Words) -> Result<Set, Fail> {
-    let rules = Rules::profile(alloc);
-    let template = read_template(alloc, text, words, &rules)?;
-    let mut templates = Vec::new(alloc);
-    templates.push(("A".to_string(alloc)?, template))?;
-    Ok(Set::build(alloc, templates)?)
+/// Identifiers and texts of templates.
+type Templates<'a> = &'a [(&'a str, &'a str)];
+
+const ONE: Templates<'static> = &[("A", "foo bar")];
+
+/// A word and three letters.
+const LETTERS: Templates<'static> = &[("A", "foo <<var;name=\"v\";original=\"\";match=\".{3}\">>")];
+
+/// Two templates that describe the same tokens.
+const TWO: Templates<'static> = &[
+    ("A", "foo bar"),
+    (
+        "B",
+        "foo <<var;name=\"w\";original=\"bar\";match=\"[a-z]+\">>",
+    ),
+];
+
+/// A reader of an input, whose call of this number fails.
+fn failing_reader(input: &[u8], fails_at: u64) -> Failing<'_> {
+    Failing {
+        rest: input,
+        calls: 0,
+        fails_at,
+        failed: 0,
+    }
 }
 
-/// What `run` answers by the rules of the profile. It is generic, since the borrow checker does not cover a reader of two lifetimes beside
-/// the rules.
-fn run_by_profile<R: Source, W: Sink>(
+/// A writer with room for so many bytes.
+fn full_writer(alloc: Global, room: usize) -> Full {
+    Full {
+        bytes: Vec::new(alloc),
+        room,
+        failed: 0,
+    }
+}
+
+/// The template of a text by the rules of the profile.
+fn template_of(alloc: Global, text: &str, words: &Words) -> Result<Template, MarkupFault> {
+    read_template(alloc, text, words, &Rules::profile(alloc))
+}
+
+/// The set of these templates.
+fn set_of(alloc: Global, templates: Templates<'_>, words: &Words) -> Result<Set, Fail> {
+    let mut all = Vec::new(alloc);
+    for (id, text) in templates {
+        let template = template_of(alloc, text, words)?;
+        all.push((id.to_string(alloc)?, template))?;
+    }
+    Ok(Set::build(alloc, all)?)
+}
+
+/// What `run` answers for templates, by the rules of the profile. It is generic, since the borrow checker does not cover a reader of two
+/// lifetimes beside the rules.
+fn run_with<R: Source, W: Sink>(
     alloc: Global,
+    templates: Templates<'_>,
+    ask: &Ask,
     input: &mut R,
     out: &mut W,
-    set: &Set,
-    words: &Words,
-    ask: &Ask,
-) -> Result<bool, RunFault> {
+) -> Result<Result<bool, RunFault>, Fail> {
+    let words = Words::none(alloc);
     let rules = Rules::profile(alloc);
-    run(alloc, "-", input, out, set, words, &rules, ask)
+    let set = set_of(alloc, templates, &words)?;
+    Ok(run(alloc, "-", input, out, &set, &words, &rules, ask))
+}
+
+/// What a run answers whose call of this number of its reader fails, and what it writes.
+fn run_on_failing(alloc: Global, fails_at: u64) -> Result<(Result<bool, RunFault>, Vec<u8>), Fail> {
+    let mut input = failing_reader(INPUT.as_bytes(), fails_at);
+    let mut out = full_writer(alloc, 100);
+    let answer = run_with(alloc, ONE, &ALL, &mut input, &mut out)?;
+    Ok((answer, out.bytes))
 }
 
 #[test]
 fn a_failed_read_writes_nothing(rt: HostRuntime) -> Result<(), Fail> {
-    let words = Words::none(rt.alloc());
-    let set = set_of(rt.alloc(), "foo bar", &words)?;
-    for k in 1..18u64 {
-        let mut input = Failing {
-            rest: INPUT,
-            calls: 0,
-            fails_at: k,
-            failed: 0,
-        };
-        let mut out = Full {
-            bytes: Vec::new(rt.alloc()),
-            room: 100,
-            failed: 0,
-        };
-        let result = run_by_profile(rt.alloc(), &mut input, &mut out, &set, &words, &ASK);
-        if k < 17 {
-            assert_eq!(rt; result, Err(RunFault::Read), "at call {k}");
-            assert_eq!(rt; out.bytes.len(), 0, "at call {k}");
-        } else {
-            assert_eq!(rt; result, Ok(true), "with no failure");
-            assert_eq!(rt; out.bytes.as_slice(), REPORT, "with no failure");
-        }
+    for k in 1..17u64 {
+        let (answer, written) = run_on_failing(rt.alloc(), k)?;
+        assert_eq!(rt; answer, Err(RunFault::Read), "at call {k}");
+        assert_eq!(rt; written.len(), 0, "at call {k}");
+    }
+    let (answer, written) = run_on_failing(rt.alloc(), 17)?;
+    assert_eq!(rt; answer, Ok(true), "with no failure");
+    assert_eq!(rt; written.as_slice(), REPORT, "with no failure");
+    Ok(())
+}
+
+/// Expects of a run that its writer has this beginning of its report, and that it failed where this is not all of it.
+fn expect_beginning(
+    rt: &impl Abort,
+    beginning: &[u8],
+    is_all: bool,
+    answer: Result<bool, RunFault>,
+    out: &Full,
+) {
+    let expected: Result<bool, RunFault> = if is_all {
+        Ok(true)
+    } else {
+        Err(RunFault::Write)
+    };
+    assert_eq!(rt; answer, expected, "with room for {}", beginning.len());
+    assert_eq!(rt; out.bytes.as_slice(), beginning);
+    assert_eq!(rt;
+        out.failures(),
+        u64::from(!is_all),
+        "with room for {}",
+        beginning.len()
+    );
+}
+
+/// Runs with room for this beginning of its report.
+fn expect_run(
+    rt: &impl Abort,
+    alloc: Global,
+    templates: Templates<'_>,
+    ask: &Ask,
+    input: &str,
+    beginning: &[u8],
+    is_all: bool,
+) -> Result<(), Fail> {
+    let mut rest = input.as_bytes();
+    let mut input = Counted::new(&mut rest);
+    let mut out = full_writer(alloc, beginning.len());
+    let answer = run_with(alloc, templates, ask, &mut input, &mut out)?;
+    expect_beginning(rt, beginning, is_all, answer, &out);
+    Ok(())
+}
+
+/// Runs with room for each beginning of its report, and for all of it.
+fn expect_each_beginning(
+    rt: &impl Abort,
+    alloc: Global,
+    templates: Templates<'_>,
+    ask: &Ask,
+    input: &str,
+    report: &[u8],
+) -> Result<(), Fail> {
+    for room in 0..report.len() + 1 {
+        let is_all = room == report.len();
+        expect_run(rt, alloc, templates, ask, input, &report[..room], is_all)?;
     }
     Ok(())
 }
 
 #[test]
 fn a_failed_write_keeps_a_beginning(rt: HostRuntime) -> Result<(), Fail> {
-    let words = Words::none(rt.alloc());
-    let set = set_of(rt.alloc(), "foo bar", &words)?;
-    for k in 0..REPORT.len() + 1 {
-        let mut rest = INPUT;
-        let mut input = Counted::new(&mut rest);
-        let mut out = Full {
-            bytes: Vec::new(rt.alloc()),
-            room: k,
-            failed: 0,
-        };
-        let result = run_by_profile(rt.alloc(), &mut input, &mut out, &set, &words, &ASK);
-        if k < REPORT.len() {
-            assert_eq!(rt; result, Err(RunFault::Write), "with room for {k}");
-        } else {
-            assert_eq!(rt; result, Ok(true), "with room for {k}");
-        }
-        assert_eq!(rt; out.bytes.as_slice(), &REPORT[..k], "with room for {k}");
-        assert_eq!(rt;
-            out.failures(),
-            u64::from(k < REPORT.len()),
-            "with room for {k}"
-        );
-    }
-    Ok(())
+    expect_each_beginning(&rt, rt.alloc(), ONE, &ALL, INPUT, REPORT)
 }
 
 #[test]
 fn a_failed_write_keeps_a_beginning_of_outer_matches(rt: HostRuntime) -> Result<(), Fail> {
-    let words = Words::none(rt.alloc());
-    let template = "foo <<var;name=\"v\";original=\"\";match=\".{3}\">>";
-    let set = set_of(rt.alloc(), template, &words)?;
-    let report =
-        b"-\tA\t0\t1\t0\t7\n\tv\t4\t7\tbar\n-\tA\t2\t3\t8\t15\n\tv\t12\t15\tbar\n".as_slice();
-    for k in 0..report.len() + 1 {
-        let mut rest = INPUT;
-        let mut input = Counted::new(&mut rest);
-        let mut out = Full {
-            bytes: Vec::new(rt.alloc()),
-            room: k,
-            failed: 0,
-        };
-        let result = run_by_profile(rt.alloc(), &mut input, &mut out, &set, &words, &OUTER);
-        if k < report.len() {
-            assert_eq!(rt; result, Err(RunFault::Write), "with room for {k}");
-        } else {
-            assert_eq!(rt; result, Ok(true), "with room for {k}");
-        }
-        assert_eq!(rt; out.bytes.as_slice(), &report[..k], "with room for {k}");
+    let table: &[(Templates<'_>, &str, &[u8])] = &[
+        (
+            TWO,
+            "foo bar",
+            b"-\tA\t0\t1\t0\t7\n-\tB\t0\t1\t0\t7\n\tw\t4\t7\tbar\n",
+        ),
+        (
+            LETTERS,
+            INPUT,
+            b"-\tA\t0\t1\t0\t7\n\tv\t4\t7\tbar\n-\tA\t2\t3\t8\t15\n\tv\t12\t15\tbar\n",
+        ),
+    ];
+    for (templates, input, report) in table {
+        expect_each_beginning(&rt, rt.alloc(), *templates, &OUTER, *input, *report)?;
     }
     Ok(())
 }
 
+/// What `check` answers for the template `foo bar` where its writer has room for so many bytes, and the writer.
+fn check_with_room(alloc: Global, room: usize) -> Result<(Result<bool, RunFault>, Full), Fail> {
+    let words = Words::none(alloc);
+    let rules = Rules::profile(alloc);
+    let set = set_of(alloc, ONE, &words)?;
+    let mut out = full_writer(alloc, room);
+    let answer = check(alloc, &set, &words, &mut out, &rules);
+    Ok((answer, out))
+}
+
 #[test]
 fn a_failed_write_keeps_a_beginning_of_a_check(rt: HostRuntime) -> Result<(), Fail> {
-    let words = Words::none(rt.alloc());
-    let rules = Rules::profile(rt.alloc());
-    let set = set_of(rt.alloc(), "foo bar", &words)?;
     let report = b"A\t7\tyes\n".as_slice();
-    for k in 0..report.len() + 1 {
-        let mut out = Full {
-            bytes: Vec::new(rt.alloc()),
-            room: k,
-            failed: 0,
-        };
-        let result = check(rt.alloc(), &set, &words, &mut out, &rules);
-        if k < report.len() {
-            assert_eq!(rt; result, Err(RunFault::Write), "with room for {k}");
-        } else {
-            assert_eq!(rt; result, Ok(true), "with room for {k}");
-        }
-        assert_eq!(rt; out.bytes.as_slice(), &report[..k], "with room for {k}");
+    for room in 0..report.len() + 1 {
+        let (answer, out) = check_with_room(rt.alloc(), room)?;
+        expect_beginning(&rt, &report[..room], room == report.len(), answer, &out);
     }
     Ok(())
+}
+
+/// The status of a scan whose reader fails at this call and whose writer has this room, and what it tells of it.
+fn told_of_streams<Rt: Files + AllocGlobal + Clone + Drop>(
+    rt: &Rt,
+    folder: &str,
+    fails_at: u64,
+    room: usize,
+) -> (u8, Vec<u8>) {
+    let mut input = failing_reader(b"foo", fails_at);
+    let mut out = full_writer(rt.alloc(), room);
+    let mut told = Vec::new(rt.alloc());
+    let status = command(
+        rt,
+        rt.alloc(),
+        &["scan", "--templates", folder],
+        &mut input,
+        &mut out,
+        &mut Counted::new(&mut told),
+    );
+    (status, told)
 }
 
 #[test]
 fn the_program_tells_failed_streams(rt: HostRuntime) -> Result<(), Fail> {
     let folder = "licscan-test-streams";
-    crate::tests::cases::make_folder(&rt, folder, &[("A.template.txt", b"foo")])?;
-    for (fails_at, room, said) in [
+    make_folder(&rt, folder, &[("A.template.txt", b"foo")])?;
+    let table: &[(u64, usize, &str)] = &[
         (1, 100, "licscan: -: cannot be read\n"),
         (0, 0, "licscan: standard output: cannot be written\n"),
-    ] {
-        let mut input = Failing {
-            rest: b"foo",
-            calls: 0,
-            fails_at,
-            failed: 0,
-        };
-        let mut out = Full {
-            bytes: Vec::new(rt.alloc()),
-            room,
-            failed: 0,
-        };
-        let mut told = Vec::new(rt.alloc());
-        let mut err = Counted::new(&mut told);
-        let args = ["scan", "--templates", folder];
-        let status = command(&rt, rt.alloc(), &args, &mut input, &mut out, &mut err);
+    ];
+    for (fails_at, room, said) in table {
+        let (status, told) = told_of_streams(&rt, folder, *fails_at, *room);
         assert_eq!(rt; status, 2, "{said}");
         assert_eq!(rt; told.as_slice(), said.as_bytes(), "{said}");
     }
-    std::fs::remove_dir_all(&rt, folder)?;
+    fs::remove_dir_all(&rt, folder)?;
     Ok(())
 }

@@ -1,12 +1,11 @@
 //! What is written for tokens.
 
-use crate::tests::cases::{Case, expect, make_folder};
-use std::fs;
+use crate::tests::cases::{Case, expect, expect_in};
 use std::test::Fail;
 
 #[test]
 fn each_token_has_a_line(rt: HostRuntime) {
-    for (input, out) in [
+    let table: &[(&str, &str)] = &[
         (
             "(c) 2012 X\n(c) the licensee\n",
             "-\t0\t3\tcopyright\n-\t4\t8\t2012\n-\t9\t10\tx\n-\t15\t18\tthe\n-\t19\t27\tlicensee\n",
@@ -35,7 +34,8 @@ fn each_token_has_a_line(rt: HostRuntime) {
             "-\t0\t2\t'\n-\t2\t4\tas\n-\t5\t7\tis\n-\t7\t9\t'\n",
         ),
         ("a\\b", "-\t0\t1\ta\n-\t1\t2\t\\\\\n-\t2\t3\tb\n"),
-    ] {
+    ];
+    for (input, out) in table {
         let case = Case {
             args: &["tokens"],
             input,
@@ -49,7 +49,8 @@ fn each_token_has_a_line(rt: HostRuntime) {
 
 #[test]
 fn no_token_gives_no_line(rt: HostRuntime) {
-    for input in ["", " \n", "\u{AD}"] {
+    let inputs: &[&str] = &["", " \n", "\u{AD}"];
+    for input in inputs {
         let case = Case {
             args: &["tokens", "-"],
             input,
@@ -64,15 +65,11 @@ fn no_token_gives_no_line(rt: HostRuntime) {
 #[test]
 fn files_are_read_as_given(rt: HostRuntime) -> Result<(), Fail> {
     let folder = "licscan-test-tokens";
-    make_folder(
-        &rt,
-        folder,
-        &[
-            ("a\tb", b"Foo"),
-            ("bytes", b"foo \xFF\xE2"),
-            ("good", b"bar"),
-        ],
-    )?;
+    let files: &[(&str, &[u8])] = &[
+        ("a\tb", b"Foo"),
+        ("bytes", b"foo \xFF\xE2"),
+        ("good", b"bar"),
+    ];
     let args = [
         "tokens",
         "licscan-test-tokens/a\tb",
@@ -92,7 +89,5 @@ fn files_are_read_as_given(rt: HostRuntime) -> Result<(), Fail> {
         err: "licscan: licscan-test-tokens/none: cannot be read\n\
             licscan: licscan-test-tokens: cannot be read\n",
     };
-    expect(&rt, &[case]);
-    fs::remove_dir_all(&rt, folder)?;
-    Ok(())
+    expect_in(&rt, folder, files, &[case])
 }

@@ -1,8 +1,6 @@
 //! What is written for outer matches and their variables.
 
-use crate::program::command;
-use crate::tests::cases::{Case, expect, make_folder};
-use lic_stream::stream::Counted;
+use crate::tests::cases::{Case, answer_to, expect_in, make_folder};
 use std::fs;
 use std::test::Fail;
 
@@ -60,7 +58,6 @@ const ROWS: &[Row<'static>] = &[
 fn each_outer_match_is_told_with_its_variables(rt: HostRuntime) -> Result<(), Fail> {
     let folder = "licscan-test-variables";
     for (templates, input, out) in ROWS {
-        make_folder(&rt, folder, templates)?;
         let case = Case {
             args: &["scan", "--templates", folder],
             input,
@@ -68,37 +65,20 @@ fn each_outer_match_is_told_with_its_variables(rt: HostRuntime) -> Result<(), Fa
             out,
             err: "",
         };
-        expect(&rt, &[case]);
+        expect_in(&rt, folder, templates, &[case])?;
     }
-    fs::remove_dir_all(&rt, folder)?;
     Ok(())
 }
 
 #[test]
 fn a_value_has_its_bytes_as_they_stand(rt: HostRuntime) -> Result<(), Fail> {
     let folder = "licscan-test-bytes";
-    make_folder(
-        &rt,
-        folder,
-        &[(
-            "N.template.txt",
-            b"name of <<var;name=\"n\";original=\"x\";match=\".+\">> nor",
-        )],
-    )?;
-    let mut input: &[u8] = b"name of X\xFF nor";
-    let mut out = Vec::new(rt.alloc());
-    let mut err = Vec::new(rt.alloc());
-    command(
-        &rt,
-        rt.alloc(),
-        &["scan", "--templates", folder],
-        &mut Counted::new(&mut input),
-        &mut Counted::new(&mut out),
-        &mut Counted::new(&mut err),
-    );
+    let template: &[u8] = b"name of <<var;name=\"n\";original=\"x\";match=\".+\">> nor";
+    make_folder(&rt, folder, &[("N.template.txt", template)])?;
+    let answer = answer_to(&rt, &["scan", "--templates", folder], b"name of X\xFF nor");
     let wanted: &[u8] = b"-\tN\t0\t3\t0\t14\n\tn\t8\t10\tX\xFF\n";
-    assert_eq!(rt; out.as_slice(), wanted);
-    assert!(rt; err.is_empty());
+    assert_eq!(rt; answer.out.as_slice(), wanted);
+    assert!(rt; answer.err.is_empty());
     fs::remove_dir_all(&rt, folder)?;
     Ok(())
 }
@@ -106,65 +86,47 @@ fn a_value_has_its_bytes_as_they_stand(rt: HostRuntime) -> Result<(), Fail> {
 #[test]
 fn a_match_of_another_template_may_hold_one(rt: HostRuntime) -> Result<(), Fail> {
     let folder = "licscan-test-outer";
-    make_folder(
-        &rt,
-        folder,
-        &[
-            ("A.template.txt", b"foo bar"),
-            ("B.template.txt", b"x foo bar"),
-        ],
-    )?;
-    let outer = ["scan", "--templates", folder];
-    let all = ["scan", "--all", "--templates", folder];
-    expect(
-        &rt,
-        &[
-            Case {
-                args: &outer,
-                input: "x foo bar foo bar",
-                status: 0,
-                out: "-\tB\t0\t2\t0\t9\n-\tA\t3\t4\t10\t17\n",
-                err: "",
-            },
-            Case {
-                args: &all,
-                input: "x foo bar foo bar",
-                status: 0,
-                out: "-\tB\t0\t2\t0\t9\n-\tA\t1\t2\t2\t9\n-\tA\t3\t4\t10\t17\n",
-                err: "",
-            },
-            Case {
-                args: &outer,
-                input: "foo",
-                status: 1,
-                out: "",
-                err: "",
-            },
-        ],
-    );
-    fs::remove_dir_all(&rt, folder)?;
-    Ok(())
+    let files: &[(&str, &[u8])] = &[
+        ("A.template.txt", b"foo bar"),
+        ("B.template.txt", b"x foo bar"),
+    ];
+    let outer = Case {
+        args: &["scan", "--templates", "licscan-test-outer"],
+        input: "x foo bar foo bar",
+        status: 0,
+        out: "-\tB\t0\t2\t0\t9\n-\tA\t3\t4\t10\t17\n",
+        err: "",
+    };
+    let all = Case {
+        args: &["scan", "--all", "--templates", "licscan-test-outer"],
+        input: "x foo bar foo bar",
+        status: 0,
+        out: "-\tB\t0\t2\t0\t9\n-\tA\t1\t2\t2\t9\n-\tA\t3\t4\t10\t17\n",
+        err: "",
+    };
+    let none = Case {
+        args: &["scan", "--templates", "licscan-test-outer"],
+        input: "foo",
+        status: 1,
+        out: "",
+        err: "",
+    };
+    expect_in(&rt, folder, files, &[outer, all, none])
 }
 
 #[test]
 fn all_matches_have_no_variables(rt: HostRuntime) -> Result<(), Fail> {
     let folder = "licscan-test-all";
-    make_folder(
-        &rt,
-        folder,
-        &[(
-            "C.template.txt",
-            b"<<var;name=\"v\";original=\"\";match=\".{0,5}\">> end",
-        )],
-    )?;
-    for (input, out) in [
+    let template: &[u8] = b"<<var;name=\"v\";original=\"\";match=\".{0,5}\">> end";
+    let table: &[(&str, &str)] = &[
         ("abcde end", "-\tC\t0\t1\t0\t9\n-\tC\t1\t1\t6\t9\n"),
         ("abcdef end", "-\tC\t1\t1\t7\t10\n"),
         (
             "ab cd end",
             "-\tC\t0\t2\t0\t9\n-\tC\t1\t2\t3\t9\n-\tC\t2\t2\t6\t9\n",
         ),
-    ] {
+    ];
+    for (input, out) in table {
         let case = Case {
             args: &["scan", "--all", "--templates", folder],
             input,
@@ -172,8 +134,7 @@ fn all_matches_have_no_variables(rt: HostRuntime) -> Result<(), Fail> {
             out,
             err: "",
         };
-        expect(&rt, &[case]);
+        expect_in(&rt, folder, &[("C.template.txt", template)], &[case])?;
     }
-    fs::remove_dir_all(&rt, folder)?;
     Ok(())
 }

@@ -1,6 +1,6 @@
 //! What is asked of a scan.
 
-use lic_find::triple::Triple;
+use crate::triple::Triple;
 
 /// What is asked of a scan.
 #[derive(Clone, Copy, Debug, PartialEq, Eq)]

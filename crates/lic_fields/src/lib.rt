@@ -1,7 +1,8 @@
-//! Fields of a line.
+//! Fields of a line that is written: texts with some bytes escaped, and numbers.
+#![tactic(auto)]
 
 ghost use Rattle.std.specs.Prelude.{◌≡◌, ◌++◌, [], ◌∷◌, false, OnOk, MatchOption, decimal};
-ghost use Rattle.lic_report.specs.Fields.{escaped_byte, escaped, field};
+ghost use Rattle.lic_fields.specs.Fields.{escaped_byte, escaped, field};
 
 use itoa::Buffer;
 use std::alloc::AllocError;

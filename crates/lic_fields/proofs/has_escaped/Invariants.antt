@@ -1,6 +1,6 @@
 use Rattle.std.proofs.Common.{◌≡◌, false, take}
-use Rattle.lic_report.specs.Fields.{escaped}
-use Rattle.lic_report.proofs.fields.has_escaped.Given as goal
+use Rattle.lic_fields.specs.Fields.{escaped}
+use Rattle.lic_fields.proofs.has_escaped.Given as goal
 
 -- where none was found, what was looked at stands as it is
 abbrev pub invariant-loop-byte : goal.invariant-loop-byte
