@@ -28,6 +28,12 @@ CASES = [
     (['check', '--templates', 'T'], b''),
     (['check', '--templates', 'none'], b''),
     (['tokens', '--words', 'list', '--rules', 'rules', 'good.txt', '-'], b'The Colour'),
+    (['scan', '--all', '--templates', 'N'], b'a b c d'),
+    (['scan', '--templates', 'W'], b'foo bar'),
+    (['scan', '--all', '--templates', 'W', '--after', '0:1:A'], b'foo bar'),
+    (['scan', '--templates', 'V'], b'x of y of z'),
+    (['tokens', '--words', 'spellings'], b'sub-license sublicense Sub License'),
+    (['check', '--templates', 'C'], b''),
     (['scan', '--all', '--templates', 'none'], FOUND),
     (['scan', '--all'], b''),
     (['scan', '--help'], b''),
@@ -41,7 +47,14 @@ FILES = {
     'T/U.template.txt': b'\xff',
     'V/V.template.txt': b'<<var;name="a";original="p";match=".+">> of <<var;name="b";original="q";match=".+">>',
     'V/O.template.txt': b'q<<beginOptional>> <<var;name="o";original="p";match="[a-z]{2}">><<endOptional>>',
+    'N/N.template.txt': b'a<<beginOptional>> b<<beginOptional>> c<<endOptional>><<endOptional>> d',
+    'W/A.template.txt': b'foo bar',
+    'W/B.template.txt': b'foo <<var;name="w";original="bar";match="[a-z]+">>',
+    'C/A.template.txt': b'foo bar',
+    'C/C.template.txt': b'<<var;name="v";original="";match=".{0,5}">> end',
+    'C/Z.template.txt': b'<<var;name="z";original="12";match="[a-z]+">> end',
     'list': b'color, colour\n',
+    'spellings': b'sub-license,sublicense\nsub license,sublicense\n',
     'rules': b'lead //\ntail-repeat */\nitems off\n',
     'good.txt': b'foo bar',
     'bad.txt': b'foo bar \xff',
@@ -105,11 +118,12 @@ def main():
     with tempfile.TemporaryDirectory() as folder:
         library = build(folder)
         os.makedirs(os.path.join(folder, 'T', 'D.template.txt'))
-        os.makedirs(os.path.join(folder, 'V'))
         with open(os.path.join(folder.encode(), b'T', b'\xff.template.txt'), 'wb'):
             pass
         for name, text in FILES.items():
-            with open(os.path.join(folder, name), 'wb') as it:
+            path = os.path.join(folder, name)
+            os.makedirs(os.path.dirname(path), exist_ok=True)
+            with open(path, 'wb') as it:
                 it.write(text)
         for words, given in CASES:
             whole = run(program, folder, library, words, given, 0)

@@ -11,6 +11,9 @@ use std::alloc::{AllocError, Global};
 /// Identifiers and texts of templates.
 pub type Templates<'a> = &'a [(&'a str, &'a str)];
 
+/// A text alone.
+pub const ONE: Templates<'static> = &[("A", "foo bar")];
+
 /// A part that may be left out, with another in it.
 pub const OPTIONAL: Templates<'static> = &[(
     "O",
@@ -35,7 +38,36 @@ pub const CHOICE: Templates<'static> = &[(
     r#"<<var;name="c";original="y";match="[^d-z]x{2,3}|(y|z)*">> end"#,
 )];
 
-/// A set and a text, by a list and rules that are lent.
+/// Templates of which the last does not describe its original text.
+pub const CHECKED: Templates<'static> = &[
+    ("A", "foo bar"),
+    ("C", r#"<<var;name="v";original="";match=".{0,5}">> end"#),
+    ("Z", r#"<<var;name="z";original="12";match="[a-z]+">> end"#),
+];
+
+/// A set, by a list and rules that are lent.
+pub fn set_of(
+    alloc: Global,
+    templates: Templates<'_>,
+    words: &Words,
+    rules: &Rules,
+) -> Result<Set, Refused> {
+    let mut all = Vec::new(alloc);
+    for (id, text) in templates {
+        let template = read_template(alloc, text, words, rules).map_err(Refused::Template)?;
+        let id = id.to_string(alloc)?;
+        all.push((id, template)).map_err(AllocError::from)?;
+    }
+    Set::build(alloc, all).map_err(Refused::Set)
+}
+
+/// A text, by a list and rules that are lent.
+pub fn text_of(alloc: Global, input: &[u8], words: &Words, rules: &Rules) -> Result<Text, Refused> {
+    let bytes = input.to_vec(alloc)?;
+    Text::read(alloc, bytes, words, rules).map_err(Refused::Text)
+}
+
+/// A set and a text.
 pub fn lend(
     alloc: Global,
     templates: Templates<'_>,
@@ -43,14 +75,7 @@ pub fn lend(
     words: &Words,
     rules: &Rules,
 ) -> Result<(Set, Text), Refused> {
-    let mut all = Vec::new(alloc);
-    for (id, text) in templates {
-        let template = read_template(alloc, text, words, rules).map_err(Refused::Template)?;
-        let id = id.to_string(alloc)?;
-        all.push((id, template)).map_err(AllocError::from)?;
-    }
-    let set = Set::build(alloc, all).map_err(Refused::Set)?;
-    let bytes = input.to_vec(alloc)?;
-    let text = Text::read(alloc, bytes, words, rules).map_err(Refused::Text)?;
+    let set = set_of(alloc, templates, words, rules)?;
+    let text = text_of(alloc, input, words, rules)?;
     Ok((set, text))
 }

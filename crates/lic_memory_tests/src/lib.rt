@@ -9,3 +9,7 @@ mod matches;
 mod reading;
 #[cfg(test)]
 mod refused;
+#[cfg(test)]
+mod runs;
+#[cfg(test)]
+mod streams;

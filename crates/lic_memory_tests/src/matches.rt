@@ -1,59 +1,101 @@
-//! Matches in worked texts, one by one and after one; filters of them, and the values of one.
+//! Matches in worked texts, one by one and after one; filters of them, the values of one, and what the machines tell.
 
-use crate::lent::{CHOICE, OF, OPTIONAL, TWO, Templates, lend};
+use crate::lent::{CHOICE, OF, ONE, OPTIONAL, TWO, Templates, lend};
 use crate::refused::{Refused, retried};
+use lic_auto::back::Back;
+use lic_auto::run::Run;
 use lic_auto::set::Set;
 use lic_find::finder::Finder;
 use lic_find::matches::is_match;
 use lic_find::triple::Triple;
 use lic_kind::Rules;
 use lic_norm::text::Text;
+use lic_norm::token::Span;
 use lic_norm::words::Words;
 use lic_vars::filters::{outer, tight};
 use lic_vars::values::assign;
 use std::alloc::Global;
 use std::process::Abort;
 
-/// Templates, an input, and its matches: first token, last token, number of the template.
+/// A range of tokens, the last one counted, and the number of a template.
+type Range = (usize, usize, usize);
+
+/// Templates, an input, its matches, ranges that are none, and the first template that describes all of the input.
 #[derive(Clone, Copy)]
 struct Row {
     templates: Templates<'static>,
     input: &'static [u8],
-    matches: &'static [(usize, usize, usize)],
+    matches: &'static [Range],
+    others: &'static [Range],
+    whole: Option<usize>,
 }
 
-const ROWS: [Row; 6] = [
+const ROWS: &[Row] = &[
     Row {
         templates: OPTIONAL,
-        input: b"a c d",
-        matches: &[],
+        input: b"a d",
+        matches: &[(0, 1, 0)],
+        others: &[],
+        whole: Some(0),
     },
     Row {
         templates: OPTIONAL,
-        input: b"a d a b d",
-        matches: &[(0, 1, 0), (2, 4, 0)],
+        input: b"a b d",
+        matches: &[(0, 2, 0)],
+        others: &[],
+        whole: Some(0),
     },
     Row {
         templates: OPTIONAL,
         input: b"a b c d",
         matches: &[(0, 3, 0)],
+        others: &[],
+        whole: Some(0),
+    },
+    Row {
+        templates: OPTIONAL,
+        input: b"a c d",
+        matches: &[],
+        others: &[(0, 2, 0)],
+        whole: None,
+    },
+    Row {
+        templates: ONE,
+        input: b"Foo   bar foo bar",
+        matches: &[(0, 1, 0), (2, 3, 0)],
+        others: &[(0, 3, 0), (1, 0, 0), (9, 9, 0)],
+        whole: None,
     },
     Row {
         templates: TWO,
-        input: b"Foo   bar foo bar",
-        matches: &[(0, 1, 0), (0, 1, 1), (2, 3, 0), (2, 3, 1)],
+        input: b"foo bar",
+        matches: &[(0, 1, 0), (0, 1, 1)],
+        others: &[(0, 0, 0), (0, 1, 2)],
+        whole: Some(0),
     },
     Row {
         templates: OF,
         input: b"x of y of z",
         matches: &[(0, 2, 0), (0, 3, 0), (0, 4, 0), (1, 4, 0), (2, 4, 0)],
+        others: &[(1, 3, 0)],
+        whole: Some(0),
     },
     Row {
         templates: CHOICE,
         input: b"bxx end yz end bxxxx end",
         matches: &[(0, 1, 0), (1, 1, 0), (2, 3, 0), (3, 3, 0), (5, 5, 0)],
+        others: &[(4, 5, 0)],
+        whole: None,
     },
 ];
+
+fn triple_of(range: Range) -> Triple {
+    Triple {
+        first: range.0,
+        last: range.1,
+        template: range.2,
+    }
+}
 
 /// Finds the matches one by one.
 fn search(
@@ -61,18 +103,63 @@ fn search(
     alloc: Global,
     set: &Set,
     text: &Text,
-    matches: &[(usize, usize, usize)],
+    matches: &[Range],
 ) -> Result<(), Refused> {
     let mut finder = Finder::new(alloc, set, text)?;
-    for (first, last, template) in matches {
-        let triple = Triple {
-            first: *first,
-            last: *last,
-            template: *template,
-        };
-        assert!(rt; finder.next() == Some(triple));
+    for range in matches {
+        assert!(rt; finder.next() == Some(triple_of(*range)));
     }
     assert!(rt; finder.next().is_none());
+    Ok(())
+}
+
+/// Asks of ranges whether they are matches.
+fn ask(
+    rt: &impl Abort,
+    alloc: Global,
+    set: &Set,
+    text: &Text,
+    ranges: &[Range],
+    wanted: bool,
+) -> Result<(), Refused> {
+    for range in ranges {
+        assert!(rt; is_match(alloc, set, text, triple_of(*range))? == wanted);
+    }
+    Ok(())
+}
+
+/// Lets a machine read the text: the first template that describes all of it.
+fn read_on(alloc: Global, set: &Set, text: &Text) -> Result<Option<usize>, Refused> {
+    let mut machine = Run::new(alloc, set)?;
+    for k in 0..text.len() {
+        machine.push(text.token(k).text);
+    }
+    Ok(machine.accepted(0))
+}
+
+/// Lets a machine read the text from its end: whether a match begins with it.
+fn read_back(alloc: Global, set: &Set, text: &Text) -> Result<bool, Refused> {
+    let mut machine = Back::new(alloc, set)?;
+    for k in (0..text.len()).rev() {
+        machine.push_front(text.token(k).text);
+    }
+    Ok(machine.live())
+}
+
+/// Makes all calls of a row.
+fn answer(
+    rt: &impl Abort,
+    alloc: Global,
+    set: &Set,
+    text: &Text,
+    row: &Row,
+) -> Result<(), Refused> {
+    search(rt, alloc, set, text, row.matches)?;
+    ask(rt, alloc, set, text, row.matches, true)?;
+    ask(rt, alloc, set, text, row.others, false)?;
+    assert!(rt; read_on(alloc, set, text)? == row.whole);
+    let begins = row.matches.first().is_some_and(|range| range.0 == 0);
+    assert!(rt; read_back(alloc, set, text)? == begins);
     Ok(())
 }
 
@@ -84,7 +171,7 @@ fn matches_are_found_when_there_is_memory(rt: HostRuntime) {
         let (set, text) = retried(&rt, || {
             lend(rt.alloc(), row.templates, row.input, &words, &rules)
         });
-        retried(&rt, || search(&rt, rt.alloc(), &set, &text, row.matches));
+        retried(&rt, || answer(&rt, rt.alloc(), &set, &text, row));
     }
 }
 
@@ -111,19 +198,23 @@ fn matches_are_filtered_when_there_is_memory(rt: HostRuntime) {
     retried(&rt, || filter(&rt, rt.alloc()));
 }
 
-/// Finds the match after another.
-fn go_on(rt: &impl Abort, alloc: Global, set: &Set, text: &Text) -> Result<(), Refused> {
+/// The match after another.
+fn go_on(alloc: Global, set: &Set, text: &Text) -> Result<Option<Triple>, Refused> {
     let mut later = Finder::resume(alloc, set, text, of(0, 3))?;
-    assert!(rt; later.next() == Some(of(0, 4)));
-    Ok(())
+    Ok(later.next())
 }
 
-/// Asks what the variables of a match stand for.
+/// Goes on to a match, and asks what its variables stand for.
 fn value(rt: &impl Abort, alloc: Global, set: &Set, text: &Text) -> Result<(), Refused> {
     let whole = of(0, 4);
+    assert!(rt; go_on(alloc, set, text)? == Some(whole));
     assert!(rt; is_match(alloc, set, text, whole)?);
     let values = assign(alloc, set, text, whole)?;
-    assert_eq!(rt; values.len(), 2);
+    let spans = [Span { start: 0, end: 1 }, Span { start: 5, end: 11 }];
+    assert_eq!(rt; values.len(), spans.len());
+    for (value, span) in values.iter().zip(&spans) {
+        assert!(rt; value.span == Some(*span));
+    }
     Ok(())
 }
 
@@ -134,6 +225,5 @@ fn matches_have_values_when_there_is_memory(rt: HostRuntime) {
     let (set, text) = retried(&rt, || {
         lend(rt.alloc(), OF, b"x of y of z", &words, &rules)
     });
-    retried(&rt, || go_on(&rt, rt.alloc(), &set, &text));
     retried(&rt, || value(&rt, rt.alloc(), &set, &text));
 }

@@ -3,6 +3,7 @@
 use crate::refused::{Refused, retried};
 use lic_ere::Ere;
 use lic_kind::{Rules, spell};
+use lic_norm::fault::TextFault;
 use lic_norm::feeder::Feeder;
 use lic_norm::pieces::{Next, piece};
 use lic_norm::text::Text;
@@ -42,37 +43,53 @@ fn texts_are_read_when_there_is_memory(rt: HostRuntime) {
     retried(&rt, || spell_letters(&rt, rt.alloc()));
 }
 
-const FED: &[u8] = b"ab===cd";
-
 /// The text of an input that is fed in two pieces. Once memory has run out, each call says so.
 fn fed(
     rt: &impl Abort,
     alloc: Global,
+    input: &[u8],
     cut: usize,
     words: &Words,
     rules: &Rules,
 ) -> Result<Text, Refused> {
-    let (front, rest) = FED.split_at(cut.min(FED.len()));
+    let (front, rest) = input.split_at(cut.min(input.len()));
     let mut feeder = Feeder::new(alloc, words, rules);
     let is_fed = feeder.feed(front).is_ok() && feeder.feed(rest).is_ok();
     if !is_fed {
         assert_eq!(rt; feeder.ready(), 0);
-        assert!(rt; feeder.feed(b"a").is_err());
+        assert!(rt; feeder.feed(b"a") == Err(TextFault::Memory));
     }
     let text = feeder.finish();
     assert!(rt; is_fed || text.is_err());
     text.map_err(Refused::Text)
 }
 
+/// Tokens, each with the byte at which it begins.
+type Tokens<'a> = &'a [(&'a str, usize)];
+
+fn assert_tokens(rt: &impl Abort, text: &Text, tokens: Tokens<'_>) {
+    assert_eq!(rt; text.len(), tokens.len());
+    for (k, (letters, start)) in tokens.iter().enumerate() {
+        assert!(rt; k < text.len());
+        let token = text.token(k);
+        assert_eq!(rt; token.text, *letters);
+        assert_eq!(rt; token.span.start, *start);
+    }
+}
+
 #[test]
 fn pieces_are_fed_when_there_is_memory(rt: HostRuntime) {
     let words = Words::none(rt.alloc());
     let rules = Rules::profile(rt.alloc());
-    for cut in 0..8usize {
-        let text = retried(&rt, || fed(&rt, rt.alloc(), cut, &words, &rules));
-        assert_eq!(rt; text.len(), 2);
-        assert_eq!(rt; text.token(0).text, "ab");
-        assert_eq!(rt; text.token(1).text, "cd");
-        assert_eq!(rt; text.token(1).span.start, 5);
+    let inputs: &[(&[u8], Tokens<'_>)] = &[
+        (b"ab==cd", &[("ab", 0), ("=", 2), ("=", 3), ("cd", 4)]),
+        (b"ab===cd", &[("ab", 0), ("cd", 5)]),
+        (b"ab====cd", &[("ab", 0), ("cd", 6)]),
+    ];
+    for (input, tokens) in inputs {
+        for cut in 0..9usize {
+            let text = retried(&rt, || fed(&rt, rt.alloc(), input, cut, &words, &rules));
+            assert_tokens(&rt, &text, tokens);
+        }
     }
 }

@@ -4,6 +4,7 @@ ghost use Rattle.std.specs.Prelude.{◌≡◌};
 ghost use Rattle.lic_memory_tests.specs.declared.refused.Refused.TheVariants.{Memory};
 
 use lic_auto::set::BuildFault;
+use lic_engine::fault::RunFault;
 use lic_ere::{EreCause, EreFault};
 use lic_kind::{RulesCause, RulesFault};
 use lic_markup::{MarkupCause, MarkupFault};
@@ -21,6 +22,7 @@ pub enum Refused {
     Template(MarkupFault),
     Set(BuildFault),
     Text(TextFault),
+    Run(RunFault),
     /// A call that can be refused for this alone, or the test's own request.
     Memory,
 }
@@ -51,6 +53,9 @@ impl Refused {
             }
             Refused::Set(fault) => matches!(fault, BuildFault::Memory),
             Refused::Text(fault) => matches!(fault, TextFault::Memory),
+            Refused::Run(fault) => {
+                matches!(fault, RunFault::Memory | RunFault::Text(TextFault::Memory))
+            }
             Refused::Memory => true,
         }
     }

@@ -1,0 +1,226 @@
+//! Runs of the engine, from a reader to a writer: the report of an input, the lines of its tokens, and what is said of templates.
+
+use crate::lent::{CHECKED, OF, OPTIONAL, TWO, Templates, set_of, text_of};
+use crate::refused::{Refused, retried};
+use crate::streams::{Awaited, Pieces};
+use lic_auto::set::Set;
+use lic_engine::check::check;
+use lic_engine::engine::{run, run_tokens};
+use lic_find::triple::Triple;
+use lic_kind::Rules;
+use lic_norm::words::Words;
+use lic_find::ask::Ask;
+use std::alloc::Global;
+use std::process::Abort;
+
+/// All matches.
+const ALL: Ask = Ask {
+    all: true,
+    after: None,
+    limit: None,
+};
+
+/// Those behind the match of the first template in the first two tokens.
+const LATER: Ask = Ask {
+    all: true,
+    after: Some(Triple {
+        first: 0,
+        last: 1,
+        template: 0,
+    }),
+    limit: None,
+};
+
+/// Outer matches with their variables.
+const OUTER: Ask = Ask {
+    all: false,
+    after: None,
+    limit: None,
+};
+
+/// Templates and what is said of them, an input, what is asked of it, and the report.
+#[derive(Clone, Copy)]
+struct Row {
+    templates: Templates<'static>,
+    said: &'static [u8],
+    input: &'static [u8],
+    ask: Ask,
+    report: &'static [u8],
+}
+
+const ROWS: &[Row] = &[
+    Row {
+        templates: OPTIONAL,
+        said: b"O\t7\tyes\n",
+        input: b"a b d",
+        ask: ALL,
+        report: b"-\tO\t0\t2\t0\t5\n",
+    },
+    Row {
+        templates: OPTIONAL,
+        said: b"O\t7\tyes\n",
+        input: b"a c d",
+        ask: ALL,
+        report: b"",
+    },
+    Row {
+        templates: TWO,
+        said: b"A\t7\tyes\nB\t5\tyes\n",
+        input: b"foo bar",
+        ask: ALL,
+        report: b"-\tA\t0\t1\t0\t7\n-\tB\t0\t1\t0\t7\n",
+    },
+    Row {
+        templates: TWO,
+        said: b"A\t7\tyes\nB\t5\tyes\n",
+        input: b"foo bar",
+        ask: LATER,
+        report: b"-\tB\t0\t1\t0\t7\n",
+    },
+    Row {
+        templates: TWO,
+        said: b"A\t7\tyes\nB\t5\tyes\n",
+        input: b"foo bar",
+        ask: OUTER,
+        report: b"-\tA\t0\t1\t0\t7\n-\tB\t0\t1\t0\t7\n\tw\t4\t7\tbar\n",
+    },
+    Row {
+        templates: OF,
+        said: b"V\t6\tyes\n",
+        input: b"x of y of z",
+        ask: ALL,
+        report: b"-\tV\t0\t2\t0\t6\n-\tV\t0\t3\t0\t9\n-\tV\t0\t4\t0\t11\n-\tV\t1\t4\t2\t11\n-\tV\t2\t4\t5\t11\n",
+    },
+    Row {
+        templates: OF,
+        said: b"V\t6\tyes\n",
+        input: b"x of y of z",
+        ask: OUTER,
+        report: b"-\tV\t0\t2\t0\t6\n\ta\t0\t1\tx\n\tb\t5\t6\ty\n-\tV\t2\t4\t5\t11\n\ta\t5\t6\ty\n\tb\t10\t11\tz\n",
+    },
+    // The last one does not describe its original text.
+    Row {
+        templates: CHECKED,
+        said: b"A\t7\tyes\nC\t9\tyes\nZ\t5\tno\n",
+        input: b"12 end",
+        ask: ALL,
+        report: b"-\tC\t0\t1\t0\t6\n-\tC\t1\t1\t3\t6\n",
+    },
+];
+
+/// Says of templates whether they describe their original texts.
+fn say(
+    rt: &impl Abort,
+    alloc: Global,
+    set: &Set,
+    words: &Words,
+    rules: &Rules,
+    said: &'static [u8],
+) -> Result<(), Refused> {
+    let mut out = Awaited::of(said);
+    let all = check(alloc, set, words, &mut out, rules).map_err(Refused::Run)?;
+    assert!(rt; out.is_whole());
+    assert_eq!(rt; all, !said.ends_with(b"\tno\n"));
+    Ok(())
+}
+
+/// Says what is to be said of templates, and writes the report of an input.
+fn report(
+    rt: &impl Abort,
+    alloc: Global,
+    set: &Set,
+    words: &Words,
+    rules: &Rules,
+    row: &Row,
+) -> Result<(), Refused> {
+    say(rt, alloc, set, words, rules, row.said)?;
+    let mut input = Pieces::of(row.input);
+    let mut out = Awaited::of(row.report);
+    let some = run(
+        alloc, "-", &mut input, &mut out, set, words, rules, &row.ask,
+    )
+    .map_err(Refused::Run)?;
+    assert!(rt; out.is_whole());
+    assert_eq!(rt; some, !row.report.is_empty());
+    Ok(())
+}
+
+#[test]
+fn reports_are_written_when_there_is_memory(rt: HostRuntime) {
+    let words = Words::none(rt.alloc());
+    let rules = Rules::profile(rt.alloc());
+    for row in ROWS {
+        let set = retried(&rt, || set_of(rt.alloc(), row.templates, &words, &rules));
+        retried(&rt, || {
+            report(&rt, rt.alloc(), &set, &words, &rules, row)
+        });
+    }
+}
+
+/// How many tokens an input has.
+fn count_tokens(
+    alloc: Global,
+    input: &[u8],
+    words: &Words,
+    rules: &Rules,
+) -> Result<usize, Refused> {
+    Ok(text_of(alloc, input, words, rules)?.len())
+}
+
+/// A list, an input, how many tokens it has, and their lines.
+#[derive(Clone, Copy)]
+struct Listed {
+    list: &'static str,
+    input: &'static [u8],
+    count: usize,
+    lines: &'static [u8],
+}
+
+const LISTED: &[Listed] = &[
+    Listed {
+        list: "sub-license,sublicense\nsub license,sublicense\n",
+        input: b"sub-license sublicense Sub License",
+        count: 3,
+        lines: b"-\t0\t11\tsub-license\n-\t12\t22\tsub-license\n-\t23\t34\tsub-license\n",
+    },
+    Listed {
+        list: "",
+        input: b"ab===cd",
+        count: 2,
+        lines: b"-\t0\t2\tab\n-\t5\t7\tcd\n",
+    },
+    Listed {
+        list: "",
+        input: b"",
+        count: 0,
+        lines: b"",
+    },
+];
+
+/// Counts the tokens of an input, and writes their lines.
+fn write_tokens(
+    rt: &impl Abort,
+    alloc: Global,
+    words: &Words,
+    rules: &Rules,
+    row: &Listed,
+) -> Result<(), Refused> {
+    assert_eq!(rt; count_tokens(alloc, row.input, words, rules)?, row.count);
+    let mut input = Pieces::of(row.input);
+    let mut out = Awaited::of(row.lines);
+    let some = run_tokens(alloc, "-", &mut input, &mut out, words, rules).map_err(Refused::Run)?;
+    assert!(rt; out.is_whole());
+    assert_eq!(rt; some, !row.lines.is_empty());
+    Ok(())
+}
+
+#[test]
+fn tokens_are_written_when_there_is_memory(rt: HostRuntime) {
+    let rules = Rules::profile(rt.alloc());
+    for row in LISTED {
+        let words = retried(&rt, || {
+            Words::read(rt.alloc(), row.list).map_err(Refused::Words)
+        });
+        retried(&rt, || write_tokens(&rt, rt.alloc(), &words, &rules, row));
+    }
+}
