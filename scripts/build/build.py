@@ -1,12 +1,11 @@
 #!/usr/bin/env python3
 """Proves and builds the program crates/licscan, with each crate that it stands on.
 
-Crates are checked side by side where they do not stand on each other, each on one core. A line on standard error says when each is
-proved. Work that earlier checks kept is used.
+The crates are proved one after another, the lowest first, each on all cores: most of them stand on each other. A line on standard error says
+when each is proved. Work that earlier checks kept is used.
 Usage: build.py TOP, where TOP is the repository's top."""
 import fcntl
 import os
-import re
 import shutil
 import subprocess
 import sys
@@ -22,6 +21,16 @@ def say(text):
     print(f"licscan: {text}", file=sys.stderr, flush=True)
 
 
+def jobs():
+    """How many functions are proved at a time: one for each core, and for each 4 GB of memory."""
+    memory = os.sysconf("SC_PAGE_SIZE") * os.sysconf("SC_PHYS_PAGES")
+    return max(1, min(os.cpu_count() or 1, memory // 4_000_000_000))
+
+
+def minutes(start):
+    return f"{(time.monotonic() - start) / 60:.0f} minutes"
+
+
 def run(folder, log, *words):
     """Runs rt in a crate's folder, and returns its status. What it says goes to a file in out/."""
     os.makedirs(f"{folder}/out", exist_ok=True)
@@ -29,66 +38,58 @@ def run(folder, log, *words):
         return subprocess.run(["rt", *words], cwd=folder, stdin=subprocess.DEVNULL, stdout=file, stderr=file).returncode
 
 
-def jobs():
-    """How many crates are checked at a time: one for each core, and for each 4 GB of memory."""
-    memory = os.sysconf("SC_PAGE_SIZE") * os.sysconf("SC_PHYS_PAGES")
-    return max(1, min(os.cpu_count() or 1, memory // 4_000_000_000))
+def newest_source(folder):
+    """When the newest source of a crate was changed."""
+    newest = 0
+    for at, folders, files in os.walk(folder):
+        folders[:] = [it for it in folders if it != "out"]
+        for name in files:
+            if name.endswith((".rt", ".antt")):
+                newest = max(newest, os.path.getmtime(f"{at}/{name}"))
+    return newest
 
 
-def prove(top, crates, log):
-    """Proves the crates, and says whether all are proved. What rt says of a crate comes when the crate is done."""
-    start = time.monotonic()
-    words = ["rt", "all", "check", "--jobs", str(jobs())]
-    name, proved = None, 0
-    # in the program's own folder, so that no crate of tests is checked
-    with subprocess.Popen(words, cwd=f"{top}/crates/{PROGRAM}", stdin=subprocess.DEVNULL, stdout=subprocess.PIPE, stderr=subprocess.STDOUT) as ran:
-        # as bytes, so that no line can stop it
-        for line in ran.stdout:
-            log.write(line)
-            log.flush()
-            text = line.decode("utf-8", "replace").rstrip("\n")
-            begun = re.match(r"== (\w+)$", text)
-            functions = re.match(r"logic=proved functions=(\d+)", text)
-            if begun:
-                name = begun[1]
-            elif functions and name in crates:
-                proved += 1
-                minutes = (time.monotonic() - start) / 60
-                say(f"{proved} proved of {len(crates)} crates at most ({name}, {functions[1]} functions; {minutes:.0f} minutes)")
-    return ran.returncode == 0
+def time_of(path):
+    return os.path.getmtime(path) if os.path.exists(path) else 0
+
+
+def prove(top, crates, libraries, start):
+    """Proves in turn the libraries that are older than a source of theirs or than one below. Says whether all are proved."""
+    made = {}
+    for number, name in enumerate(libraries, 1):
+        folder = f"{top}/crates/{name}"
+        stamp = f"{folder}/out/rlib/stamp"
+        if time_of(stamp) <= max([newest_source(folder), *(made[it] for it in crates[name])]):
+            if run(folder, "build.log", "lib", "--jobs", str(jobs())):
+                say(f"{name} could not be proved (log: crates/{name}/out/build.log)")
+                return False
+            say(f"{number} of {len(libraries) + 1} crates proved ({name}; {minutes(start)})")
+        made[name] = time_of(stamp)
+    return True
 
 
 def is_current(top):
     """Whether the program is there, and no source of a crate is newer."""
     program = f"{top}/crates/{PROGRAM}/out/{PROGRAM}"
-    if not os.access(program, os.X_OK):
-        return False
-    made = os.path.getmtime(program)
-    for at, folders, files in os.walk(f"{top}/crates"):
-        folders[:] = [it for it in folders if it != "out"]
-        if any(it.endswith((".rt", ".antt")) and os.path.getmtime(f"{at}/{it}") > made for it in files):
-            return False
-    return True
+    return os.access(program, os.X_OK) and os.path.getmtime(program) >= newest_source(f"{top}/crates")
 
 
 def build(top):
     """Proves all, links the program, and returns the exit status."""
     start = time.monotonic()
-    crates = from_the_ground(read_crates(top), [PROGRAM])
-    say(f"proving what is new of {len(crates)} crates, then building the program: all of them take some 40 minutes on four cores")
-    log = f"{top}/crates/{PROGRAM}/out/build.log"
-    with open(log, "wb") as file:
-        if not prove(top, crates, file):
-            say(f"a crate could not be proved (log: {os.path.relpath(log, top)})")
-            return 2
-    # the status of this is that of the program's own --help, and says nothing of the build
-    run(f"{top}/crates/{PROGRAM}", "link.log", "run", "--", "--help")
+    crates = read_crates(top)
+    order = from_the_ground(crates, [PROGRAM])
+    say(f"proving what is new of {len(order)} crates, then building the program: all of them take some 50 minutes on four cores")
+    if not prove(top, crates, order[:-1], start):
+        return 2
     program = f"{top}/crates/{PROGRAM}/out/{PROGRAM}"
-    if not os.access(program, os.X_OK):
-        say(f"the program could not be built (log: crates/{PROGRAM}/out/link.log)")
+    # it proves and links the program, and then shows its help, whose status is 0
+    status = run(f"{top}/crates/{PROGRAM}", "build.log", "run", "--jobs", str(jobs()), "--", "--help")
+    if status or not os.access(program, os.X_OK):
+        say(f"the program could not be proved and built (log: crates/{PROGRAM}/out/build.log)")
         return 2
     os.utime(program)
-    say(f"proved and built in {(time.monotonic() - start) / 60:.0f} minutes")
+    say(f"proved and built in {minutes(start)}")
     return 0
 
 

@@ -28,7 +28,7 @@ def of_depths():
     begin, end = '<<beginOptional>>', '<<endOptional>>'
     for begins, ends, fault in ((64, 64, None), (65, 65, 'M8 at 1088: deeper than 64'), (64, 0, 'M3 at 1071: optional not ended'),
                                 (30_000, 30_000, 'M8 at 1088: deeper than 64')):
-        yield of_template(group, f'{begins} optional parts that begin and {ends} that end', begin * begins + 'a' + end * ends, fault)
+        yield of_template(group, f'{begins} optional parts that begin and {ends} that end', begin * begins + 'a' + end * ends, fault, b'L\t1\tyes\n')
     deep = begin * 63 + f'a{variable("(" * 64 + "b*" + ")*" * 64)}' + end * 63 + 'c'
     yield Case(group, 'a pattern at depth 64 in optional parts at depth 63', SCAN, templates(L=deep), given=b'abbc', out=b'-\tL\t0\t0\t0\t4\n\tv\t0\t4\tabbc\n')
     yield Case(group, 'the same with a stack of 256 KiB', SCAN, templates(L=deep), given=b'abbc', out=b'-\tL\t0\t0\t0\t4\n\tv\t0\t4\tabbc\n', limits={resource.RLIMIT_STACK: 256 << 10})

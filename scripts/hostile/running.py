@@ -1,6 +1,8 @@
 """A hostile case, how it is run under limits, and what is wrong with what came of it."""
 import dataclasses, os, resource, shutil, signal, subprocess, tempfile, threading
 
+from watching import be_watched, wait
+
 GIB = 1 << 30
 OUT_OF_MEMORY = b'out of memory'
 
@@ -32,7 +34,7 @@ class Case:
 
 @dataclasses.dataclass
 class Ran:
-    """What came of a run: the status, the bytes that were written, processor seconds, and the most memory in bytes."""
+    """What came of a run: the status, the bytes that were written, processor seconds, and the most bytes of memory that the program took."""
     status: object
     out: bytes
     err: bytes
@@ -64,6 +66,8 @@ def limiter(case):
     closed = case.start.get('closed', ())
 
     def limit():
+        # (first, since what is to be loaded for it may go past the limits)
+        be_watched()
         signal.signal(signal.SIGXFSZ, signal.SIG_IGN)
         for what, most in limits.items():
             resource.setrlimit(what, (most, most))
@@ -109,10 +113,10 @@ def start(program, case, folder):
                 os.close(it)
         timer = threading.Timer(10 * case.seconds + 10, process.kill)
         timer.start()
-        _, status, used = os.wait4(process.pid, 0)
+        status, used, memory = wait(process.pid)
         timer.cancel()
         process.returncode = os.waitstatus_to_exitcode(status)
-    return Ran(process.returncode, read(out), read(err), used.ru_utime + used.ru_stime, used.ru_maxrss * 1024)
+    return Ran(process.returncode, read(out), read(err), used.ru_utime + used.ru_stime, memory)
 
 
 def read(path):

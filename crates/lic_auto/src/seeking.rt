@@ -1,8 +1,9 @@
 //! Seekers, one for each template, over a list of tokens that is read from its end.
 
-ghost use Rattle.std.specs.Prelude.{◌≡◌, ℕ, ◌<◌, ◌≤◌, ◌↔◌, List, [], IfOk, false, length, take, vec_len, Contains};
+ghost use Rattle.std.specs.Prelude.{◌≡◌, ℕ, ◌<◌, ◌≤◌, ◌↔◌, List, [], IfOk, IfSome, false, length, reverse, take, vec_len, Contains};
 ghost use Rattle.std.specs.Str.{chars};
 ghost use Rattle.lic_words.specs.Letters.{letters_in};
+ghost use Rattle.lic_marks.specs.Plain.{IsPlain};
 ghost use Rattle.lic_keys.specs.Rising.{IsRising};
 ghost use Rattle.lic_auto.specs.Choices.{templates_of};
 ghost use Rattle.lic_auto.specs.Changes.{AreKeptOf};
@@ -10,6 +11,7 @@ ghost use Rattle.lic_auto.specs.Seeking.{AllSeek, AreTurned, BeginsAnew, HaveMir
 ghost use Rattle.lic_auto.specs.declared.direction.Direction.TheVariants.{Backward};
 
 use crate::chosen::Chosen;
+use lic_marks::plain::Plain;
 use lic_marks::seek::Seeker;
 use std::alloc::{AllocError, Global};
 
@@ -70,18 +72,30 @@ pub fn take_turned(
         (TakesTurned entered.now (chars token.now)) places.now seekers.old seekers.new }
     ensures kept { AreKeptOf IsQuiet places.now (take result kept.new) seekers.new }
 {
+    let known = looked_at(token, places.len() > entered.len());
     let mut count = 0;
     for place in places {
         let place = *place;
         let may_begin = has(entered, place);
         let seeker = &mut seekers[place];
-        seeker.push_turned(token, may_begin);
+        seeker.push_known(token, known, may_begin);
         if !seeker.is_dead() {
             kept[count] = place;
             count += 1;
         }
     }
     count
+}
+
+// What is known of a token's letters. They are looked at only where they may serve some template that is on its way.
+fn looked_at(token: &str, may_serve: bool) -> Option<Plain>
+    ensures { IfSome result (λ plain. IsPlain plain (reverse (chars token.now))) }
+{
+    if may_serve {
+        Plain::turned(token)
+    } else {
+        None
+    }
 }
 
 // Whether a list of rising numbers may have this one.

@@ -37,9 +37,21 @@ fn shown(alloc: Global, triples: &[Triple]) -> Result<String, Fail> {
     Ok(shown)
 }
 
+/// The tight triples of a list.
+fn shown_tight(alloc: Global, rows: Rows) -> Result<String, Fail> {
+    let all = triples(alloc, rows)?;
+    shown(alloc, &tight(alloc, &all)?)
+}
+
+/// The outer ones.
+fn shown_outer(alloc: Global, rows: Rows) -> Result<String, Fail> {
+    let all = triples(alloc, rows)?;
+    shown(alloc, &outer(alloc, &all)?)
+}
+
 #[test]
 fn keeps_tight_and_outer_triples(rt: HostRuntime) -> Result<(), Fail> {
-    let table: [(Rows, &str, &str); 10] = [
+    let table: &[(Rows, &str, &str)] = &[
         (
             &[(0, 1, 1), (0, 2, 1), (0, 3, 0), (1, 2, 0)],
             "0-1-1 1-2-0 ",
@@ -79,36 +91,55 @@ fn keeps_tight_and_outer_triples(rt: HostRuntime) -> Result<(), Fail> {
         (&[(5, 1, 0), (3, 4, 0), (4, 2, 1)], "5-1-0 4-2-1 ", "4-2-1 "),
     ];
     for (rows, wanted_tight, wanted_outer) in table {
-        let all = triples(rt.alloc(), rows)?;
-        let tight = shown(rt.alloc(), &tight(rt.alloc(), &all)?)?;
-        assert_eq!(rt; tight.as_str(), wanted_tight);
-        let outer = shown(rt.alloc(), &outer(rt.alloc(), &all)?)?;
-        assert_eq!(rt; outer.as_str(), wanted_outer);
+        let shown = shown_tight(rt.alloc(), rows)?;
+        assert_eq!(rt; shown.as_str(), *wanted_tight);
+        let shown = shown_outer(rt.alloc(), rows)?;
+        assert_eq!(rt; shown.as_str(), *wanted_outer);
     }
     Ok(())
 }
 
+/// Long lists of triples.
+#[derive(Clone, Copy)]
+enum Long {
+    Equal,
+    Nested,
+    NestedTemplates,
+    Apart,
+}
+
+/// A list of 200,000 triples.
+fn long_list(alloc: Global, long: Long) -> Result<Vec<Triple>, AllocError> {
+    let mut list = Vec::new(alloc);
+    for k in 0..200_000 {
+        list.push(match long {
+            Long::Equal => triple(1, 2, 3),
+            Long::Nested => triple(200_000 - k, 200_000 + k, 0),
+            Long::NestedTemplates => triple(200_000 - k, 200_000 + k, k),
+            Long::Apart => triple(k * 7919 % 200_000, k * 7919 % 200_000, k % 5),
+        })?;
+    }
+    Ok(list)
+}
+
+/// How many of a long list are tight, and how many of these are outer.
+fn lengths(alloc: Global, long: Long) -> Result<(usize, usize), AllocError> {
+    let list = long_list(alloc, long)?;
+    Ok((tight(alloc, &list)?.len(), outer(alloc, &list)?.len()))
+}
+
 #[test]
 fn ends_soon_on_long_lists(rt: HostRuntime) -> Result<(), Fail> {
-    let mut equal = Vec::new(rt.alloc());
-    let mut nested = Vec::new(rt.alloc());
-    let mut nested_templates = Vec::new(rt.alloc());
-    let mut apart = Vec::new(rt.alloc());
-    for k in 0..200_000 {
-        equal.push(triple(1, 2, 3))?;
-        nested.push(triple(200_000 - k, 200_000 + k, 0))?;
-        nested_templates.push(triple(200_000 - k, 200_000 + k, k))?;
-        apart.push(triple(k * 7919 % 200_000, k * 7919 % 200_000, k % 5))?;
-    }
-    let table = [
-        (equal, 200_000, 200_000),
-        (nested, 1, 1),
-        (nested_templates, 200_000, 1),
-        (apart, 200_000, 200_000),
+    let table: &[(Long, usize, usize)] = &[
+        (Long::Equal, 200_000, 200_000),
+        (Long::Nested, 1, 1),
+        (Long::NestedTemplates, 200_000, 1),
+        (Long::Apart, 200_000, 200_000),
     ];
-    for (list, wanted_tight, wanted_outer) in &table {
-        assert_eq!(rt; tight(rt.alloc(), list)?.len(), *wanted_tight);
-        assert_eq!(rt; outer(rt.alloc(), list)?.len(), *wanted_outer);
+    for (long, wanted_tight, wanted_outer) in table {
+        let (tight_length, outer_length) = lengths(rt.alloc(), *long)?;
+        assert_eq!(rt; tight_length, *wanted_tight);
+        assert_eq!(rt; outer_length, *wanted_outer);
     }
     Ok(())
 }

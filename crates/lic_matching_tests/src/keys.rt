@@ -1,28 +1,34 @@
 //! Which templates are kept by their keys.
 
+use crate::profile::template_of;
 use lic_keys::keys::Keys;
 use lic_keys::look::Look;
-use lic_kind::Rules;
-use lic_markup::read_template;
-use lic_norm::words::Words;
-use std::alloc::Global;
+use lic_markup::Template;
+use std::alloc::{AllocError, Global};
 use std::fmt::Write;
 use std::test::Fail;
 
-/// The numbers of the templates that are kept for these tokens.
-fn kept(alloc: Global, templates: &[&str], tokens: &[&str]) -> Result<String, Fail> {
-    let words = Words::none(alloc);
-    let rules = Rules::profile(alloc);
-    let mut read = Vec::new(alloc);
-    for template in templates {
-        read.push(read_template(alloc, template, &words, &rules)?)?;
+/// The templates of these texts.
+fn templates_of(alloc: Global, texts: &[&str]) -> Result<Vec<Template>, Fail> {
+    let mut templates = Vec::new(alloc);
+    for text in texts {
+        templates.push(template_of(alloc, text)?)?;
     }
+    Ok(templates)
+}
+
+/// The keys of templates.
+fn keys_of(alloc: Global, templates: &[Template]) -> Result<Keys, AllocError> {
     let mut all = Vec::new(alloc);
-    for template in &read {
+    for template in templates {
         all.push(template)?;
     }
-    let keys = Keys::build(alloc, &all)?;
-    let mut look = Look::new(alloc, &keys);
+    Keys::build(alloc, &all)
+}
+
+/// The numbers of the templates that are kept for these tokens.
+fn kept_by(alloc: Global, keys: &Keys, tokens: &[&str]) -> Result<String, Fail> {
+    let mut look = Look::new(alloc, keys);
     for token in tokens {
         look.push(token)?;
     }
@@ -33,13 +39,19 @@ fn kept(alloc: Global, templates: &[&str], tokens: &[&str]) -> Result<String, Fa
     Ok(shown)
 }
 
+/// Those of the templates of these texts.
+fn kept(alloc: Global, texts: &[&str], tokens: &[&str]) -> Result<String, Fail> {
+    let templates = templates_of(alloc, texts)?;
+    kept_by(alloc, &keys_of(alloc, &templates)?, tokens)
+}
+
 const MIT: &str = "Permission is hereby granted, free of charge";
 
 const BSD: &str = "Redistribution and use in source and binary forms";
 
 #[test]
 fn keeps_the_templates_whose_key_stands(rt: HostRuntime) -> Result<(), Fail> {
-    let table: [(&[&str], &str); 7] = [
+    let table: &[(&[&str], &str)] = &[
         (
             &[
                 "permission",
@@ -76,7 +88,7 @@ fn keeps_the_templates_whose_key_stands(rt: HostRuntime) -> Result<(), Fail> {
     ];
     for (tokens, wanted) in table {
         let shown = kept(rt.alloc(), &[MIT, BSD], tokens)?;
-        assert_eq!(rt; shown.as_str(), wanted, "at {tokens:?}");
+        assert_eq!(rt; shown.as_str(), *wanted, "at {tokens:?}");
     }
     Ok(())
 }
@@ -84,14 +96,14 @@ fn keeps_the_templates_whose_key_stands(rt: HostRuntime) -> Result<(), Fail> {
 #[test]
 fn finds_a_key_at_the_very_end(rt: HostRuntime) -> Result<(), Fail> {
     // sixteen letters: the text has one window
-    let shown = kept(
-        rt.alloc(),
-        &["abcdefgh ijklmnop"],
-        &["x", "abcdefgh", "ijklmnop"],
-    )?;
-    assert_eq!(rt; shown.as_str(), "0 ");
-    let shown = kept(rt.alloc(), &["abcdefgh ijklmnop"], &["abcdefgh", "ijklmno"])?;
-    assert_eq!(rt; shown.as_str(), "");
+    let table: &[(&[&str], &str)] = &[
+        (&["x", "abcdefgh", "ijklmnop"], "0 "),
+        (&["abcdefgh", "ijklmno"], ""),
+    ];
+    for (tokens, wanted) in table {
+        let shown = kept(rt.alloc(), &["abcdefgh ijklmnop"], tokens)?;
+        assert_eq!(rt; shown.as_str(), *wanted, "at {tokens:?}");
+    }
     Ok(())
 }
 

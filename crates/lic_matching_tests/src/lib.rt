@@ -8,6 +8,8 @@ mod finder;
 #[cfg(test)]
 mod keys;
 #[cfg(test)]
+mod profile;
+#[cfg(test)]
 mod runs;
 #[cfg(test)]
 mod sets;

@@ -2,14 +2,11 @@
 ghost use Rattle.std.specs.Prelude.{IsTrue};
 ghost use Rattle.lic_phrases.specs.TokenTexts.{IsTokenText};
 
+use crate::profile::set_of;
 use lic_auto::back::Back;
 use lic_auto::run::Run;
-use lic_auto::set::Set;
-use lic_kind::Rules;
-use lic_markup::{Template, read_template};
-use lic_phrases::Words;
-use std::alloc::{AllocError, Global};
-use std::process::Abort;
+use std::alloc::Global;
+use std::fmt::Write;
 use std::test::Fail;
 
 // Whether the text is that of a token without a blank.
@@ -24,129 +21,154 @@ fn is_plain(text: &str) -> bool
     !text.is_empty()
 }
 
-fn push_all(rt: &impl Abort, run: &mut Run<'_>, tokens: &[&str]) {
-    for token in tokens {
-        assert!(rt; is_plain(token), "{token:?}");
+// Takes the tokens of a list, in which one blank parts two.
+fn push_all(run: &mut Run<'_>, tokens: &str) -> Result<(), Fail> {
+    for token in tokens.split_whitespace() {
+        if !is_plain(token) {
+            return Err(Fail::from("no token"));
+        }
         run.push(token);
     }
+    Ok(())
 }
 
-fn templates_of(alloc: Global, table: &[(&str, &str)]) -> Result<Vec<(String, Template)>, Fail> {
-    let words = Words::none(alloc);
-    let rules = Rules::profile(alloc);
-    let mut templates = Vec::new(alloc);
-    for (id, text) in table {
-        let id = String::from_str(alloc, id)?;
-        let template = read_template(alloc, text, &words, &rules)?;
-        templates.push((id, template)).map_err(AllocError::from)?;
-    }
-    Ok(templates)
-}
-
-const TWO: [(&str, &str); 2] = [
-    ("A", "foo bar"),
-    ("B", r#"foo <<var;name="w";original="bar";match="[a-z]+">>"#),
+const TWO: [&str; 2] = [
+    "foo bar",
+    r#"foo <<var;name="w";original="bar";match="[a-z]+">>"#,
 ];
+
+// Tells which template is the least from 0, from 1 and from 2 that describes the tokens, and whether the run is dead.
+fn tell(run: &Run<'_>, told: &mut String) -> Result<(), Fail> {
+    for from in 0..3 {
+        match run.accepted(from) {
+            Some(number) => write!(told, "{number} ")?,
+            None => told.push_str("- ")?,
+        }
+    }
+    told.push_str(if run.dead() { "dead; " } else { "live; " })?;
+    Ok(())
+}
+
+/// What a run tells of each of these lists of tokens; it begins anew for each but the first.
+fn told(alloc: Global, templates: &[&str], lists: &[&str]) -> Result<String, Fail> {
+    let set = set_of(alloc, templates)?;
+    let mut run = Run::new(alloc, &set)?;
+    let mut told = String::new(alloc);
+    for (k, tokens) in lists.iter().enumerate() {
+        if k > 0 {
+            run.reset();
+        }
+        push_all(&mut run, tokens)?;
+        tell(&run, &mut told)?;
+    }
+    Ok(told)
+}
 
 #[test]
 fn templates_are_told_in_order(rt: HostRuntime) -> Result<(), Fail> {
-    let set = Set::build(rt.alloc(), templates_of(rt.alloc(), &TWO)?)?;
-    let mut run = Run::new(rt.alloc(), &set)?;
-    assert_eq!(&rt; run.accepted(0), None);
-    push_all(&rt, &mut run, &["foo", "bar"]);
-    assert_eq!(&rt; run.accepted(0), Some(0));
-    assert_eq!(&rt; run.accepted(1), Some(1));
-    assert_eq!(&rt; run.accepted(2), None);
-    push_all(&rt, &mut run, &["x"]);
-    assert_eq!(&rt; run.accepted(0), None);
-    assert!(&rt; run.dead());
+    let table: &[(&str, &str)] = &[
+        ("", "- - - live; "),
+        ("foo bar", "0 1 - live; "),
+        ("foo bar x", "- - - dead; "),
+    ];
+    for (tokens, expected) in table {
+        let told = told(rt.alloc(), &TWO, &[*tokens])?;
+        assert_eq!(&rt; told.as_str(), *expected, "{tokens}");
+    }
     Ok(())
 }
 
 #[test]
 fn a_run_begins_anew(rt: HostRuntime) -> Result<(), Fail> {
-    let set = Set::build(rt.alloc(), templates_of(rt.alloc(), &TWO)?)?;
-    let mut run = Run::new(rt.alloc(), &set)?;
-    push_all(&rt, &mut run, &["foo"]);
-    assert!(&rt; !run.dead());
-    run.reset();
-    assert!(&rt; !run.dead());
-    push_all(&rt, &mut run, &["bar"]);
-    assert_eq!(&rt; run.accepted(0), None);
-    assert!(&rt; run.dead());
-    run.reset();
-    push_all(&rt, &mut run, &["foo", "qux"]);
-    assert_eq!(&rt; run.accepted(0), Some(1));
+    let told = told(rt.alloc(), &TWO, &["foo", "", "bar", "foo qux"])?;
+    assert_eq!(&rt;
+        told.as_str(),
+        "- - - live; - - - live; - - - dead; 1 1 - live; "
+    );
     Ok(())
+}
+
+/// The steps of a new run, once it has taken the tokens, and once it begins anew.
+fn steps(alloc: Global, tokens: &str) -> Result<(u64, u64, u64), Fail> {
+    let set = set_of(alloc, &TWO)?;
+    let mut run = Run::new(alloc, &set)?;
+    let new = run.steps();
+    push_all(&mut run, tokens)?;
+    let taken = run.steps();
+    run.reset();
+    Ok((new, taken, run.steps()))
 }
 
 #[test]
 fn letters_and_gaps_are_steps(rt: HostRuntime) -> Result<(), Fail> {
-    let set = Set::build(rt.alloc(), templates_of(rt.alloc(), &TWO)?)?;
-    let mut run = Run::new(rt.alloc(), &set)?;
-    assert_eq!(&rt; run.steps(), 0);
-    push_all(&rt, &mut run, &["foo", "bar"]);
-    assert_eq!(&rt; run.steps(), 8);
-    run.reset();
-    assert_eq!(&rt; run.steps(), 8);
+    let (new, taken, anew) = steps(rt.alloc(), "foo bar")?;
+    assert_eq!(&rt; new, 0);
+    assert_eq!(&rt; taken, 8);
+    assert_eq!(&rt; anew, 8);
     Ok(())
 }
 
 /// A word and then more; a mark; one word that is the whole template; a variable; an optional word in front.
-const HEADS: [(&str, &str); 5] = [
-    ("A", "foo bar"),
-    ("B", "[x] foo"),
-    ("C", "foo"),
-    ("D", r#"<<var;name="w";original="bar";match="[a-z]{3}">>!"#),
-    ("E", "<<beginOptional>>The <<endOptional>>foo.bar"),
+const HEADS: [&str; 5] = [
+    "foo bar",
+    "[x] foo",
+    "foo",
+    r#"<<var;name="w";original="bar";match="[a-z]{3}">>!"#,
+    "<<beginOptional>>The <<endOptional>>foo.bar",
 ];
 
 #[test]
 fn templates_are_entered_by_their_heads(rt: HostRuntime) -> Result<(), Fail> {
-    let set = Set::build(rt.alloc(), templates_of(rt.alloc(), &HEADS)?)?;
-    let mut run = Run::new(rt.alloc(), &set)?;
-    for (tokens, number) in [
-        ("foo bar", Some(0)),
-        ("[ x ] foo", Some(1)),
-        ("foo", Some(2)),
-        ("foo !", Some(3)),
-        ("qux !", Some(3)),
-        ("foo . bar", Some(4)),
-        ("the foo . bar", Some(4)),
-        ("the", None),
-        ("[[", None),
-        ("foob ar", None),
-    ] {
-        run.reset();
-        for token in tokens.split_whitespace() {
-            assert!(&rt; is_plain(token), "{token:?}");
-            run.push(token);
-        }
-        assert_eq!(&rt; run.accepted(0), number, "{tokens}");
-    }
+    let lists = [
+        "foo bar",
+        "[ x ] foo",
+        "foo",
+        "foo !",
+        "qux !",
+        "foo . bar",
+        "the foo . bar",
+        "the",
+        "[[",
+        "foob ar",
+    ];
+    let told = told(rt.alloc(), &HEADS, &lists)?;
+    assert_eq!(&rt;
+        told.as_str(),
+        "0 - - live; 1 1 - live; 2 2 2 live; 3 3 3 live; 3 3 3 live; 4 4 4 live; 4 4 4 live; \
+            - - - live; - - - dead; - - - dead; "
+    );
     Ok(())
+}
+
+// Tells the live templates of a machine, and whether it has any.
+fn tell_live(back: &Back<'_>, told: &mut String) -> Result<(), Fail> {
+    for number in back.live_numbers() {
+        write!(told, "{number} ")?;
+    }
+    told.push_str(if back.live() { "live; " } else { "dead; " })?;
+    Ok(())
+}
+
+/// What is told of each token that comes from the end, and once the machine begins anew.
+fn told_from_the_end(alloc: Global, tokens: &[&str]) -> Result<String, Fail> {
+    let set = set_of(alloc, &TWO)?;
+    let mut back = Back::new(alloc, &set)?;
+    let mut told = String::new(alloc);
+    for token in tokens {
+        if !is_plain(token) {
+            return Err(Fail::from("no token"));
+        }
+        back.push_front(token);
+        tell_live(&back, &mut told)?;
+    }
+    back.reset();
+    tell_live(&back, &mut told)?;
+    Ok(told)
 }
 
 #[test]
 fn a_run_from_the_end_tells_what_begins_here(rt: HostRuntime) -> Result<(), Fail> {
-    let set = Set::build(rt.alloc(), templates_of(rt.alloc(), &TWO)?)?;
-    let mut back = Back::new(rt.alloc(), &set)?;
-    let both: &[usize] = &[0, 1];
-    let second: &[usize] = &[1];
-    let none: &[usize] = &[];
-    for (token, begun) in [
-        ("x", none),
-        ("bar", none),
-        ("foo", both),
-        ("foo", second),
-        ("!", none),
-    ] {
-        assert!(&rt; is_plain(token), "{token:?}");
-        back.push_front(token);
-        assert_eq!(&rt; back.live_numbers(), begun, "{token}");
-        assert_eq!(&rt; back.live(), !begun.is_empty(), "{token}");
-    }
-    back.reset();
-    assert!(&rt; !back.live());
+    let told = told_from_the_end(rt.alloc(), &["x", "bar", "foo", "foo", "!"])?;
+    assert_eq!(&rt; told.as_str(), "dead; dead; 0 1 live; 1 live; dead; dead; ");
     Ok(())
 }

@@ -1,71 +1,72 @@
 //! Sets of templates, and why one is refused.
 
+use crate::profile::template_of;
 use lic_auto::set::{BuildFault, Set};
-use lic_kind::Rules;
-use lic_markup::{Template, read_template};
-use lic_norm::words::Words;
-use std::alloc::{AllocError, Global};
+use lic_markup::Template;
+use std::alloc::Global;
+use std::fmt::Write;
 use std::test::Fail;
 
 /// Templates of one word each, under the identifiers `0`, `1` and so on, and then under these words.
 fn templates(alloc: Global, count: usize, ids: &str) -> Result<Vec<(String, Template)>, Fail> {
-    let words = Words::none(alloc);
-    let rules = Rules::profile(alloc);
     let mut all = Vec::new(alloc);
     for number in 0..count {
         let id = format!(in alloc; "{number}")?;
-        let template = read_template(alloc, id.as_str(), &words, &rules)?;
+        let template = template_of(alloc, id.as_str())?;
         all.push((id, template))?;
     }
     for id in ids.split_whitespace() {
-        let template = read_template(alloc, id, &words, &rules)?;
+        let template = template_of(alloc, id)?;
         all.push((id.to_string(alloc)?, template))?;
     }
     Ok(all)
 }
 
+/// The identifiers of a set's templates, each with its template's original text.
+fn named(alloc: Global, ids: &str) -> Result<String, Fail> {
+    let set = Set::build(alloc, templates(alloc, 0, ids)?)?;
+    let mut named = String::new(alloc);
+    for k in 0..set.len() {
+        write!(named, "{}={} ", set.id(k), set.template(k).original())?;
+    }
+    Ok(named)
+}
+
+/// How many templates a set has that is built of so many.
+fn length_of(alloc: Global, count: usize) -> Result<usize, Fail> {
+    Ok(Set::build(alloc, templates(alloc, count, "")?)?.len())
+}
+
 #[test]
 fn numbers_templates_by_the_bytes_of_their_identifiers(rt: HostRuntime) -> Result<(), Fail> {
-    let given = templates(rt.alloc(), 0, "b B ab \u{e9} a a-1")?;
-    let set = Set::build(rt.alloc(), given)?;
-    let wanted = ["B", "a", "a-1", "ab", "b", "\u{e9}"];
-    assert_eq!(rt; set.len(), wanted.len());
-    for (k, id) in wanted.iter().enumerate() {
-        assert!(rt; k < set.len());
-        assert_eq!(rt; set.id(k), *id);
-        assert_eq!(rt; set.template(k).original(), *id);
-    }
-    assert_eq!(rt; Set::build(rt.alloc(), Vec::new(rt.alloc()))?.len(), 0);
-    assert_eq!(rt;
-        Set::build(rt.alloc(), templates(rt.alloc(), 4096, "")?)?.len(),
-        4096
-    );
+    let named = named(rt.alloc(), "b B ab \u{e9} a a-1")?;
+    assert_eq!(rt; named.as_str(), "B=B a=a a-1=a-1 ab=ab b=b \u{e9}=\u{e9} ");
+    assert_eq!(rt; length_of(rt.alloc(), 0)?, 0);
+    assert_eq!(rt; length_of(rt.alloc(), 4096)?, 4096);
     Ok(())
 }
 
 /// What is said of templates that are no set.
-fn refusal(alloc: Global, templates: Vec<(String, Template)>) -> Result<String, AllocError> {
-    match Set::build(alloc, templates) {
+fn told(alloc: Global, count: usize, ids: &str) -> Result<String, Fail> {
+    match Set::build(alloc, templates(alloc, count, ids)?) {
         Ok(_) => Ok(String::new(alloc)),
-        Err(fault) => format!(in alloc; "{fault}"),
+        Err(fault) => Ok(format!(in alloc; "{fault}")?),
     }
 }
 
 #[test]
 fn tells_why_templates_are_no_set(rt: HostRuntime) -> Result<(), Fail> {
-    for (count, ids, told) in [
+    let table: &[(usize, &str, &str)] = &[
         (0, "K L K", "B1: K"),
         (4093, "K K L", "B1: K"),
         (4094, "K K L", "B2: more than 4096 templates"),
         (4094, "K L M", "B2: more than 4096 templates"),
-    ] {
-        let said = refusal(rt.alloc(), templates(rt.alloc(), count, ids)?)?;
-        assert_eq!(rt; said.as_str(), told, "{count} and {ids}");
+    ];
+    for (count, ids, expected) in table {
+        let told = told(rt.alloc(), *count, ids)?;
+        assert_eq!(rt; told.as_str(), *expected, "{count} and {ids}");
     }
-    let fault = BuildFault::Memory;
-    assert_eq!(rt;
-        format!(in rt.alloc(); "{fault}")?.as_str(),
-        "B3: out of memory"
-    );
+    let told = format!(in rt.alloc(); "{}", BuildFault::Memory)?;
+    assert_eq!(rt; told.as_str(), "B3: out of memory");
     Ok(())
 }

@@ -3,7 +3,7 @@
 use lic_auto::compile::compile_pattern;
 use lic_marks::node::Node;
 use lic_marks::run::Run;
-use std::process::Abort;
+use std::alloc::{AllocError, Global};
 use std::test::Fail;
 
 /// Patterns, what the tree of each weighs, tokens that its words spell, and others that they do not.
@@ -40,45 +40,67 @@ const PATTERNS: [(&str, usize, &str, &str); 20] = [
     ("[^a]{3,}", 3, "b bcd bcde", "a bcda"),
 ];
 
-fn assert_described(rt: &impl Abort, run: &mut Run, tokens: &str, is_described: bool) {
+/// Adds those of the tokens that a run accepts, with a blank between two.
+fn add_accepted(run: &mut Run, tokens: &str, accepted: &mut String) -> Result<(), AllocError> {
     for token in tokens.split_whitespace() {
         run.reset();
         run.push(token);
-        assert_eq!(rt; run.accepts(), is_described, "{token}");
-    }
-}
-
-#[test]
-fn patterns_have_their_words_and_their_weights(rt: HostRuntime) -> Result<(), Fail> {
-    for (pattern, weight, described, others) in PATTERNS {
-        let ere = lic_ere::read(rt.alloc(), pattern)?;
-        let tree = compile_pattern(rt.alloc(), &ere)?;
-        assert_eq!(rt; tree.weight(), weight, "{pattern}");
-        let mut run = Run::new(rt.alloc(), &tree)?;
-        assert_described(&rt, &mut run, described, true);
-        assert_described(&rt, &mut run, others, false);
+        if run.accepts() {
+            if !accepted.is_empty() {
+                accepted.push(' ')?;
+            }
+            accepted.push_str(token)?;
+        }
     }
     Ok(())
 }
 
+/// The weight of a compiled pattern, and those of two lists of tokens that its words spell.
+fn weight_and_accepted(
+    alloc: Global,
+    pattern: &str,
+    some: &str,
+    others: &str,
+) -> Result<(usize, String), Fail> {
+    let ere = lic_ere::read(alloc, pattern)?;
+    let tree = compile_pattern(alloc, &ere)?;
+    let mut run = Run::new(alloc, &tree)?;
+    let mut accepted = String::new(alloc);
+    add_accepted(&mut run, some, &mut accepted)?;
+    add_accepted(&mut run, others, &mut accepted)?;
+    Ok((tree.weight(), accepted))
+}
+
+#[test]
+fn patterns_have_their_words_and_their_weights(rt: HostRuntime) -> Result<(), Fail> {
+    for (pattern, weight, described, others) in &PATTERNS {
+        let (weighed, accepted) = weight_and_accepted(rt.alloc(), pattern, described, others)?;
+        assert_eq!(rt; weighed, *weight, "{pattern}");
+        assert_eq!(rt; accepted.as_str(), *described, "{pattern}");
+    }
+    Ok(())
+}
+
+/// The tree of a pattern.
+fn tree_of(alloc: Global, pattern: &str) -> Result<Node, Fail> {
+    let ere = lic_ere::read(alloc, pattern)?;
+    Ok(compile_pattern(alloc, &ere)?)
+}
+
 #[test]
 fn a_counted_letter_is_one_node(rt: HostRuntime) -> Result<(), Fail> {
-    let ere = lic_ere::read(rt.alloc(), ".{0,5000}")?;
-    let tree = compile_pattern(rt.alloc(), &ere)?;
+    let tree = tree_of(rt.alloc(), ".{0,5000}")?;
     assert!(rt; matches!(&tree, Node::UpTo { count: 5000, .. }));
-    let ere = lic_ere::read(rt.alloc(), "[ab]{9}")?;
-    let tree = compile_pattern(rt.alloc(), &ere)?;
+    let tree = tree_of(rt.alloc(), "[ab]{9}")?;
     assert!(rt; matches!(&tree, Node::Copies { count: 9, .. }));
     Ok(())
 }
 
 #[test]
 fn what_stands_many_times_is_compiled_once(rt: HostRuntime) -> Result<(), Fail> {
-    let ere = lic_ere::read(rt.alloc(), "(a|b){60000}")?;
-    let tree = compile_pattern(rt.alloc(), &ere)?;
+    let tree = tree_of(rt.alloc(), "(a|b){60000}")?;
     assert!(rt; matches!(&tree, Node::Repeat { weight: 120000, .. }));
-    let ere = lic_ere::read(rt.alloc(), "a||||||")?;
-    let tree = compile_pattern(rt.alloc(), &ere)?;
+    let tree = tree_of(rt.alloc(), "a||||||")?;
     assert!(rt; matches!(&tree, Node::Alt { children, .. } if children.len() == 2));
     Ok(())
 }

@@ -5,6 +5,7 @@ use lic_phrases::{
     FinalToken, MAX_TOKENS, Phrases, Rewriter, TokenText, Words, begins_in_word, ends_in_word, laws,
 };
 use std::alloc::{AllocError, Global};
+use std::fmt::Write;
 use std::test::Fail;
 
 /// Phrases, each with the spelling of its class: one blank parts two tokens.
@@ -35,13 +36,19 @@ fn first_tokens(alloc: Global, text: &str) -> Result<Vec<FirstToken>, AllocError
     Ok(tokens)
 }
 
+/// The words of a phrase, in which one blank parts two.
+fn words_of(alloc: Global, phrase: &str) -> Result<Vec<String>, AllocError> {
+    let mut words = Vec::new(alloc);
+    for word in phrase.split_whitespace() {
+        words.push(String::from_str(alloc, word)?)?;
+    }
+    Ok(words)
+}
+
 fn phrases(alloc: Global) -> Result<Phrases, Fail> {
     let mut phrases = Phrases::new(alloc);
-    for (texts, spelling) in PHRASES {
-        let mut words = Vec::new(alloc);
-        for word in texts.split_whitespace() {
-            words.push(String::from_str(alloc, word)?)?;
-        }
+    for (phrase, spelling) in &PHRASES {
+        let words = words_of(alloc, phrase)?;
         let class = phrases.add_class(String::from_str(alloc, spelling)?)?;
         if words.is_empty() || words.len() > MAX_TOKENS {
             return Err("a phrase has one to eight tokens")?;
@@ -51,32 +58,31 @@ fn phrases(alloc: Global) -> Result<Phrases, Fail> {
     Ok(phrases)
 }
 
+/// The text of a token.
+fn text_of<'a>(phrases: &'a Phrases, token: &'a FinalToken) -> Result<&'a str, Fail> {
+    match &token.text {
+        TokenText::Own(text) => Ok(text.as_str()),
+        TokenText::Class(class) => match phrases.spellings().get(*class) {
+            Some(spelling) => Ok(spelling.as_str()),
+            None => Err(Fail::from("a class has a spelling")),
+        },
+    }
+}
+
 /// Adds the tokens to those shown, as `text start-end` with commas between them.
-fn show(
-    alloc: Global,
-    phrases: &Phrases,
-    tokens: &[FinalToken],
-    shown: &mut String,
-) -> Result<(), Fail> {
+fn show(phrases: &Phrases, tokens: &[FinalToken], shown: &mut String) -> Result<(), Fail> {
     for token in tokens {
         if !shown.is_empty() {
             shown.push_str(", ")?;
         }
-        match &token.text {
-            TokenText::Own(text) => shown.push_str(text.as_str())?,
-            TokenText::Class(class) => match phrases.spellings().get(*class) {
-                Some(spelling) => shown.push_str(spelling.as_str())?,
-                None => return Err("a class has a spelling")?,
-            },
-        }
-        let span = format!(in alloc; " {}-{}", token.start, token.end)?;
-        shown.push_str(span.as_str())?;
+        let text = text_of(phrases, token)?;
+        write!(shown, "{text} {}-{}", token.start, token.end)?;
     }
     Ok(())
 }
 
-/// The tokens of a text after the rewriting, as they are shown.
-fn rewritten(alloc: Global, phrases: &Phrases, text: &str) -> Result<String, Fail> {
+/// The tokens of a text after the rewriting by some phrases, as they are shown.
+fn rewritten_by(alloc: Global, phrases: &Phrases, text: &str) -> Result<String, Fail> {
     let mut rewriter = Rewriter::new(alloc);
     let mut output = Vec::new(alloc);
     for token in first_tokens(alloc, text)? {
@@ -84,15 +90,34 @@ fn rewritten(alloc: Global, phrases: &Phrases, text: &str) -> Result<String, Fai
     }
     rewriter.finish(phrases, &mut output)?;
     let mut shown = String::new(alloc);
-    show(alloc, phrases, output.as_slice(), &mut shown)?;
+    show(phrases, output.as_slice(), &mut shown)?;
+    Ok(shown)
+}
+
+/// Those by the phrases of the table.
+fn rewritten(alloc: Global, text: &str) -> Result<String, Fail> {
+    rewritten_by(alloc, &phrases(alloc)?, text)
+}
+
+/// Those where the output is shown and emptied behind each token.
+fn rewritten_token_by_token(alloc: Global, text: &str) -> Result<String, Fail> {
+    let phrases = phrases(alloc)?;
+    let mut rewriter = Rewriter::new(alloc);
+    let mut output = Vec::new(alloc);
+    let mut shown = String::new(alloc);
+    for token in first_tokens(alloc, text)? {
+        rewriter.push(&phrases, token, &mut output)?;
+        show(&phrases, output.as_slice(), &mut shown)?;
+        output.clear();
+    }
+    rewriter.finish(&phrases, &mut output)?;
+    show(&phrases, output.as_slice(), &mut shown)?;
     Ok(shown)
 }
 
 #[test]
 fn rewrites_tokens(rt: HostRuntime) -> Result<(), Fail> {
-    let alloc = rt.alloc();
-    let phrases = phrases(alloc)?;
-    for (text, expected) in [
+    let table: &[(&str, &str)] = &[
         ("", ""),
         (
             "copyright copyright copyright 2001",
@@ -120,9 +145,10 @@ fn rewrites_tokens(rt: HostRuntime) -> Result<(), Fail> {
             "alphabet 0-5, d 6-7, e 8-9, f 10-11, g 12-13, i 14-15",
         ),
         ("copyright copyright x", "copyright x 0-21"),
-    ] {
-        let found = rewritten(alloc, &phrases, text)?;
-        assert_eq!(rt; found.as_str(), expected, "in {text:?}");
+    ];
+    for (text, expected) in table {
+        let found = rewritten(rt.alloc(), text)?;
+        assert_eq!(rt; found.as_str(), *expected, "in {text:?}");
     }
     Ok(())
 }
@@ -130,7 +156,7 @@ fn rewrites_tokens(rt: HostRuntime) -> Result<(), Fail> {
 #[test]
 fn rewrites_without_phrases(rt: HostRuntime) -> Result<(), Fail> {
     let alloc = rt.alloc();
-    let found = rewritten(
+    let found = rewritten_by(
         alloc,
         &Phrases::new(alloc),
         "copyright copyright https : / / a",
@@ -144,18 +170,7 @@ fn rewrites_without_phrases(rt: HostRuntime) -> Result<(), Fail> {
 
 #[test]
 fn output_may_be_emptied_between_tokens(rt: HostRuntime) -> Result<(), Fail> {
-    let alloc = rt.alloc();
-    let phrases = phrases(alloc)?;
-    let mut rewriter = Rewriter::new(alloc);
-    let mut output = Vec::new(alloc);
-    let mut shown = String::new(alloc);
-    for token in first_tokens(alloc, "x a b c d y sub license")? {
-        rewriter.push(&phrases, token, &mut output)?;
-        show(alloc, &phrases, output.as_slice(), &mut shown)?;
-        output.clear();
-    }
-    rewriter.finish(&phrases, &mut output)?;
-    show(alloc, &phrases, output.as_slice(), &mut shown)?;
+    let shown = rewritten_token_by_token(rt.alloc(), "x a b c d y sub license")?;
     assert_eq!(rt;
         shown.as_str(),
         "x 0-1, alphabet 2-7, d 8-9, y 10-11, sub-license 12-23"
@@ -185,15 +200,16 @@ fn tells_the_text_of_a_token(rt: HostRuntime) -> Result<(), Fail> {
 
 #[test]
 fn tells_the_edges_of_a_text(rt: HostRuntime) {
-    for (text, begins, ends) in [
+    let table: &[(&str, bool, bool)] = &[
         ("", false, false),
         ("word", true, true),
         ("-", false, false),
         ("sub-", true, false),
         ("-2", false, true),
-    ] {
-        assert_eq!(rt; begins_in_word(text), begins, "of {text:?}");
-        assert_eq!(rt; ends_in_word(text), ends, "of {text:?}");
+    ];
+    for (text, begins, ends) in table {
+        assert_eq!(rt; begins_in_word(text), *begins, "of {text:?}");
+        assert_eq!(rt; ends_in_word(text), *ends, "of {text:?}");
     }
 }
 

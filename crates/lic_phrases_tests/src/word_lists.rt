@@ -6,16 +6,9 @@ use lic_phrases::{Words, WordsCause, WordsFault};
 use std::alloc::{AllocError, Global};
 use std::test::Fail;
 
-/// The texts of a text's tokens by a list of equivalent words, a `|` after each.
-fn tokens_by(alloc: Global, list: &str, text: &str) -> Result<String, Fail> {
-    let words = Words::read(alloc, list)?;
-    let rules = Rules::profile(alloc);
-    let text = Text::read(
-        alloc,
-        Vec::from_slice(alloc, text.as_bytes())?,
-        &words,
-        &rules,
-    )?;
+/// The texts of a source's tokens, a `|` after each.
+fn tokens_of(alloc: Global, source: &str, words: &Words, rules: &Rules) -> Result<String, Fail> {
+    let text = Text::read(alloc, source.as_bytes().to_vec(alloc)?, words, rules)?;
     let mut shown = String::new(alloc);
     for number in 0..text.len() {
         shown.push_str(text.token(number).text)?;
@@ -24,12 +17,15 @@ fn tokens_by(alloc: Global, list: &str, text: &str) -> Result<String, Fail> {
     Ok(shown)
 }
 
+/// Those by a list of equivalent words.
+fn tokens_by(alloc: Global, list: &str, source: &str) -> Result<String, Fail> {
+    let words = Words::read(alloc, list)?;
+    tokens_of(alloc, source, &words, &Rules::profile(alloc))
+}
+
 /// So many lines `w`, and then the last line.
 fn lines_of_w(alloc: Global, count: usize, last: &str) -> Result<String, AllocError> {
-    let mut list = String::new(alloc);
-    for _ in 0..count {
-        list.push_str("w\n")?;
-    }
+    let mut list = "w\n".repeat(alloc, count)?;
     list.push_str(last)?;
     Ok(list)
 }
@@ -66,6 +62,14 @@ fn phrases_have_the_spelling_of_their_class(rt: HostRuntime) -> Result<(), Fail>
     Ok(())
 }
 
+/// Why a list is refused; nothing where it is read.
+fn told(alloc: Global, list: &str) -> Result<String, AllocError> {
+    match Words::read(alloc, list) {
+        Ok(_) => Ok(String::new(alloc)),
+        Err(fault) => format!(in alloc; "{fault}"),
+    }
+}
+
 #[test]
 fn the_first_fault_is_reported(rt: HostRuntime) -> Result<(), Fail> {
     let too_many = lines_of_w(rt.alloc(), 4097, "")?;
@@ -86,24 +90,15 @@ fn the_first_fault_is_reported(rt: HostRuntime) -> Result<(), Fail> {
         ),
     ];
     for (list, expected) in table {
-        match Words::read(rt.alloc(), list) {
-            Ok(_words) => assert!(rt; false, "{list:?} is read"),
-            Err(fault) => {
-                let text = format!(in rt.alloc(); "{fault}")?;
-                assert_eq!(rt; text.as_str(), *expected, "of {list:?}");
-            }
-        }
+        let told = told(rt.alloc(), list)?;
+        assert_eq!(rt; told.as_str(), *expected, "of {list:?}");
     }
     Ok(())
 }
 
 #[test]
 fn bytes_are_those_of_the_spelling(rt: HostRuntime) -> Result<(), Fail> {
-    let mut list = String::new(rt.alloc());
-    for _ in 0..255 {
-        list.push('\u{DF}')?;
-        list.push('\u{AD}')?;
-    }
+    let list = "\u{DF}\u{AD}".repeat(rt.alloc(), 255)?;
     assert_eq!(rt;
         Words::read(rt.alloc(), list.as_str()).err(),
         Some(WordsFault {

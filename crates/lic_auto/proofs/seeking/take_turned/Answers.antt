@@ -26,14 +26,14 @@ loop-place-preserved c =
     let fresh : ¬ (Contains (take i places) n) = fresh_before places _ c.requires.rising i inside in
     let more : take (i + 1) places ≡ take i places ++ n ∷ [] = take_more places i 0 inside in
     let a = get_or seekers n c.index-seekers-place.result in
-    let b = c.push_turned.new.self in
+    let b = c.push_known.new.self in
     let here : slice_get seekers n ≡ Some a = slice_get-get_or seekers n c.index-seekers-place.result within in
     let size : length (set seekers n b) ≡ length seekers = length-set seekers n b in
     let changes = TakesTurned c.args.entered.now (chars c.args.token.now) in
     let taken : AreTurned changes (take (i + 1) places) c.args.seekers.now (set seekers n b) =
     subst (λ s. AreTurned changes s c.args.seekers.now (set seekers n b)) (sym more)
-    (Changed-more tree_of changes (take i places) n c.args.seekers.now seekers a b invariant.taken fresh here c.push_turned.ensures.tree
-    (λ e ts stands rest. c.push_turned.ensures.stands e ts stands (λ out. rest (c.has-may_begin.ensures out)))) in
+    (Changed-more tree_of changes (take i places) n c.args.seekers.now seekers a b invariant.taken fresh here c.push_known.ensures.tree
+    (λ e ts stands rest. c.push_known.ensures.stands e ts stands (λ out. rest (c.has-may_begin.ensures out)))) in
     elim c.if-not-is_dead.branch [
       | then-not-is_dead w ↦
           let room : count < length kept = omega (arith, invariant.few, invariant.room, c.requires.room, inside) in
