@@ -6,10 +6,10 @@ use crate::streams::{Awaited, Pieces};
 use lic_auto::set::Set;
 use lic_engine::check::check;
 use lic_engine::engine::{run, run_tokens};
+use lic_find::ask::Ask;
 use lic_find::triple::Triple;
 use lic_kind::Rules;
 use lic_norm::words::Words;
-use lic_find::ask::Ask;
 use std::alloc::Global;
 use std::process::Abort;
 

@@ -8,8 +8,8 @@ ghost use Rattle.lic_vars.specs.Views.{value_of};
 ghost use Rattle.lic_report.specs.Checking.{check_line};
 ghost use Rattle.lic_report.specs.Report.{match_line, token_line, place_fields, value_line, no_known, no_token};
 
-use lic_fields::{add_number, add_text};
 use lic_auto::set::Set;
+use lic_fields::{add_number, add_text};
 use lic_find::triple::Triple;
 use lic_norm::text::Text;
 use lic_norm::token::{Span, Token};

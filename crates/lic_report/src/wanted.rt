@@ -6,8 +6,8 @@ ghost use Rattle.lic_find.specs.Matches.{AreMatches};
 ghost use Rattle.lic_report.specs.Report.{first_of};
 ghost use Rattle.lic_report.specs.Wanted.{wanted_of};
 
-use lic_find::ask::Ask;
 use lic_auto::set::Set;
+use lic_find::ask::Ask;
 use lic_find::finder::Finder;
 use lic_find::triple::Triple;
 use lic_norm::text::Text;
