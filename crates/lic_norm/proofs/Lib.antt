@@ -17,5 +17,6 @@ pub mod AsciiLines
 pub mod AsciiTexts
 pub mod TextLemmas
 pub mod PieceLines
+pub mod EdgeLemmas
 pub mod SpellingPlaces
 mod examples

@@ -7,3 +7,4 @@ pub mod Views
 pub mod Feeding
 pub mod Reading
 pub mod Pieces
+pub mod Edges

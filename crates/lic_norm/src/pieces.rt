@@ -1,10 +1,12 @@
 //! Pieces of a template's text.
-ghost use Rattle.std.specs.Prelude.{◌≡◌, ◌++◌, IfOk, OnOk, string_bytes};
+ghost use Rattle.std.specs.Prelude.{◌≡◌, true, List, [], ◌++◌, IfOk, OnOk, string_bytes};
 ghost use Rattle.std.specs.List.{list_all};
+ghost use Rattle.lic_lines.specs.declared.cell.Cell.{Cell};
 ghost use Rattle.lic_lines.specs.LineRules.{rules_of};
 ghost use Rattle.lic_lines.specs.Lines.{line_cells};
 ghost use Rattle.lic_lines.specs.Runs.{runs_joined};
 ghost use Rattle.lic_lines.specs.Tokens.{line_tokens, tokens_in};
+ghost use Rattle.lic_norm.specs.Edges.{HasEdges, is_empty};
 ghost use Rattle.lic_norm.specs.Pieces.{ends_in_feed, part_of, piece_cells, piece_tokens, is_blank, begins_in_blank, ends_in_blank, with_edges, piece_of};
 
 use crate::lines::text_line_end;
@@ -28,10 +30,19 @@ pub enum Next {
     Optional,
 }
 
-/// What the lines of a piece leave: the list after its runs, and the tokens before the rewriting.
+/// What a list of cells has at its edges.
+#[derive(Clone, Copy)]
+struct Edges {
+    begins_in_blank: bool,
+    ends_in_blank: bool,
+    /// Some of them are no blanks.
+    has_text: bool,
+}
+
+/// What the lines of a piece leave: the edges of the list after its runs, and the tokens before the rewriting.
 #[derive(Drop)]
 struct Left {
-    cells: Vec<Cell>,
+    edges: Edges,
     tokens: Vec<FirstToken>,
 }
 
@@ -65,62 +76,6 @@ fn part_of(has_front: bool, before: Next, line: &[SourceChar]) -> LinePart
     }
 }
 
-impl Left {
-    /// Adds what is left of a line.
-    fn push_line(
-        &mut self,
-        alloc: Global,
-        rules: &Rules,
-        part: LinePart,
-        line: &[SourceChar],
-        room: &mut Room,
-    ) -> Result<(), AllocError>
-        ensures cells { OnOk result
-            (self.new.cells.items ≡ self.old.cells.items
-            ++ runs_joined (rules_of rules.now)
-            (line_cells (rules_of rules.now) part line.now)) }
-        ensures tokens { OnOk result
-            (tokens_in self.new.tokens.items
-            ≡ tokens_in self.old.tokens.items
-            ++ line_tokens (rules_of rules.now) part line.now) }
-    {
-        let cells = cells_of_line(alloc, rules, part, line)?;
-        self.cells.extend_from_slice(&cells)?;
-        push_tokens_of_line(alloc, rules, part, line, room, &mut self.tokens)
-    }
-}
-
-/// What the lines of a piece leave, one line after another.
-fn left_of(
-    alloc: Global,
-    rules: &Rules,
-    text: &str,
-    at_line_start: bool,
-    before: Next,
-) -> Result<Left, AllocError>
-    ensures cells { IfOk result (λ left. left.cells.items
-        ≡ piece_cells (rules_of rules.now) at_line_start before text.now) }
-    ensures tokens { IfOk result (λ left. tokens_in left.tokens.items
-        ≡ piece_tokens (rules_of rules.now) at_line_start before text.now) }
-{
-    let mut left = Left {
-        cells: Vec::new(alloc),
-        tokens: Vec::new(alloc),
-    };
-    let mut room = Room::new(alloc);
-    let mut has_front = at_line_start;
-    let mut at = 0;
-    while at < text.len() {
-        let end = at + text_line_end(&text[at..]);
-        let line = unplaced(alloc, &text[at..end])?;
-        let part = part_of(has_front, before, &line);
-        left.push_line(alloc, rules, part, &line, &mut room)?;
-        has_front = true;
-        at = end;
-    }
-    Ok(left)
-}
-
 fn is_blank(cell: &Cell) -> bool
     ensures { result ≡ is_blank cell.now }
 {
@@ -148,20 +103,116 @@ fn ends_in_blank(cells: &[Cell]) -> bool
     matches!(cells, [.., Cell::Blank])
 }
 
+impl Edges {
+    /// Those of no cells.
+    fn none() -> Edges
+        ensures { HasEdges result [] }
+    {
+        Edges {
+            begins_in_blank: false,
+            ends_in_blank: false,
+            has_text: false,
+        }
+    }
+
+    /// There are no cells.
+    fn is_none(self) -> bool
+        ensures { (cells : List Cell) → HasEdges self cells → result ≡ is_empty cells }
+    {
+        !self.begins_in_blank & !self.has_text
+    }
+
+    /// Adds cells behind the others.
+    fn push(&mut self, cells: &[Cell])
+        ensures { (before : List Cell) → HasEdges self.old before
+            → HasEdges self.new (before ++ cells.now) }
+    {
+        if self.is_none() {
+            self.begins_in_blank = begins_in_blank(cells);
+        }
+        if !cells.is_empty() {
+            self.ends_in_blank = ends_in_blank(cells);
+        }
+        self.has_text |= !are_blank(cells);
+    }
+}
+
+impl Left {
+    /// Adds what is left of a line.
+    fn push_line(
+        &mut self,
+        alloc: Global,
+        rules: &Rules,
+        part: LinePart,
+        line: &[SourceChar],
+        room: &mut Room,
+    ) -> Result<(), AllocError>
+        requires { ends_in_feed line.now ≡ true → part.has_end ≡ true }
+        ensures edges { OnOk result ((before : List Cell) → HasEdges self.old.edges before
+            → HasEdges self.new.edges (before ++ runs_joined (rules_of rules.now)
+            (line_cells (rules_of rules.now) part line.now))) }
+        ensures tokens { OnOk result
+            (tokens_in self.new.tokens.items
+            ≡ tokens_in self.old.tokens.items
+            ++ line_tokens (rules_of rules.now) part line.now) }
+    {
+        // most lines have text in front of them and a line feed at their ends, which is a blank
+        if self.edges.has_text && ends_in_feed(line) {
+            self.edges.ends_in_blank = true;
+        } else {
+            let cells = cells_of_line(alloc, rules, part, line)?;
+            self.edges.push(&cells);
+        }
+        push_tokens_of_line(alloc, rules, part, line, room, &mut self.tokens)
+    }
+}
+
+/// What the lines of a piece leave, one line after another.
+fn left_of(
+    alloc: Global,
+    rules: &Rules,
+    text: &str,
+    at_line_start: bool,
+    before: Next,
+) -> Result<Left, AllocError>
+    ensures edges { IfOk result (λ left. HasEdges left.edges
+        (piece_cells (rules_of rules.now) at_line_start before text.now)) }
+    ensures tokens { IfOk result (λ left. tokens_in left.tokens.items
+        ≡ piece_tokens (rules_of rules.now) at_line_start before text.now) }
+{
+    let mut left = Left {
+        edges: Edges::none(),
+        tokens: Vec::new(alloc),
+    };
+    let mut room = Room::new(alloc);
+    let mut has_front = at_line_start;
+    let mut at = 0;
+    while at < text.len() {
+        let end = at + text_line_end(&text[at..]);
+        let line = unplaced(alloc, &text[at..end])?;
+        let part = part_of(has_front, before, &line);
+        left.push_line(alloc, rules, part, &line, &mut room)?;
+        has_front = true;
+        at = end;
+    }
+    Ok(left)
+}
+
 /// The letters with one blank at each edge where the list has one; a list of blanks alone is one
 /// blank.
-fn with_edges(alloc: Global, cells: &[Cell], letters: &str) -> Result<String, AllocError>
-    ensures { IfOk result (λ edged. string_bytes edged ≡ with_edges cells.now letters.now) }
+fn with_edges(alloc: Global, edges: Edges, letters: &str) -> Result<String, AllocError>
+    ensures { (cells : List Cell) → HasEdges edges cells
+        → IfOk result (λ edged. string_bytes edged ≡ with_edges cells letters.now) }
 {
     let mut edged = String::new(alloc);
-    if begins_in_blank(cells) {
+    if edges.begins_in_blank {
         edged.push(' ')?;
     }
-    if are_blank(cells) {
+    if !edges.has_text {
         return Ok(edged);
     }
     edged.push_str(letters)?;
-    if ends_in_blank(cells) {
+    if edges.ends_in_blank {
         edged.push(' ')?;
     }
     Ok(edged)
@@ -184,10 +235,10 @@ pub fn piece(
     ensures { IfOk result (λ letters. string_bytes letters
         ≡ piece_of (rules_of rules.now) words.now at_line_start before text.now) }
 {
-    let Left { cells, tokens } = left_of(alloc, rules, text, at_line_start, before)?;
+    let Left { edges, tokens } = left_of(alloc, rules, text, at_line_start, before)?;
     let mut rewriting = Rewriting::new(alloc, words.phrases());
     rewriting.take(tokens)?;
     let tokens = rewriting.finish()?;
     let letters = spelled(alloc, &tokens)?;
-    with_edges(alloc, &cells, letters.as_str())
+    with_edges(alloc, edges, letters.as_str())
 }
