@@ -161,7 +161,7 @@ impl<'s> Chosen<'s> {
             (ordered self.now.direction (chars token.now) ∷ more)) }
     {
         let head = read_head(token, self.direction);
-        let places = self.entered_by(token);
+        let places = self.index.entered_by(head);
         keep_beginning(&self.firsts, places, head, self.direction, entered)
     }
 }

@@ -169,9 +169,9 @@ impl Set {
     }
 
     /// A look for the templates that can describe a range of a text's tokens.
-    pub fn look(&self, alloc: Global) -> Look<'_>
-        ensures taken { HasTaken result [] }
-        ensures keys { AreKeysOf (parts_of self.now) (keys_of result) }
+    pub fn look(&self, alloc: Global) -> Result<Look<'_>, AllocError>
+        ensures taken { IfOk result (λ look. HasTaken look []) }
+        ensures keys { IfOk result (λ look. AreKeysOf (parts_of self.now) (keys_of look)) }
     {
         Look::new(alloc, &self.keys)
     }

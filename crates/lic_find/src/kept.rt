@@ -16,7 +16,10 @@ pub fn kept_templates(alloc: Global, set: &Set, text: &Text) -> Result<Vec<usize
     ensures others { IfOk result (λ kept.
         OthersDescribeNoRange (parts_of set.now) kept.items (all_letters text.now.tokens)) }
 {
-    let mut look = set.look(alloc);
+    let mut look = set.look(alloc)?;
+    if look.keeps_all() {
+        return look.kept(alloc);
+    }
     for number in 0..text.len() {
         look.push(text.token(number).text)?;
     }

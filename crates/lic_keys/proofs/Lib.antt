@@ -4,3 +4,4 @@ pub mod WindowLemmas
 pub mod TableLemmas
 pub mod FlagLemmas
 pub mod ListingLemmas
+pub mod LookLemmas

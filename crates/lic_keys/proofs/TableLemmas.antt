@@ -1,12 +1,11 @@
 -- A number more in a table.
-use Rattle.std.proofs.Common.{◌≡◌, ℕ, ◌+◌, ◌<◌, ◌≤◌, Bool, true, false, if◌then◌else◌, List, [], ◌∷◌, ◌++◌, Some, length, get_or, set, refl, sym, ap, ◌∙◌, subst, arith}
+use Rattle.std.proofs.Common.{◌≡◌, ℕ, ◌+◌, ◌<◌, ◌≤◌, Bool, true, false, if◌then◌else◌, List, [], ◌∷◌, ◌++◌, length, get_or, set, refl, sym, ap, ◌∙◌, subst, arith}
 use Rattle.std.specs.List.{Contains}
 use Rattle.std.proofs.lemmas.Bool.{cases_eq, cases_lt}
 use Rattle.std.proofs.lemmas.List.{get_or-set_same, get_or-set_other, get_or_append_left, get_or_push, get_or_past, length_push}
 use Rattle.std.proofs.lemmas.List.Elements.{Contains-push, Contains-append_left, Contains-push_cases}
-use Rattle.std.proofs.lemmas.Option.{same_Some}
 use Rattle.std.proofs.Math.Logic.{⊎_elim}
-use Rattle.lic_keys.specs.Tables.{PutsDown, list_place, lists_of, mark_place, named}
+use Rattle.lic_keys.specs.Tables.{AddsFor, list_place, lists_of, mark_place, named}
 use Rattle.lic_keys.specs.declared.table.Table.{Table}
 
 pub none_inside : (k : ℕ) → Contains {X = ℕ} [] k → ⊥
@@ -19,9 +18,9 @@ in_if false xs k h = absurd (none_inside k h)
 if_in : (b : Bool) (xs : List ℕ) (k : ℕ) → b ≡ true → Contains xs k → Contains (if b then xs else []) k
 if_in b xs k e h = rw e h
 
--- what a window names stands in its list
-pub named-list : (table : Table) (window : List ℕ) (k : ℕ) → Contains (named table window) k → Contains (get_or (lists_of table) (list_place window) []) k
-named-list table window k h = (in_if _ _ k h).1
+-- what a gram names stands in its list
+pub named-list : (table : Table) (gram : List ℕ) (k : ℕ) → Contains (named table gram) k → Contains (get_or (lists_of table) (list_place gram) []) k
+named-list table gram k h = (in_if _ _ k h).1
 
 module _ (marks : List Bool) (lists : List (List ℕ)) (number m i : ℕ) (marked : m < length marks) (listed : i < length lists) where
   mark_here : get_or (set marks m true) m false ≡ true
@@ -59,32 +58,28 @@ module _ (marks : List Bool) (lists : List (List ℕ)) (number m i : ℕ) (marke
       (λ (other : j ≡ i → ⊥). below j k (subst (λ xs. Contains xs k) (get_or-set_other lists i j (get_or lists i [] ++ number ∷ []) [] other) h))
       (cases_eq j i)
 
--- the number is pushed to the list of a window, and the window is marked
-pub PutsDown-push : (window : List ℕ) (number : ℕ) (old new : Table) → mark_place window < length old.marks.items → list_place window < length (lists_of old) →
-    new.marks.items ≡ set old.marks.items (mark_place window) true →
-    lists_of new ≡ set (lists_of old) (list_place window) (get_or (lists_of old) (list_place window) [] ++ number ∷ []) → PutsDown (Some window) number old new
-PutsDown-push window number old new marked listed marks lists = record {
-  added = λ other same.
-      let is : window ≡ other = same_Some window other same in
-      subst (λ x. Contains (named new x) number) is
-      (if_in _ _ number (ap (λ ms. get_or ms (mark_place window) false) marks
-      ∙ mark_here old.marks.items (lists_of old) number (mark_place window)
-      (list_place window) marked listed)
+-- the number is pushed to the list of a gram, and the gram is marked
+pub AddsFor-push : (gram : List ℕ) (number : ℕ) (old new : Table) → mark_place gram < length old.marks.items → list_place gram < length (lists_of old) →
+    new.marks.items ≡ set old.marks.items (mark_place gram) true →
+    lists_of new ≡ set (lists_of old) (list_place gram) (get_or (lists_of old) (list_place gram) [] ++ number ∷ []) → AddsFor gram number old new
+AddsFor-push gram number old new marked listed marks lists = record {
+  added =
+      if_in _ _ number (ap (λ ms. get_or ms (mark_place gram) false) marks
+      ∙ mark_here old.marks.items (lists_of old) number (mark_place gram) (list_place gram) marked listed)
       (subst (λ xs. Contains xs number)
-      (sym (ap (λ ls. get_or ls (list_place window) []) lists
-      ∙ list_here old.marks.items (lists_of old) number (mark_place window)
-      (list_place window) marked listed))
-      (Contains-push (get_or (lists_of old) (list_place window) []) number)));
+      (sym (ap (λ ls. get_or ls (list_place gram) []) lists
+      ∙ list_here old.marks.items (lists_of old) number (mark_place gram) (list_place gram) marked listed))
+      (Contains-push (get_or (lists_of old) (list_place gram) []) number));
   kept = λ other k h.
       let (mark, list) = in_if _ _ k h in
       if_in _ _ k
       (ap (λ ms. get_or ms (mark_place other) false) marks
-      ∙ mark_kept old.marks.items (lists_of old) number (mark_place window) (list_place window) marked listed
+      ∙ mark_kept old.marks.items (lists_of old) number (mark_place gram) (list_place gram) marked listed
       (mark_place other) mark)
       (subst (λ ls. Contains (get_or ls (list_place other) []) k) (sym lists)
-      (list_kept old.marks.items (lists_of old) number (mark_place window) (list_place window) marked listed (list_place other) k list));
+      (list_kept old.marks.items (lists_of old) number (mark_place gram) (list_place gram) marked listed (list_place other) k list));
   below = λ n all less i k h.
-      list_below old.marks.items (lists_of old) number (mark_place window) (list_place window) marked listed n all less i k
+      list_below old.marks.items (lists_of old) number (mark_place gram) (list_place gram) marked listed n all less i k
       (subst (λ ls. Contains (get_or ls i []) k) lists h);
 }
 

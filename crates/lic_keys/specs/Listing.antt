@@ -1,11 +1,11 @@
 -- Keys as they are kept, and the table in which they are looked up.
-use Rattle.std.specs.Prelude.{◌≡◌, ◌⊎◌, [], ℕ, Bool, false, true, List, Option, Some, None, Vec, length, map, Contains, slice_index_or}
+use Rattle.std.specs.Prelude.{◌≡◌, ◌⊎◌, [], ℕ, Bool, false, true, List, Option, Some, None, Vec, length, map, take, drop, ◌+◌, ◌≤◌, ◌<◌, Contains, slice_index_or}
 use Rattle.std.specs.Global.{Global}
 use Rattle.std.specs.List.{slice_get}
 use Rattle.std.specs.Option.{option_map}
 use Rattle.lic_markup.specs.declared.part.Part.{Part}
 use Rattle.lic_keys.specs.Keys.{HasLetters, IsWindowOf}
-use Rattle.lic_keys.specs.Tables.{AllBelow, named}
+use Rattle.lic_keys.specs.Tables.{AllBelow, gram_at, named}
 use Rattle.lic_keys.specs.declared.table.Table.{Table}
 
 -- the letters of a key
@@ -32,8 +32,13 @@ HaveLengths keys = (k : ℕ) (key : List ℕ) → slice_get keys k ≡ Some (Som
 abbrev pub IsSet : List Bool → ℕ → Type 0
 IsSet flags k = slice_index_or flags k false ≡ true
 
--- The table has for each key the number of its template, and numbers of templates alone.
+-- the key stands in the letters from this place on
+pub record StandsAt (key letters : List ℕ) (from : ℕ) : Type 0 where
+  pub room : from + 16 ≤ length letters
+  pub is : key ≡ take 16 (drop from letters)
+
+-- The table has for the first eight grams of each key the number of its template, and numbers of templates alone.
 pub record IsListed (keys : List (Option (List ℕ))) (table : Table) : Type 0 where
   pub lengths : HaveLengths keys
-  pub listed : (k : ℕ) (key : List ℕ) → slice_get keys k ≡ Some (Some key) → Contains (named table key) k
+  pub listed : (k start : ℕ) (key : List ℕ) → slice_get keys k ≡ Some (Some key) → start < 8 → Contains (named table (gram_at key start)) k
   pub below : AllBelow (length keys) table

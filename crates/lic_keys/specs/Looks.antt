@@ -1,20 +1,35 @@
 -- Which tokens a look has taken, and which templates cannot describe a range of them.
-use Rattle.std.specs.Prelude.{◌≡◌, ◌++◌, ℕ, List, Option, Some, map, Contains}
+use Rattle.std.specs.Prelude.{◌≡◌, ◌<◌, ◌++◌, ◌⊎◌, ℕ, Bool, List, Option, Some, map, length, Contains}
 use Rattle.std.specs.List.{slice_get}
 use Rattle.lic_words.specs.Describing.{IsDescribed}
 use Rattle.lic_markup.specs.declared.part.Part.{Part}
 use Rattle.lic_markup.specs.Parts.{part_of}
 use Rattle.lic_markup.specs.Meaning.{parts_words}
-use Rattle.lic_keys.specs.Keys.{letters_of}
+use Rattle.lic_keys.specs.Keys.{IsWindowOf, letters_of}
+use Rattle.lic_keys.specs.Listing.{IsSet}
 use Rattle.lic_keys.specs.declared.look.Look.{Look}
 
 -- the keys that are looked for
 abbrev pub keys_of : Look → List (Option (List ℕ))
 keys_of look = look.keys.now
 
--- these are the tokens that were taken, or others with the same letters
+-- A key that stands in these letters and any others behind them has its flag set, or stands in the letters that are held and those
+-- others.
+pub record Finds (keys : List (Option (List ℕ))) (flags : List Bool) (held letters : List ℕ) : Type 0 where
+  pub found : (k : ℕ) (key more : List ℕ) → slice_get keys k ≡ Some (Some key) → IsWindowOf key (letters ++ more) →
+      IsSet flags k ⊎ IsWindowOf key (held ++ more)
+
+-- each key that stands in these letters was found, or will be
+abbrev pub HoldsAll : Look → List ℕ → Type 0
+HoldsAll look letters = Finds (keys_of look) look.flags.items look.letters.items letters
+
+-- the tokens that were taken, or others with the same letters
 abbrev pub HasTaken : Look → List (List ℕ) → Type 0
-HasTaken look ts = look.letters.items ≡ letters_of ts
+HasTaken look ts = HoldsAll look (letters_of ts)
+
+-- the flag of each template is set
+abbrev pub KeepsAll : Look → Type 0
+KeepsAll look = (k : ℕ) → k < length (keys_of look) → IsSet look.flags.items k
 
 -- no template but those of the numbers describes a range of the tokens
 abbrev pub OthersDescribeNoRange : List (List Part) → List ℕ → List (List ℕ) → Type 0

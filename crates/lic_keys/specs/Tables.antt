@@ -1,27 +1,27 @@
--- Which numbers a table has for a window.
-use Rattle.std.specs.Prelude.{◌≡◌, ℕ, ◌/◌, ◌%◌, ◌^◌, ◌<◌, Bool, false, List, [], Option, Some, map, if◌then◌else◌, Contains, slice_index_or}
+-- Which numbers a table has for a gram.
+use Rattle.std.specs.Prelude.{◌≡◌, ℕ, ◌/◌, ◌%◌, ◌^◌, ◌<◌, Bool, false, List, [], Option, Some, map, if◌then◌else◌, Contains, slice_index_or, take, drop}
 use Rattle.lic_keys.specs.Hashes.{hash_of}
 use Rattle.lic_keys.specs.declared.table.Table.{Table}
 
--- the mark of a window
+-- the mark of a gram
 abbrev pub mark_place : List ℕ → ℕ
-mark_place window = hash_of window / 2 ^ 24 % 65536
+mark_place gram = hash_of gram / 2 ^ 24 % 262144
 
--- the list of a window
+-- the list of a gram
 abbrev pub list_place : List ℕ → ℕ
-list_place window = hash_of window / 2 ^ 12 % 4096
+list_place gram = hash_of gram / 2 ^ 12 % 4096
 
--- what the list of a window has, if the window is marked
+-- what the list of a gram has, if the gram is marked
 abbrev pub named_in : List Bool → List (List ℕ) → List ℕ → List ℕ
-named_in marks lists window = if slice_index_or marks (mark_place window) false then slice_index_or lists
-    (list_place window) [] else []
+named_in marks lists gram = if slice_index_or marks (mark_place gram) false then slice_index_or lists (list_place gram)
+    [] else []
 
 abbrev pub lists_of : Table → List (List ℕ)
 lists_of table = map (λ list. list.items) table.lists.items
 
--- the numbers for a window
+-- the numbers for a gram
 abbrev pub named : Table → List ℕ → List ℕ
-named table window = named_in table.marks.items (lists_of table) window
+named table gram = named_in table.marks.items (lists_of table) gram
 
 -- no list has a number
 abbrev pub HasNone : Table → Type 0
@@ -31,8 +31,18 @@ HasNone table = (i : ℕ) → slice_index_or (lists_of table) i [] ≡ []
 abbrev pub AllBelow : ℕ → Table → Type 0
 AllBelow n table = (i k : ℕ) → Contains (slice_index_or (lists_of table) i []) k → k < n
 
--- the number is put down for the key, if there is one, what was put down is still there, and no other number is there
+-- the number is put down for the gram, what was put down is still there, and no other number is there
+pub record AddsFor (gram : List ℕ) (number : ℕ) (old new : Table) : Type 0 where
+  pub added : Contains (named new gram) number
+  pub kept : (other : List ℕ) (k : ℕ) → Contains (named old other) k → Contains (named new other) k
+  pub below : (n : ℕ) → AllBelow n old → number < n → AllBelow n new
+
+-- the gram of letters that begins at a place
+abbrev pub gram_at : List ℕ → ℕ → List ℕ
+gram_at letters start = take 9 (drop start letters)
+
+-- the number is put down for the first eight grams of the key, if there is one, and nothing else is changed
 pub record PutsDown (key : Option (List ℕ)) (number : ℕ) (old new : Table) : Type 0 where
-  pub added : (window : List ℕ) → key ≡ Some window → Contains (named new window) number
-  pub kept : (window : List ℕ) (k : ℕ) → Contains (named old window) k → Contains (named new window) k
+  pub added : (letters : List ℕ) (start : ℕ) → key ≡ Some letters → start < 8 → Contains (named new (gram_at letters start)) number
+  pub kept : (other : List ℕ) (k : ℕ) → Contains (named old other) k → Contains (named new other) k
   pub below : (n : ℕ) → AllBelow n old → number < n → AllBelow n new

@@ -1,15 +1,15 @@
-//! The keys of templates, and the table in which a window is looked up.
+//! The keys of templates, and the table in which their grams are looked up.
 
-ghost use Rattle.std.specs.Prelude.{◌≡◌, ◌↔◌, ◌<◌, ℕ, List, None, Some, map, length, Contains, IfOk, OnOk, IsTrue};
+ghost use Rattle.std.specs.Prelude.{◌≡◌, ◌↔◌, ◌<◌, ◌≤◌, ◌+◌, ℕ, List, None, Some, map, length, Contains, IfOk, OnOk, IsTrue};
 ghost use Rattle.std.specs.List.{AllZip, slice_get};
 ghost use Rattle.std.specs.Option.{is_none, option_map};
 ghost use Rattle.lic_keys.specs.Keys.{AreKeysOf, IsWindowOf};
-ghost use Rattle.lic_keys.specs.Listing.{HaveLengths, IsListed, IsPickedOf, IsSet, MayHaveLetters, plain_key, plain_keys};
+ghost use Rattle.lic_keys.specs.Listing.{HaveLengths, IsListed, IsPickedOf, IsSet, MayHaveLetters, StandsAt, plain_key, plain_keys};
 ghost use Rattle.lic_keys.specs.Tables.{PutsDown};
 
 use crate::table::Table;
 use crate::texts::longest_letters;
-use crate::window::{Counts, LENGTH};
+use crate::window::{Counts, GRAM, LENGTH, STEP};
 use lic_markup::Template;
 use std::alloc::{AllocError, Global};
 use std::marker::Model;
@@ -63,6 +63,8 @@ impl Keys {
     }
 
     /// Sets the flag of each template whose key stands in the letters.
+    ///
+    /// It looks at one of eight places. Wherever a key stands, one of its first eight grams begins at such a place.
     pub(crate) fn mark_all(&self, letters: &[char], flags: &mut [bool])
         requires { length flags.old ≡ length self.now }
         ensures kept { (k : ℕ) → IsSet flags.old k → IsSet flags.new k }
@@ -72,33 +74,38 @@ impl Keys {
         if letters.len() < LENGTH {
             return;
         }
-        for place in 0..letters.len() - (LENGTH - 1) {
-            self.mark(&letters[place..place + LENGTH], flags);
+        for step in 0..(letters.len() - GRAM) / STEP + 1 {
+            self.mark(letters, step * STEP, flags);
         }
     }
 
-    // Sets the flag of each template whose key this window is.
-    fn mark(&self, window: &[char], flags: &mut [bool])
-        requires window { length window.now ≡ 16 }
+    // Sets the flag of each template whose key stands in the letters and has one of its first eight grams at this place.
+    fn mark(&self, letters: &[char], place: usize, flags: &mut [bool])
+        requires place { place + 9 ≤ length letters.now }
         requires flags { length flags.old ≡ length self.now }
         ensures kept { (k : ℕ) → IsSet flags.old k → IsSet flags.new k }
-        ensures set { (k : ℕ) → slice_get self.now k ≡ Some (Some window.now) → IsSet flags.new k }
+        ensures set { (k from : ℕ) (key : List ℕ) → slice_get self.now k ≡ Some (Some key)
+            → StandsAt key letters.now from → from ≤ place → place < from + 8
+            → IsSet flags.new k }
     {
-        let numbers = self.table.numbers(window);
-        mark_each(&self.keys, numbers, window, flags);
+        let numbers = self.table.numbers(&letters[place..place + GRAM]);
+        let start = place.saturating_sub(STEP - 1);
+        let end = letters.len().min(place + LENGTH);
+        mark_each(&self.keys, numbers, &letters[start..end], flags);
     }
 }
 
-// Sets the flag of each of these numbers whose key this window is.
-fn mark_each(keys: &[Option<Vec<char>>], numbers: &[usize], window: &[char], flags: &mut [bool])
+// Sets the flag of each of these numbers whose key stands in the letters.
+fn mark_each(keys: &[Option<Vec<char>>], numbers: &[usize], letters: &[char], flags: &mut [bool])
     requires inside { (k : ℕ) → Contains numbers.now k → k < length keys.now }
     requires flags { length flags.old ≡ length keys.now }
     ensures kept { (k : ℕ) → IsSet flags.old k → IsSet flags.new k }
-    ensures set { (k : ℕ) → Contains numbers.now k
-        → slice_get (plain_keys keys.now) k ≡ Some (Some window.now) → IsSet flags.new k }
+    ensures set { (k : ℕ) (key : List ℕ) → Contains numbers.now k
+        → slice_get (plain_keys keys.now) k ≡ Some (Some key) → IsWindowOf key letters.now
+        → IsSet flags.new k }
 {
     for number in numbers {
-        if is_key(&keys[*number], window) {
+        if key_stands(&keys[*number], letters) {
             flags[*number] = true;
         }
     }
@@ -154,23 +161,51 @@ fn list_keys(alloc: Global, keys: &[Option<Vec<char>>]) -> Result<Table, AllocEr
     Ok(table)
 }
 
+// Puts the number down for the first eight grams of the key, if there is one.
 fn put_down(table: &mut Table, key: &Option<Vec<char>>, number: usize) -> Result<(), AllocError>
     requires { (letters : List ℕ) → plain_key key.now ≡ Some letters → length letters ≡ 16 }
     ensures { OnOk result (PutsDown (plain_key key.now) number table.old table.new) }
 {
     match key {
-        Some(key) => table.add(key, number),
+        Some(key) => put_grams_down(table, key, number),
         None => Ok(()),
     }
 }
 
-fn is_key(key: &Option<Vec<char>>, window: &[char]) -> bool
-    ensures { IsTrue result ↔ (option_map (λ letters. letters.items) key.now ≡ Some window.now) }
+fn put_grams_down(table: &mut Table, key: &[char], number: usize) -> Result<(), AllocError>
+    requires { length key.now ≡ 16 }
+    ensures { OnOk result (PutsDown (Some key.now) number table.old table.new) }
+{
+    for start in 0..STEP {
+        table.add(&key[start..start + GRAM], number)?;
+    }
+    Ok(())
+}
+
+// Whether there is a key, and it stands in the letters.
+fn key_stands(key: &Option<Vec<char>>, letters: &[char]) -> bool
+    ensures { IsTrue result
+        ↔ ((window : List ℕ) × (plain_key key.now ≡ Some window)
+        × IsWindowOf window letters.now) }
 {
     match key {
-        Some(key) => key.as_slice() == window,
+        Some(key) => window_stands(key, letters),
         None => false,
     }
+}
+
+fn window_stands(window: &[char], letters: &[char]) -> bool
+    ensures { IsTrue result ↔ IsWindowOf window.now letters.now }
+{
+    if letters.len() < LENGTH {
+        return false;
+    }
+    for place in 0..letters.len() - (LENGTH - 1) {
+        if &letters[place..place + LENGTH] == window {
+            return true;
+        }
+    }
+    false
 }
 
 // A flag for each key that is missing.

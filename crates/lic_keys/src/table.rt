@@ -1,27 +1,27 @@
-//! The templates that have a window as their key: a table of marks in front of lists by hash.
+//! The templates whose key has a gram: a table of marks in front of lists by hash.
 
-ghost use Rattle.std.specs.Prelude.{◌≡◌, ◌/◌, ◌%◌, ◌^◌, IfOk, OnOk, Some, length, vec_len};
+ghost use Rattle.std.specs.Prelude.{◌≡◌, ◌/◌, ◌%◌, ◌^◌, IfOk, OnOk, length, vec_len};
 
 use crate::window::hash;
 use std::alloc::{AllocError, Global};
 
-const MARKS: usize = 65_536;
+const MARKS: usize = 262_144;
 
 const LISTS: usize = 4_096;
 
-/// For each window the numbers that were put down for it.
+/// For each gram the numbers that were put down for it.
 #[derive(Debug, Drop)]
 pub struct Table {
-    // whether any number was put down for a window with this mark
+    // whether any number was put down for a gram with this mark
     marks: Vec<bool>,
-    // the numbers, by the list of their windows
+    // the numbers, by the list of their grams
     lists: Vec<Vec<usize>>,
-    ghost mark_count: { vec_len marks ≡ 65536 },
+    ghost mark_count: { vec_len marks ≡ 262144 },
     ghost list_count: { vec_len lists ≡ 4096 },
 }
 
 impl Table {
-    ghost use Rattle.lic_keys.specs.Tables.{HasNone, PutsDown, named};
+    ghost use Rattle.lic_keys.specs.Tables.{AddsFor, HasNone, named};
 
     /// A table without numbers.
     pub fn new(alloc: Global) -> Result<Table, AllocError>
@@ -37,23 +37,23 @@ impl Table {
         })
     }
 
-    /// Puts a number down for a window.
-    pub fn add(&mut self, window: &[char], number: usize) -> Result<(), AllocError>
-        requires { length window.now ≡ 16 }
-        ensures { OnOk result (PutsDown (Some window.now) number self.old self.new) }
+    /// Puts a number down for a gram.
+    pub fn add(&mut self, gram: &[char], number: usize) -> Result<(), AllocError>
+        requires { length gram.now ≡ 9 }
+        ensures { OnOk result (AddsFor gram.now number self.old self.new) }
     {
-        let hash = hash(window);
+        let hash = hash(gram);
         self.lists[list_of(hash)].push(number)?;
         self.marks[mark_of(hash)] = true;
         Ok(())
     }
 
-    /// The numbers that were put down for a window, and perhaps some others.
-    pub fn numbers(&self, window: &[char]) -> &[usize]
-        requires { length window.now ≡ 16 }
-        ensures { result.now ≡ named self.now window.now }
+    /// The numbers that were put down for a gram, and perhaps some others.
+    pub fn numbers(&self, gram: &[char]) -> &[usize]
+        requires { length gram.now ≡ 9 }
+        ensures { result.now ≡ named self.now gram.now }
     {
-        let hash = hash(window);
+        let hash = hash(gram);
         if self.marks[mark_of(hash)] {
             &self.lists[list_of(hash)]
         } else {
@@ -63,7 +63,7 @@ impl Table {
 }
 
 fn mark_of(hash: u64) -> usize
-    ensures { result ≡ hash / 2 ^ 24 % 65536 }
+    ensures { result ≡ hash / 2 ^ 24 % 262144 }
 {
     (hash >> 24) as usize % MARKS
 }

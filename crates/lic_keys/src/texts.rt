@@ -8,8 +8,8 @@ ghost use Rattle.lic_keys.specs.Keys.{HasText, IsText, without_blanks};
 use lic_markup::Part;
 use std::alloc::{AllocError, Global};
 
-/// Puts the letters of a text that are no blanks behind those that are there.
-pub fn push_letters(letters: &mut Vec<char>, text: &str) -> Result<(), AllocError>
+// Puts the letters of a text that are no blanks behind those that are there.
+fn push_letters(letters: &mut Vec<char>, text: &str) -> Result<(), AllocError>
     ensures { OnOk result (letters.new.items
         ≡ letters.old.items ++ without_blanks (chars text.now)) }
 {

@@ -1,4 +1,4 @@
-//! Windows of letters: their hash, and the one that is rarest among templates.
+//! Windows of letters, the grams within them, and the window that is rarest among templates.
 
 ghost use Rattle.std.specs.Prelude.{◌≡◌, ◌<◌, ◌^◌, IfSome, length, slice_index};
 ghost use Rattle.lic_keys.specs.Keys.{IsWindowOf};
@@ -9,33 +9,45 @@ use std::alloc::{AllocError, Global};
 /// How many letters a window has.
 pub const LENGTH: usize = 16;
 
-// The most counters for windows.
-const MAX_COUNTERS: usize = 1 << 22;
+/// Letters are looked at at one of so many places.
+pub const STEP: usize = 8;
 
-/// The hash of a window, from every other letter of it.
-pub fn hash(window: &[char]) -> u64
-    requires { length window.now ≡ 16 }
-    ensures { result ≡ hash_of window.now }
+/// How many letters a gram has. Wherever a window stands, one of its grams begins at a place that is looked at.
+pub const GRAM: usize = LENGTH - STEP + 1;
+
+// One window of so many is counted.
+const COUNTED: usize = 8;
+
+// The most counters for windows.
+const MAX_COUNTERS: usize = 1 << 19;
+
+/// The hash of a gram.
+pub fn hash(gram: &[char]) -> u64
+    requires { length gram.now ≡ 9 }
+    ensures { result ≡ hash_of gram.now }
 {
-    letter(window, 0) * 0x35_4D47_9C6B
-        + letter(window, 2) * 0x6A_09E6_67F3
-        + letter(window, 4) * 0x3C_6EF3_72FF
-        + letter(window, 6) * 0x52_0E51_7F41
-        + letter(window, 8) * 0x1F_83D9_ABFB
-        + letter(window, 10) * 0x5B_E0CD_19A7
-        + letter(window, 12) * 0x79_E377_9B97
-        + letter(window, 14) * 0x4A_2B7E_1513
+    letter(gram, 0) * 0x35_4D47_9C6B
+        + letter(gram, 1) * 0x6A_09E6_67F3
+        + letter(gram, 2) * 0x3C_6EF3_72FF
+        + letter(gram, 3) * 0x52_0E51_7F41
+        + letter(gram, 4) * 0x1F_83D9_ABFB
+        + letter(gram, 5) * 0x5B_E0CD_19A7
+        + letter(gram, 6) * 0x79_E377_9B97
+        + letter(gram, 7) * 0x4A_2B7E_1513
+        + letter(gram, 8) * 0x2D_98C1_0E6D
 }
 
-fn letter(window: &[char], place: usize) -> u64
-    requires { place < length window.now }
-    ensures value { result ≡ slice_index window.now place }
+fn letter(gram: &[char], place: usize) -> u64
+    requires { place < length gram.now }
+    ensures value { result ≡ slice_index gram.now place }
     ensures fits { result < 2 ^ 21 }
 {
-    window[place] as u64
+    gram[place] as u64
 }
 
-/// How often windows stand in texts, counted by their hashes.
+/// How often windows stand in texts, counted by the hash of their first gram.
+///
+/// One window of eight is counted. Which they are depends on their letters alone.
 #[derive(Drop)]
 pub struct Counts {
     counters: Vec<u32>,
@@ -48,7 +60,7 @@ impl Counts {
         for text in texts {
             letters = letters.saturating_add(text.len());
         }
-        let size = letters.saturating_mul(2).clamp(1, MAX_COUNTERS);
+        let size = (letters / COUNTED).saturating_mul(2).clamp(1, MAX_COUNTERS);
         let mut counts = Counts {
             counters: vec![in alloc; 0u32; size]?,
         };
@@ -64,32 +76,36 @@ impl Counts {
             return;
         }
         for place in 0..text.len() - (LENGTH - 1) {
-            let counter = self.place_of(&text[place..place + LENGTH]);
-            if let Some(count) = self.counters.get_mut(counter) {
-                *count = count.saturating_add(1);
-            }
+            self.add_window(hash(&text[place..place + GRAM]));
         }
     }
 
-    // The place of a window's counter.
-    fn place_of(&self, window: &[char]) -> usize
-        requires { length window.now ≡ 16 }
-    {
+    // Counts one more window with this hash, if such windows are counted.
+    fn add_window(&mut self, hash: u64) {
+        if !is_counted(hash) {
+            return;
+        }
+        let counter = self.place_of(hash);
+        if let Some(count) = self.counters.get_mut(counter) {
+            *count = count.saturating_add(1);
+        }
+    }
+
+    // The place of the counter for a hash.
+    fn place_of(&self, hash: u64) -> usize {
         let size = self.counters.len().max(1);
-        (hash(window) % size as u64) as usize
+        (hash % size as u64) as usize
     }
 
-    // How often the window was counted, and perhaps some others.
-    fn count(&self, window: &[char]) -> u32
-        requires { length window.now ≡ 16 }
-    {
-        self.counters
-            .get(self.place_of(window))
-            .copied()
-            .unwrap_or(0)
+    // How often windows with this hash were counted, and perhaps some others; the most where they are not counted.
+    fn count(&self, hash: u64) -> u32 {
+        if !is_counted(hash) {
+            return u32::MAX;
+        }
+        self.counters.get(self.place_of(hash)).copied().unwrap_or(0)
     }
 
-    /// The window of a text that stands in fewest texts.
+    /// The window of a text that stands in fewest texts, of those that are counted; the first where none is.
     pub fn rarest<'t>(&self, text: &'t [char]) -> Option<&'t [char]>
         ensures { IfSome result (λ window. IsWindowOf window.now text.now) }
     {
@@ -99,7 +115,7 @@ impl Counts {
         let mut rarest = 0;
         let mut least = u32::MAX;
         for place in 0..text.len() - (LENGTH - 1) {
-            let count = self.count(&text[place..place + LENGTH]);
+            let count = self.count(hash(&text[place..place + GRAM]));
             if count < least {
                 least = count;
                 rarest = place;
@@ -107,4 +123,9 @@ impl Counts {
         }
         Some(&text[rarest..rarest + LENGTH])
     }
+}
+
+// Whether windows with this hash are counted.
+fn is_counted(hash: u64) -> bool {
+    (hash >> 20) % COUNTED as u64 == 0
 }

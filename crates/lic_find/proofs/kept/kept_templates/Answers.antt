@@ -27,6 +27,28 @@ loop-number-preserved c =
           (c.in_ok-push.ensures.taken front c.loop-number.invariant.taken));
     }
 
+pub returns-then-keeps_all-clause-rising : goal.returns-then-keeps_all-clause-rising
+returns-then-keeps_all-clause-rising c =
+    let set = c.args.set.now in
+    let keys = keys_of c.in_ok-look.look in
+    let count : length keys ≡ length set =
+    sym (AllZip-count IsKeyOf (parts_of set) keys c.in_ok-look.ensures.keys) ∙ length-map set (λ known. known.template.parts) in
+    IfOk-weaker c.kept.result (λ kept. IsRising kept.items (length keys)) (λ kept. IsRising kept.items (length set))
+    (λ kept rising. subst (IsRising kept.items) count rising) c.kept.ensures.rising
+
+pub returns-then-keeps_all-clause-others : goal.returns-then-keeps_all-clause-others
+returns-then-keeps_all-clause-others c =
+    let set = c.args.set.now in
+    let tokens = c.args.text.now.tokens in
+    let look = c.in_ok-look.look in
+    IfOk-weaker c.kept.result
+    (λ kept. (templates : List (List Part)) (ts : List (List ℕ)) → AreKeysOf templates (keys_of look)
+    → HasTaken look ts → OthersDescribeNoRange templates kept.items ts)
+    (λ kept. OthersDescribeNoRange (parts_of set) kept.items (all_letters tokens))
+    (λ kept rest.
+    rest (parts_of set) (all_letters tokens) c.in_ok-look.ensures.keys (c.keeps_all.ensures.taken c.if-keeps_all.true (all_letters tokens)))
+    c.kept.ensures.others
+
 pub returns-clause-rising : goal.returns-clause-rising
 returns-clause-rising c =
     let set = c.args.set.now in
@@ -34,8 +56,8 @@ returns-clause-rising c =
     let count : length keys ≡ length set =
     sym (AllZip-count IsKeyOf (parts_of set) keys c.loop-number.invariant.keys)
     ∙ length-map set (λ known. known.template.parts) in
-    IfOk-weaker c.kept.result (λ kept. IsRising kept.items (length keys)) (λ kept. IsRising kept.items (length set))
-    (λ kept rising. subst (IsRising kept.items) count rising) c.kept.ensures.rising
+    IfOk-weaker c.kept-2.result (λ kept. IsRising kept.items (length keys)) (λ kept. IsRising kept.items (length set))
+    (λ kept rising. subst (IsRising kept.items) count rising) c.kept-2.ensures.rising
 
 pub returns-clause-others : goal.returns-clause-others
 returns-clause-others c =
@@ -44,8 +66,8 @@ returns-clause-others c =
     let look = c.loop-number.look in
     let whole : take c.loop-number.number tokens ≡ tokens = take_all c.loop-number.number tokens (omega arith) in
     let taken : HasTaken look (all_letters tokens) = subst (λ ts. HasTaken look (all_letters ts)) whole c.loop-number.invariant.taken in
-    IfOk-weaker c.kept.result
+    IfOk-weaker c.kept-2.result
     (λ kept. (templates : List (List Part)) (ts : List (List ℕ)) → AreKeysOf templates (keys_of look)
     → HasTaken look ts → OthersDescribeNoRange templates kept.items ts)
     (λ kept. OthersDescribeNoRange (parts_of set) kept.items (all_letters tokens))
-    (λ kept rest. rest (parts_of set) (all_letters tokens) c.loop-number.invariant.keys taken) c.kept.ensures.others
+    (λ kept rest. rest (parts_of set) (all_letters tokens) c.loop-number.invariant.keys taken) c.kept-2.ensures.others

@@ -5,7 +5,7 @@ use Rattle.std.proofs.lemmas.List.{length-map}
 use Rattle.std.proofs.lemmas.Option.{same_Some, slice_get_within}
 use Rattle.std.proofs.Math.Logic.{⊎_elim}
 use Rattle.lic_keys.specs.Listing.{plain_key, plain_keys}
-use Rattle.lic_keys.specs.Tables.{PutsDown, named}
+use Rattle.lic_keys.specs.Tables.{PutsDown, gram_at, named}
 use Rattle.lic_keys.proofs.ListingLemmas.{plain_at}
 use Rattle.lic_keys.proofs.TableLemmas.{none_inside}
 use Rattle.lic_keys.proofs.keys.list_keys.Goals as goal
@@ -19,7 +19,7 @@ pub loop-number-init : goal.loop-number-init
 loop-number-init c =
     let empty = c.in_ok-table.ensures in
     record {
-      listed = λ k key less there. absurd (omega arith);
+      listed = λ k start key less there early. absurd (omega arith);
       below = λ i k h. absurd (none_inside k (subst (λ xs. Contains xs k) (empty i) h));
     }
 
@@ -31,13 +31,13 @@ loop-number-preserved c =
     let here : slice_get (plain_keys c.args.keys.now) n ≡ Some (plain_key c.index-keys-number.result) =
     plain_at c.args.keys.now n c.index-keys-number.result c.loop-number-test.true c.index-keys-number.is in
     record {
-      listed = λ k key less there.
+      listed = λ k start key less there early.
           ⊎_elim
-          (λ (earlier : k < n). down.kept key k (before.listed k key earlier there))
+          (λ (earlier : k < n). down.kept (gram_at key start) k (before.listed k start key earlier there early))
           (λ (later : n ≤ k).
           let now : k ≡ n = omega arith in
           let same : Some (plain_key c.index-keys-number.result) ≡ Some (Some key) = sym here ∙ ap (slice_get (plain_keys c.args.keys.now)) (sym now) ∙ there in
-          subst (Contains (named c.put_down.new.table key)) (sym now) (down.added key (same_Some _ _ same)))
+          subst (Contains (named c.put_down.new.table (gram_at key start))) (sym now) (down.added key start (same_Some _ _ same) early))
           (cases_lt k n);
       below = down.below (n + 1) (λ i k h. let less : k < n = before.below i k h in omega arith) (omega arith);
     }
@@ -47,8 +47,8 @@ returns c =
     let size : length (plain_keys c.args.keys.now) ≡ length c.args.keys.now = length-map c.args.keys.now plain_key in
     record {
       lengths = c.requires;
-      listed = λ k key there.
+      listed = λ k start key there early.
           let within : k < length (plain_keys c.args.keys.now) = slice_get_within (plain_keys c.args.keys.now) k (Some key) there in
-          c.loop-number.invariant.listed k key (omega (arith, c.loop-number-test.false)) there;
+          c.loop-number.invariant.listed k start key (omega (arith, c.loop-number-test.false)) there early;
       below = λ i k h. let less : k < c.loop-number.number = c.loop-number.invariant.below i k h in omega (arith, c.loop-number.auto.number-end);
     }

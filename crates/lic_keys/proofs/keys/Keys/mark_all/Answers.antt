@@ -1,22 +1,22 @@
-use Rattle.std.proofs.Common.{◌≡◌, ◌+◌, ◌-◌, ◌<◌, ◌≤◌, Some, take, drop, ap, ◌∙◌, arith}
+use Rattle.std.proofs.Common.{◌≡◌, ℕ, ◌+◌, ◌*◌, ◌/◌, ◌<◌, ◌≤◌, Some, ap, ◌∙◌, arith}
 use Rattle.std.proofs.lemmas.Bool.{cases_lt}
 use Rattle.std.proofs.Math.Logic.{⊎_elim}
-use Rattle.lic_keys.proofs.WindowLemmas.{place_of_window}
+use Rattle.lic_keys.specs.Listing.{StandsAt}
+use Rattle.lic_keys.proofs.WindowLemmas.{place_of_window, StandsAt-window}
 use Rattle.lic_keys.proofs.keys.Keys.mark_all.Goals as goal
 
-pub loop-place-preserved : goal.loop-place-preserved
-loop-place-preserved c =
-    let here = c.loop-place.place in
-    let before = c.loop-place.invariant in
+pub loop-step-preserved : goal.loop-step-preserved
+loop-step-preserved c =
+    let here = c.loop-step.step in
+    let before = c.loop-step.invariant in
     record {
       kept = λ k h. c.mark.ensures.kept k (before.kept k h);
-      set = λ k place less there.
+      set = λ k step from key less there stands begins ends.
           ⊎_elim
-          (λ (earlier : place < here). c.mark.ensures.kept k (before.set k place earlier there))
-          (λ (later : here ≤ place).
-          let now : place ≡ here = omega arith in
-          c.mark.ensures.set k (there ∙ ap (λ p. Some (Some (take (p + 16 - p) (drop p c.args.letters.now)))) now))
-          (cases_lt place here);
+          (λ (earlier : step < here). c.mark.ensures.kept k (before.set k step from key earlier there stands begins ends))
+          (λ (later : here ≤ step).
+          c.mark.ensures.set k from key there stands (omega arith) (omega arith))
+          (cases_lt step here);
     }
 
 pub returns-then-letters-lt-LENGTH-clause-set : goal.returns-then-letters-lt-LENGTH-clause-set
@@ -26,5 +26,6 @@ returns-then-letters-lt-LENGTH-clause-set c = λ k key there window.
 
 pub returns-clause-set : goal.returns-clause-set
 returns-clause-set c = λ k key there window.
-    let (place, room, is) = place_of_window key c.args.letters.now window in
-    c.loop-place.invariant.set k place (omega (arith, room, c.loop-place-test.false)) (there ∙ ap (λ x. Some (Some x)) is)
+    let (from, stands) = StandsAt-window key c.args.letters.now window in
+    let step : ℕ = (from + 7) / 8 in
+    c.loop-step.invariant.set k step from key (omega (arith, stands.room, c.loop-step-test.false)) there stands (omega arith) (omega arith)

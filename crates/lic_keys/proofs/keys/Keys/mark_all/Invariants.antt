@@ -1,10 +1,11 @@
-use Rattle.std.proofs.Common.{◌≡◌, ℕ, ◌+◌, ◌-◌, ◌<◌, Some, take, drop}
+use Rattle.std.proofs.Common.{◌≡◌, ℕ, ◌+◌, ◌*◌, ◌<◌, ◌≤◌, List, Some}
 use Rattle.std.specs.List.{slice_get}
-use Rattle.lic_keys.specs.Listing.{IsSet}
+use Rattle.lic_keys.specs.Listing.{IsSet, StandsAt}
 use Rattle.lic_keys.proofs.keys.Keys.mark_all.Given as goal
 
-abbrev pub invariant-loop-place : goal.invariant-loop-place
-invariant-loop-place l = record {
+abbrev pub invariant-loop-step : goal.invariant-loop-step
+invariant-loop-step l = record {
   kept : (k : ℕ) → IsSet l.initial.flags k → IsSet l.flags k;
-  set : (k place : ℕ) → place < l.place → slice_get l.self k ≡ Some (Some (take (place + 16 - place) (drop place l.letters))) → IsSet l.flags k;
+  set : (k step from : ℕ) (key : List ℕ) → step < l.step → slice_get l.self k ≡ Some (Some key) → StandsAt key l.letters from →
+      from ≤ step * 8 → step * 8 < from + 8 → IsSet l.flags k;
 }

@@ -1,10 +1,11 @@
-use Rattle.std.proofs.Common.{◌≡◌, ◌<◌, ℕ, List, Some, None, length, sym, subst, arith}
+use Rattle.std.proofs.Common.{◌≡◌, ◌<◌, ℕ, List, [], ◌++◌, Some, None, length, sym, ◌∙◌, subst, append-nil, arith}
 use Rattle.std.specs.List.{slice_get, Contains}
 use Rattle.std.proofs.lemmas.Option.{slice_get_within}
 use Rattle.std.proofs.lemmas.Result.{IfOk-weaker}
+use Rattle.std.proofs.Math.Logic.{⊎_elim}
 use Rattle.lic_markup.specs.declared.part.Part.{Part}
 use Rattle.lic_keys.specs.Keys.{AreKeysOf, IsKeyOf, IsWindowOf, StandsIn, letters_of}
-use Rattle.lic_keys.specs.Listing.{HaveLengths, IsSet}
+use Rattle.lic_keys.specs.Listing.{IsSet}
 use Rattle.lic_keys.specs.Looks.{HasTaken, OthersDescribeNoRange, keys_of}
 use Rattle.lic_keys.proofs.KeyLemmas.{key_stands}
 use Rattle.lic_keys.proofs.ListingLemmas.{AllZip-at, AllZip-count, key_nowhere}
@@ -14,19 +15,24 @@ pub returns-clause-keys : goal.returns-clause-keys
 returns-clause-keys c =
     let look = c.args.self.now in
     let keys = keys_of look in
-    let letters = look.letters.items in
     let flags = c.mark_all.new.flags in
-    let lengths : HaveLengths keys = c.without_key.ensures.lengths in
-    let missing : (k : ℕ) → slice_get keys k ≡ Some None → IsSet flags k =
-    λ k h. c.mark_all.ensures.kept k (subst (λ fs. IsSet fs k) (sym c.as_mut_slice-marks.ensures.value) (c.in_ok-flags.ensures.set k h)) in
-    let standing : (k : ℕ) (key : List ℕ) → slice_get keys k ≡ Some (Some key) → IsWindowOf key letters → IsSet flags k =
-    λ k key there window. c.mark_all.ensures.set k key there (subst (IsWindowOf key) (sym c.deref.ensures.value) window) in
+    let start : c.as_mut_slice-marks.result.now ≡ look.flags.items = c.as_mut_slice-marks.ensures.value ∙ c.in_ok-flags.ensures.items ∙ c.deref.ensures.value in
+    let kept : (k : ℕ) → IsSet look.flags.items k → IsSet flags k =
+    λ k h. c.mark_all.ensures.kept k (subst (λ fs. IsSet fs k) (sym start) h) in
+    let missing : (k : ℕ) → slice_get keys k ≡ Some None → IsSet flags k = λ k h. kept k (look.missing k h) in
+    let standing : (ts : List (List ℕ)) → HasTaken look ts → (k : ℕ) (key : List ℕ) → slice_get keys k ≡ Some (Some key) →
+    IsWindowOf key (letters_of ts) → IsSet flags k =
+    λ ts taken k key there window.
+    ⊎_elim
+    (λ (before : IsSet look.flags.items k). kept k before)
+    (λ (inside : IsWindowOf key (look.letters.items ++ [])).
+    c.mark_all.ensures.set k key there (subst (IsWindowOf key) (append-nil look.letters.items ∙ sym c.deref-2.ensures.value) inside))
+    (taken.found k key [] there (subst (IsWindowOf key) (sym (append-nil (letters_of ts))) window)) in
     IfOk-weaker c.numbers_of.result (λ numbers. (k : ℕ) → IsSet flags k → Contains numbers.items k)
     (λ kept. (ts : List (List ℕ)) (k : ℕ) → HasTaken look ts → k < length keys → ¬ (Contains kept.items k)
     → (key : List ℕ) × (slice_get keys k ≡ Some (Some key)) × ¬ (StandsIn key (letters_of ts)))
-    (λ kept all ts k taken inside gone.
-    let (key, there, nowhere) = key_nowhere keys flags letters lengths missing standing k inside (λ is. gone (all k is)) in
-    (key, there, λ stands. nowhere (subst (StandsIn key) (sym taken) stands)))
+    (λ numbers all ts k taken inside gone.
+    key_nowhere keys flags (letters_of ts) look.lengths missing (standing ts taken) k inside (λ is. gone (all k is)))
     c.numbers_of.ensures.all
 
 pub returns-clause-others : goal.returns-clause-others

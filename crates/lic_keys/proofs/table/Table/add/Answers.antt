@@ -1,24 +1,24 @@
 use Rattle.std.proofs.Common.{◌≡◌, ◌<◌, ◌/◌, ◌%◌, ◌^◌, true, [], ◌∷◌, ◌++◌, set, length, get_or, sym, ap, ◌∙◌, arith}
 use Rattle.std.proofs.lemmas.List.{get_or-map, length-map, map-set}
 use Rattle.lic_keys.specs.Tables.{list_place, lists_of, mark_place}
-use Rattle.lic_keys.proofs.TableLemmas.{PutsDown-push}
+use Rattle.lic_keys.proofs.TableLemmas.{AddsFor-push}
 use Rattle.lic_keys.proofs.table.Table.add.Goals as goal
 
 pub returns : goal.returns
 returns c =
     let old = c.args.self.now in
-    let window = c.args.window.now in
+    let gram = c.args.gram.now in
     let number = c.args.number in
-    let mark : c.mark_of.result ≡ mark_place window = c.mark_of.ensures ∙ ap (λ h. h / 2 ^ 24 % 65536) c.hash-hash.ensures in
-    let list : c.list_of.result ≡ list_place window = c.list_of.ensures ∙ ap (λ h. h / 2 ^ 12 % 4096) c.hash-hash.ensures in
-    let marked : mark_place window < length old.marks.items = omega (arith, old.mark_count, old.marks.ok) in
-    let inside : list_place window < length old.lists.items = omega (arith, old.list_count, old.lists.ok) in
-    let here : c.index_mut.result.now.items ≡ get_or (lists_of old) (list_place window) [] =
+    let mark : c.mark_of.result ≡ mark_place gram = c.mark_of.ensures ∙ ap (λ h. h / 2 ^ 24 % 262144) c.hash-hash.ensures in
+    let list : c.list_of.result ≡ list_place gram = c.list_of.ensures ∙ ap (λ h. h / 2 ^ 12 % 4096) c.hash-hash.ensures in
+    let marked : mark_place gram < length old.marks.items = omega (arith, old.mark_count, old.marks.ok) in
+    let inside : list_place gram < length old.lists.items = omega (arith, old.list_count, old.lists.ok) in
+    let here : c.index_mut.result.now.items ≡ get_or (lists_of old) (list_place gram) [] =
     ap (λ l. l.items) (c.index_mut.ensures.value ∙ ap (λ i. get_or old.lists.items i c.index_mut.result.now) list)
-    ∙ sym (get_or-map (λ l. l.items) old.lists.items (list_place window) c.index_mut.result.now [] inside) in
-    let pushed : c.push.new.self.items ≡ get_or (lists_of old) (list_place window) [] ++ number ∷ [] =
+    ∙ sym (get_or-map (λ l. l.items) old.lists.items (list_place gram) c.index_mut.result.now [] inside) in
+    let pushed : c.push.new.self.items ≡ get_or (lists_of old) (list_place gram) [] ++ number ∷ [] =
     c.in_ok-push.ensures.items ∙ ap (λ xs. xs ++ number ∷ []) here in
-    PutsDown-push window number old _ marked (omega (arith, inside, length-map old.lists.items (λ l. l.items)))
+    AddsFor-push gram number old _ marked (omega (arith, inside, length-map old.lists.items (λ l. l.items)))
     (ap (λ m. set old.marks.items m true) mark)
     (map-set (λ l. l.items) old.lists.items c.list_of.result c.push.new.self
-    ∙ ap (λ i. set (lists_of old) i c.push.new.self.items) list ∙ ap (λ v. set (lists_of old) (list_place window) v) pushed)
+    ∙ ap (λ i. set (lists_of old) i c.push.new.self.items) list ∙ ap (λ v. set (lists_of old) (list_place gram) v) pushed)
