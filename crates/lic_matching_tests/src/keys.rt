@@ -28,7 +28,7 @@ fn keys_of(alloc: Global, templates: &[Template]) -> Result<Keys, AllocError> {
 
 /// The numbers of the templates that are kept for these tokens.
 fn kept_by(alloc: Global, keys: &Keys, tokens: &[&str]) -> Result<String, Fail> {
-    let mut look = Look::new(alloc, keys);
+    let mut look = Look::new(alloc, keys)?;
     for token in tokens {
         look.push(token)?;
     }
