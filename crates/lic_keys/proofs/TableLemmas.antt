@@ -59,27 +59,27 @@ module _ (marks : List Bool) (lists : List (List ℕ)) (number m i : ℕ) (marke
       (cases_eq j i)
 
 -- the number is pushed to the list of a gram, and the gram is marked
-pub AddsFor-push : (gram : List ℕ) (number : ℕ) (old new : Table) → mark_place gram < length old.marks.items → list_place gram < length (lists_of old) →
-    new.marks.items ≡ set old.marks.items (mark_place gram) true →
+pub AddsFor-push : (gram : List ℕ) (number : ℕ) (old new : Table) → mark_place gram < length old.marks → list_place gram < length (lists_of old) →
+    new.marks ≡ set old.marks (mark_place gram) true →
     lists_of new ≡ set (lists_of old) (list_place gram) (get_or (lists_of old) (list_place gram) [] ++ number ∷ []) → AddsFor gram number old new
 AddsFor-push gram number old new marked listed marks lists = record {
   added =
       if_in _ _ number (ap (λ ms. get_or ms (mark_place gram) false) marks
-      ∙ mark_here old.marks.items (lists_of old) number (mark_place gram) (list_place gram) marked listed)
+      ∙ mark_here old.marks (lists_of old) number (mark_place gram) (list_place gram) marked listed)
       (subst (λ xs. Contains xs number)
       (sym (ap (λ ls. get_or ls (list_place gram) []) lists
-      ∙ list_here old.marks.items (lists_of old) number (mark_place gram) (list_place gram) marked listed))
+      ∙ list_here old.marks (lists_of old) number (mark_place gram) (list_place gram) marked listed))
       (Contains-push (get_or (lists_of old) (list_place gram) []) number));
   kept = λ other k h.
       let (mark, list) = in_if _ _ k h in
       if_in _ _ k
       (ap (λ ms. get_or ms (mark_place other) false) marks
-      ∙ mark_kept old.marks.items (lists_of old) number (mark_place gram) (list_place gram) marked listed
+      ∙ mark_kept old.marks (lists_of old) number (mark_place gram) (list_place gram) marked listed
       (mark_place other) mark)
       (subst (λ ls. Contains (get_or ls (list_place other) []) k) (sym lists)
-      (list_kept old.marks.items (lists_of old) number (mark_place gram) (list_place gram) marked listed (list_place other) k list));
+      (list_kept old.marks (lists_of old) number (mark_place gram) (list_place gram) marked listed (list_place other) k list));
   below = λ n all less i k h.
-      list_below old.marks.items (lists_of old) number (mark_place gram) (list_place gram) marked listed n all less i k
+      list_below old.marks (lists_of old) number (mark_place gram) (list_place gram) marked listed n all less i k
       (subst (λ ls. Contains (get_or ls i []) k) lists h);
 }
 

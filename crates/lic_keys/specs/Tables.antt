@@ -21,7 +21,7 @@ lists_of table = map (λ list. list.items) table.lists.items
 
 -- the numbers for a gram
 abbrev pub named : Table → List ℕ → List ℕ
-named table gram = named_in table.marks.items (lists_of table) gram
+named table gram = named_in table.marks (lists_of table) gram
 
 -- no list has a number
 abbrev pub HasNone : Table → Type 0

@@ -3,6 +3,7 @@
 ghost use Rattle.std.specs.Prelude.{◌≡◌, ◌/◌, ◌%◌, ◌^◌, IfOk, OnOk, length, vec_len};
 
 use crate::window::hash;
+use lic_rows::bits::Bits;
 use std::alloc::{AllocError, Global};
 
 const MARKS: usize = 262_144;
@@ -13,10 +14,10 @@ const LISTS: usize = 4_096;
 #[derive(Debug, Drop)]
 pub struct Table {
     // whether any number was put down for a gram with this mark
-    marks: Vec<bool>,
+    marks: Bits,
     // the numbers, by the list of their grams
     lists: Vec<Vec<usize>>,
-    ghost mark_count: { vec_len marks ≡ 262144 },
+    ghost mark_count: { length marks ≡ 262144 },
     ghost list_count: { vec_len lists ≡ 4096 },
 }
 
@@ -32,7 +33,7 @@ impl Table {
             lists.push(Vec::new(alloc))?;
         }
         Ok(Table {
-            marks: vec![in alloc; false; MARKS]?,
+            marks: Bits::new(alloc, MARKS)?,
             lists,
         })
     }
@@ -44,7 +45,7 @@ impl Table {
     {
         let hash = hash(gram);
         self.lists[list_of(hash)].push(number)?;
-        self.marks[mark_of(hash)] = true;
+        self.marks.put(mark_of(hash), true);
         Ok(())
     }
 
@@ -54,7 +55,7 @@ impl Table {
         ensures { result.now ≡ named self.now gram.now }
     {
         let hash = hash(gram);
-        if self.marks[mark_of(hash)] {
+        if self.marks.get(mark_of(hash)) {
             &self.lists[list_of(hash)]
         } else {
             &[]

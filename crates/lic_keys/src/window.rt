@@ -37,15 +37,29 @@ pub fn hash(gram: &[char]) -> u64
         + letter(gram, 8) * 0x2D_98C1_0E6D
 }
 
-fn letter(gram: &[char], place: usize) -> u64
-    requires { place < length gram.now }
-    ensures value { result ≡ slice_index gram.now place }
-    ensures fits { result < 2 ^ 21 }
+// A hash of a window, from every other letter of it.
+fn window_hash(window: &[char]) -> u64
+    requires { length window.now ≡ 16 }
 {
-    gram[place] as u64
+    letter(window, 0) * 0x35_4D47_9C6B
+        + letter(window, 2) * 0x6A_09E6_67F3
+        + letter(window, 4) * 0x3C_6EF3_72FF
+        + letter(window, 6) * 0x52_0E51_7F41
+        + letter(window, 8) * 0x1F_83D9_ABFB
+        + letter(window, 10) * 0x5B_E0CD_19A7
+        + letter(window, 12) * 0x79_E377_9B97
+        + letter(window, 14) * 0x4A_2B7E_1513
 }
 
-/// How often windows stand in texts, counted by the hash of their first gram.
+fn letter(letters: &[char], place: usize) -> u64
+    requires { place < length letters.now }
+    ensures value { result ≡ slice_index letters.now place }
+    ensures fits { result < 2 ^ 21 }
+{
+    letters[place] as u64
+}
+
+/// How often windows stand in texts, counted by their hashes.
 ///
 /// One window of eight is counted. Which they are depends on their letters alone.
 #[derive(Drop)]
@@ -76,12 +90,12 @@ impl Counts {
             return;
         }
         for place in 0..text.len() - (LENGTH - 1) {
-            self.add_window(hash(&text[place..place + GRAM]));
+            self.add_one(window_hash(&text[place..place + LENGTH]));
         }
     }
 
     // Counts one more window with this hash, if such windows are counted.
-    fn add_window(&mut self, hash: u64) {
+    fn add_one(&mut self, hash: u64) {
         if !is_counted(hash) {
             return;
         }
@@ -115,7 +129,7 @@ impl Counts {
         let mut rarest = 0;
         let mut least = u32::MAX;
         for place in 0..text.len() - (LENGTH - 1) {
-            let count = self.count(hash(&text[place..place + GRAM]));
+            let count = self.count(window_hash(&text[place..place + LENGTH]));
             if count < least {
                 least = count;
                 rarest = place;
