@@ -13,7 +13,7 @@ use Rattle.lic_keys.specs.Rising.{IsRising}
 use Rattle.lic_keys.proofs.RisingLemmas.{rises, IsRising-push}
 use Rattle.lic_auto.specs.Sets.{Known, words_of}
 use Rattle.lic_auto.specs.Picked.{picked}
-use Rattle.lic_auto.specs.Seeking.{AllSeek}
+use Rattle.lic_auto.specs.Seeking.{SeekEach}
 use Rattle.lic_auto.proofs.Ends.{untruncated_end}
 use Rattle.lic_auto.proofs.Living.{Found, Found-more, Found-cases}
 
@@ -21,7 +21,7 @@ use Rattle.lic_auto.proofs.Living.{Found, Found-more, Found-cases}
 pub record AreGathered (templates : List Known) (numbers : List ℕ) (seekers : List Seeker) (seen found : List ℕ) : Type 0 where
   pub rising : IsRising found (length templates)
   pub known : (n : ℕ) → Contains found n → (place : ℕ) × Contains seen place × (get_or numbers place 0 ≡ n)
-  pub exactly : (ts : List (List ℕ)) → AllSeek (picked templates numbers) seekers ts → (n : ℕ) → Contains found n ↔ Found templates numbers seen ts n
+  pub exactly : (lists : ℕ → List (List ℕ)) → SeekEach (picked templates numbers) seekers lists → (n : ℕ) → Contains found n ↔ Found templates numbers seen lists n
 
 module _ (templates : List Known) (numbers : List ℕ) (up : IsRising numbers (length templates)) (seekers : List Seeker) (seen found : List ℕ) (place : ℕ)
     (s : Seeker) (here : slice_get seekers place ≡ Some s) (b : Bool)
@@ -31,13 +31,13 @@ module _ (templates : List Known) (numbers : List ℕ) (up : IsRising numbers (l
   Gathered-skip rejects = record {
     rising = g.rising;
     known = λ n h. let (at, among, is) = g.known n h in (at, Contains-append_left seen (place ∷ []) at among, is);
-    exactly = λ ts stand n. (
-      λ h. Found-more templates numbers seen ts place n ((g.exactly ts stand n).0 h),
+    exactly = λ lists stand n. (
+      λ h. Found-more templates numbers seen lists place n ((g.exactly lists stand n).0 h),
       λ f. ⊎_elim
-          (λ before. (g.exactly ts stand n).1 before)
+          (λ before. (g.exactly lists stand n).1 before)
           (λ (is, (known, there, described)). absurd (∥∥₁_elim (stand place known s there here) ⊥_prop
-          (λ seeks. false≢true (sym rejects ∙ (answers (mirrored (words_of known)) ts seeks).1 described))))
-          (Found-cases templates numbers seen ts place n f),
+          (λ seeks. false≢true (sym rejects ∙ (answers (mirrored (words_of known)) (lists place) seeks).1 described))))
+          (Found-cases templates numbers seen lists place n f),
     );
   }
 
@@ -55,9 +55,9 @@ module _ (templates : List Known) (numbers : List ℕ) (up : IsRising numbers (l
             (λ before. let (at, among, is) = g.known n before in (at, Contains-append_left seen (place ∷ []) at among, is))
             (λ (same : number ≡ n). (place, Contains-push seen place, same))
             (Contains-push_cases found number n h);
-        exactly = λ ts stand n. (
+        exactly = λ lists stand n. (
           λ h. ⊎_elim
-              (λ before. Found-more templates numbers seen ts place n ((g.exactly ts stand n).0 before))
+              (λ before. Found-more templates numbers seen lists place n ((g.exactly lists stand n).0 before))
               (λ (same : number ≡ n). (
                 place,
                 Contains-push seen place,
@@ -65,15 +65,15 @@ module _ (templates : List Known) (numbers : List ℕ) (up : IsRising numbers (l
                 (
                   known,
                   there,
-                  untruncated_end (mirrored (words_of known)) ts
+                  untruncated_end (mirrored (words_of known)) (lists place)
                       (∥∥₁_map (stand place known s there here) (λ seeks.
-                      (answers (mirrored (words_of known)) ts seeks).0 accepts)),
+                      (answers (mirrored (words_of known)) (lists place) seeks).0 accepts)),
                 ),
               ))
               (Contains-push_cases found number n h),
           λ f. ⊎_elim
-              (λ before. Contains-append_left found (number ∷ []) n ((g.exactly ts stand n).1 before))
+              (λ before. Contains-append_left found (number ∷ []) n ((g.exactly lists stand n).1 before))
               (λ (is, rest). subst (Contains (found ++ number ∷ [])) is (Contains-push found number))
-              (Found-cases templates numbers seen ts place n f),
+              (Found-cases templates numbers seen lists place n f),
         );
       }

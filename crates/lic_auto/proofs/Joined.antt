@@ -1,5 +1,5 @@
 -- Two rising lists that are joined number by number.
-use Rattle.std.proofs.Common.{◌≡◌, ℕ, ◌+◌, ◌-◌, ◌<◌, ◌≤◌, ◌⊎◌, inl, inr, ◌↔◌, List, [], ◌∷◌, ◌++◌, ◌==◌, Bool, false, length, get_or, take, drop, min, sym, ap, ◌∙◌, subst, arith}
+use Rattle.std.proofs.Common.{◌≡◌, ℕ, zero, suc, ◌+◌, ◌-◌, ◌<◌, ◌≤◌, ◌⊎◌, inl, inr, ◌↔◌, List, [], ◌∷◌, ◌++◌, ◌==◌, Bool, false, length, get_or, take, drop, min, sym, ap, ◌∙◌, subst, arith}
 use Rattle.std.specs.List.{Contains}
 use Rattle.std.proofs.lemmas.Bool.{cases_lt, false≢true}
 use Rattle.std.proofs.lemmas.List.{get_or_default, length-drop, take_all}
@@ -10,6 +10,10 @@ use Rattle.lic_keys.specs.Rising.{IsRising}
 use Rattle.lic_keys.proofs.RisingLemmas.{length-rising, rises, IsRising-nil, IsRising-push}
 use Rattle.lic_auto.specs.Joining.{IsLeastIn}
 use Rattle.lic_auto.proofs.Places.{below_bound}
+
+pub only : (n k : ℕ) → Contains (n ∷ []) k → n ≡ k
+only n k (zero, inside, is) = is
+only n k (suc i, inside, is) = absurd (omega arith)
 
 -- of two lists some numbers are joined, and all that are left are greater
 pub record AreJoined (n : ℕ) (joined xs ys first second : List ℕ) : Type 0 where

@@ -31,3 +31,5 @@ pub mod TurnedSeekers
 pub mod Living
 pub mod Joined
 pub mod Gathered
+pub mod OneTurned
+pub mod LiveNumbers

@@ -10,7 +10,7 @@ use Rattle.lic_marks.specs.Seeks.{NoneBegins, Seeks, tree_of}
 use Rattle.lic_marks.specs.declared.seek.Seeker.{Seeker}
 use Rattle.lic_auto.specs.Sets.{Known, words_of}
 use Rattle.lic_auto.specs.Changes.{AreKeptOf}
-use Rattle.lic_auto.specs.Seeking.{HaveMirrors, AllSeek, AreQuietBut, AreTurned, BeginsAnew, IsQuiet, TakesTurned}
+use Rattle.lic_auto.specs.Seeking.{HaveMirrors, AllSeek, AreQuietBut, AreTurned, BeginsAnew, IsQuiet, SeekEach, TakesTurned}
 use Rattle.lic_auto.proofs.Changing.{slice_get-some}
 use Rattle.lic_auto.proofs.PickedLemmas.{contains_or_not}
 use Rattle.lic_auto.proofs.Walking.{slice_get-push}
@@ -32,20 +32,20 @@ module _ (templates : List Known) (old new : List Seeker) where
   module _ (marked entered places token : List ℕ) (quiet : AreQuietBut marked old) (m : AreTurned (TakesTurned entered token) places old new)
       (both : (k : ℕ) → Contains places k ↔ (Contains marked k ⊎ Contains entered k)) where
     -- where those take a token that are entered, and those that may not be quiet, all stand for it too
-    pub AllSeek-taken : (ts : List (List ℕ)) →
+    pub SeekEach-taken : (lists : ℕ → List (List ℕ)) →
         ((k : ℕ) (known : Known) → slice_get templates k ≡ Some known → (Contains entered k → ⊥) → NoneBegins (mirrored (words_of known)) (reverse token)) →
-        AllSeek templates old ts → AllSeek templates new (ts ++ reverse token ∷ [])
-    AllSeek-taken ts rest stand = λ k known b is there.
+        SeekEach templates old lists → SeekEach templates new (λ k. lists k ++ reverse token ∷ [])
+    SeekEach-taken lists rest stand = λ k known b is there.
         let (a, was) = slice_get-some old new k b m.count there in
         ⊎_elim
-        (λ (turn : Contains places k). ∥∥₁_map (stand k known a is was) (λ s. m.each k a b turn was there (mirrored (words_of known)) ts s (rest k known is)))
+        (λ (turn : Contains places k). ∥∥₁_map (stand k known a is was) (λ s. m.each k a b turn was there (mirrored (words_of known)) (lists k) s (rest k known is)))
         (λ (out : ¬ (Contains places k)).
         let same : b ≡ a = same_Some b a (sym there ∙ m.others k out ∙ was) in
         let calm : IsQuiet a = quiet k a (λ h. out ((both k).1 (inl h))) was in
         let none : NoneBegins (mirrored (words_of known)) (reverse token) = rest k known is (λ h. out ((both k).1 (inr h))) in
         ∥∥₁_elim (stand k known a is was) ∥∥₁_prop (λ s.
-        subst (λ x. ∥ Seeks x (mirrored (words_of known)) (ts ++ reverse token ∷ []) ∥₁) (sym same)
-        (calm.skips (mirrored (words_of known)) ts (reverse token) s none)))
+        subst (λ x. ∥ Seeks x (mirrored (words_of known)) (lists k ++ reverse token ∷ []) ∥₁) (sym same)
+        (calm.skips (mirrored (words_of known)) (lists k) (reverse token) s none)))
         (contains_or_not places k)
 
     -- and those that are not kept are quiet then

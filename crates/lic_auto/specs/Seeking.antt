@@ -1,5 +1,5 @@
 -- Seekers, one for each template, over a list of tokens that is read from its end.
-use Rattle.std.specs.Prelude.{◌≡◌, ℕ, List, [], ◌∷◌, ◌++◌, reverse, slice_index, Some, Contains}
+use Rattle.std.specs.Prelude.{◌≡◌, ℕ, Bool, false, List, [], ◌∷◌, ◌++◌, reverse, slice_index, Some, Contains}
 use Rattle.std.specs.List.{slice_get}
 use Rattle.lic_words.specs.Expressions.{Expression}
 use Rattle.lic_words.specs.Mirrors.{mirrored}
@@ -18,11 +18,15 @@ HaveMirrors set seekers = (k : ℕ) (known : Known) (s : Seeker) → slice_get s
     → slice_get seekers k ≡ Some s
     → ∥ HasWordsOf (core_of (tree_of s)) (mirrored (words_of known)) ∥₁
 
+-- each seeker stands for the tokens of its place
+abbrev pub SeekEach : List Known → List Seeker → (ℕ → List (List ℕ)) → Type 0
+SeekEach set seekers lists = (k : ℕ) (known : Known) (s : Seeker) → slice_get set k ≡ Some known
+    → slice_get seekers k ≡ Some s
+    → ∥ Seeks s (mirrored (words_of known)) (lists k) ∥₁
+
 -- each seeker stands for the tokens
 abbrev pub AllSeek : List Known → List Seeker → List (List ℕ) → Type 0
-AllSeek set seekers ts = (k : ℕ) (known : Known) (s : Seeker) → slice_get set k ≡ Some known
-    → slice_get seekers k ≡ Some s
-    → ∥ Seeks s (mirrored (words_of known)) ts ∥₁
+AllSeek set seekers ts = SeekEach set seekers (λ k. ts)
 
 -- the seekers at these places have changed so, each over its tree, and the others are as they were
 abbrev pub AreTurned : (ℕ → Seeker → Seeker → Type 0) → List ℕ → List Seeker → List Seeker → Type 0
@@ -37,6 +41,11 @@ abbrev pub TakesTurned : List ℕ → List ℕ → ℕ → Seeker → Seeker →
 TakesTurned entered token k old new = (e : Expression) (ts : List (List ℕ)) → Seeks old e ts
     → ((Contains entered k → ⊥) → NoneBegins e (reverse token)) → Seeks new e (ts ++ reverse token ∷ [])
 
+-- the same, and whether it need not be entered there is said
+abbrev pub TakesAlone : Bool → List ℕ → ℕ → Seeker → Seeker → Type 0
+TakesAlone may_begin token k old new = (e : Expression) (ts : List (List ℕ)) → Seeks old e ts
+    → (may_begin ≡ false → NoneBegins e (reverse token)) → Seeks new e (ts ++ reverse token ∷ [])
+
 -- no end of what the seeker stands for is described, and it stands as it is for one token more with which nothing begins
 pub record IsQuiet (s : Seeker) : Type 0 where
   pub none : (e : Expression) (ts : List (List ℕ)) → Seeks s e ts → ¬ (DescribesEnd e ts)
@@ -47,8 +56,8 @@ pub record IsQuiet (s : Seeker) : Type 0 where
 abbrev pub AreQuietBut : List ℕ → List Seeker → Type 0
 AreQuietBut places seekers = (k : ℕ) (s : Seeker) → ¬ (Contains places k) → slice_get seekers k ≡ Some s → IsQuiet s
 
--- the template of this number, at one of these places, describes some end of the tokens
-abbrev pub IsFoundAt : Chosen → List ℕ → List (List ℕ) → ℕ → Type 0
-IsFoundAt chosen places ts n = (place : ℕ) × Contains places place × (slice_index chosen.numbers.items place ≡ n)
+-- the template of this number, at one of these places, describes some end of the tokens of its place
+abbrev pub IsFoundAt : Chosen → List ℕ → (ℕ → List (List ℕ)) → ℕ → Type 0
+IsFoundAt chosen places lists n = (place : ℕ) × Contains places place × (slice_index chosen.numbers.items place ≡ n)
     × ((known : Known) × (slice_get (templates_of chosen) place ≡ Some known)
-    × DescribesEnd (mirrored (words_of known)) ts)
+    × DescribesEnd (mirrored (words_of known)) (lists place))

@@ -12,8 +12,8 @@ ghost use Rattle.lic_auto.specs.declared.direction.Direction.TheVariants.{Backwa
 
 use crate::chosen::{Chosen, all_numbers};
 use crate::direction::Direction;
-use crate::joining::join_rising;
-use crate::seeking::{begin_anew, gather_live, name_all, seekers_of, take_turned};
+use crate::joining::{add_number, join_rising};
+use crate::seeking::{begin_anew, gather_live, name_all, seekers_of, take_alone, take_turned};
 use crate::set::Set;
 use crate::walk::count_steps;
 use lic_marks::seek::Seeker;
@@ -54,7 +54,7 @@ pub struct Back<'s> {
 }
 
 impl<'s> Back<'s> {
-    ghost use Rattle.lic_auto.specs.Backs.{StandsBehind, set_behind, numbers_behind, steps_behind, IsLive};
+    ghost use Rattle.lic_auto.specs.Backs.{AreChangedListsAt, StandsBehind, StandsForEach, set_behind, numbers_behind, live_behind, steps_behind, IsLive};
 
     /// A machine over all templates, which stands for the empty list.
     pub fn new(alloc: Global, set: &'s Set) -> Result<Back<'s>, AllocError>
@@ -110,7 +110,8 @@ impl<'s> Back<'s> {
         self.live_count = 0;
     }
 
-    /// For every list that the machine stood for, it now stands for that list with the token in front of it.
+    /// For every list that the machine stood for, it now stands for that list with the token in front of it; and where it
+    /// stood for a list of its own for each template, for each of these with the token in front.
     ///
     /// A step is one letter, or one gap before a letter, that all live templates take together; their count stays at the
     /// greatest `u64`.
@@ -118,6 +119,8 @@ impl<'s> Back<'s> {
         requires { IsTokenText text.now }
         ensures stands { (ts : List (List ℕ)) → StandsBehind self.old ts
             → StandsBehind self.new (chars text.now ∷ ts) }
+        ensures each { (lists : ℕ → List (List ℕ)) → StandsForEach self.old lists
+            → StandsForEach self.new (λ k. chars text.now ∷ lists k) }
         ensures set { set_behind self.new ≡ set_behind self.old }
         ensures numbers { numbers_behind self.new ≡ numbers_behind self.old }
         ensures least { steps_behind self.new < 2 ^ 64 - 1
@@ -137,6 +140,47 @@ impl<'s> Back<'s> {
         self.live_count = gather_live(&self.chosen, &self.seekers, marked, &mut self.live);
     }
 
+    /// One of its templates begins anew with the empty list. The others stay as they are, and the steps stay counted.
+    pub fn begin_one(&mut self, number: usize)
+        requires { Contains (numbers_behind self.old) number }
+        ensures stands { (lists changed : ℕ → List (List ℕ)) → StandsForEach self.old lists
+            → AreChangedListsAt number [] lists changed → StandsForEach self.new changed }
+        ensures set { set_behind self.new ≡ set_behind self.old }
+        ensures numbers { numbers_behind self.new ≡ numbers_behind self.old }
+        ensures steps { steps_behind self.new ≡ steps_behind self.old }
+    {
+        let place = self.chosen.place_of(number);
+        self.marked_count = add_number(&mut self.marked, self.marked_count, place, &mut self.turns);
+        begin_anew(&mut self.seekers, &[place]);
+        let marked = &self.marked[..self.marked_count];
+        self.live_count = gather_live(&self.chosen, &self.seekers, marked, &mut self.live);
+    }
+
+    /// One of its templates stands for each list that it stood for with the token in front of it. The others stay as they are. The
+    /// steps are counted as in `push_front`.
+    pub fn push_front_one(&mut self, number: usize, text: &str)
+        requires number { Contains (numbers_behind self.old) number }
+        requires text { IsTokenText text.now }
+        ensures stands { (lists changed : ℕ → List (List ℕ)) → StandsForEach self.old lists
+            → AreChangedListsAt number (chars text.now ∷ lists number) lists changed
+            → StandsForEach self.new changed }
+        ensures set { set_behind self.new ≡ set_behind self.old }
+        ensures numbers { numbers_behind self.new ≡ numbers_behind self.old }
+        ensures least { steps_behind self.new < 2 ^ 64 - 1
+            → steps_behind self.old + letters_in (chars text.now) ≤ steps_behind self.new }
+        ensures most { steps_behind self.new
+            ≤ steps_behind self.old + 2 * letters_in (chars text.now) }
+        ensures never_fall { steps_behind self.old ≤ steps_behind self.new }
+    {
+        self.steps = count_steps(self.steps, text);
+        let place = self.chosen.place_of(number);
+        self.marked_count = add_number(&mut self.marked, self.marked_count, place, &mut self.turns);
+        let may_begin = self.chosen.may_enter(place, text);
+        take_alone(&mut self.seekers, place, text, may_begin);
+        let marked = &self.marked[..self.marked_count];
+        self.live_count = gather_live(&self.chosen, &self.seekers, marked, &mut self.live);
+    }
+
     /// Whether some template of this machine describes a beginning of the list of tokens.
     pub fn live(&self) -> bool
         ensures { (ts : List (List ℕ)) → StandsBehind self.now ts
@@ -148,10 +192,15 @@ impl<'s> Back<'s> {
 
     /// The numbers of the live templates, in rising order.
     pub fn live_numbers(&self) -> &[usize]
+        ensures value { result.now ≡ live_behind self.now }
         ensures rising { IsRising result.now (length (set_behind self.now)) }
         ensures exactly { (ts : List (List ℕ)) → StandsBehind self.now ts → (k : ℕ)
             → Contains result.now k
             ↔ (Contains (numbers_behind self.now) k × IsLive (set_behind self.now) ts k) }
+        ensures each { (lists : ℕ → List (List ℕ)) → StandsForEach self.now lists → (k : ℕ)
+            → Contains result.now k
+            ↔ (Contains (numbers_behind self.now) k
+            × IsLive (set_behind self.now) (lists k) k) }
     {
         &self.live[..self.live_count]
     }

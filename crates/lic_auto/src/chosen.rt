@@ -1,6 +1,6 @@
 //! Templates chosen from a set, with what the search needs to look for all of them at once.
 
-ghost use Rattle.std.specs.Prelude.{◌≡◌, ◌<◌, ◌≤◌, ◌↔◌, ◌∷◌, ℕ, List, map, length, slice_index, take, IfOk, IfSome, IfNone, IsTrue, Some, Contains};
+ghost use Rattle.std.specs.Prelude.{◌≡◌, ◌<◌, ◌≤◌, ◌↔◌, ◌∷◌, ℕ, List, false, map, length, slice_index, take, IfOk, IfSome, IfNone, IsTrue, Some, Contains};
 ghost use Rattle.std.specs.List.{slice_get};
 ghost use Rattle.std.specs.Str.{chars};
 ghost use Rattle.lic_words.specs.Describing.{IsDescribed};
@@ -112,7 +112,8 @@ impl<'s> Chosen<'s> {
         }
     }
 
-    fn place_of(&self, number: usize) -> usize
+    /// The place of one of its numbers.
+    pub fn place_of(&self, number: usize) -> usize
         requires { Contains self.now.numbers.items number }
         ensures inside { result < length self.now.numbers.items }
         ensures there { slice_index self.now.numbers.items result ≡ number }
@@ -163,6 +164,20 @@ impl<'s> Chosen<'s> {
         let head = read_head(token, self.direction);
         let places = self.index.entered_by(head);
         keep_beginning(&self.firsts, places, head, self.direction, entered)
+    }
+
+    /// False only if no text whose first token, as it is read, this is can enter the template at this place.
+    pub fn may_enter(&self, place: usize, token: &str) -> bool
+        requires token { IsTokenText token.now }
+        requires place { place < length (templates_of self.now) }
+        ensures { result ≡ false → (known : Known)
+            → slice_get (templates_of self.now) place ≡ Some known → (more : List (List ℕ))
+            → ¬ (IsDescribed (read self.now.direction (words_of known))
+            (ordered self.now.direction (chars token.now) ∷ more)) }
+    {
+        let head = read_head(token, self.direction);
+        let of = &self.firsts[place];
+        of.may_begin(head, self.direction)
     }
 }
 

@@ -26,6 +26,22 @@ pub fn join_rising(some: &[usize], others: &[usize], joined: &mut [usize]) -> us
     count
 }
 
+/// Puts a number among the first ones of a list, which rise, unless it is there, and gives how many they are then.
+pub fn add_number(numbers: &mut [usize], count: usize, number: usize, joined: &mut [usize]) -> usize
+    requires within { count ≤ length numbers.old }
+    requires rising { IsRising (take count numbers.old) (length numbers.old) }
+    requires number { number < length numbers.old }
+    requires room { length joined.old ≡ length numbers.old }
+    ensures count { result ≤ length numbers.new }
+    ensures rising { IsRising (take result numbers.new) (length numbers.new) }
+    ensures both { (k : ℕ) → Contains (take result numbers.new) k
+        ↔ (Contains (take count numbers.old) k ⊎ (number ≡ k)) }
+{
+    let count = join_rising(&numbers[..count], &[number], joined);
+    numbers[..count].copy_from_slice(&joined[..count]);
+    count
+}
+
 // The least number of two rising lists.
 fn least_of(some: &[usize], others: &[usize]) -> Option<usize>
     requires some { (n : ℕ) × IsRising some.now n }

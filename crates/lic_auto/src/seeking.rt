@@ -1,13 +1,13 @@
 //! Seekers, one for each template, over a list of tokens that is read from its end.
 
-ghost use Rattle.std.specs.Prelude.{◌≡◌, ℕ, ◌<◌, ◌≤◌, ◌↔◌, List, [], IfOk, IfSome, false, length, reverse, take, vec_len, Contains};
+ghost use Rattle.std.specs.Prelude.{◌≡◌, ℕ, ◌<◌, ◌≤◌, ◌↔◌, ◌∷◌, List, [], IfOk, IfSome, false, length, reverse, take, vec_len, Contains};
 ghost use Rattle.std.specs.Str.{chars};
 ghost use Rattle.lic_words.specs.Letters.{letters_in};
 ghost use Rattle.lic_marks.specs.Plain.{IsPlain};
 ghost use Rattle.lic_keys.specs.Rising.{IsRising};
 ghost use Rattle.lic_auto.specs.Choices.{templates_of};
 ghost use Rattle.lic_auto.specs.Changes.{AreKeptOf};
-ghost use Rattle.lic_auto.specs.Seeking.{AllSeek, AreTurned, BeginsAnew, HaveMirrors, IsFoundAt, IsQuiet, TakesTurned};
+ghost use Rattle.lic_auto.specs.Seeking.{AllSeek, AreTurned, BeginsAnew, HaveMirrors, IsFoundAt, IsQuiet, SeekEach, TakesAlone, TakesTurned};
 ghost use Rattle.lic_auto.specs.declared.direction.Direction.TheVariants.{Backward};
 
 use crate::chosen::Chosen;
@@ -87,6 +87,17 @@ pub fn take_turned(
     count
 }
 
+/// The one at this place takes a token from its end. `may_begin` is false only where no described list begins with it.
+pub fn take_alone(seekers: &mut [Seeker<'_>], place: usize, token: &str, may_begin: bool)
+    requires place { place < length seekers.old }
+    requires letters { 0 < letters_in (chars token.now) }
+    ensures { AreTurned
+        (TakesAlone may_begin (chars token.now)) (place ∷ []) seekers.old seekers.new }
+{
+    let seeker = &mut seekers[place];
+    seeker.push_turned(token, may_begin);
+}
+
 // What is known of a token's letters. They are looked at only where they may serve some template that is on its way.
 fn looked_at(token: &str, may_serve: bool) -> Option<Plain>
     ensures { IfSome result (λ plain. IsPlain plain (reverse (chars token.now))) }
@@ -123,8 +134,9 @@ pub fn gather_live(
     ensures room { length live.new ≡ length live.old }
     ensures count { result ≤ length live.new }
     ensures rising { IsRising (take result live.new) (length chosen.now.set.now) }
-    ensures exactly { (ts : List (List ℕ)) → AllSeek (templates_of chosen.now) seekers.now ts
-        → (n : ℕ) → Contains (take result live.new) n ↔ IsFoundAt chosen.now places.now ts n }
+    ensures exactly { (lists : ℕ → List (List ℕ))
+        → SeekEach (templates_of chosen.now) seekers.now lists
+        → (n : ℕ) → Contains (take result live.new) n ↔ IsFoundAt chosen.now places.now lists n }
 {
     let mut count = 0;
     for place in places {

@@ -1,11 +1,10 @@
 -- The templates that can occur in a text.
-use Rattle.std.proofs.Common.{ℕ, ◌+◌, ◌<◌, ◌≤◌, List, [], ◌∷◌, ◌++◌, length, get_or, zero, suc, Some, sym, ap, ◌∙◌, ⊎_elim, arith}
+use Rattle.std.proofs.Common.{ℕ, ◌+◌, ◌<◌, ◌≤◌, List, ◌++◌, length, sym, ap, ◌∙◌, ⊎_elim, arith}
 use Rattle.std.specs.List.{Contains}
 use Rattle.std.specs.Option.{option_map}
-use Rattle.std.proofs.lemmas.Option.{slice_get_within, slice_get-map}
+use Rattle.std.proofs.lemmas.Option.{slice_get-map}
 use Rattle.lic_norm.specs.Tokens.{TokenValue}
 use Rattle.lic_keys.specs.Looks.{OthersDescribeNoRange}
-use Rattle.lic_keys.specs.Rising.{IsRising}
 use Rattle.lic_auto.specs.Compiled.{parts_of}
 use Rattle.lic_auto.specs.Sets.{Known}
 use Rattle.lic_auto.proofs.PickedLemmas.{contains_or_not}
@@ -13,7 +12,6 @@ use Rattle.lic_find.specs.Matches.{IsMatch, all_letters}
 use Rattle.lic_find.specs.Walks.{letters_up_to}
 use Rattle.lic_find.specs.declared.triple.Triple.{Triple}
 use Rattle.lic_find.proofs.Ranges.{letters_up_to-all, letters_up_to-split}
-use Rattle.lic_tight.specs.Searches.{IsLatestFirst}
 
 module _ (set : List Known) (tokens : List TokenValue) where
   -- every match is one of theirs
@@ -33,15 +31,3 @@ module _ (set : List Known) (tokens : List TokenValue) where
       ∙ ap (λ x. x ++ letters_up_to tokens (t.last + 1) (length tokens)) (letters_up_to-split tokens 0 t.first (t.last + 1) (omega arith) (omega arith)))
       m.described))
       (contains_or_not kept t.template)
-
-  -- a template that has a match is one of the set
-  pub template_within : (k end first : ℕ) → IsLatestFirst set tokens k end (Some first) → k < length set
-  template_within k end first latest = let (last, low, m) = latest.1 in slice_get_within set k m.known m.number
-
--- the list of one number
-pub rising_one : (k n : ℕ) → k < n → IsRising (k ∷ []) n
-rising_one k n low = record { order = λ i h. absurd (omega arith); below = one_below }
-  where
-    one_below : (i : ℕ) → i < length (k ∷ []) → get_or (k ∷ []) i 0 < n
-    one_below zero h = low
-    one_below (suc i) h = absurd (omega arith)

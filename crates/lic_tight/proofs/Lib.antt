@@ -2,10 +2,9 @@ pub mod Finding
 pub mod LiveRanges
 pub mod Sorting
 pub mod Gathering
-pub mod Noting
-pub mod Fronts
 pub mod Walking
-pub mod Single
 pub mod Keeping
-pub mod Placing
 pub mod Starting
+pub mod Coming
+pub mod Fewer
+pub mod Counting

@@ -1,5 +1,5 @@
 -- Lists of triples of which none stands twice, and the order of triples.
-use Rattle.std.proofs.Common.{◌≡◌, ◌≢◌, ℕ, suc, ◌<◌, ◌≤◌, ◌⊎◌, ◌&&◌, ◌==◌, Bool, false, true, List, [], ◌∷◌, ◌++◌, get_or, reverse, refl, sym, subst, inl, inr, ⊎_elim, arith}
+use Rattle.std.proofs.Common.{◌≡◌, ◌≢◌, ℕ, suc, ◌<◌, ◌≤◌, ◌⊎◌, Bool, false, true, List, [], ◌∷◌, ◌++◌, get_or, refl, sym, ◌∙◌, subst, inl, inr, ⊎_elim, arith}
 use Rattle.std.specs.List.{Contains, AllByRecursion, AllPairs, IsDistinct}
 use Rattle.std.specs.List.Sorted.{IsPermutation, IsSorted}
 use Rattle.std.specs.Ordering.{nat_cmp, is_lt, ordering_then}
@@ -8,21 +8,15 @@ use Rattle.std.specs.declared.cmp.Ordering.{Ordering}
 use Rattle.std.proofs.lemmas.Bool.{false≢true, cases_Bool}
 use Rattle.std.proofs.lemmas.Bool.Decides.{nat_tests}
 use Rattle.std.proofs.lemmas.Cmp.{ranked, by_ranked, nat_cmp_total, on_total, then_total}
-use Rattle.std.proofs.lemmas.List.Elements.{Contains-append_cases}
-use Rattle.std.proofs.lemmas.List.Sorted.{IsPermutation-sym, IsPermutation-reverse}
+use Rattle.std.proofs.lemmas.List.Elements.{Contains-push_cases}
 use Rattle.std.proofs.lemmas.Map.Keys.{IsDistinct-head, IsDistinct-tail, IsDistinct-cons, IsDistinct-IsPermutation}
 use Rattle.lic_find.specs.Matches.{Precedes, AreAscending}
 use Rattle.lic_find.specs.declared.triple.Triple.{Triple}
+use Rattle.lic_vars.proofs.Ranges.{same_triple}
+use Rattle.lic_tight.specs.Walked.{is_same, AreOnce}
 use Rattle.lic_find.proofs.Triples.{Contains-nil, Contains-head, Contains-tail, Contains-cons_cases}
 use Rattle.lic_vars.specs.Filters.{triple_cmp}
 use Rattle.lic_vars.proofs.Orders.{AllPairs-from_sorted}
-
-abbrev pub is_same : Triple → Triple → Bool
-is_same s t = s.first == t.first && (s.last == t.last && s.template == t.template)
-
--- none of them stands twice
-abbrev pub AreOnce : List Triple → Type 0
-AreOnce found = IsDistinct is_same found
 
 same_bools : (b c : Bool) → (b ≡ true → c ≡ true) → (c ≡ true → b ≡ true) → b ≡ c
 same_bools true c to from = sym (to refl)
@@ -43,13 +37,6 @@ not_same s t h =
     (λ (no : is_same s t ≡ false). no)
     (cases_Bool (is_same s t))
 
-other_template : (s t : Triple) → s.template ≢ t.template → is_same s t ≡ false
-other_template s t h =
-    ⊎_elim
-    (λ (yes : is_same s t ≡ true). let template : s.template ≡ t.template = grind (arith, nat_tests) in absurd (h template))
-    (λ (no : is_same s t ≡ false). no)
-    (cases_Bool (is_same s t))
-
 all_from : (P : Triple → Type 0) (xs : List Triple) → ((t : Triple) → Contains xs t → P t) → AllByRecursion P xs
 all_from P [] f = tt
 all_from P (x ∷ xs) f = (f x (Contains-head x xs), all_from P xs (λ t h. f t (Contains-tail x xs t h)))
@@ -62,27 +49,36 @@ pub once_none : AreOnce []
 unfolding IsDistinct
 once_none = tt
 
--- two lists, where no template stands in both
-pub once_append : (xs ys : List Triple) → AreOnce xs → AreOnce ys
-    → ((s t : Triple) → Contains xs s → Contains ys t → s.template ≢ t.template) → AreOnce (xs ++ ys)
-once_append [] ys d e apart = e
-once_append (x ∷ xs) ys d e apart =
-    let head = all_at (λ y. is_same x y ≡ false) xs (IsDistinct-head is_same x xs d) in
-    IsDistinct-cons is_same x (xs ++ ys)
-    (all_from (λ y. is_same x y ≡ false) (xs ++ ys)
-    (λ t h. ⊎_elim (λ before. head t before) (λ behind. other_template x t (apart x t (Contains-head x xs) behind)) (Contains-append_cases xs ys t h)))
-    (once_append xs ys (IsDistinct-tail is_same x xs d) e (λ s t h k. apart s t (Contains-tail x xs s h) k))
-
 once_ascending : (xs : List Triple) → AreAscending xs → AreOnce xs
 once_ascending [] rise = once_none
 once_ascending (x ∷ xs) rise =
     IsDistinct-cons is_same x xs (all_from (λ y. is_same x y ≡ false) xs (λ t h. not_same x t (rise.0 t h))) (once_ascending xs rise.1)
 
+apart : (s t : Triple) → s ≢ t → is_same s t ≡ false
+apart s t h =
+    ⊎_elim
+    (λ (yes : is_same s t ≡ true).
+    let first : s.first ≡ t.first = grind (arith, nat_tests) in
+    let last : s.last ≡ t.last = grind (arith, nat_tests) in
+    let template : s.template ≡ t.template = grind (arith, nat_tests) in
+    absurd (h (same_triple s t first last template)))
+    (λ (no : is_same s t ≡ false). no)
+    (cases_Bool (is_same s t))
+
+-- one more
+pub once_push : (xs : List Triple) (t : Triple) → AreOnce xs → ¬ (Contains xs t) → AreOnce (xs ++ t ∷ [])
+once_push [] t d fresh = once_ascending (t ∷ []) (λ s h. absurd (Contains-nil s h), tt)
+once_push (x ∷ xs) t d fresh =
+    let head = all_at (λ y. is_same x y ≡ false) xs (IsDistinct-head is_same x xs d) in
+    IsDistinct-cons is_same x (xs ++ t ∷ [])
+    (all_from (λ y. is_same x y ≡ false) (xs ++ t ∷ [])
+    (λ s h. ⊎_elim (λ before. head s before)
+    (λ (is : t ≡ s). apart x s (λ e. fresh (subst (Contains (x ∷ xs)) (e ∙ sym is) (Contains-head x xs))))
+    (Contains-push_cases xs t s h)))
+    (once_push xs t (IsDistinct-tail is_same x xs d) (λ h. fresh (Contains-tail x xs t h)))
+
 pub once_moved : (xs ys : List Triple) → IsPermutation xs ys → AreOnce xs → AreOnce ys
 once_moved xs ys moved d = IsDistinct-IsPermutation is_same is_same-sym xs ys moved d
-
-pub once_descending : (xs : List Triple) → AreAscending (reverse xs) → AreOnce xs
-once_descending xs fall = once_moved (reverse xs) xs (IsPermutation-sym xs (reverse xs) (IsPermutation-reverse xs)) (once_ascending (reverse xs) fall)
 
 -- ---- lists in order
 

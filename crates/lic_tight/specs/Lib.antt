@@ -1,3 +1,4 @@
 pub mod TightMatches
 pub mod Searches
 pub mod Steps
+pub mod Walked

@@ -1,6 +1,6 @@
-//! The tight matches in a text, found template by template with two machines, without a list of all matches.
+//! The tight matches in a text, found in one walk from its end, without a list of all matches.
 #![tactic(auto)]
 
-mod joint;
 pub mod matches;
-mod walks;
+mod replay;
+mod walk;

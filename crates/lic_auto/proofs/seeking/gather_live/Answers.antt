@@ -93,8 +93,8 @@ pub returns-clause-rising : goal.returns-clause-rising
 returns-clause-rising c = c.loop-place.invariant.gathered.rising
 
 pub returns-clause-exactly : goal.returns-clause-exactly
-returns-clause-exactly c = λ ts stand n.
+returns-clause-exactly c = λ lists stand n.
     let places = c.args.places.now in
     let done : take c.loop-place.place-index places ≡ places = take_all c.loop-place.place-index places (omega (arith, c.loop-place-test.false)) in
-    subst (λ seen. Contains (take c.loop-place.count c.loop-place.live) n ↔ IsFoundAt c.args.chosen.now seen ts n) done
-    (c.loop-place.invariant.gathered.exactly ts stand n)
+    subst (λ seen. Contains (take c.loop-place.count c.loop-place.live) n ↔ IsFoundAt c.args.chosen.now seen lists n) done
+    (c.loop-place.invariant.gathered.exactly lists stand n)

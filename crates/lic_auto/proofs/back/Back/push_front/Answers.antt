@@ -1,9 +1,9 @@
-use Rattle.std.proofs.Common.{◌≡◌, ◌↔◌, ◌⊎◌, ◌++◌, ◌∷◌, [], ℕ, Some, length, take, reverse, sym, ap, ◌∙◌, subst, arith, chars}
+use Rattle.std.proofs.Common.{◌≡◌, ◌↔◌, ◌⊎◌, ◌++◌, ◌∷◌, [], ℕ, Some, length, take, get_or, reverse, sym, ap, ◌∙◌, subst, arith, chars}
 use Rattle.std.specs.Vec.{with_items}
 use Rattle.std.specs.List.{slice_get, Contains}
 use Rattle.std.proofs.lemmas.List.{with_items_is}
 use Rattle.lic_words.specs.Mirrors.{mirrored, turned}
-use Rattle.lic_marks.specs.Seeks.{NoneBegins}
+use Rattle.lic_marks.specs.Seeks.{NoneBegins, Seeks}
 use Rattle.lic_keys.specs.Rising.{IsRising}
 use Rattle.lic_keys.proofs.RisingLemmas.{length-rising}
 use Rattle.lic_words.specs.Describing.{IsDescribed}
@@ -11,13 +11,13 @@ use Rattle.lic_auto.specs.Sets.{Known, words_of}
 use Rattle.lic_auto.specs.Backs.{IsLive}
 use Rattle.lic_auto.specs.Choices.{templates_of}
 use Rattle.lic_auto.specs.Directions.{read, ordered}
-use Rattle.lic_auto.specs.Seeking.{AllSeek, AreQuietBut, HaveMirrors}
+use Rattle.lic_auto.specs.Seeking.{AreQuietBut, HaveMirrors, SeekEach}
 use Rattle.lic_auto.proofs.Beginning.{BeginsWithLetter-token}
 use Rattle.lic_auto.proofs.Ends.{turned-cons}
 use Rattle.lic_auto.proofs.PickedLemmas.{length-picked}
 use Rattle.lic_auto.proofs.Places.{below_bound}
-use Rattle.lic_auto.proofs.TurnedSeekers.{HaveMirrors-changed, AllSeek-taken, AreQuietBut-kept}
-use Rattle.lic_auto.proofs.Living.{has_letters, live-found, found-live}
+use Rattle.lic_auto.proofs.TurnedSeekers.{HaveMirrors-changed, SeekEach-taken, AreQuietBut-kept}
+use Rattle.lic_auto.proofs.Living.{has_letters, live-gathered, turned_at}
 use Rattle.lic_auto.proofs.back.Back.push_front.Goals as goal
 
 pub join_rising-turn_count-requires : goal.join_rising-turn_count-requires
@@ -112,8 +112,8 @@ invariant_of-self c =
       live_rising = subst (λ xs. IsRising (take c.gather_live-self.result xs) (length self.chosen.set.now)) (sym live) c.gather_live-self.ensures.rising;
     }
 
-pub returns-clause-stands : goal.returns-clause-stands
-returns-clause-stands c = λ ts s.
+pub returns-clause-each : goal.returns-clause-each
+returns-clause-each c = λ lists s.
     let self = c.args.self.now in
     let entered_is : c.deref.result.now ≡ c.enter-count.new.entered =
     c.deref.ensures.value ∙ with_items_is self.entered c.enter-count.new.entered (omega (arith, c.enter-count.ensures.room, c.deref_mut.ensures.len)) in
@@ -132,7 +132,9 @@ returns-clause-stands c = λ ts s.
     let items = with_items_is self.seekers c.take_turned-self.new.seekers (omega (arith, c.take_turned-self.auto, c.deref_mut-3.ensures.len)) in
     let marked = with_items_is self.marked kept (omega (arith, c.take_turned-self.ensures.room, c.deref_mut-4.ensures.len)) in
     let live = with_items_is self.live c.gather_live-self.new.live (omega (arith, c.gather_live-self.ensures.room, c.deref_mut-5.ensures.len)) in
-    let before : AllSeek set c.deref_mut-3.result.now (turned ts) = subst (λ xs. AllSeek set xs (turned ts)) (sym c.deref_mut-3.ensures.value) s.seekers in
+    let more = λ (k : ℕ). token ∷ lists k in
+    let old = λ (place : ℕ). turned (lists (get_or numbers place 0)) in
+    let before : SeekEach set c.deref_mut-3.result.now old = subst (λ xs. SeekEach set xs old) (sym c.deref_mut-3.ensures.value) s.seekers in
     let quiet : AreQuietBut before_marked c.deref_mut-3.result.now =
     subst (λ xs. AreQuietBut (take self.marked_count xs) c.deref_mut-3.result.now) (sym c.deref-2.ensures.value)
     (subst (AreQuietBut (take self.marked_count self.marked.items)) (sym c.deref_mut-3.ensures.value) self.quiet) in
@@ -143,26 +145,27 @@ returns-clause-stands c = λ ts s.
     λ k one is out more described.
     c.enter-count.ensures.rest k one is (λ h. out (subst (λ xs. Contains (take c.enter-count.result xs) k) (sym entered_is) h)) more
     (subst (λ d. IsDescribed (read d (words_of one)) (ordered d token ∷ more)) (sym self.backward) described) in
-    let taken : AllSeek set c.take_turned-self.new.seekers (turned ts ++ reverse token ∷ []) =
-    AllSeek-taken set _ _ before_marked entered places token quiet c.take_turned-self.ensures.taken both (turned ts) rest before in
-    let after : AllSeek set c.take_turned-self.new.seekers (turned (token ∷ ts)) =
-    subst (AllSeek set c.take_turned-self.new.seekers) (sym (turned-cons token ts)) taken in
+    let taken : SeekEach set c.take_turned-self.new.seekers (λ place. old place ++ reverse token ∷ []) =
+    SeekEach-taken set _ _ before_marked entered places token quiet c.take_turned-self.ensures.taken both old rest before in
+    let after : SeekEach set c.take_turned-self.new.seekers (turned_at numbers more) =
+    λ k one seeker is there. subst (λ ts. ∥ Seeks seeker (mirrored (words_of one)) ts ∥₁)
+    (sym (turned-cons token (lists (get_or numbers k 0)))) (taken k one seeker is there) in
     let calm : AreQuietBut (take count kept) c.take_turned-self.new.seekers =
     AreQuietBut-kept set _ _ before_marked entered places token quiet c.take_turned-self.ensures.taken both (take count kept) c.take_turned-self.ensures.kept in
     let size : length set ≡ length numbers = length-picked known numbers self.chosen.rising.below in
     let seekers : length c.take_turned-self.new.seekers ≡ length set = omega (arith, c.take_turned-self.auto, c.deref_mut-3.ensures.len, self.count) in
-    let seen : AllSeek set c.deref-5.result.now (turned (token ∷ ts)) =
-    subst (λ xs. AllSeek set xs (turned (token ∷ ts))) (sym (c.deref-5.ensures.value ∙ items)) after in
+    let seen : SeekEach set c.deref-5.result.now (turned_at numbers more) =
+    subst (λ xs. SeekEach set xs (turned_at numbers more)) (sym (c.deref-5.ensures.value ∙ items)) after in
     let at : take count c.deref-4.result.now ≡ take count kept = ap (take count) (c.deref-4.ensures.value ∙ marked) in
     let up : IsRising (take count kept) (length numbers) = subst (IsRising (take count kept)) (seekers ∙ size) c.take_turned-self.ensures.rising in
-    let found = λ (k : ℕ). c.gather_live-self.ensures.exactly (turned (token ∷ ts)) seen k in
     record {
-      seekers = subst (λ xs. AllSeek set xs (turned (token ∷ ts))) (sym items) after;
-      live = λ k. subst (λ xs. Contains (take c.gather_live-self.result xs) k ↔ (Contains numbers k × IsLive known (token ∷ ts) k)) (sym live) (
-        λ h. live-found known numbers self.chosen.rising (take count c.deref-4.result.now) (token ∷ ts) k
-            (λ p among. below_bound (take count kept) (length numbers) p up (subst (λ xs. Contains xs p) at among)) ((found k).0 h),
-        λ h. (found k).1
-            (found-live known numbers self.chosen.rising (take count c.deref-4.result.now) (token ∷ ts) k c.take_turned-self.new.seekers (sym seekers)
-            (subst (λ xs. AreQuietBut xs c.take_turned-self.new.seekers) (sym at) calm) after h),
-      );
+      seekers = subst (λ xs. SeekEach set xs (turned_at numbers more)) (sym items) after;
+      live = λ k. subst (λ xs. Contains (take c.gather_live-self.result xs) k ↔ (Contains numbers k × IsLive known (more k) k)) (sym live)
+          (live-gathered known numbers self.chosen.rising (take count c.deref-4.result.now) more c.take_turned-self.new.seekers (sym seekers)
+          (subst (λ xs. AreQuietBut xs c.take_turned-self.new.seekers) (sym at) calm) after (take c.gather_live-self.result c.gather_live-self.new.live)
+          (λ p among. below_bound (take count kept) (length numbers) p up (subst (λ xs. Contains xs p) at among))
+          (c.gather_live-self.ensures.exactly (turned_at numbers more) seen) k);
     }
+
+pub returns-clause-stands : goal.returns-clause-stands
+returns-clause-stands c = λ ts s. returns-clause-each c (λ k. ts) s
