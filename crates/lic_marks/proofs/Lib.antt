@@ -24,6 +24,7 @@ pub mod Moving
 pub mod Stretches
 pub mod LoneMarks
 pub mod Following
+pub mod Ways
 pub mod Untouched
 pub mod WindowRows
 pub mod Deciding
