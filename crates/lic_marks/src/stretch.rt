@@ -91,6 +91,7 @@ impl<'a> Stretch<'a> {
     {
         let next = self.letter_behind(place)?;
         let behind = place.checked_add(1)?;
+        let is_needed = letter.are_words;
         if next == ' ' {
             let after_blank = self.letter_behind(behind)?;
             let end = behind.checked_add(1)?;
@@ -101,7 +102,7 @@ impl<'a> Stretch<'a> {
             } else {
                 Some(Way::Nowhere)
             }
-        } else if letter.are_words {
+        } else if is_needed {
             Some(Way::Nowhere)
         } else if next == letter.letter {
             Some(Way::To(behind))
@@ -119,11 +120,13 @@ impl<'a> Stretch<'a> {
         let mut at = place;
         while let Some(letter) = letters.next() {
             let next = self.letter_behind(at)?;
-            if letter.is_apart {
-                return None;
-            }
-            if next != letter.letter {
-                return Some(Way::Nowhere);
+            if letter.is_apart | (next != letter.letter) {
+                // behind a gap within the token that is not looked into
+                return if letter.is_apart {
+                    None
+                } else {
+                    Some(Way::Nowhere)
+                };
             }
             at = at.checked_add(1)?;
         }

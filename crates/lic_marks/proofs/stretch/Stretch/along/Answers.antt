@@ -1,9 +1,11 @@
-use Rattle.std.proofs.Common.{◌≡◌, false, ℕ, ◌+◌, List, [], ◌∷◌, ◌++◌, length, append_assoc, append-nil, refl, sym, ap, ◌∙◌, subst, arith}
+use Rattle.std.proofs.Common.{◌≡◌, Bool, true, false, not, ◌||◌, ℕ, ◌+◌, List, [], ◌∷◌, ◌++◌, length, append_assoc, append-nil, refl, sym, ap, ◌∙◌, subst, arith}
 use Rattle.std.proofs.lemmas.List.{length-append}
 use Rattle.lic_words.specs.Spelling.{Gap, gap_of}
 use Rattle.lic_words.specs.Reading.{gapped_letter, turned_letters_left}
 use Rattle.lic_marks.specs.Stretches.{LeadsAlong, LeadsTo}
 use Rattle.lic_marks.specs.Ways.{LeadsNowhere}
+use Rattle.lic_marks.proofs.Joining.{neither_left, neither_right}
+use Rattle.std.proofs.lemmas.Bool.{eqb-true, eqb-false}
 use Rattle.lic_marks.proofs.Following.{LeadsAlong-push}
 use Rattle.lic_marks.proofs.Ways.{along_nowhere}
 use Rattle.lic_marks.proofs.stretch.Stretch.along.Goals as goal
@@ -18,8 +20,8 @@ loop-letter-preserved c =
     let letter = c.in-Some.letter in
     let more : List (Gap × ℕ) = inv.led.0 in
     let one : Gap × ℕ = gapped_letter letter in
-    let at_once : one.0 ≡ gap_of false letter.are_words = ap (λ b. gap_of b letter.are_words) c.if-letter.false in
-    let same : c.in_ok-next.next ≡ letter.letter = c.if-next-letter.false in
+    let at_once : one.0 ≡ gap_of false letter.are_words = ap (λ b. gap_of b letter.are_words) (neither_left _ _ c.if-letter-next.false) in
+    let same : c.in_ok-next.next ≡ letter.letter = eqb-true _ _ (neither_right _ _ c.if-letter-next.false) in
     let far : length (more ++ one ∷ []) ≡ length more + 1 = length-append more (one ∷ []) in
     record {
       led = (
@@ -31,19 +33,25 @@ loop-letter-preserved c =
       );
     }
 
+the_second : (a b : Bool) → (a || not b) ≡ true → a ≡ false → b ≡ false
+the_second true b h none = absurd (let never : true ≡ false = none in cc)
+the_second false true h none = cc
+the_second false false h none = refl
+
 -- another letter than that of the text
-pub returns-then-next-letter : goal.returns-then-next-letter
-returns-then-next-letter c = λ r s.
+pub returns-else-letter : goal.returns-else-letter
+returns-else-letter c = λ r s.
     let inv = c.loop-letter.invariant in
     let letter = c.in-Some.letter in
     let more : List (Gap × ℕ) = inv.led.0 in
     let rest : List (Gap × ℕ) = turned_letters_left c.next.new.self in
     let one : Gap × ℕ = gapped_letter letter in
     let at_once : one.0 ≡ gap_of false letter.are_words = ap (λ b. gap_of b letter.are_words) c.if-letter.false in
+    let apart = eqb-false _ _ (the_second letter.is_apart _ c.if-letter-next.true c.if-letter.false) in
     let all : turned_letters_left c.args.letters ≡ more ++ one ∷ rest = inv.led.1 ∙ ap (λ x. more ++ x) c.in-Some.ensures.steps.first in
     let goes : LeadsTo r (c.args.place + length more) c.in_ok-next.next = subst (λ n. LeadsTo r n c.in_ok-next.next) (sym inv.led.2) (c.in_ok-next.ensures r s) in
     subst (LeadsNowhere r c.args.place) (sym all)
-    (along_nowhere r c.args.place c.in_ok-next.next more one rest (inv.led.3 r s) at_once goes c.if-next-letter.true)
+    (along_nowhere r c.args.place c.in_ok-next.next more one rest (inv.led.3 r s) at_once goes apart)
 
 pub returns : goal.returns
 returns c = λ r s.

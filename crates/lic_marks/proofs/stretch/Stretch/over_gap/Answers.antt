@@ -15,11 +15,11 @@ returns-else-after_blank-eq32 c = λ r s.
     blank_nowhere r place c.in_ok-after_blank.after_blank letter.letter over goes c.if-after_blank-eq32.false c.if-after_blank-letter.false letter.is_letter
     (gap_of true letter.are_words)
 
-pub returns-then-letter : goal.returns-then-letter
-returns-then-letter c = λ r s.
-    rw c.if-letter.true (needed_nowhere r c.args.place c.in_ok-next.next c.args.letter.letter (c.in_ok-next.ensures r s) c.if-next-eq32.false)
+pub returns-then-is_needed : goal.returns-then-is_needed
+returns-then-is_needed c = λ r s.
+    rw c.if-is_needed.true (needed_nowhere r c.args.place c.in_ok-next.next c.args.letter.letter (c.in_ok-next.ensures r s) c.if-next-eq32.false)
 
 pub returns-else-next-letter : goal.returns-else-next-letter
 returns-else-next-letter c = λ r s.
-    rw c.if-letter.false
+    rw c.if-is_needed.false
     (free_nowhere r c.args.place c.in_ok-next.next c.args.letter.letter (c.in_ok-next.ensures r s) c.if-next-eq32.false c.if-next-letter.false)
