@@ -25,6 +25,7 @@ pub mod Stretches
 pub mod LoneMarks
 pub mod Following
 pub mod Ways
+pub mod Fronts
 pub mod Untouched
 pub mod WindowRows
 pub mod Deciding
@@ -32,4 +33,5 @@ pub mod Superposing
 pub mod Closing
 pub mod Entering
 pub mod Seeking
+pub mod Beginning
 mod DescribedExamples

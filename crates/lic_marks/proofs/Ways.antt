@@ -83,7 +83,7 @@ first_nowhere r k p rest words is none = λ v h.
 -- the first letter leads on, and the others as they do
 pub way_behind : (r : Core) (k at : ℕ) (p : Gap × ℕ) (rest : List (Gap × ℕ)) (words : Bool) → p.0 ≡ gap_of true words → (p.1 ≡ blank → ⊥) →
     LeadsOverGap r k (gap_of true words) p.1 at → (way : Way) → IsWayAlong r at rest way → IsWay r k (p ∷ rest) way
-way_behind r k at p rest words is letter gap (To end) h = (at, words, is, letter, gap, h.0, h.1)
+way_behind r k at p rest words is letter gap (To end last) h = (at, words, is, letter, gap, h.0, h.1)
 way_behind r k at p rest words is letter gap Nowhere h = λ v t.
     let first = follows_gap r k p.1 (Behind r k) words at gap letter (leads_itself r k) in
     h v (After-map rest (Then p.0 p.1 (Behind r k)) (Behind r at)

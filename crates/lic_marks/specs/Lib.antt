@@ -6,6 +6,7 @@ pub mod Rows
 pub mod Windows
 pub mod Stretches
 pub mod Ways
+pub mod Fronts
 pub mod Nodes
 pub mod Memories
 pub mod Plain

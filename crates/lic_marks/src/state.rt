@@ -1,6 +1,6 @@
 //! The state of a position automaton (Glushkov's) that reads letters and gaps: which positions are marked.
 
-ghost use Rattle.std.specs.Prelude.{◌≡◌, ℕ, ◌≤◌, ◌↔◌, ◌⊎◌, ◌||◌, true, false, IsTrue, IfOk, IfSome, List, [], ◌∷◌, ◌++◌, length, reverse};
+ghost use Rattle.std.specs.Prelude.{◌≡◌, ℕ, ◌<◌, ◌≤◌, ◌↔◌, ◌⊎◌, ◌||◌, true, false, IsTrue, IfOk, IfSome, List, [], ◌∷◌, ◌++◌, length, reverse};
 ghost use Rattle.std.specs.Str.{chars};
 ghost use Rattle.lic_words.specs.Words.{Word, blanks};
 ghost use Rattle.lic_words.specs.Spelling.{Gap, free, gapped_from, last_letter, SpellsGapped};
@@ -10,6 +10,7 @@ ghost use Rattle.lic_marks.specs.Marks.{can_leave, no_marks};
 ghost use Rattle.lic_marks.specs.Rows.{weight, marks_of};
 ghost use Rattle.lic_marks.specs.Nodes.{core_of, is_measured};
 ghost use Rattle.lic_marks.specs.Stretches.{IsLone, IsStretchOf};
+ghost use Rattle.lic_marks.specs.Fronts.{GoesOnAt};
 ghost use Rattle.lic_marks.specs.Ways.{IsWay};
 ghost use Rattle.lic_marks.specs.Standing.{After, AfterAny, StandsAtOnce, each_with, shift_over};
 ghost use Rattle.lic_marks.specs.Deciding.{over_blanks};
@@ -380,7 +381,7 @@ impl State {
             return false;
         };
         match way {
-            Way::To(end) => {
+            Way::To { place: end, .. } => {
                 self.at_once.move_to(place, end);
                 self.memory.compare(&self.at_once);
                 self.is_apart = false;
@@ -389,6 +390,26 @@ impl State {
             Way::Nowhere => self.clear(),
         }
         true
+    }
+
+    /// Marks one position alone, in place of all that were marked, and opens a gap behind it.
+    pub fn mark_alone(&mut self, tree: &Node, stretch: Stretch<'_>, place: usize)
+        requires measured { IsTrue (is_measured tree.now) }
+        requires room { weight (core_of tree.now) ≤ room_of self.old }
+        requires stretch { IsStretchOf (core_of tree.now) stretch }
+        requires within { place < weight (core_of tree.now) }
+        ensures room { room_of self.new ≡ room_of self.old }
+        ensures any { (before after : List (List (Gap × ℕ)))
+            → HasTakenAny (core_of tree.now) self.old before
+            → GoesOnAt (core_of tree.now) place after
+            → HasTakenAny (core_of tree.now) self.new after }
+        ensures open { IsTrue (has_gap self.new) }
+    {
+        self.at_once.set_alone(place);
+        self.memory.compare(&self.at_once);
+        self.entry = false;
+        self.is_apart = false;
+        self.gap(tree, stretch);
     }
 
     // The place of the one mark, and where the token leads from there along the stretch.

@@ -7,7 +7,7 @@ ghost use Rattle.lic_marks.specs.Cores.{cat_all, alt_all};
 ghost use Rattle.lic_marks.specs.Nodes.{core_of, is_measured};
 ghost use Rattle.lic_marks.specs.Stretches.{IsStretch};
 ghost use Rattle.lic_words.specs.Spelling.{gap_of, gapped_from};
-ghost use Rattle.lic_words.specs.Reading.{turned_letters_left};
+ghost use Rattle.lic_words.specs.Reading.{turned_last_in, turned_letters_left};
 
 use crate::node::Node;
 use lic_words::letters::Letter;
@@ -23,8 +23,8 @@ pub struct Stretch<'a> {
 /// Where letters lead from a mark at one place alone.
 #[derive(Clone, Copy, Debug)]
 pub enum Way {
-    /// To this place alone.
-    To(usize),
+    /// To this place alone. The letter is the last that was read.
+    To { place: usize, last: char },
     /// Nowhere: no word goes on with them.
     Nowhere,
 }
@@ -32,7 +32,7 @@ pub enum Way {
 impl<'a> Stretch<'a> {
     ghost use Rattle.lic_marks.specs.Cores.{Core};
     ghost use Rattle.lic_marks.specs.Stretches.{LeadsTo, IsStretchOf};
-    ghost use Rattle.lic_marks.specs.Ways.{IsGapWay, IsWay, IsWayAlong};
+    ghost use Rattle.lic_marks.specs.Ways.{EndsIn, IsGapWay, IsWay, IsWayAlong};
 
     /// No letters.
     pub fn none() -> Stretch<'a>
@@ -79,7 +79,7 @@ impl<'a> Stretch<'a> {
         let mut letters = TurnedLetters::new(token, last, true);
         let first = letters.next()?;
         match self.over_gap(place, first)? {
-            Way::To(at) => self.along(at, letters),
+            Way::To { place: at, .. } => self.along(at, letters),
             Way::Nowhere => Some(Way::Nowhere),
         }
     }
@@ -96,7 +96,10 @@ impl<'a> Stretch<'a> {
             let after_blank = self.letter_behind(behind)?;
             let end = behind.checked_add(1)?;
             if after_blank == letter.letter {
-                Some(Way::To(end))
+                Some(Way::To {
+                    place: end,
+                    last: letter.letter,
+                })
             } else if after_blank == ' ' {
                 None
             } else {
@@ -105,16 +108,20 @@ impl<'a> Stretch<'a> {
         } else if is_needed {
             Some(Way::Nowhere)
         } else if next == letter.letter {
-            Some(Way::To(behind))
+            Some(Way::To {
+                place: behind,
+                last: letter.letter,
+            })
         } else {
             Some(Way::Nowhere)
         }
     }
 
-    // Where the letters lead one by one, each at once.
-    fn along(self, place: usize, letters: TurnedLetters<'_>) -> Option<Way>
-        ensures { IfSome result (λ way. (r : Core) → IsStretchOf r self.entry
+    /// Where the letters lead one by one, each at once, if that is known here.
+    pub fn along(self, place: usize, letters: TurnedLetters<'_>) -> Option<Way>
+        ensures leads { IfSome result (λ way. (r : Core) → IsStretchOf r self.entry
             → IsWayAlong r place (turned_letters_left letters.entry) way) }
+        ensures last { IfSome result (EndsIn (turned_last_in letters.entry)) }
     {
         let mut letters = letters;
         let mut at = place;
@@ -130,7 +137,8 @@ impl<'a> Stretch<'a> {
             }
             at = at.checked_add(1)?;
         }
-        Some(Way::To(at))
+        let last = letters.last_letter();
+        Some(Way::To { place: at, last })
     }
 }
 

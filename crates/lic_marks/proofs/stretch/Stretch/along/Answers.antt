@@ -11,7 +11,7 @@ use Rattle.lic_marks.proofs.Ways.{along_nowhere}
 use Rattle.lic_marks.proofs.stretch.Stretch.along.Goals as goal
 
 pub loop-letter-init : goal.loop-letter-init
-loop-letter-init c = record { led = ([], refl, omega arith, λ r s. tt) }
+loop-letter-init c = record { led = ([], refl, omega arith, λ r s. tt); last = refl }
 
 pub loop-letter-preserved : goal.loop-letter-preserved
 loop-letter-preserved c =
@@ -31,6 +31,7 @@ loop-letter-preserved c =
         λ r s. LeadsAlong-push r c.args.place more one (inv.led.3 r s) at_once letter.is_letter
             (subst (λ d. LeadsTo r (c.args.place + length more) d) same (subst (λ n. LeadsTo r n c.in_ok-next.next) (sym inv.led.2) (c.in_ok-next.ensures r s))),
       );
+      last = given.last ∙ inv.last;
     }
 
 the_second : (a b : Bool) → (a || not b) ≡ true → a ≡ false → b ≡ false
@@ -39,8 +40,8 @@ the_second false true h none = cc
 the_second false false h none = refl
 
 -- another letter than that of the text
-pub returns-else-letter : goal.returns-else-letter
-returns-else-letter c = λ r s.
+pub returns-else-letter-clause-leads : goal.returns-else-letter-clause-leads
+returns-else-letter-clause-leads c = λ r s.
     let inv = c.loop-letter.invariant in
     let letter = c.in-Some.letter in
     let more : List (Gap × ℕ) = inv.led.0 in
@@ -53,8 +54,8 @@ returns-else-letter c = λ r s.
     subst (LeadsNowhere r c.args.place) (sym all)
     (along_nowhere r c.args.place c.in_ok-next.next more one rest (inv.led.3 r s) at_once goes apart)
 
-pub returns : goal.returns
-returns c = λ r s.
+pub returns-clause-leads : goal.returns-clause-leads
+returns-clause-leads c = λ r s.
     let inv = c.loop-letter.invariant in
     let more : List (Gap × ℕ) = inv.led.0 in
     let none : turned_letters_left c.loop-letter.letters ≡ [] = c.in_default.ensures.steps.first.0 in
@@ -62,3 +63,7 @@ returns c = λ r s.
       subst (LeadsAlong r c.args.place) (sym all) (inv.led.3 r s),
       sym inv.led.2 ∙ ap (λ x. c.args.place + length x) (sym all),
     )
+
+pub returns-clause-last : goal.returns-clause-last
+returns-clause-last c =
+    c.last_letter-last.ensures c.in_default.ensures.steps.first.1 ∙ c.in_default.ensures.steps.last ∙ c.loop-letter.invariant.last

@@ -23,7 +23,7 @@ returns-in-To c =
     (λ way h r s. subst (λ x. IsWay r c.args.place x way) (sym split)
     (way_behind r c.args.place c.in-To.at p rest first.are_words (ap (λ b. gap_of b first.are_words) apart) first.is_letter
     (rw c.in-To.is at (c.in_ok-at.ensures r s)) way (h r s)))
-    _ c.along.ensures
+    _ c.along.ensures.leads
 
 pub returns-in-Nowhere : goal.returns-in-Nowhere
 returns-in-Nowhere c = λ r s.
