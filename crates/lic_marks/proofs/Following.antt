@@ -23,7 +23,7 @@ module _ (r : Core) (k d : ℕ) (goes : LeadsTo r k d) (after : Bool) where
   led_on = led d ∙ ap (λ b. if b then mark_at r (suc k) else no_marks r) (eq-eqb d d refl)
 
   -- any other letter leads to nothing
-  led_off : (c : ℕ) → (c ≡ d → ⊥) → (v : Word) → Completes r (c == blank) (shift r after false (mark_at r k) c) v → ⊥
+  pub led_off : (c : ℕ) → (c ≡ d → ⊥) → (v : Word) → Completes r (c == blank) (shift r after false (mark_at r k) c) v → ⊥
   led_off c apart v h = Completes-no_marks r (c == blank) v
       (subst (λ (m : Marks r). Completes r (c == blank) m v) (led c ∙ ap (λ b. if b then mark_at r (suc k) else no_marks r) (ne_eqb c d apart)) h)
 
@@ -34,11 +34,11 @@ module _ (r : Core) (k d : ℕ) (goes : LeadsTo r k d) (after : Bool) where
     | inr p ↦ absurd (let e = p.0 in cc)
   ]
 
-  steps_on : (v : Word) → Completes r after (mark_at r k) (d ∷ v) → Completes r (d == blank) (mark_at r (suc k)) v
+  pub steps_on : (v : Word) → Completes r after (mark_at r k) (d ∷ v) → Completes r (d == blank) (mark_at r (suc k)) v
   steps_on v h = subst (λ (m : Marks r). Completes r (d == blank) m v) led_on (shift_complete r after false (mark_at r k) d v (inl h))
 
 -- what goes on where none may begin
-marked : (r : Core) (m : Marks r) (v : Word) → GoesOn r false false m v → Completes r false m v
+pub marked : (r : Core) (m : Marks r) (v : Word) → GoesOn r false false m v → Completes r false m v
 marked r m v (inl h) = h
 marked r m v (inr h) = absurd (let e = h.0 in cc)
 
@@ -144,15 +144,13 @@ pub follows : (r : Core) (entry : Bool) (old new : List Bool) (place end : ℕ) 
     LeadsOver r place letters end → Leads r entry (marks_of r new) (After A letters)
 follows r entry old new place end A [] none s lone there way = absurd way
 follows r entry old new place end A (p ∷ rest) none s lone there (at, words, is, letter, gap, along, far) =
-    let within = gap_within r place (gap_of true words) p.1 at gap in
-    let low : end < weight r = let beyond = along_within r at rest along within.2 in omega (arith, far, beyond) in
     let before : Leads r false (mark_at r place) A =
-    subst (λ (m : Marks r). Leads r false m A) (marks_of-lone r old place (omega (arith, within.0)) lone) (subst (λ b. Leads r b (marks_of r old) A) none s) in
+    subst (λ (m : Marks r). Leads r false m A) (marks_of-lone r old place lone) (subst (λ b. Leads r b (marks_of r old) A) none s) in
     let first : Leads r false (mark_at r at) (Then p.0 p.1 A) =
     subst (λ g. Leads r false (mark_at r at) (Then g p.1 A)) (sym is) (follows_gap r place p.1 A words at gap letter before) in
     let all : Leads r false (mark_at r (at + length rest)) (After A (p ∷ rest)) = follows_along r at rest along (Then p.0 p.1 A) first in
     let moved : mark_at r (at + length rest) ≡ marks_of r new =
-    ap (mark_at r) (sym far) ∙ sym (marks_of-lone r new end low (IsLone-at new end there)) in
+    ap (mark_at r) (sym far) ∙ sym (marks_of-lone r new end (IsLone-at new end there)) in
     subst (λ b. Leads r b (marks_of r new) (After A (p ∷ rest))) (sym none)
     (subst (λ (m : Marks r). Leads r false m (After A (p ∷ rest))) moved all)
 

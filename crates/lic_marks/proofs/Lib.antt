@@ -24,6 +24,8 @@ pub mod Moving
 pub mod Stretches
 pub mod LoneMarks
 pub mod Following
+pub mod Ways
+pub mod Fronts
 pub mod Untouched
 pub mod WindowRows
 pub mod Deciding
@@ -31,4 +33,5 @@ pub mod Superposing
 pub mod Closing
 pub mod Entering
 pub mod Seeking
+pub mod Beginning
 mod DescribedExamples

@@ -36,13 +36,13 @@ IsLone-drop row n p q e l = record {
 }
 
 -- then one position alone is marked
-pub marks_of-lone : (r : Core) (row : List Bool) (p : ℕ) → p < weight r → IsLone row p → marks_of r row ≡ mark_at r p
-marks_of-lone empty row p h l = refl
-marks_of-lone (one passes) row zero h l = first row ∙ l.flag
-marks_of-lone (one passes) row (suc p) h l = absurd (omega (arith, h))
-marks_of-lone (cat a b) row p h l = elim (cases_lt p (weight a)) [
+pub marks_of-lone : (r : Core) (row : List Bool) (p : ℕ) → IsLone row p → marks_of r row ≡ mark_at r p
+marks_of-lone empty row p l = refl
+marks_of-lone (one passes) row zero l = first row ∙ l.flag
+marks_of-lone (one passes) row (suc p) l = first row ∙ l.others 0 (λ e. omega (arith, e)) ∙ sym (ne_eqb (suc p) 0 (λ e. omega (arith, e)))
+marks_of-lone (cat a b) row p l = elim (cases_lt p (weight a)) [
   | inl low ↦
-      let left = marks_of-lone a row p low l in
+      let left = marks_of-lone a row p l in
       let right = marks_of-none b (drop (weight a) row) (λ k few. get_or-drop (weight a) row k false
       ∙ l.others (weight a + k) (λ same. omega (arith, same, low))) in
       let both : marks_of (cat a b) row ≡ (mark_at a p, no_marks b) = λ i. (left i, right i) in
@@ -50,14 +50,14 @@ marks_of-lone (cat a b) row p h l = elim (cases_lt p (weight a)) [
   | inr high ↦
       let there : p ≡ weight a + (p - weight a) = omega (arith, high) in
       let left = marks_of-none a row (λ k few. l.others k (λ same. omega (arith, same, few, high))) in
-      let right = marks_of-lone b (drop (weight a) row) (p - weight a) (omega (arith, h, high)) (IsLone-drop row (weight a) p (p - weight a) there l) in
+      let right = marks_of-lone b (drop (weight a) row) (p - weight a) (IsLone-drop row (weight a) p (p - weight a) there l) in
       let both : marks_of (cat a b) row ≡ (no_marks a, mark_at b (p - weight a)) = λ i. (left i, right i) in
       both ∙ sym (right_mark a b p (p - weight a) there)
 ]
-marks_of-lone none row p h l = refl
-marks_of-lone (alt a b) row p h l = elim (cases_lt p (weight a)) [
+marks_of-lone none row p l = refl
+marks_of-lone (alt a b) row p l = elim (cases_lt p (weight a)) [
   | inl low ↦
-      let left = marks_of-lone a row p low l in
+      let left = marks_of-lone a row p l in
       let right = marks_of-none b (drop (weight a) row) (λ k few. get_or-drop (weight a) row k false
       ∙ l.others (weight a + k) (λ same. omega (arith, same, low))) in
       let both : marks_of (alt a b) row ≡ (mark_at a p, no_marks b) = λ i. (left i, right i) in
@@ -65,12 +65,12 @@ marks_of-lone (alt a b) row p h l = elim (cases_lt p (weight a)) [
   | inr high ↦
       let there : p ≡ weight a + (p - weight a) = omega (arith, high) in
       let left = marks_of-none a row (λ k few. l.others k (λ same. omega (arith, same, few, high))) in
-      let right = marks_of-lone b (drop (weight a) row) (p - weight a) (omega (arith, h, high)) (IsLone-drop row (weight a) p (p - weight a) there l) in
+      let right = marks_of-lone b (drop (weight a) row) (p - weight a) (IsLone-drop row (weight a) p (p - weight a) there l) in
       let both : marks_of (alt a b) row ≡ (no_marks a, mark_at b (p - weight a)) = λ i. (left i, right i) in
       both ∙ sym (right_alt a b p (p - weight a) there)
 ]
-marks_of-lone (plus a) row p h l = marks_of-lone a row p h l
-marks_of-lone (tidy a) row p h l = marks_of-lone a row p h l
+marks_of-lone (plus a) row p l = marks_of-lone a row p l
+marks_of-lone (tidy a) row p l = marks_of-lone a row p l
 
 -- the marks of a row are the flags that stand first in it
 pub flags_of-marks_of : (r : Core) (row : List Bool) → weight r ≤ length row → flags_of r (marks_of r row) ≡ take (weight r) row
@@ -90,12 +90,12 @@ flags_of-marks_of (tidy a) row h = flags_of-marks_of a row h
 module _ (r : Core) (after : Bool) (p d c : ℕ) (old new : List Bool) (goes : LeadsTo r p d) (room : weight r ≤ length old) (lone : IsLone old p)
     (long : length new ≡ length old) (there : (k : ℕ) → get_or new k false ≡ ((c == d) && (k == suc p))) where
   here : marks_of r old ≡ mark_at r p
-  here = marks_of-lone r old p (omega (arith, goes.within)) lone
+  here = marks_of-lone r old p lone
 
   -- the next position is marked, or none
   next : marks_of r new ≡ (if c == d then mark_at r (suc p) else no_marks r)
   next = elim (cases_Bool (c == d)) [
-    | inl is ↦ rw is (marks_of-lone r new (suc p) goes.within record {
+    | inl is ↦ rw is (marks_of-lone r new (suc p) record {
       flag = there (suc p) ∙ rw (is, eq-eqb (suc p) (suc p) refl) refl;
       others = λ k apart. there k ∙ rw (is, ne_eqb k (suc p) apart) refl;
     })
@@ -132,7 +132,7 @@ module _ (r : Core) (after : Bool) (p d c : ℕ) (old new : List Bool) (goes : L
 -- a lone mark of a stretch cannot leave
 pub Leaves-stays : (r : Core) (after : Bool) (p d : ℕ) (row : List Bool) → LeadsTo r p d → IsLone row p → Leaves r after false row 0 false
 Leaves-stays r after p d row goes lone =
-    record { answer = sym (ap (can_leave r after false) (marks_of-lone r row p (omega (arith, goes.within)) lone) ∙ goes.stays after) }
+    record { answer = sym (ap (can_leave r after false) (marks_of-lone r row p lone) ∙ goes.stays after) }
 
 -- a letter further on in a stretch
 pub goes_at : (r : Core) (k : ℕ) (letters : List ℕ) (i d : ℕ) → i < length letters → IsStretch r k letters → GoesTo r (k + i) (get_or letters i d)

@@ -5,6 +5,8 @@ pub mod Standing
 pub mod Rows
 pub mod Windows
 pub mod Stretches
+pub mod Ways
+pub mod Fronts
 pub mod Nodes
 pub mod Memories
 pub mod Plain

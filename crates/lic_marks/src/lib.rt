@@ -3,6 +3,7 @@
 #![tactic(auto)]
 
 pub mod build;
+mod front;
 pub mod laws;
 mod letter_set;
 mod memory;

@@ -214,6 +214,22 @@ impl Row {
         };
     }
 
+    /// Sets the flag at this place, and takes back all others.
+    pub fn set_alone(&mut self, place: usize)
+        requires { place < length self.old }
+        ensures flags { (k : ℕ) → get_or self.new k false ≡ (k == place) }
+        ensures len { length self.new ≡ length self.old }
+    {
+        self.clear();
+        let count = self.flags.len();
+        prove!(place < count);
+        self.flags.put(place, true);
+        self.window = Window {
+            from: place,
+            to: place + 1,
+        };
+    }
+
     /// Whether one may stand behind the expression. `after` says that the last letter was a blank, and `entry` that one
     /// may begin with the next letter.
     pub fn leaves(&self, tree: &Node, after: bool, entry: bool) -> bool

@@ -1,6 +1,7 @@
 //! A compiled expression on its way over a list of tokens, entered at every token. The tokens are read from their ends.
 
 ghost use Rattle.std.specs.Prelude.{◌≡◌, ℕ, ◌<◌, ◌≤◌, ◌↔◌, IsTrue, IfOk, List, [], ◌∷◌, ◌++◌, IfSome, false, length, reverse};
+ghost use Rattle.std.specs.Option.{ForSome};
 ghost use Rattle.std.specs.Str.{chars};
 ghost use Rattle.lic_words.specs.Letters.{letters_in};
 ghost use Rattle.lic_words.specs.Expressions.{Expression};
@@ -9,13 +10,15 @@ ghost use Rattle.lic_marks.specs.Rows.{weight};
 ghost use Rattle.lic_marks.specs.Nodes.{core_of, is_measured};
 ghost use Rattle.lic_marks.specs.Plain.{IsPlain};
 ghost use Rattle.lic_marks.specs.States.{HasFirstBlanks, has_gap, room_of};
+ghost use Rattle.lic_marks.specs.Fronts.{IsFrontOf};
 ghost use Rattle.lic_marks.specs.Stretches.{IsStretchOf};
 
+use crate::front::Front;
 use crate::node::Node;
 use crate::plain::Plain;
 use crate::row::Row;
 use crate::state::State;
-use crate::stretch::Stretch;
+use crate::stretch::{Stretch, Way};
 use lic_words::turned_letters::TurnedLetters;
 use std::alloc::{AllocError, Global};
 
@@ -27,6 +30,8 @@ pub struct Seeker<'a> {
     state: State,
     /// Where one position alone was marked, the stretch in which it stands.
     stretch: Stretch<'a>,
+    /// The text with which all words begin, where there is one.
+    front: Option<Front<'a>>,
     /// The marks after blanks at the beginning of a word.
     first: Row,
     /// Where a position is marked, the last letter that was taken.
@@ -36,6 +41,7 @@ pub struct Seeker<'a> {
     ghost open: { IsTrue (has_gap state) },
     ghost size: { length first ≡ room_of state },
     ghost stretched: { IsStretchOf (core_of tree.now) stretch },
+    ghost fronted: { ForSome front (IsFrontOf (core_of tree.now)) },
     ghost blanks: { HasFirstBlanks (core_of tree.now) first },
 }
 
@@ -59,6 +65,7 @@ impl<'a> Seeker<'a> {
             tree,
             state,
             stretch: Stretch::none(),
+            front: Front::of(tree),
             first,
             last: ' ',
         })
@@ -101,7 +108,8 @@ impl<'a> Seeker<'a> {
     }
 
     /// As `push_turned`, of a token of which the caller may know that it is plain: where its letters are known to leave the
-    /// marks as they are, it is not read.
+    /// marks as they are, it is not read. Where one mark alone stands in a text, or none does and all words begin with a text, the
+    /// letters are compared with that.
     pub fn push_known(&mut self, token: &str, known: Option<Plain>, may_begin: bool)
         requires letters { 0 < letters_in (chars token.now) }
         requires known { IfSome known (λ plain. IsPlain plain (reverse (chars token.now))) }
@@ -116,10 +124,38 @@ impl<'a> Seeker<'a> {
         self.push_turned(token, may_begin);
     }
 
-    // Takes a token that is not entered at once, where its letters are known to leave the marks as they are, or where a lone mark
-    // goes on over all of them. Otherwise nothing is done.
+    // Takes a token that is entered while nothing is marked, where the text with which all words begin says where it leads:
+    // the token's letters are compared with that. Otherwise nothing is done.
+    fn enters(&mut self, token: &str) -> bool
+        requires { 0 < letters_in (chars token.now) }
+        ensures none { (e : Expression) (ts : List (List ℕ)) → Seeks self.old e ts
+            → result ≡ false → Seeks self.new e ts }
+        ensures stands { (e : Expression) (ts : List (List ℕ)) → Seeks self.old e ts
+            → IsTrue result → Seeks self.new e (ts ++ reverse (chars token.now) ∷ []) }
+        ensures tree { tree_of self.new ≡ tree_of self.old }
+    {
+        let Some(front) = self.front else {
+            return false;
+        };
+        if !self.state.is_dead() {
+            return false;
+        }
+        let Some(way) = front.over(token) else {
+            return false;
+        };
+        if let Way::To { place, last } = way {
+            self.stretch = front.rest;
+            self.state.mark_alone(self.tree, front.rest, place);
+            self.last = last;
+        }
+        true
+    }
+
+    // Takes a token where that is known without a walk over the tree: as `enters`, or not entered, where its letters are known to
+    // leave the marks as they are, or the text in which a lone mark stands says where it leads. Otherwise nothing is done.
     fn passes(&mut self, token: &str, known: Option<Plain>, may_begin: bool) -> bool
-        requires { IfSome known (λ plain. IsPlain plain (reverse (chars token.now))) }
+        requires letters { 0 < letters_in (chars token.now) }
+        requires known { IfSome known (λ plain. IsPlain plain (reverse (chars token.now))) }
         ensures none { (e : Expression) (ts : List (List ℕ)) → Seeks self.old e ts
             → result ≡ false → Seeks self.new e ts }
         ensures stands { (e : Expression) (ts : List (List ℕ)) → Seeks self.old e ts → IsTrue result
@@ -127,12 +163,12 @@ impl<'a> Seeker<'a> {
             → Seeks self.new e (ts ++ reverse (chars token.now) ∷ []) }
         ensures tree { tree_of self.new ≡ tree_of self.old }
     {
+        if may_begin {
+            return self.enters(token);
+        }
         let Some(plain) = known else {
             return false;
         };
-        if may_begin {
-            return false;
-        }
         if self.state.stays(plain, self.last) {
             self.last = plain.last;
             return true;

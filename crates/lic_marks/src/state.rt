@@ -1,6 +1,6 @@
 //! The state of a position automaton (Glushkov's) that reads letters and gaps: which positions are marked.
 
-ghost use Rattle.std.specs.Prelude.{◌≡◌, ℕ, ◌≤◌, ◌↔◌, ◌⊎◌, ◌||◌, true, false, IsTrue, IfOk, IfSome, List, [], ◌∷◌, ◌++◌, length, reverse};
+ghost use Rattle.std.specs.Prelude.{◌≡◌, ℕ, ◌<◌, ◌≤◌, ◌↔◌, ◌⊎◌, ◌||◌, true, false, IsTrue, IfOk, IfSome, List, [], ◌∷◌, ◌++◌, length, reverse};
 ghost use Rattle.std.specs.Str.{chars};
 ghost use Rattle.lic_words.specs.Words.{Word, blanks};
 ghost use Rattle.lic_words.specs.Spelling.{Gap, free, gapped_from, last_letter, SpellsGapped};
@@ -9,7 +9,9 @@ ghost use Rattle.lic_marks.specs.Cores.{Core, WordsOf};
 ghost use Rattle.lic_marks.specs.Marks.{can_leave, no_marks};
 ghost use Rattle.lic_marks.specs.Rows.{weight, marks_of};
 ghost use Rattle.lic_marks.specs.Nodes.{core_of, is_measured};
-ghost use Rattle.lic_marks.specs.Stretches.{IsLone, IsStretchOf, LeadsOver};
+ghost use Rattle.lic_marks.specs.Stretches.{IsLone, IsStretchOf};
+ghost use Rattle.lic_marks.specs.Fronts.{GoesOnAt};
+ghost use Rattle.lic_marks.specs.Ways.{IsWay};
 ghost use Rattle.lic_marks.specs.Standing.{After, AfterAny, StandsAtOnce, each_with, shift_over};
 ghost use Rattle.lic_marks.specs.Deciding.{over_blanks};
 ghost use Rattle.lic_marks.specs.Memories.{Remembers, kept_marks, room_in};
@@ -19,7 +21,7 @@ use crate::memory::Memory;
 use crate::node::Node;
 use crate::plain::Plain;
 use crate::row::Row;
-use crate::stretch::Stretch;
+use crate::stretch::{Stretch, Way};
 use lic_kind::is_word;
 use lic_words::letters::{Letter, Letters};
 use lic_words::turned_letters::TurnedLetters;
@@ -358,8 +360,8 @@ impl State {
     }
 
     /// Takes a token, read from its end behind the letter `last`, and opens a gap behind it, where one position alone is marked
-    /// and the stretch has the token's letters behind it: the mark then moves on by as many places at once. Otherwise nothing
-    /// is done.
+    /// and the stretch says where the token leads from there: the mark moves on by as many places at once, or no word goes on.
+    /// Otherwise nothing is done.
     pub fn follow(&mut self, tree: &Node, stretch: Stretch<'_>, token: &str, last: char) -> bool
         requires measured { IsTrue (is_measured tree.now) }
         requires room { weight (core_of tree.now) ≤ room_of self.old }
@@ -375,29 +377,54 @@ impl State {
             (each_with (gapped_from last true (reverse (chars token.now))) lists) }
         ensures open { IsTrue (has_gap self.new) }
     {
-        let Some((place, end)) = self.way(stretch, token, last) else {
+        let Some((place, way)) = self.way(stretch, token, last) else {
             return false;
         };
-        self.at_once.move_to(place, end);
-        self.memory.compare(&self.at_once);
-        self.is_apart = false;
-        self.gap(tree, stretch);
+        match way {
+            Way::To { place: end, .. } => {
+                self.at_once.move_to(place, end);
+                self.memory.compare(&self.at_once);
+                self.is_apart = false;
+                self.gap(tree, stretch);
+            }
+            Way::Nowhere => self.clear(),
+        }
         true
     }
 
-    // The place of the one mark, and that to which the token leads from there along the stretch.
-    fn way(&self, stretch: Stretch<'_>, token: &str, last: char) -> Option<(usize, usize)>
-        ensures begun { IfSome result (λ way. self.now.entry ≡ false) }
-        ensures lone { IfSome result (λ way. IsLone self.now.at_once way.0) }
-        ensures leads { IfSome result (λ way. (r : Core) → IsStretchOf r stretch.entry
-            → LeadsOver r way.0 (gapped_from last true (reverse (chars token.now))) way.1) }
+    /// Marks one position alone, in place of all that were marked, and opens a gap behind it.
+    pub fn mark_alone(&mut self, tree: &Node, stretch: Stretch<'_>, place: usize)
+        requires measured { IsTrue (is_measured tree.now) }
+        requires room { weight (core_of tree.now) ≤ room_of self.old }
+        requires stretch { IsStretchOf (core_of tree.now) stretch }
+        requires within { place < weight (core_of tree.now) }
+        ensures room { room_of self.new ≡ room_of self.old }
+        ensures any { (before after : List (List (Gap × ℕ)))
+            → HasTakenAny (core_of tree.now) self.old before
+            → GoesOnAt (core_of tree.now) place after
+            → HasTakenAny (core_of tree.now) self.new after }
+        ensures open { IsTrue (has_gap self.new) }
+    {
+        self.at_once.set_alone(place);
+        self.memory.compare(&self.at_once);
+        self.entry = false;
+        self.is_apart = false;
+        self.gap(tree, stretch);
+    }
+
+    // The place of the one mark, and where the token leads from there along the stretch.
+    fn way(&self, stretch: Stretch<'_>, token: &str, last: char) -> Option<(usize, Way)>
+        ensures begun { IfSome result (λ found. self.now.entry ≡ false) }
+        ensures lone { IfSome result (λ found. IsLone self.now.at_once found.0) }
+        ensures leads { IfSome result (λ found. (r : Core) → IsStretchOf r stretch.entry
+            → IsWay r found.0 (gapped_from last true (reverse (chars token.now))) found.1) }
     {
         if self.entry {
             return None;
         }
         let place = self.at_once.lone()?;
-        let end = stretch.over(place, token, last)?;
-        Some((place, end))
+        let way = stretch.over(place, token, last)?;
+        Some((place, way))
     }
 
     /// The stretch in which the one mark stands, where one position alone is marked: this one, or another that is looked up.

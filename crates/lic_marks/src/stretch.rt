@@ -1,13 +1,13 @@
 //! Stretches of text in a compiled expression: literals, in which a lone mark moves on letter by letter.
 
-ghost use Rattle.std.specs.Prelude.{◌≡◌, ◌+◌, true, IfSome, IsTrue, length, map, reverse};
+ghost use Rattle.std.specs.Prelude.{true, IfSome, IsTrue, map, reverse};
 ghost use Rattle.std.specs.Str.{chars};
 ghost use Rattle.std.specs.List.{list_all};
 ghost use Rattle.lic_marks.specs.Cores.{cat_all, alt_all};
 ghost use Rattle.lic_marks.specs.Nodes.{core_of, is_measured};
 ghost use Rattle.lic_marks.specs.Stretches.{IsStretch};
 ghost use Rattle.lic_words.specs.Spelling.{gap_of, gapped_from};
-ghost use Rattle.lic_words.specs.Reading.{turned_letters_left};
+ghost use Rattle.lic_words.specs.Reading.{turned_last_in, turned_letters_left};
 
 use crate::node::Node;
 use lic_words::letters::Letter;
@@ -20,9 +20,19 @@ pub struct Stretch<'a> {
     pub letters: &'a [char],
 }
 
+/// Where letters lead from a mark at one place alone.
+#[derive(Clone, Copy, Debug)]
+pub enum Way {
+    /// To this place alone. The letter is the last that was read.
+    To { place: usize, last: char },
+    /// Nowhere: no word goes on with them.
+    Nowhere,
+}
+
 impl<'a> Stretch<'a> {
     ghost use Rattle.lic_marks.specs.Cores.{Core};
-    ghost use Rattle.lic_marks.specs.Stretches.{LeadsAlong, LeadsOver, LeadsOverGap, LeadsTo, IsStretchOf};
+    ghost use Rattle.lic_marks.specs.Stretches.{LeadsTo, IsStretchOf};
+    ghost use Rattle.lic_marks.specs.Ways.{EndsIn, IsGapWay, IsWay, IsWayAlong};
 
     /// No letters.
     pub fn none() -> Stretch<'a>
@@ -60,59 +70,75 @@ impl<'a> Stretch<'a> {
         Some(self.letters[distance])
     }
 
-    /// The place to which a token leads from a place of the stretch on. It is read from its end, behind the letter `last` and a gap.
-    pub fn over(self, place: usize, token: &str, last: char) -> Option<usize>
-        ensures { IfSome result (λ end. (r : Core) → IsStretchOf r self.entry
-            → LeadsOver r place (gapped_from last true (reverse (chars token.now))) end) }
+    /// Where a token leads from a place of the stretch on, if that is known here. It is read from its end, behind the letter `last`
+    /// and a gap.
+    pub fn over(self, place: usize, token: &str, last: char) -> Option<Way>
+        ensures { IfSome result (λ way. (r : Core) → IsStretchOf r self.entry
+            → IsWay r place (gapped_from last true (reverse (chars token.now))) way) }
     {
         let mut letters = TurnedLetters::new(token, last, true);
         let first = letters.next()?;
-        let at = self.over_gap(place, first)?;
-        let end = self.along(at, letters)?;
-        Some(end)
+        match self.over_gap(place, first)? {
+            Way::To { place: at, .. } => self.along(at, letters),
+            Way::Nowhere => Some(Way::Nowhere),
+        }
     }
 
-    // The place to which a letter behind a gap leads: over one blank, or at once where the gap may be none.
-    fn over_gap(self, place: usize, letter: Letter) -> Option<usize>
-        ensures { IfSome result (λ end. (r : Core) → IsStretchOf r self.entry
-            → LeadsOverGap r place (gap_of true letter.are_words) letter.letter end) }
+    // Where a letter behind a gap leads: over one blank, or at once where the gap may be none.
+    fn over_gap(self, place: usize, letter: Letter) -> Option<Way>
+        ensures { IfSome result (λ way. (r : Core) → IsStretchOf r self.entry
+            → IsGapWay r place (gap_of true letter.are_words) letter.letter way) }
     {
         let next = self.letter_behind(place)?;
         let behind = place.checked_add(1)?;
+        let is_needed = letter.are_words;
         if next == ' ' {
             let after_blank = self.letter_behind(behind)?;
             let end = behind.checked_add(1)?;
             if after_blank == letter.letter {
-                Some(end)
-            } else {
+                Some(Way::To {
+                    place: end,
+                    last: letter.letter,
+                })
+            } else if after_blank == ' ' {
                 None
+            } else {
+                Some(Way::Nowhere)
             }
-        } else if letter.are_words {
-            None
+        } else if is_needed {
+            Some(Way::Nowhere)
         } else if next == letter.letter {
-            Some(behind)
+            Some(Way::To {
+                place: behind,
+                last: letter.letter,
+            })
         } else {
-            None
+            Some(Way::Nowhere)
         }
     }
 
-    // The place to which the letters lead one by one, each at once.
-    fn along(self, place: usize, letters: TurnedLetters<'_>) -> Option<usize>
-        ensures place { IfSome result (λ end.
-            end ≡ place + length (turned_letters_left letters.entry)) }
-        ensures leads { IfSome result (λ end. (r : Core) → IsStretchOf r self.entry
-            → LeadsAlong r place (turned_letters_left letters.entry)) }
+    /// Where the letters lead one by one, each at once, if that is known here.
+    pub fn along(self, place: usize, letters: TurnedLetters<'_>) -> Option<Way>
+        ensures leads { IfSome result (λ way. (r : Core) → IsStretchOf r self.entry
+            → IsWayAlong r place (turned_letters_left letters.entry) way) }
+        ensures last { IfSome result (EndsIn (turned_last_in letters.entry)) }
     {
         let mut letters = letters;
         let mut at = place;
         while let Some(letter) = letters.next() {
             let next = self.letter_behind(at)?;
             if letter.is_apart | (next != letter.letter) {
-                return None;
+                // behind a gap within the token that is not looked into
+                return if letter.is_apart {
+                    None
+                } else {
+                    Some(Way::Nowhere)
+                };
             }
             at = at.checked_add(1)?;
         }
-        Some(at)
+        let last = letters.last_letter();
+        Some(Way::To { place: at, last })
     }
 }
 

@@ -10,3 +10,6 @@ returns-clause-stands c = λ e words. record {
   taken = c.clear.ensures.any (core_of c.args.tree.now);
   ends = no_ends e _ _;
 }
+
+pub invariant_of-result-clause-fronted : goal.invariant_of-result-clause-fronted
+invariant_of-result-clause-fronted c = λ front is. rw is at c.of.ensures

@@ -20,7 +20,7 @@ returns-then-stays-clause-stands c = λ e ts s _ none.
     let r = core_of c.args.self.now.tree.now in
     let last = c.args.self.now.last in
     let t : List ℕ = reverse (chars c.args.token.now) in
-    let known = rw c.in-Some.is at c.requires in
+    let known = rw c.in-Some.is at c.requires.known in
     let lists = each_with (gapped_from last true t) s.lists in
     record {
       words = s.words;
@@ -34,7 +34,7 @@ returns-clause-stands c = λ e ts s _ none.
     let r = core_of c.args.self.now.tree.now in
     let last = c.args.self.now.last in
     let t : List ℕ = reverse (chars c.args.token.now) in
-    let known = rw c.in-Some.is at c.requires in
+    let known = rw c.in-Some.is at c.requires.known in
     let lists = each_with (gapped_from last true t) s.lists in
     record {
       words = s.words;

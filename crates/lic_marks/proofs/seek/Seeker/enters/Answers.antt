@@ -1,0 +1,58 @@
+use Rattle.std.proofs.Common.{◌≡◌, ℕ, ◌<◌, List, [], ◌∷◌, ◌++◌, true, reverse, sym, ◌∙◌, subst, arith}
+use Rattle.std.specs.Str.{chars}
+use Rattle.lic_words.specs.Words.{Word, blank}
+use Rattle.lic_words.specs.Letters.{letters_in}
+use Rattle.lic_words.specs.Spelling.{last_letter}
+use Rattle.lic_words.proofs.Counts.{letters_in-reverse}
+use Rattle.lic_marks.specs.Cores.{WordsOf}
+use Rattle.lic_marks.specs.Nodes.{core_of}
+use Rattle.lic_marks.specs.Fronts.{IsFrontOf}
+use Rattle.lic_marks.specs.Seeks.{GoOnAsEnds}
+use Rattle.lic_marks.specs.Standing.{AfterAny}
+use Rattle.lic_marks.proofs.Beginning.{goes_on_at, none_entered, own_last, still_none}
+use Rattle.lic_marks.proofs.Seeking.{any_last, entered, with_token}
+use Rattle.lic_marks.proofs.seek.Seeker.enters.Goals as goal
+
+pub mark_alone-requires-clause-stretch : goal.mark_alone-requires-clause-stretch
+mark_alone-requires-clause-stretch c = (c.args.self.now.fronted c.in-Some.front c.in-Some.is).rest
+
+pub invariant_of-self-clause-stretched : goal.invariant_of-self-clause-stretched
+invariant_of-self-clause-stretched c = (c.args.self.now.fronted c.in-Some.front c.in-Some.is).rest
+
+pub returns-in-To-clause-stands : goal.returns-in-To-clause-stands
+returns-in-To-clause-stands c = λ e ts s _.
+    let self = c.args.self.now in
+    let r = core_of self.tree.now in
+    let t : List ℕ = reverse (chars c.args.token.now) in
+    let front : IsFrontOf r c.in-Some.front = self.fronted c.in-Some.front c.in-Some.is in
+    let dead = λ (v : Word) (h : AfterAny (WordsOf r) s.lists v). c.is_dead.ensures r c.if-not-is_dead.false v (s.taken.leads.now.complete v h) in
+    let way = rw c.in-To.is at (c.in-Some-over.ensures.leads r front) in
+    let last : c.in-To.last ≡ last_letter blank t = rw c.in-To.is at c.in-Some-over.ensures.last in
+    let some : 0 < letters_in t = let same = letters_in-reverse (chars c.args.token.now) in omega (arith, c.requires, same) in
+    let own = own_last self.last t some in
+    let lists = with_token true self.last t s.lists in
+    record {
+      words = s.words;
+      lists = lists;
+      taken = c.mark_alone.ensures.any s.lists lists s.taken (goes_on_at r self.last t s.lists dead c.in-To.place way.1);
+      ends = subst (λ l. GoOnAsEnds e r l lists (ts ++ t ∷ [])) (own ∙ sym last) (entered e r self.last s.lists ts s.ends t own);
+    }
+
+pub returns-in_default-way-clause-stands : goal.returns-in_default-way-clause-stands
+returns-in_default-way-clause-stands c = λ e ts s _.
+    let self = c.args.self.now in
+    let r = core_of self.tree.now in
+    let t : List ℕ = reverse (chars c.args.token.now) in
+    let front : IsFrontOf r c.in-Some.front = self.fronted c.in-Some.front c.in-Some.is in
+    let dead = λ (v : Word) (h : AfterAny (WordsOf r) s.lists v). c.is_dead.ensures r c.if-not-is_dead.false v (s.taken.leads.now.complete v h) in
+    let way = rw c.in_default-way.is at (c.in-Some-over.ensures.leads r front) in
+    let some : 0 < letters_in t = let same = letters_in-reverse (chars c.args.token.now) in omega (arith, c.requires, same) in
+    let own = own_last self.last t some in
+    let lists = with_token true self.last t s.lists in
+    let none = none_entered r self.last t s.lists dead way in
+    record {
+      words = s.words;
+      lists = lists;
+      taken = still_none r self.state s.lists (AfterAny (WordsOf r) lists) s.taken dead none;
+      ends = any_last e r (last_letter self.last t) self.last lists (ts ++ t ∷ []) (entered e r self.last s.lists ts s.ends t own) none;
+    }

@@ -1,0 +1,76 @@
+//! Texts with which each word of a compiled expression begins.
+
+ghost use Rattle.std.specs.Prelude.{◌∷◌, [], IfSome, IsTrue, reverse};
+ghost use Rattle.std.specs.Str.{chars};
+ghost use Rattle.lic_words.specs.Words.{blank};
+ghost use Rattle.lic_words.specs.Spelling.{gapped, last_letter};
+ghost use Rattle.lic_marks.specs.Nodes.{core_of, is_measured};
+ghost use Rattle.lic_marks.specs.Fronts.{BeginsWith};
+ghost use Rattle.lic_marks.specs.Ways.{EndsIn};
+
+use crate::node::Node;
+use crate::stretch::{Stretch, Way};
+use lic_words::turned_letters::TurnedLetters;
+
+/// The text with which each word of a compiled expression begins: its first letter, which is no blank, and those behind it.
+#[derive(Clone, Copy, Debug)]
+pub struct Front<'a> {
+    pub first: char,
+    /// From the first position on.
+    pub rest: Stretch<'a>,
+}
+
+impl<'a> Front<'a> {
+    ghost use Rattle.lic_marks.specs.Cores.{Core};
+    ghost use Rattle.lic_marks.specs.Fronts.{IsEntryWay, IsFrontOf};
+
+    /// The text with which each word begins, where the expression is a text or a row that begins with one.
+    pub fn of(tree: &'a Node) -> Option<Front<'a>>
+        requires { IsTrue (is_measured tree.now) }
+        ensures { IfSome result (IsFrontOf (core_of tree.now)) }
+    {
+        let (first, rest) = text_in_front(tree)?.split_first()?;
+        if *first == ' ' {
+            return None;
+        }
+        let rest = Stretch {
+            place: 0,
+            letters: rest,
+        };
+        Some(Front {
+            first: *first,
+            rest,
+        })
+    }
+
+    /// Where a token leads at the beginning of a word, if that is known here. It is read from its end.
+    pub fn over(self, token: &str) -> Option<Way>
+        ensures leads { IfSome result (λ way. (r : Core) → IsFrontOf r self.entry
+            → IsEntryWay r (gapped (reverse (chars token.now) ∷ [])) way) }
+        ensures last { IfSome result (EndsIn (last_letter blank (reverse (chars token.now)))) }
+    {
+        let mut letters = TurnedLetters::new(token, ' ', true);
+        let first = letters.next()?;
+        let fits = first.letter == self.first;
+        if fits {
+            self.rest.along(0, letters)
+        } else {
+            Some(Way::Nowhere)
+        }
+    }
+}
+
+// The letters with which each word begins.
+fn text_in_front(tree: &Node) -> Option<&[char]>
+    requires { IsTrue (is_measured tree.now) }
+    ensures { IfSome result (λ text. BeginsWith (core_of tree.now) text.now) }
+{
+    match tree {
+        Node::Letters(text) => Some(text),
+        Node::Cat { children, .. } => match children.first()? {
+            Node::Letters(text) => Some(text),
+            _ => None,
+        },
+        _ => None,
+    }
+}
