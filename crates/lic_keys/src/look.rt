@@ -59,6 +59,7 @@ impl<'k> Look<'k> {
     /// # Errors
     ///
     /// Fails where memory runs out. The look is of no use then.
+    #[inline]
     pub fn push(&mut self, text: &str) -> Result<(), AllocError>
         ensures taken { OnOk result
             ((ts : List (List ℕ)) → HasTaken self.old ts
@@ -74,6 +75,7 @@ impl<'k> Look<'k> {
     }
 
     // Takes one more letter that is no blank.
+    #[inline]
     fn push_letter(&mut self, letter: char) -> Result<(), AllocError>
         ensures taken { OnOk result
             ((letters : List ℕ) → HoldsAll self.old letters
@@ -88,6 +90,8 @@ impl<'k> Look<'k> {
     }
 
     // Looks through the letters that are held, and lets all but the last ones go.
+    #[cold]
+    #[inline(never)]
     fn look_through(&mut self)
         requires { length self.old.letters.items ≡ 4096 }
         ensures taken { (letters : List ℕ) → HoldsAll self.old letters → HoldsAll self.new letters }
