@@ -28,7 +28,7 @@ module _ (r : Core) (k d : ℕ) (goes : LeadsTo r k d) (after : Bool) where
       (subst (λ (m : Marks r). Completes r (c == blank) m v) (led c ∙ ap (λ b. if b then mark_at r (suc k) else no_marks r) (ne_eqb c d apart)) h)
 
   -- what follows the position with that letter follows the next one
-  steps_back : (v : Word) → Completes r (d == blank) (mark_at r (suc k)) v → Completes r after (mark_at r k) (d ∷ v)
+  pub steps_back : (v : Word) → Completes r (d == blank) (mark_at r (suc k)) v → Completes r after (mark_at r k) (d ∷ v)
   steps_back v h = elim (shift_sound r after false (mark_at r k) d v (subst (λ (m : Marks r). Completes r (d == blank) m v) (sym led_on) h)) [
     | inl p ↦ p
     | inr p ↦ absurd (let e = p.0 in cc)

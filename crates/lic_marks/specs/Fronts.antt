@@ -1,6 +1,6 @@
 -- Texts with which each word of a core begins.
-use Rattle.std.specs.Prelude.{◌≡◌, ◌≢◌, ℕ, ◌<◌, ◌==◌, true, false, List, [], ◌∷◌, if◌then◌else◌}
-use Rattle.lic_words.specs.Words.{Word, blank}
+use Rattle.std.specs.Prelude.{◌≡◌, ℕ, ◌<◌, ◌==◌, true, false, List, [], ◌∷◌, if◌then◌else◌}
+use Rattle.lic_words.specs.Words.{Word}
 use Rattle.lic_words.specs.Spelling.{Gap}
 use Rattle.lic_marks.specs.Cores.{Core, WordsOf}
 use Rattle.lic_marks.specs.Marks.{no_marks, can_leave, shift}
@@ -22,9 +22,8 @@ abbrev pub BeginsWith : Core → List ℕ → Type 0
 BeginsWith r [] = Unit {0}
 BeginsWith r (d ∷ rest) = BeginsAt r d × IsStretch r 0 rest
 
--- the same of a text whose first letter is no blank, said of the flags of the marks
+-- the same, said of the flags of the marks
 pub record IsFrontOf (r : Core) (front : Front) : Type 0 where
-  pub letter : front.first ≢ blank
   pub within : 0 < weight r
   pub moves : (c : ℕ) → flags_of r (shift r false true (no_marks r) c) ≡ flags_of r (if c == front.first then mark_at r 0 else no_marks r)
   pub starts : front.rest.place ≡ 0

@@ -3,16 +3,17 @@
 ghost use Rattle.std.specs.Prelude.{◌∷◌, [], IfSome, IsTrue, reverse};
 ghost use Rattle.std.specs.Str.{chars};
 ghost use Rattle.lic_words.specs.Words.{blank};
-ghost use Rattle.lic_words.specs.Spelling.{gapped, last_letter};
+ghost use Rattle.lic_words.specs.Spelling.{free, gapped, last_letter};
 ghost use Rattle.lic_marks.specs.Nodes.{core_of, is_measured};
 ghost use Rattle.lic_marks.specs.Fronts.{BeginsWith};
 ghost use Rattle.lic_marks.specs.Ways.{EndsIn};
 
 use crate::node::Node;
 use crate::stretch::{Stretch, Way};
+use lic_words::letters::Letter;
 use lic_words::turned_letters::TurnedLetters;
 
-/// The text with which each word of a compiled expression begins: its first letter, which is no blank, and those behind it.
+/// The text with which each word of a compiled expression begins: its first letter, which may be a blank, and those behind it.
 #[derive(Clone, Copy, Debug)]
 pub struct Front<'a> {
     pub first: char,
@@ -30,9 +31,6 @@ impl<'a> Front<'a> {
         ensures { IfSome result (IsFrontOf (core_of tree.now)) }
     {
         let (first, rest) = text_in_front(tree)?.split_first()?;
-        if *first == ' ' {
-            return None;
-        }
         let rest = Stretch {
             place: 0,
             letters: rest,
@@ -51,9 +49,29 @@ impl<'a> Front<'a> {
     {
         let mut letters = TurnedLetters::new(token, ' ', true);
         let first = letters.next()?;
-        let fits = first.letter == self.first;
-        if fits {
-            self.rest.along(0, letters)
+        match self.over_first(first)? {
+            Way::To { place, .. } => self.rest.along(place, letters),
+            Way::Nowhere => Some(Way::Nowhere),
+        }
+    }
+
+    // Where a word's first letter leads that is no blank: at once, or over the blank with which the text begins.
+    fn over_first(self, letter: Letter) -> Option<Way>
+        ensures { IfSome result (λ way. (r : Core) → IsFrontOf r self.entry
+            → IsEntryWay r ((free, letter.letter) ∷ []) way) }
+    {
+        let last = letter.letter;
+        if self.first == ' ' {
+            let behind = self.rest.letter_behind(0)?;
+            if behind == last {
+                Some(Way::To { place: 1, last })
+            } else if behind == ' ' {
+                None
+            } else {
+                Some(Way::Nowhere)
+            }
+        } else if self.first == last {
+            Some(Way::To { place: 0, last })
         } else {
             Some(Way::Nowhere)
         }

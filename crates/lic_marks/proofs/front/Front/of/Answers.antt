@@ -11,7 +11,6 @@ returns c =
     let text : List ℕ = c.in_ok-first.rest.now in
     let begins = subst (BeginsWith r) c.in_ok-first.ensures.cases.0 c.in_ok-text_in_front.ensures in
     record {
-      letter = c.if-first-eq32.false;
       within = begins.0.within;
       moves = λ d. ap (flags_of r) (begins.0.moves d);
       starts = refl;
