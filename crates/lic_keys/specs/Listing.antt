@@ -40,5 +40,6 @@ pub record StandsAt (key letters : List ℕ) (from : ℕ) : Type 0 where
 -- The table has for the first eight grams of each key the number of its template, and numbers of templates alone.
 pub record IsListed (keys : List (Option (List ℕ))) (table : Table) : Type 0 where
   pub lengths : HaveLengths keys
-  pub listed : (k start : ℕ) (key : List ℕ) → slice_get keys k ≡ Some (Some key) → start < 8 → Contains (named table (gram_at key start)) k
+  pub listed : (k start : ℕ) (key : List ℕ) → slice_get keys k ≡ Some (Some key) → start < 8
+      → Contains (named table (gram_at key start)) k
   pub below : AllBelow (length keys) table

@@ -13,17 +13,18 @@ use Rattle.lic_keys.specs.declared.look.Look.{Look}
 abbrev pub keys_of : Look → List (Option (List ℕ))
 keys_of look = look.keys.now
 
--- A key that stands in these letters and any others behind them has its flag set, or stands in the letters that are held and those
--- others.
+-- A key that stands in these letters and any others behind them has its flag set, or stands in the letters that are held
+-- and those others.
 pub record Finds (keys : List (Option (List ℕ))) (flags : List Bool) (held letters : List ℕ) : Type 0 where
-  pub found : (k : ℕ) (key more : List ℕ) → slice_get keys k ≡ Some (Some key) → IsWindowOf key (letters ++ more) →
-      IsSet flags k ⊎ IsWindowOf key (held ++ more)
+  pub found : (k : ℕ) (key more : List ℕ) → slice_get keys k ≡ Some (Some key)
+      → IsWindowOf key (letters ++ more)
+      → IsSet flags k ⊎ IsWindowOf key (held ++ more)
 
--- each key that stands in these letters was found, or will be
+-- what a look knows of letters that it took
 abbrev pub HoldsAll : Look → List ℕ → Type 0
 HoldsAll look letters = Finds (keys_of look) look.flags.items look.letters.items letters
 
--- the tokens that were taken, or others with the same letters
+-- these tokens were taken, as far as keys tell: each key that stands in their letters was found, or will be
 abbrev pub HasTaken : Look → List (List ℕ) → Type 0
 HasTaken look ts = HoldsAll look (letters_of ts)
 

@@ -43,6 +43,7 @@ gram_at letters start = take 9 (drop start letters)
 
 -- the number is put down for the first eight grams of the key, if there is one, and nothing else is changed
 pub record PutsDown (key : Option (List ℕ)) (number : ℕ) (old new : Table) : Type 0 where
-  pub added : (letters : List ℕ) (start : ℕ) → key ≡ Some letters → start < 8 → Contains (named new (gram_at letters start)) number
+  pub added : (letters : List ℕ) (start : ℕ) → key ≡ Some letters → start < 8
+      → Contains (named new (gram_at letters start)) number
   pub kept : (other : List ℕ) (k : ℕ) → Contains (named old other) k → Contains (named new other) k
   pub below : (n : ℕ) → AllBelow n old → number < n → AllBelow n new

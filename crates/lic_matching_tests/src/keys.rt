@@ -80,9 +80,14 @@ fn keeps_the_templates_whose_key_stands(rt: HostRuntime) -> Result<(), Fail> {
             ],
             "1 ",
         ),
-        (&["permission", "is", "here", "!"], "0 "),
-        (&["permission", "is", "her", "e"], "0 "),
-        (&["permission", "is", "her", "!"], ""),
+        (
+            &["permission", "ishereby", "gran", "ted,", "freeofcharge"],
+            "0 ",
+        ),
+        (
+            &["permission", "is", "not", "hereby", "granted", "free"],
+            "",
+        ),
         (&["a"], ""),
         (&[], ""),
     ];
@@ -103,6 +108,38 @@ fn finds_a_key_at_the_very_end(rt: HostRuntime) -> Result<(), Fail> {
     for (tokens, wanted) in table {
         let shown = kept(rt.alloc(), &["abcdefgh ijklmnop"], tokens)?;
         assert_eq!(rt; shown.as_str(), *wanted, "at {tokens:?}");
+    }
+    Ok(())
+}
+
+#[test]
+fn finds_a_key_behind_any_number_of_letters(rt: HostRuntime) -> Result<(), Fail> {
+    let alloc = rt.alloc();
+    let templates = templates_of(alloc, &["abcdefgh ijklmnop"])?;
+    let keys = keys_of(alloc, &templates)?;
+    // around the 4,096 letters that a look holds
+    for letters in 4070..4110 {
+        let mut look = Look::new(alloc, &keys)?;
+        for _ in 0..letters {
+            look.push("x")?;
+        }
+        look.push("abcdefgh")?;
+        assert_eq!(rt; look.kept(alloc)?.len(), 0, "half of it behind {letters}");
+        look.push("ijklmnop")?;
+        look.push("y")?;
+        assert_eq!(rt; look.kept(alloc)?.len(), 1, "behind {letters}");
+    }
+    Ok(())
+}
+
+#[test]
+fn a_set_without_keys_keeps_all(rt: HostRuntime) -> Result<(), Fail> {
+    let alloc = rt.alloc();
+    for (text, wanted) in [("abcdefgh ijklmno", true), (MIT, false)] {
+        let templates = templates_of(alloc, &[text])?;
+        let keys = keys_of(alloc, &templates)?;
+        let look = Look::new(alloc, &keys)?;
+        assert_eq!(rt; look.keeps_all(), wanted, "at {text}");
     }
     Ok(())
 }

@@ -1,7 +1,6 @@
-use Rattle.std.proofs.Common.{◌≡◌, ℕ, ◌+◌, ◌*◌, ◌/◌, ◌<◌, ◌≤◌, Some, ap, ◌∙◌, arith}
+use Rattle.std.proofs.Common.{ℕ, ◌+◌, ◌/◌, ◌<◌, ◌≤◌, arith}
 use Rattle.std.proofs.lemmas.Bool.{cases_lt}
 use Rattle.std.proofs.Math.Logic.{⊎_elim}
-use Rattle.lic_keys.specs.Listing.{StandsAt}
 use Rattle.lic_keys.proofs.WindowLemmas.{place_of_window, StandsAt-window}
 use Rattle.lic_keys.proofs.keys.Keys.mark_all.Goals as goal
 

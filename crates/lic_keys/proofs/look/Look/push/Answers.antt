@@ -11,7 +11,8 @@ use Rattle.lic_keys.proofs.look.Look.push.Goals as goal
 pub returns-clause-taken : goal.returns-clause-taken
 returns-clause-taken c = λ ts taken.
     let text = chars c.args.text.now in
-    let end = YieldsList-end (YieldsList-from_chars c.args.text.now c.utf8.text cc) c.loop-letter.yielded _ c.loop-letter.yielded_by _ _ c.in-None.is c.next.ensures.steps in
+    let runs = YieldsList-from_chars c.args.text.now c.utf8.text cc in
+    let end = YieldsList-end runs c.loop-letter.yielded _ c.loop-letter.yielded_by _ _ c.in-None.is c.next.ensures.steps in
     let all : letters_of ts ++ without_blanks c.loop-letter.yielded ≡ letters_of (ts ++ text ∷ []) =
     ap (λ x. letters_of ts ++ without_blanks x) (sym (map-id c.loop-letter.yielded) ∙ end.0) ∙ sym (letters_of-push ts text) in
     subst (HoldsAll c.loop-letter.self) all (c.loop-letter.invariant.taken (letters_of ts) taken)
