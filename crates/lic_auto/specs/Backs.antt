@@ -28,16 +28,19 @@ live_behind back = take back.live_count back.live.items
 abbrev pub IsLive : List Known → List (List ℕ) → ℕ → Type 0
 IsLive set ts k = (known : Known) × (slice_get set k ≡ Some known) × (n : ℕ) × IsDescribed (words_of known) (take n ts)
 
--- For each template, by its number, a list of tokens that the machine stands for there: its seeker stands for the list from its end,
--- and the numbers that are kept as live are those of the templates that are live with their lists.
+-- For each template, by its number, a list of tokens that the machine stands for there: its seeker stands for the list from its end.
 pub record StandsForEach (back : Back) (lists : ℕ → List (List ℕ)) : Type 0 where
   pub seekers : SeekEach (templates_of back.chosen) back.seekers.items (λ place. turned (lists (slice_index (numbers_behind back) place)))
-  pub live : (k : ℕ) → Contains (live_behind back) k
-      ↔ (Contains (numbers_behind back) k × IsLive (set_behind back) (lists k) k)
 
--- a list of tokens that the machine stands for with all of its templates
-abbrev pub StandsBehind : Back → List (List ℕ) → Type 0
-StandsBehind back ts = StandsForEach back (λ k. ts)
+-- the numbers that are kept as live are those of the templates that describe some beginning of their lists
+abbrev pub KnowsLive : Back → (ℕ → List (List ℕ)) → Type 0
+KnowsLive back lists = (k : ℕ) → Contains (live_behind back) k
+    ↔ (Contains (numbers_behind back) k × IsLive (set_behind back) (lists k) k)
+
+-- A list of tokens that the machine stands for with all of its templates, of which it knows which are live.
+pub record StandsBehind (back : Back) (ts : List (List ℕ)) : Type 0 where
+  pub each : StandsForEach back (λ k. ts)
+  pub live : KnowsLive back (λ k. ts)
 
 -- The template of this number has this list now, and the others have theirs.
 pub record AreChangedListsAt (number : ℕ) (ts : List (List ℕ)) (lists changed : ℕ → List (List ℕ)) : Type 0 where

@@ -54,7 +54,7 @@ pub struct Back<'s> {
 }
 
 impl<'s> Back<'s> {
-    ghost use Rattle.lic_auto.specs.Backs.{AreChangedListsAt, StandsBehind, StandsForEach, set_behind, numbers_behind, live_behind, steps_behind, IsLive};
+    ghost use Rattle.lic_auto.specs.Backs.{AreChangedListsAt, KnowsLive, StandsBehind, StandsForEach, set_behind, numbers_behind, live_behind, steps_behind, IsLive};
 
     /// A machine over all templates, which stands for the empty list.
     pub fn new(alloc: Global, set: &'s Set) -> Result<Back<'s>, AllocError>
@@ -120,7 +120,8 @@ impl<'s> Back<'s> {
         ensures stands { (ts : List (List ℕ)) → StandsBehind self.old ts
             → StandsBehind self.new (chars text.now ∷ ts) }
         ensures each { (lists : ℕ → List (List ℕ)) → StandsForEach self.old lists
-            → StandsForEach self.new (λ k. chars text.now ∷ lists k) }
+            → StandsForEach self.new (λ k. chars text.now ∷ lists k)
+            × KnowsLive self.new (λ k. chars text.now ∷ lists k) }
         ensures set { set_behind self.new ≡ set_behind self.old }
         ensures numbers { numbers_behind self.new ≡ numbers_behind self.old }
         ensures least { steps_behind self.new < 2 ^ 64 - 1
@@ -140,11 +141,13 @@ impl<'s> Back<'s> {
         self.live_count = gather_live(&self.chosen, &self.seekers, marked, &mut self.live);
     }
 
-    /// One of its templates begins anew with the empty list. The others stay as they are, and the steps stay counted.
+    /// One of its templates begins anew with the empty list. The others stay as they are, and the steps stay counted. Which are
+    /// live is known again once all have taken a token.
     pub fn begin_one(&mut self, number: usize)
         requires { Contains (numbers_behind self.old) number }
         ensures stands { (lists changed : ℕ → List (List ℕ)) → StandsForEach self.old lists
             → AreChangedListsAt number [] lists changed → StandsForEach self.new changed }
+        ensures live { live_behind self.new ≡ live_behind self.old }
         ensures set { set_behind self.new ≡ set_behind self.old }
         ensures numbers { numbers_behind self.new ≡ numbers_behind self.old }
         ensures steps { steps_behind self.new ≡ steps_behind self.old }
@@ -152,8 +155,6 @@ impl<'s> Back<'s> {
         let place = self.chosen.place_of(number);
         self.marked_count = add_number(&mut self.marked, self.marked_count, place, &mut self.turns);
         begin_anew(&mut self.seekers, &[place]);
-        let marked = &self.marked[..self.marked_count];
-        self.live_count = gather_live(&self.chosen, &self.seekers, marked, &mut self.live);
     }
 
     /// One of its templates stands for each list that it stood for with the token in front of it. The others stay as they are. The
@@ -164,6 +165,7 @@ impl<'s> Back<'s> {
         ensures stands { (lists changed : ℕ → List (List ℕ)) → StandsForEach self.old lists
             → AreChangedListsAt number (chars text.now ∷ lists number) lists changed
             → StandsForEach self.new changed }
+        ensures live { live_behind self.new ≡ live_behind self.old }
         ensures set { set_behind self.new ≡ set_behind self.old }
         ensures numbers { numbers_behind self.new ≡ numbers_behind self.old }
         ensures least { steps_behind self.new < 2 ^ 64 - 1
@@ -177,8 +179,6 @@ impl<'s> Back<'s> {
         self.marked_count = add_number(&mut self.marked, self.marked_count, place, &mut self.turns);
         let may_begin = self.chosen.may_enter(place, text);
         take_alone(&mut self.seekers, place, text, may_begin);
-        let marked = &self.marked[..self.marked_count];
-        self.live_count = gather_live(&self.chosen, &self.seekers, marked, &mut self.live);
     }
 
     /// Whether some template of this machine describes a beginning of the list of tokens.
@@ -190,17 +190,13 @@ impl<'s> Back<'s> {
         self.live_count > 0
     }
 
-    /// The numbers of the live templates, in rising order.
+    /// The numbers of the templates that were live when all took a token, in rising order.
     pub fn live_numbers(&self) -> &[usize]
         ensures value { result.now ≡ live_behind self.now }
         ensures rising { IsRising result.now (length (set_behind self.now)) }
         ensures exactly { (ts : List (List ℕ)) → StandsBehind self.now ts → (k : ℕ)
             → Contains result.now k
             ↔ (Contains (numbers_behind self.now) k × IsLive (set_behind self.now) ts k) }
-        ensures each { (lists : ℕ → List (List ℕ)) → StandsForEach self.now lists → (k : ℕ)
-            → Contains result.now k
-            ↔ (Contains (numbers_behind self.now) k
-            × IsLive (set_behind self.now) (lists k) k) }
     {
         &self.live[..self.live_count]
     }

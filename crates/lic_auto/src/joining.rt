@@ -37,6 +37,9 @@ pub fn add_number(numbers: &mut [usize], count: usize, number: usize, joined: &m
     ensures both { (k : ℕ) → Contains (take result numbers.new) k
         ↔ (Contains (take count numbers.old) k ⊎ (number ≡ k)) }
 {
+    if numbers[..count].binary_search(&number).is_ok() {
+        return count;
+    }
     let count = join_rising(&numbers[..count], &[number], joined);
     numbers[..count].copy_from_slice(&joined[..count]);
     count

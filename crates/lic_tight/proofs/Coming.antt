@@ -1,26 +1,44 @@
 -- What a walk towards the front has found, from one token to the next.
-use Rattle.std.proofs.Common.{◌≡◌, ◌≢◌, ℕ, ◌+◌, ◌<◌, ◌≤◌, ◌↔◌, cond, List, [], ◌∷◌, ◌++◌, length, Some, refl, sym, ap, ◌∙◌, subst, ⊎_elim, arith}
+use Rattle.std.proofs.Common.{◌≡◌, ◌≢◌, ℕ, suc, ◌+◌, ◌-◌, ◌<◌, ◌≤◌, ◌↔◌, cond, drop, get_or, List, [], ◌∷◌, ◌++◌, length, Some, refl, sym, ap, ◌∙◌, subst, ⊎_elim, arith}
 use Rattle.std.specs.List.{Contains}
 use Rattle.std.proofs.Math.Dec.{eqb}
+use Rattle.std.proofs.Math.Seq.{drop-cons}
 use Rattle.std.proofs.lemmas.Bool.{cases_eq, cases_lt, eq-eqb, ne_eqb}
+use Rattle.std.proofs.lemmas.List.{get_or_default, get_or-drop, length-drop}
 use Rattle.std.proofs.lemmas.List.Elements.{Contains-append_left, Contains-push, Contains-push_cases}
 use Rattle.lic_norm.specs.Tokens.{TokenValue}
+use Rattle.lic_keys.specs.Rising.{IsRising}
+use Rattle.lic_keys.proofs.RisingLemmas.{rises}
 use Rattle.lic_auto.specs.Sets.{Known}
 use Rattle.lic_auto.specs.Backs.{AreChangedListsAt, IsLive}
-use Rattle.lic_keys.specs.Rising.{IsRising}
 use Rattle.lic_find.specs.Listing.{triple_at}
 use Rattle.lic_find.specs.Walks.{letters_up_to}
 use Rattle.lic_find.specs.declared.triple.Triple.{Triple}
-use Rattle.lic_find.proofs.Triples.{Contains-nil}
+use Rattle.lic_find.proofs.Triples.{Contains-nil, Contains-tail, Contains-cons_cases}
 use Rattle.lic_tight.specs.Searches.{BeginsBefore, IsLatestFirst, IsLeastLast, IsLastTight}
 use Rattle.lic_tight.specs.TightMatches.{IsTightMatch}
-use Rattle.lic_tight.specs.Walked.{AreFoundFrom}
+use Rattle.lic_tight.specs.Walked.{AreFoundFrom, AreLeft}
 use Rattle.lic_tight.proofs.Finding.{begins_before, last_tight}
-use Rattle.lic_tight.proofs.Fewer.{fewer_rising}
 use Rattle.lic_tight.proofs.Gathering.{HasFound}
 use Rattle.lic_tight.proofs.LiveRanges.{live_begins, begins_live}
 use Rattle.lic_tight.proofs.Sorting.{once_none, once_push}
 use Rattle.lic_tight.proofs.Starting.{none_before}
+
+-- what stands at a place of a rising list stands at none behind
+pub fresh_behind : (xs : List ℕ) (n i : ℕ) → IsRising xs n → i < length xs → ¬ (Contains (drop (i + 1) xs) (get_or xs i 0))
+fresh_behind xs n i up h (j, within, is) =
+    let x : ℕ = get_or xs i 0 in
+    let size : length (drop (i + 1) xs) ≡ length xs - (i + 1) = length-drop (i + 1) xs in
+    let at : get_or (drop (i + 1) xs) j x ≡ get_or xs (i + 1 + j) x = get_or-drop (i + 1) xs j x in
+    let same : get_or xs (i + 1 + j) 0 ≡ get_or xs (i + 1 + j) x = get_or_default xs (i + 1 + j) 0 x (omega arith) in
+    let less : get_or xs i 0 < get_or xs (i + 1 + j) 0 = rises xs n up i (i + 1 + j) (omega arith) (omega arith) in
+    omega arith
+
+-- the list from a place on, by what stands there in an equal list
+pub left_at : (xs ys : List ℕ) (i : ℕ) → ys ≡ xs → i < length xs → drop i xs ≡ get_or ys i 0 ∷ drop (i + 1) xs
+left_at xs ys i same within =
+    let next : suc i ≡ i + 1 = omega arith in
+    drop-cons xs i 0 within ∙ ap (λ n. get_or xs i 0 ∷ drop n xs) next ∙ ap (λ zs. get_or zs i 0 ∷ drop (i + 1) xs) (sym same)
 
 -- the value at this number is another one, and the others are as they were
 abbrev pub changed_at : {X : Type 0} → (ℕ → X) → ℕ → X → ℕ → X
@@ -47,15 +65,15 @@ changed_ends tokens first ends k end = record {
 
 module _ (set : List Known) (tokens : List TokenValue) (numbers : List ℕ) where
   -- before any token is taken
-  pub found_start : AreFoundFrom set tokens numbers (length tokens) (λ k. length tokens) []
-  found_start = record {
+  pub found_start : (from : ℕ) → length tokens ≤ from → AreFoundFrom set tokens numbers from (λ k. length tokens) []
+  found_start from high = record {
     within = λ k. omega arith;
     once = once_none;
     exact = λ t. (
       λ h. absurd (Contains-nil t h),
       λ (tight, kept, low). let within : t.last < length tokens = tight.matches.within in absurd (omega arith),
     );
-    none = λ k kept. none_before set tokens k (length tokens) (length tokens) (omega arith);
+    none = λ k kept. none_before set tokens k (length tokens) from high;
   }
 
   module _ (first : ℕ) (ends : ℕ → ℕ) (found : List Triple) (had : AreFoundFrom set tokens numbers (first + 1) ends found) where
@@ -162,38 +180,42 @@ module _ (set : List Known) (tokens : List TokenValue) (numbers : List ℕ) wher
     );
   }
 
--- ---- who is live
+-- ---- with which templates matches begin
 
 module _ (set : List Known) (tokens : List TokenValue) (numbers : List ℕ) (first : ℕ) where
-  -- where no template is live, no match begins with the token
-  pub none_begins : (ends : ℕ → ℕ) (live : List ℕ) → ((k : ℕ) → ends k ≤ length tokens)
-      → ((j : ℕ) → Contains live j ↔ (Contains numbers j × IsLive set (letters_up_to tokens first (ends j)) j)) → length live ≡ 0
-      → (k : ℕ) → Contains numbers k → ¬ (BeginsBefore set tokens k (ends k) first)
-  none_begins ends live within is none k kept begins =
-      let (i, inside, at) = (is k).1 (kept, begins_live tokens set k first (ends k) (within k) begins) in
-      absurd (omega (arith, inside, none))
+  -- those of the templates that are live
+  pub left_live : (ends : ℕ → ℕ) (live : List ℕ) → ((k : ℕ) → first ≤ ends k) → ((k : ℕ) → ends k ≤ length tokens)
+      → ((j : ℕ) → Contains live j ↔ (Contains numbers j × IsLive set (letters_up_to tokens first (ends j)) j)) → AreLeft set tokens numbers first ends live
+  left_live ends live behind within is = record {
+    begin = λ k h. let (kept, alive) = (is k).0 h in (kept, live_begins tokens set k first (ends k) (within k) (behind k) alive);
+    only = λ k kept begins. (is k).1 (kept, begins_live tokens set k first (ends k) (within k) begins);
+  }
 
-  -- where one is walked back over its shortest match, it is live no more
-  pub fewer_live : (ends : ℕ → ℕ) (k last : ℕ) (old new : List ℕ) (n : ℕ) → IsRising new n → first ≤ last → last ≤ length tokens →
-      IsLeastLast set tokens k first (Some last)
-      → ((j : ℕ) → Contains old j ↔ (Contains numbers j × IsLive set (letters_up_to tokens first (ends j)) j))
-      → ((j : ℕ) → Contains new j ↔ (Contains numbers j × IsLive set (letters_up_to tokens first (changed_at ends k last j)) j))
-      → Contains old k → length new < length old
-  fewer_live ends k last old new n up order within least was is there = fewer_rising old new n k up stays there gone
-    where
-      dead : IsLive set (letters_up_to tokens first (changed_at ends k last k)) k → ⊥
-      dead live =
-          let (end, low, m) = live_begins tokens set k first last within order
-          (subst (λ e. IsLive set (letters_up_to tokens first e) k) (changed_at-one ends k last) live) in
-          least.1 end low m
+  -- where none is left, no match begins
+  pub none_left : (ends : ℕ → ℕ) → AreLeft set tokens numbers first ends [] → (k : ℕ) → Contains numbers k → ¬ (BeginsBefore set tokens k (ends k) first)
+  none_left ends are k kept begins = let (i, inside, at) = are.only k kept begins in absurd (omega (arith, inside))
 
-      gone : ¬ (Contains new k)
-      gone h = dead ((is k).0 h).1
+  pub left_none : (ends : ℕ → ℕ) → ((k : ℕ) → Contains numbers k → ¬ (BeginsBefore set tokens k (ends k) first)) → AreLeft set tokens numbers first ends []
+  left_none ends none = record {
+    begin = λ k (i, inside, at). absurd (omega (arith, inside));
+    only = λ k kept begins. absurd (none k kept begins);
+  }
 
-      stays : (j : ℕ) → Contains new j → Contains old j
-      stays j h =
-          let (kept, live) = (is j).0 h in
-          ⊎_elim
-          (λ (same : j ≡ k). absurd (gone (subst (Contains new) same h)))
-          (λ (apart : j ≢ k). (was j).1 (kept, subst (λ e. IsLive set (letters_up_to tokens first e) j) (changed_at-other ends k last j apart) live))
-          (cases_eq j k)
+  -- where a template's shortest match is taken, its number is left no more
+  pub left_less : (ends : ℕ → ℕ) (k last : ℕ) (left : List ℕ) → IsLeastLast set tokens k first (Some last) → ¬ (Contains left k)
+      → AreLeft set tokens numbers first ends (k ∷ left) → AreLeft set tokens numbers first (changed_at ends k last) left
+  left_less ends k last left least fresh are = record {
+    begin = λ j h.
+        let apart : j ≢ k = λ same. fresh (subst (Contains left) same h) in
+        let (kept, begins) = are.begin j (Contains-tail k left j h) in
+        (kept, subst (λ e. BeginsBefore set tokens j e first) (sym (changed_at-other ends k last j apart)) begins);
+    only = λ j kept begins.
+        ⊎_elim
+        (λ (same : j ≡ k).
+        let (end, low, m) = subst (λ n. BeginsBefore set tokens n (changed_at ends k last n) first) same begins in
+        absurd (least.1 end (omega (arith, low, changed_at-one ends k last)) m))
+        (λ (apart : j ≢ k).
+        ⊎_elim (λ (is : k ≡ j). absurd (apart (sym is))) (λ (h : Contains left j). h)
+        (Contains-cons_cases k left j (are.only j kept (subst (λ e. BeginsBefore set tokens j e first) (changed_at-other ends k last j apart) begins))))
+        (cases_eq j k);
+  }

@@ -6,5 +6,4 @@ pub mod Walking
 pub mod Keeping
 pub mod Starting
 pub mod Coming
-pub mod Fewer
 pub mod Counting

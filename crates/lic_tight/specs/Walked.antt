@@ -7,7 +7,7 @@ use Rattle.lic_auto.specs.Runs.{set_of, numbers_of, steps_of}
 use Rattle.lic_auto.specs.Sets.{Known}
 use Rattle.lic_find.specs.Walks.{letters_up_to}
 use Rattle.lic_find.specs.declared.triple.Triple.{Triple}
-use Rattle.lic_tight.specs.Searches.{NoneBegins}
+use Rattle.lic_tight.specs.Searches.{BeginsBefore, NoneBegins}
 use Rattle.lic_tight.specs.Steps.{letters_from, range_steps, replayed_letters}
 use Rattle.lic_tight.specs.TightMatches.{IsTightMatch}
 use Rattle.lic_tight.specs.declared.walk.Walk.{Walk}
@@ -20,7 +20,7 @@ set_walked walk = set_behind walk.back
 abbrev pub numbers_walked : Walk → List ℕ
 numbers_walked walk = numbers_behind walk.back
 
--- the numbers of those that are live
+-- the numbers of those that were live when the last token was taken
 abbrev pub live_walked : Walk → List ℕ
 live_walked walk = live_behind walk.back
 
@@ -46,15 +46,23 @@ pub record AreFoundFrom (set : List Known) (tokens : List TokenValue) (numbers :
       ↔ (IsTightMatch set tokens t × Contains numbers t.template × (ends t.template ≤ t.last))
   pub none : (k : ℕ) → Contains numbers k → NoneBegins set tokens k (ends k) from
 
--- The walk has taken the tokens from the first one on, each template up to an end of its own, and has found all that there is from
--- a place on. Its runs forward are over the same templates.
-pub record HasCome (tokens : List TokenValue) (first from : ℕ) (walk : Walk) : Type 0 where
+-- Matches that end before the ends of their templates begin with the token, of the templates of the numbers that are left and of no
+-- others.
+pub record AreLeft (set : List Known) (tokens : List TokenValue) (numbers : List ℕ) (first : ℕ) (ends : ℕ → ℕ)
+    (left : List ℕ) : Type 0 where
+  pub begin : (k : ℕ) → Contains left k → Contains numbers k × BeginsBefore set tokens k (ends k) first
+  pub only : (k : ℕ) → Contains numbers k → BeginsBefore set tokens k (ends k) first → Contains left k
+
+-- The walk has taken the tokens from the first one on, each template up to an end of its own. Its runs forward are over the same
+-- templates. It has found all that there is, but for the matches that begin with the first token, of the templates that are left.
+pub record HasCome (tokens : List TokenValue) (first : ℕ) (left : List ℕ) (walk : Walk) : Type 0 where
   pub ends : ℕ → ℕ
   pub behind : (k : ℕ) → first ≤ ends k
   pub stands : StandsForEach walk.back (λ k. letters_up_to tokens first (ends k))
   pub same_set : set_of walk.run ≡ set_walked walk
   pub same_numbers : numbers_of walk.run ≡ numbers_walked walk
-  pub found : AreFoundFrom (set_walked walk) tokens (numbers_walked walk) from ends (found_walked walk)
+  pub found : AreFoundFrom (set_walked walk) tokens (numbers_walked walk) (first + 1) ends (found_walked walk)
+  pub begin : AreLeft (set_walked walk) tokens (numbers_walked walk) first ends left
 
 -- The steps of the walk over the tokens from the first one on.
 pub record HasCounted (tokens : List TokenValue) (first : ℕ) (walk : Walk) : Type 0 where

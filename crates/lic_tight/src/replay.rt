@@ -1,7 +1,7 @@
 //! Walks over a text for one template alone: to the end of a match, and back over it.
 
 ghost use Rattle.std.specs.Prelude.{◌≡◌, ◌<◌, ◌≤◌, ◌+◌, ◌*◌, ◌-◌, ◌^◌, ◌∷◌, [], ℕ, List, length, IfSome, Contains};
-ghost use Rattle.lic_auto.specs.Backs.{AreChangedListsAt, StandsForEach, set_behind, numbers_behind, steps_behind};
+ghost use Rattle.lic_auto.specs.Backs.{AreChangedListsAt, StandsForEach, set_behind, numbers_behind, live_behind, steps_behind};
 ghost use Rattle.lic_auto.specs.Runs.{set_of, numbers_of, steps_of};
 ghost use Rattle.lic_find.specs.Walks.{letters_up_to};
 ghost use Rattle.lic_tight.specs.Searches.{IsLeastLast};
@@ -40,6 +40,7 @@ pub fn begin_before(back: &mut Back<'_>, text: &Text, template: usize, first: us
     ensures stands { (lists changed : ℕ → List (List ℕ)) → StandsForEach back.old lists
         → AreChangedListsAt template (letters_up_to text.now.tokens first end) lists changed
         → StandsForEach back.new changed }
+    ensures live { live_behind back.new ≡ live_behind back.old }
     ensures set { set_behind back.new ≡ set_behind back.old }
     ensures numbers { numbers_behind back.new ≡ numbers_behind back.old }
     ensures most { steps_behind back.new

@@ -1,6 +1,6 @@
 //! One walk over a text, from its end to its front, for the tight matches of many templates.
 
-ghost use Rattle.std.specs.Prelude.{◌≡◌, ◌<◌, ◌≤◌, ◌+◌, ◌^◌, ◌-◌, [], ℕ, List, length, IfOk, OnOk, IfSome, IfNone, Contains};
+ghost use Rattle.std.specs.Prelude.{◌≡◌, ◌<◌, ◌≤◌, ◌+◌, ◌^◌, ◌-◌, ◌∷◌, [], ℕ, List, length, IfOk, OnOk, Contains};
 ghost use Rattle.lic_keys.specs.Rising.{IsRising};
 ghost use Rattle.lic_norm.specs.Tokens.{TokenValue};
 
@@ -28,7 +28,7 @@ impl<'s> Walk<'s> {
     pub fn over(alloc: Global, set: &'s Set, templates: Vec<usize>) -> Result<Walk<'s>, AllocError>
         requires { IsRising templates.items (length set.now) }
         ensures come { IfOk result (λ walk. (tokens : List TokenValue)
-            → HasCome tokens (length tokens) (length tokens) walk) }
+            → HasCome tokens (length tokens) [] walk) }
         ensures counted { IfOk result (λ walk. (tokens : List TokenValue)
             → HasCounted tokens (length tokens) walk) }
         ensures set { IfOk result (λ walk. set_walked walk ≡ set.now) }
@@ -47,39 +47,34 @@ impl<'s> Walk<'s> {
     /// Takes the token with this number, in front of those that were taken, and adds the tight matches that begin with it.
     pub fn take_token(&mut self, text: &Text, first: usize) -> Result<(), AllocError>
         requires first { first < length text.now.tokens }
-        requires come { HasCome text.now.tokens (first + 1) (first + 1) self.old }
-        ensures come { OnOk result (HasCome text.now.tokens first first self.new) }
+        requires come { HasCome text.now.tokens (first + 1) [] self.old }
+        ensures come { OnOk result (HasCome text.now.tokens first [] self.new) }
         ensures counted { HasCounted text.now.tokens (first + 1) self.old
             → OnOk result (HasCounted text.now.tokens first self.new) }
         ensures set { set_walked self.new ≡ set_walked self.old }
         ensures numbers { numbers_walked self.new ≡ numbers_walked self.old }
     {
         self.back.push_front(text.token(first).text);
-        while let Some(template) = self.next_live() {
+        for i in 0..self.back.live_numbers().len() {
+            let template = self.back.live_numbers()[i];
             self.add_from(text, template, first)?;
         }
         Ok(())
     }
 
-    // The least number of a live template.
-    fn next_live(&self) -> Option<usize>
-        ensures some { IfSome result (Contains (live_walked self.now)) }
-        ensures none { IfNone result (length (live_walked self.now) ≡ 0) }
-    {
-        self.back.live_numbers().first().copied()
-    }
-
-    // Adds the tight match of a live template that begins with the first token that was taken. The template is walked back to this
-    // token from before the end of the match.
+    // Adds the tight match of a template that begins with the first token that was taken. The template is walked back to this token
+    // from before the end of the match.
     fn add_from(&mut self, text: &Text, template: usize, first: usize) -> Result<(), AllocError>
         requires first { first < length text.now.tokens }
-        requires come { HasCome text.now.tokens first (first + 1) self.old }
-        requires live { Contains (live_walked self.old) template }
-        ensures come { OnOk result (HasCome text.now.tokens first (first + 1) self.new) }
+        requires come { (left : List ℕ)
+            × HasCome text.now.tokens first (template ∷ left) self.old }
+        ensures come { (left : List ℕ)
+            → HasCome text.now.tokens first (template ∷ left) self.old
+            → ¬ (Contains left template)
+            → OnOk result (HasCome text.now.tokens first left self.new) }
         ensures counted { HasCounted text.now.tokens first self.old
             → OnOk result (HasCounted text.now.tokens first self.new) }
-        ensures fewer { OnOk result
-            (length (live_walked self.new) < length (live_walked self.old)) }
+        ensures live { live_walked self.new ≡ live_walked self.old }
         ensures set { set_walked self.new ≡ set_walked self.old }
         ensures numbers { numbers_walked self.new ≡ numbers_walked self.old }
     {

@@ -1,8 +1,8 @@
-use Rattle.std.proofs.Common.{◌≡◌, subst, ◌∙◌, arith}
+use Rattle.std.proofs.Common.{[], ◌≡◌, subst, ◌∙◌, arith}
 use Rattle.std.specs.List.Sorted.{IsPermutation}
 use Rattle.lic_tight.specs.Steps.{range_steps, replayed_letters}
 use Rattle.lic_tight.specs.Walked.{HasCome, HasCounted, set_walked, numbers_walked, found_walked}
-use Rattle.lic_tight.proofs.Coming.{found_all}
+use Rattle.lic_tight.proofs.Coming.{found_all, found_next, none_left}
 use Rattle.lic_tight.proofs.Counting.{range_steps-moved, replayed_letters-moved}
 use Rattle.lic_tight.proofs.Gathering.{HasFound, sorted-tight_of}
 use Rattle.lic_tight.proofs.Keeping.{match_kept}
@@ -16,10 +16,12 @@ returns-clause-tight c = λ all matches.
     let templates = c.in_ok-templates.templates.items in
     let found = found_walked walk in
     let start : c.loop-first.first ≡ 0 = omega (arith, c.loop-first-test.false, c.loop-first.auto) in
-    let come : HasCome tokens 0 0 walk = subst (λ n. HasCome tokens n n walk) start c.loop-first.invariant.come in
+    let come : HasCome tokens 0 [] walk = subst (λ n. HasCome tokens n [] walk) start c.loop-first.invariant.come in
     let same : numbers_walked walk ≡ templates = c.loop-first.invariant.numbers ∙ c.in_ok-walk.ensures.numbers in
     let has : HasFound (set_walked walk) tokens (numbers_walked walk) found =
-    found_all (set_walked walk) tokens (numbers_walked walk) come.ends found come.found in
+    found_all (set_walked walk) tokens (numbers_walked walk) come.ends found
+    (found_next (set_walked walk) tokens (numbers_walked walk) 0 come.ends found come.found
+    (none_left (set_walked walk) tokens (numbers_walked walk) 0 come.ends come.begin)) in
     let over : HasFound (set_walked walk) tokens templates found = subst (λ ns. HasFound (set_walked walk) tokens ns found) same has in
     let here : HasFound set tokens templates found = subst (λ s. HasFound s tokens templates found) c.loop-first.invariant.set over in
     let moved : IsPermutation found c.sort_unstable.new.self.items =

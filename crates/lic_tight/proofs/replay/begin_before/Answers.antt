@@ -27,6 +27,7 @@ loop-number-preserved c =
     let count : letters_from tokens (n - 1) end ≡ letters_in (chars c.token.result.text.now) + letters_from tokens n end =
     count_front tokens c.token.result.text.now token n end some c.loop-number.auto.number c.requires.end (c.token.ensures.text token) in
     record {
+      live = c.push_front_one.ensures.live ∙ c.loop-number.invariant.live;
       set = c.push_front_one.ensures.set ∙ c.loop-number.invariant.set;
       numbers = c.push_front_one.ensures.numbers ∙ c.loop-number.invariant.numbers;
       stands = λ lists changed s at.
@@ -50,6 +51,7 @@ loop-number-init c =
     let end = c.args.end in
     let read : letters_from tokens end end ≡ 0 = none_read tokens end end (omega arith) in
     record {
+      live = c.begin_one.ensures.live;
       set = c.begin_one.ensures.set;
       numbers = c.begin_one.ensures.numbers;
       stands = λ lists changed s at.

@@ -1,11 +1,12 @@
 use Rattle.std.proofs.Common.{◌≡◌, ◌<◌, ◌≤◌, ◌+◌, ◌*◌, ◌-◌, ◌^◌, ℕ, List}
-use Rattle.lic_auto.specs.Backs.{AreChangedListsAt, StandsForEach, set_behind, numbers_behind, steps_behind}
+use Rattle.lic_auto.specs.Backs.{AreChangedListsAt, StandsForEach, set_behind, numbers_behind, live_behind, steps_behind}
 use Rattle.lic_find.specs.Walks.{letters_up_to}
 use Rattle.lic_tight.specs.Steps.{letters_from}
 use Rattle.lic_tight.proofs.replay.begin_before.Given as goal
 
 abbrev pub invariant-loop-number : goal.invariant-loop-number
 invariant-loop-number l = record {
+  live : live_behind l.back ≡ live_behind l.fn.back;
   set : set_behind l.back ≡ set_behind l.fn.back;
   numbers : numbers_behind l.back ≡ numbers_behind l.fn.back;
   stands : (lists changed : ℕ → List (List ℕ)) → StandsForEach l.fn.back lists

@@ -3,11 +3,6 @@ use Rattle.std.specs.List.{Contains}
 use Rattle.lic_auto.specs.Backs.{IsLive, numbers_behind, set_behind}
 use Rattle.lic_auto.proofs.back.Back.live_numbers.Goals as goal
 
-pub returns-clause-each : goal.returns-clause-each
-returns-clause-each c = λ lists s k.
-    let b = c.args.self.now in
-    subst (λ xs. Contains (take b.live_count xs) k ↔ (Contains (numbers_behind b) k × IsLive (set_behind b) (lists k) k)) (sym c.deref.ensures.value) (s.live k)
-
 pub returns-clause-exactly : goal.returns-clause-exactly
 returns-clause-exactly c = λ ts s k.
     let b = c.args.self.now in

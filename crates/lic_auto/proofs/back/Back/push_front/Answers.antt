@@ -157,15 +157,14 @@ returns-clause-each c = λ lists s.
     let seen : SeekEach set c.deref-5.result.now (turned_at numbers more) =
     subst (λ xs. SeekEach set xs (turned_at numbers more)) (sym (c.deref-5.ensures.value ∙ items)) after in
     let at : take count c.deref-4.result.now ≡ take count kept = ap (take count) (c.deref-4.ensures.value ∙ marked) in
-    let up : IsRising (take count kept) (length numbers) = subst (IsRising (take count kept)) (seekers ∙ size) c.take_turned-self.ensures.rising in
-    record {
-      seekers = subst (λ xs. SeekEach set xs (turned_at numbers more)) (sym items) after;
-      live = λ k. subst (λ xs. Contains (take c.gather_live-self.result xs) k ↔ (Contains numbers k × IsLive known (more k) k)) (sym live)
+    let up : IsRising (take count kept) (length numbers) = subst (IsRising (take count kept)) (seekers ∙ size) c.take_turned-self.ensures.rising in (
+      record { seekers = subst (λ xs. SeekEach set xs (turned_at numbers more)) (sym items) after },
+      λ k. subst (λ xs. Contains (take c.gather_live-self.result xs) k ↔ (Contains numbers k × IsLive known (more k) k)) (sym live)
           (live-gathered known numbers self.chosen.rising (take count c.deref-4.result.now) more c.take_turned-self.new.seekers (sym seekers)
           (subst (λ xs. AreQuietBut xs c.take_turned-self.new.seekers) (sym at) calm) after (take c.gather_live-self.result c.gather_live-self.new.live)
           (λ p among. below_bound (take count kept) (length numbers) p up (subst (λ xs. Contains xs p) at among))
-          (c.gather_live-self.ensures.exactly (turned_at numbers more) seen) k);
-    }
+          (c.gather_live-self.ensures.exactly (turned_at numbers more) seen) k),
+    )
 
 pub returns-clause-stands : goal.returns-clause-stands
-returns-clause-stands c = λ ts s. returns-clause-each c (λ k. ts) s
+returns-clause-stands c = λ ts s. let (each, live) = returns-clause-each c (λ k. ts) s.each in record { each = each; live = live }

@@ -1,22 +1,20 @@
-use Rattle.std.proofs.Common.{◌≡◌, ◌≢◌, ◌<◌, ◌↔◌, ◌++◌, ◌∷◌, [], ℕ, length, take, reverse, false, Some, sym, ap, ◌∙◌, subst, arith, chars}
+use Rattle.std.proofs.Common.{◌≡◌, ◌≢◌, ◌<◌, ◌++◌, ◌∷◌, [], ℕ, length, take, reverse, false, Some, sym, ap, ◌∙◌, subst, arith, chars}
 use Rattle.std.specs.Vec.{with_items}
-use Rattle.std.specs.List.{slice_get, Contains}
+use Rattle.std.specs.List.{slice_get}
 use Rattle.std.proofs.lemmas.List.{with_items_is}
 use Rattle.lic_words.specs.Describing.{IsDescribed}
 use Rattle.lic_words.specs.Mirrors.{mirrored, turned}
 use Rattle.lic_marks.specs.Seeks.{NoneBegins}
 use Rattle.lic_keys.specs.Rising.{IsRising}
 use Rattle.lic_auto.specs.Sets.{Known, words_of}
-use Rattle.lic_auto.specs.Backs.{IsLive}
 use Rattle.lic_auto.specs.Choices.{templates_of}
 use Rattle.lic_auto.specs.Directions.{read, ordered}
 use Rattle.lic_auto.specs.Seeking.{AreQuietBut, HaveMirrors, SeekEach, TakesAlone}
 use Rattle.lic_auto.proofs.Beginning.{BeginsWithLetter-token}
 use Rattle.lic_auto.proofs.Ends.{turned-cons}
 use Rattle.lic_auto.proofs.PickedLemmas.{length-picked}
-use Rattle.lic_auto.proofs.Places.{below_bound}
 use Rattle.lic_auto.proofs.TurnedSeekers.{HaveMirrors-changed}
-use Rattle.lic_auto.proofs.Living.{has_letters, live-gathered, turned_at}
+use Rattle.lic_auto.proofs.Living.{has_letters, turned_at}
 use Rattle.lic_auto.proofs.OneTurned.{turned_at-one, turned_at-others, AreQuietBut-one, SeekEach-alone}
 use Rattle.lic_auto.proofs.back.Back.push_front_one.Goals as goal
 
@@ -55,7 +53,6 @@ invariant_of-self c =
     let seekers = c.take_alone.new.seekers in
     let items = with_items_is self.seekers seekers (omega (arith, c.take_alone.auto, c.deref_mut-3.ensures.len)) in
     let marked = with_items_is self.marked kept (omega (arith, c.add_number-self.auto, c.deref_mut.ensures.len)) in
-    let live = with_items_is self.live c.gather_live-self.new.live (omega (arith, c.gather_live-self.ensures.room, c.deref_mut-4.ensures.len)) in
     let before : HaveMirrors set c.deref_mut-3.result.now = subst (HaveMirrors set) (sym c.deref_mut-3.ensures.value) self.mirrors in
     let quiet : AreQuietBut before_marked c.deref_mut-3.result.now =
     subst (λ xs. AreQuietBut (take self.marked_count xs) c.deref_mut-3.result.now) (sym c.deref_mut.ensures.value)
@@ -75,8 +72,8 @@ invariant_of-self c =
       entered_room = self.entered_room;
       turns_room = self.turns_room;
       live_room = self.live_room;
-      live_within = omega (arith, c.gather_live-self.ensures.count, c.gather_live-self.ensures.room, c.deref_mut-4.ensures.len);
-      live_rising = subst (λ xs. IsRising (take c.gather_live-self.result xs) (length self.chosen.set.now)) (sym live) c.gather_live-self.ensures.rising;
+      live_within = self.live_within;
+      live_rising = self.live_rising;
     }
 
 pub returns-clause-stands : goal.returns-clause-stands
@@ -88,18 +85,8 @@ returns-clause-stands c = λ lists changed s at.
     let place = c.place_of-place.result in
     let number = c.args.number in
     let token = chars c.args.text.now in
-    let kept = c.add_number-self.new.numbers in
-    let count = c.add_number-self.result in
-    let before_marked = take self.marked_count c.deref_mut.result.now in
     let seekers = c.take_alone.new.seekers in
     let items = with_items_is self.seekers seekers (omega (arith, c.take_alone.auto, c.deref_mut-3.ensures.len)) in
-    let marked = with_items_is self.marked kept (omega (arith, c.add_number-self.auto, c.deref_mut.ensures.len)) in
-    let live = with_items_is self.live c.gather_live-self.new.live (omega (arith, c.gather_live-self.ensures.room, c.deref_mut-4.ensures.len)) in
-    let quiet : AreQuietBut before_marked c.deref_mut-3.result.now =
-    subst (λ xs. AreQuietBut (take self.marked_count xs) c.deref_mut-3.result.now) (sym c.deref_mut.ensures.value)
-    (subst (AreQuietBut (take self.marked_count self.marked.items)) (sym c.deref_mut-3.ensures.value) self.quiet) in
-    let calm : AreQuietBut (take count kept) seekers =
-    AreQuietBut-one set _ _ place (TakesAlone c.may_enter-may_begin.result (chars c.args.text.now)) before_marked (take count kept) c.take_alone.ensures quiet c.add_number-self.ensures.both in
     let before : SeekEach set c.deref_mut-3.result.now (turned_at numbers lists) =
     subst (λ xs. SeekEach set xs (turned_at numbers lists)) (sym c.deref_mut-3.ensures.value) s.seekers in
     let size : length set ≡ length numbers = length-picked known numbers self.chosen.rising.below in
@@ -116,17 +103,4 @@ returns-clause-stands c = λ lists changed s at.
     (subst (λ d. IsDescribed (read d (words_of one)) (ordered d token ∷ ends)) (sym self.backward) described) in
     let after : SeekEach set seekers (turned_at numbers changed) =
     SeekEach-alone set _ _ place (turned_at numbers lists) (turned_at numbers changed) others c.may_enter-may_begin.result token c.take_alone.ensures before more rest in
-    let length_is : length seekers ≡ length set = omega (arith, c.take_alone.auto, c.deref_mut-3.ensures.len, self.count) in
-    let kept_size : length kept ≡ length numbers = omega (arith, c.add_number-self.auto, c.deref_mut.ensures.len, self.marked_room, size) in
-    let seen : SeekEach set c.deref-2.result.now (turned_at numbers changed) =
-    subst (λ xs. SeekEach set xs (turned_at numbers changed)) (sym (c.deref-2.ensures.value ∙ items)) after in
-    let are : take count c.deref.result.now ≡ take count kept = ap (take count) (c.deref.ensures.value ∙ marked) in
-    let up : IsRising (take count kept) (length numbers) = subst (IsRising (take count kept)) kept_size c.add_number-self.ensures.rising in
-    record {
-      seekers = subst (λ xs. SeekEach set xs (turned_at numbers changed)) (sym items) after;
-      live = λ k. subst (λ xs. Contains (take c.gather_live-self.result xs) k ↔ (Contains numbers k × IsLive known (changed k) k)) (sym live)
-          (live-gathered known numbers self.chosen.rising (take count c.deref.result.now) changed seekers (sym length_is)
-          (subst (λ xs. AreQuietBut xs seekers) (sym are) calm) after (take c.gather_live-self.result c.gather_live-self.new.live)
-          (λ p among. below_bound (take count kept) (length numbers) p up (subst (λ xs. Contains xs p) are among))
-          (c.gather_live-self.ensures.exactly (turned_at numbers changed) seen) k);
-    }
+    record { seekers = subst (λ xs. SeekEach set xs (turned_at numbers changed)) (sym items) after }

@@ -82,6 +82,6 @@ returns-clause-stands c =
     let all : (k : ℕ) → k < length c.deref_mut-2.result.now → Contains c.deref.result.now k =
     λ k h. subst (λ xs. Contains xs k) (sym marked) (c.name_all.ensures.all k (omega (arith, h, size))) in
     record {
-      seekers = subst (λ xs. AllSeek set xs []) (sym items) (AllSeek-anew set _ _ _ all c.begin_anew.ensures before);
+      each = record { seekers = subst (λ xs. AllSeek set xs []) (sym items) (AllSeek-anew set _ _ _ all c.begin_anew.ensures before) };
       live = λ k. none_live self.chosen.numbers.items self.chosen.set.now k;
     }

@@ -1,10 +1,10 @@
-use Rattle.std.proofs.Common.{◌≡◌, ℕ, length, sym, ap, subst, ◌∙◌, arith}
+use Rattle.std.proofs.Common.{◌≡◌, ◌+◌, ℕ, length, sym, ap, subst, ◌∙◌, arith}
 use Rattle.std.proofs.Math.Path.{fun_ext}
 use Rattle.lic_auto.specs.Backs.{StandsForEach, set_behind, numbers_behind}
 use Rattle.lic_tight.specs.Steps.{letters_from, replayed_letters}
 use Rattle.lic_tight.specs.Walked.{AreFoundFrom}
-use Rattle.lic_tight.proofs.Coming.{found_start}
-use Rattle.lic_tight.proofs.Starting.{none_between, none_read}
+use Rattle.lic_tight.proofs.Coming.{found_start, left_none}
+use Rattle.lic_tight.proofs.Starting.{none_before, none_between, none_read}
 use Rattle.lic_tight.proofs.walk.Walk.over.Goals as goal
 
 pub returns-clause-come : goal.returns-clause-come
@@ -16,10 +16,11 @@ returns-clause-come c = λ tokens.
     record {
       ends = λ k. n;
       behind = λ k. omega arith;
-      stands = subst (StandsForEach back) (fun_ext (λ (k : ℕ). sym (none_between tokens n n (omega arith)))) c.in_ok-back.ensures.stands;
+      stands = subst (StandsForEach back) (fun_ext (λ (k : ℕ). sym (none_between tokens n n (omega arith)))) c.in_ok-back.ensures.stands.each;
       same_set = c.in_ok-run.ensures.set ∙ sym c.in_ok-back.ensures.set;
       same_numbers = c.in_ok-run.ensures.numbers ∙ c.in_ok-forward.ensures.items ∙ c.deref.ensures.value ∙ sym c.in_ok-back.ensures.numbers;
-      found = subst (AreFoundFrom set tokens numbers n (λ k. n)) (sym c.new.ensures.items) (found_start set tokens numbers);
+      found = subst (AreFoundFrom set tokens numbers (n + 1) (λ k. n)) (sym c.new.ensures.items) (found_start set tokens numbers (n + 1) (omega arith));
+      begin = left_none set tokens numbers n (λ k. n) (λ k kept. none_before set tokens k n n (omega arith) n (omega arith));
     }
 
 pub returns-clause-counted : goal.returns-clause-counted
