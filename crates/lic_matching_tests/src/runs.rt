@@ -172,3 +172,10 @@ fn a_run_from_the_end_tells_what_begins_here(rt: HostRuntime) -> Result<(), Fail
     assert_eq!(&rt; told.as_str(), "dead; dead; 0 1 live; 1 live; dead; dead; ");
     Ok(())
 }
+
+#[test]
+fn a_run_from_the_end_reads_letter_by_letter(rt: HostRuntime) -> Result<(), Fail> {
+    let told = told_from_the_end(rt.alloc(), &["car", "bar", "food", "bar", "foo"])?;
+    assert_eq!(&rt; told.as_str(), "dead; dead; dead; dead; 0 1 live; dead; ");
+    Ok(())
+}
