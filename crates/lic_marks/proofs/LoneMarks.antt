@@ -7,9 +7,6 @@ use Rattle.lic_marks.specs.Cores.{Core, empty, one, cat, none, alt, plus, tidy}
 use Rattle.lic_marks.specs.Marks.{no_marks, can_leave, shift}
 use Rattle.lic_marks.specs.Rows.{weight, flags_of, marks_of, first_flag, Leaves, Shifts}
 use Rattle.lic_marks.specs.Stretches.{mark_at, GoesTo, IsStretch, IsLone, LeadsTo}
-use Rattle.std.specs.Prelude.{replicate}
-use Rattle.lic_marks.proofs.RowWalks.{marks_of-replicate}
-use Rattle.lic_marks.proofs.Shifting.{can_leave-no_marks, shift-no_marks}
 use Rattle.lic_marks.proofs.Stretches.{left_mark, right_mark, left_alt, right_alt}
 
 first : (row : List Bool) → first_flag row ≡ get_or row 0 false
@@ -136,22 +133,6 @@ module _ (r : Core) (after : Bool) (p d c : ℕ) (old new : List Bool) (goes : L
 pub Leaves-stays : (r : Core) (after : Bool) (p d : ℕ) (row : List Bool) → LeadsTo r p d → IsLone row p → Leaves r after false row 0 false
 Leaves-stays r after p d row goes lone =
     record { answer = sym (ap (can_leave r after false) (marks_of-lone r row p lone) ∙ goes.stays after) }
-
--- a row in which no flag is set stays as it is
-pub Leaves-none : (r : Core) (after : Bool) (row : List Bool) (n : ℕ) → row ≡ replicate n false → Leaves r after false row 0 false
-Leaves-none r after row n clear =
-    record { answer = sym (ap (λ x. can_leave r after false (marks_of r x)) clear ∙ ap (can_leave r after false) (marks_of-replicate r n) ∙ can_leave-no_marks r after) }
-
-pub Shifts-none : (r : Core) (after : Bool) (c : ℕ) (row : List Bool) (n : ℕ) → row ≡ replicate n false → weight r ≤ length row → Shifts r after false c row 0 row false
-Shifts-none r after c row n clear room = record {
-  walk = Leaves-none r after row n clear;
-  row =
-      let none : marks_of r row ≡ no_marks r = ap (marks_of r) clear ∙ marks_of-replicate r n in
-      let flags : flags_of r (shift r after false (marks_of r row) c) ≡ take (weight r) row =
-      ap (λ m. flags_of r (shift r after false m c)) none ∙ ap (flags_of r) (shift-no_marks r after c ∙ sym none) ∙ flags_of-marks_of r row room in
-      let size : 0 + weight r ≡ weight r = omega arith in
-      rw (flags, size) (sym (take-append-drop (weight r) row));
-}
 
 -- a letter further on in a stretch
 pub goes_at : (r : Core) (k : ℕ) (letters : List ℕ) (i d : ℕ) → i < length letters → IsStretch r k letters → GoesTo r (k + i) (get_or letters i d)

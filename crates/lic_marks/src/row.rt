@@ -117,8 +117,7 @@ impl Row {
         out
     }
 
-    /// As `shift`. Where one flag alone is set, in the stretch, and none may begin, it moves on by itself; where none is set, none
-    /// will be.
+    /// As `shift`. Where one flag alone is set, in the stretch, and none may begin, it moves on by itself.
     pub fn shift_in(
         &mut self,
         tree: &Node,
@@ -138,14 +137,11 @@ impl Row {
                 self.move_lone(place, letter == next);
                 return false;
             }
-            if self.is_clear() {
-                return false;
-            }
         }
         self.shift(tree, after, entry, letter)
     }
 
-    /// As `leaves`. Where one flag alone is set, in the stretch, or none is, and none may begin, one cannot leave.
+    /// As `leaves`. Where one flag alone is set, in the stretch, and none may begin, one cannot leave.
     pub fn leaves_in(&self, tree: &Node, stretch: Stretch<'_>, after: bool, entry: bool) -> bool
         requires measured { IsTrue (is_measured tree.now) }
         requires room { weight (core_of tree.now) ≤ length self.now }
@@ -154,9 +150,6 @@ impl Row {
     {
         if !entry {
             if let Some((_place, _next)) = self.lone_in(stretch) {
-                return false;
-            }
-            if self.is_clear() {
                 return false;
             }
         }
