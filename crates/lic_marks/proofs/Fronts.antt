@@ -20,7 +20,7 @@ use Rattle.lic_marks.proofs.RowWalks.{marks_of-flags_of}
 use Rattle.lic_marks.proofs.Shifting.{Completes-no_marks, can_leave-no_marks, shift-no_marks, shift_sound, shift_complete}
 use Rattle.lic_marks.proofs.Standing.{StandsAtOnce-begin}
 use Rattle.lic_marks.proofs.Stretches.{left_mark, letters_stretch, IsStretch-left}
-use Rattle.lic_marks.proofs.Ways.{Behind}
+use Rattle.lic_marks.specs.Lone.{Behind}
 
 -- ---- in the tree
 
@@ -149,7 +149,7 @@ module _ (r : Core) (front : Front) (f : IsFrontOf r front) where
 -- the first letter leads on, and the others as they do
 pub enters_so : (r : Core) (c place : ℕ) (rest : List (Gap × ℕ)) (way : Way) → place < weight r → Leads r false (mark_at r place) (Then free c (WordsOf r)) →
     IsWayAlong r place rest way → IsEntryWay r ((free, c) ∷ rest) way
-enters_so r c place rest (To end last) low s h =
+enters_so r c place rest (To end) low s h =
     let inside : end < weight r = let within = along_within r place rest h.0 low in omega (arith, within, h.1) in
     let all = follows_along r place rest h.0 (Then free c (WordsOf r)) s in
     (inside, subst (λ n. Leads r false (mark_at r n) (After (Then free c (WordsOf r)) rest)) (sym h.1) all)

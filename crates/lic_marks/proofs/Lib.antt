@@ -22,7 +22,10 @@ pub mod Patches
 pub mod Taken
 pub mod Moving
 pub mod Stretches
+pub mod LetterCounts
+pub mod Counting
 pub mod LoneMarks
+pub mod Lone
 pub mod Following
 pub mod Ways
 pub mod Fronts
@@ -35,3 +38,8 @@ pub mod Entering
 pub mod Seeking
 pub mod Beginning
 mod DescribedExamples
+pub mod TextEnds
+pub mod LetterSlices
+pub mod Moved
+pub mod ThreadRows
+pub mod MarkedRows

@@ -9,7 +9,7 @@ use Rattle.lic_marks.specs.Rows.{weight, flags_of, marks_of, first_flag, Leaves,
 use Rattle.lic_marks.specs.Stretches.{mark_at, GoesTo, IsStretch, IsLone, LeadsTo}
 use Rattle.lic_marks.proofs.Stretches.{left_mark, right_mark, left_alt, right_alt}
 
-first : (row : List Bool) → first_flag row ≡ get_or row 0 false
+pub first : (row : List Bool) → first_flag row ≡ get_or row 0 false
 first [] = refl
 first (flag ∷ row) = refl
 

@@ -8,6 +8,7 @@ use Rattle.lic_marks.specs.Rests.{Completes, GoesOn}
 use Rattle.lic_marks.specs.Rows.{marks_of}
 use Rattle.lic_marks.specs.Standing.{After, Then, Leads}
 use Rattle.lic_marks.specs.Stretches.{mark_at, IsLone, LeadsTo, LeadsAlong, LeadsOverGap}
+use Rattle.lic_marks.specs.Lone.{Behind}
 use Rattle.lic_marks.specs.Ways.{LeadsNowhere, IsWay, IsWayAlong}
 use Rattle.lic_marks.specs.declared.stretch.Way.{Way}
 use Rattle.lic_marks.specs.declared.stretch.Way.TheVariants.{To, Nowhere}
@@ -16,15 +17,11 @@ use Rattle.lic_marks.proofs.LoneMarks.{marks_of-lone}
 use Rattle.lic_marks.proofs.Following.{led_off, marked, steps_on, follows_gap, follows_along}
 use Rattle.lic_marks.proofs.Shifting.{shift_complete}
 
--- what goes on from this position alone
-abbrev pub Behind : Core → ℕ → Word → Type 0
-Behind r k = GoesOn r false false (mark_at r k)
-
 pub leads_itself : (r : Core) (k : ℕ) → Leads r false (mark_at r k) (Behind r k)
 leads_itself r k = record { sound = λ v h. h; complete = λ v h. h }
 
 -- no word goes on with another letter
-other : (r : Core) (k d c : ℕ) → LeadsTo r k d → (d ≡ c → ⊥) → (v : Word) → Behind r k (c ∷ v) → ⊥
+pub other : (r : Core) (k d c : ℕ) → LeadsTo r k d → (d ≡ c → ⊥) → (v : Word) → Behind r k (c ∷ v) → ⊥
 other r k d c goes apart v h =
     led_off r k d goes false c (λ e. apart (sym e)) v (shift_complete r false false (mark_at r k) c v h)
 
@@ -83,7 +80,7 @@ first_nowhere r k p rest words is none = λ v h.
 -- the first letter leads on, and the others as they do
 pub way_behind : (r : Core) (k at : ℕ) (p : Gap × ℕ) (rest : List (Gap × ℕ)) (words : Bool) → p.0 ≡ gap_of true words → (p.1 ≡ blank → ⊥) →
     LeadsOverGap r k (gap_of true words) p.1 at → (way : Way) → IsWayAlong r at rest way → IsWay r k (p ∷ rest) way
-way_behind r k at p rest words is letter gap (To end last) h = (at, words, is, letter, gap, h.0, h.1)
+way_behind r k at p rest words is letter gap (To end) h = (at, words, is, letter, gap, h.0, h.1)
 way_behind r k at p rest words is letter gap Nowhere h = λ v t.
     let first = follows_gap r k p.1 (Behind r k) words at gap letter (leads_itself r k) in
     h v (After-map rest (Then p.0 p.1 (Behind r k)) (Behind r at)

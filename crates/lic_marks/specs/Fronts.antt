@@ -35,5 +35,5 @@ GoesOnAt r place lists = Leads r false (mark_at r place) (AfterAny (WordsOf r) l
 
 -- words that begin with the letters go on so
 abbrev pub IsEntryWay : Core → List (Gap × ℕ) → Way → Type 0
-IsEntryWay r letters (To place last) = (place < weight r) × Leads r false (mark_at r place) (After (WordsOf r) letters)
+IsEntryWay r letters (To place) = (place < weight r) × Leads r false (mark_at r place) (After (WordsOf r) letters)
 IsEntryWay r letters Nowhere = (v : Word) → After (WordsOf r) letters v → ⊥

@@ -5,6 +5,11 @@ pub mod Standing
 pub mod Rows
 pub mod Windows
 pub mod Stretches
+pub mod Counts
+pub mod Lone
+pub mod Known
+pub mod Threads
+pub mod Spelled
 pub mod Ways
 pub mod Fronts
 pub mod Nodes

@@ -15,20 +15,15 @@ LeadsNowhere r k letters = (v : Word) → After (GoesOn r false false (mark_at r
 
 -- a letter behind a gap leads from the position so
 abbrev pub IsGapWay : Core → ℕ → Gap → ℕ → Way → Type 0
-IsGapWay r k gap c (To end last) = LeadsOverGap r k gap c end
+IsGapWay r k gap c (To end) = LeadsOverGap r k gap c end
 IsGapWay r k gap c Nowhere = LeadsNowhere r k ((gap, c) ∷ [])
 
 -- letters, each at once, lead from the position so
 abbrev pub IsWayAlong : Core → ℕ → List (Gap × ℕ) → Way → Type 0
-IsWayAlong r k letters (To end last) = LeadsAlong r k letters × (end ≡ k + length letters)
+IsWayAlong r k letters (To end) = LeadsAlong r k letters × (end ≡ k + length letters)
 IsWayAlong r k letters Nowhere = LeadsNowhere r k letters
 
 -- letters, of which the first stands behind a gap and the others come at once, lead from the position so
 abbrev pub IsWay : Core → ℕ → List (Gap × ℕ) → Way → Type 0
-IsWay r k letters (To end last) = LeadsOver r k letters end
+IsWay r k letters (To end) = LeadsOver r k letters end
 IsWay r k letters Nowhere = LeadsNowhere r k letters
-
--- where it leads on, this is the last letter that was read
-abbrev pub EndsIn : ℕ → Way → Type 0
-EndsIn letter (To place last) = last ≡ letter
-EndsIn letter Nowhere = Unit {0}

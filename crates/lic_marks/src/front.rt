@@ -1,17 +1,14 @@
 //! Texts with which each word of a compiled expression begins.
 
-ghost use Rattle.std.specs.Prelude.{◌∷◌, [], IfSome, IsTrue, reverse};
-ghost use Rattle.std.specs.Str.{chars};
-ghost use Rattle.lic_words.specs.Words.{blank};
-ghost use Rattle.lic_words.specs.Spelling.{free, gapped, last_letter};
+ghost use Rattle.std.specs.Prelude.{◌∷◌, [], IfSome, IsTrue, map};
+ghost use Rattle.lic_words.specs.Spelling.{free};
+ghost use Rattle.lic_words.specs.Reading.{gapped_letter};
 ghost use Rattle.lic_marks.specs.Nodes.{core_of, is_measured};
 ghost use Rattle.lic_marks.specs.Fronts.{BeginsWith};
-ghost use Rattle.lic_marks.specs.Ways.{EndsIn};
 
 use crate::node::Node;
 use crate::stretch::{Stretch, Way};
 use lic_words::letters::Letter;
-use lic_words::turned_letters::TurnedLetters;
 
 /// The text with which each word of a compiled expression begins: its first letter, which may be a blank, and those behind it.
 #[derive(Clone, Copy, Debug)]
@@ -41,16 +38,17 @@ impl<'a> Front<'a> {
         })
     }
 
-    /// Where a token leads at the beginning of a word, if that is known here. It is read from its end.
-    pub fn over(self, token: &str) -> Option<Way>
-        ensures leads { IfSome result (λ way. (r : Core) → IsFrontOf r self.entry
-            → IsEntryWay r (gapped (reverse (chars token.now) ∷ [])) way) }
-        ensures last { IfSome result (EndsIn (last_letter blank (reverse (chars token.now)))) }
+    /// Where letters lead at the beginning of a word, if that is known here. The first stands behind a gap that may be none.
+    pub fn over(self, letters: &[Letter]) -> Option<Way>
+        ensures { IfSome result (λ way. (r : Core) → IsFrontOf r self.entry
+            → IsEntryWay r (map gapped_letter letters.now) way) }
     {
-        let mut letters = TurnedLetters::new(token, ' ', true);
-        let first = letters.next()?;
-        match self.over_first(first)? {
-            Way::To { place, .. } => self.rest.along(place, letters),
+        let (first, others) = letters.split_first()?;
+        if !first.is_apart || first.are_words {
+            return None;
+        }
+        match self.over_first(*first)? {
+            Way::To { place } => self.rest.along(place, others),
             Way::Nowhere => Some(Way::Nowhere),
         }
     }
@@ -64,14 +62,14 @@ impl<'a> Front<'a> {
         if self.first == ' ' {
             let behind = self.rest.letter_behind(0)?;
             if behind == last {
-                Some(Way::To { place: 1, last })
+                Some(Way::To { place: 1 })
             } else if behind == ' ' {
                 None
             } else {
                 Some(Way::Nowhere)
             }
         } else if self.first == last {
-            Some(Way::To { place: 0, last })
+            Some(Way::To { place: 0 })
         } else {
             Some(Way::Nowhere)
         }

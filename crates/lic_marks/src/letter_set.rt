@@ -4,7 +4,7 @@ ghost use Rattle.std.specs.Prelude.{◌≡◌, ◌⊎◌, ℕ, true, false, IsTr
 ghost use Rattle.std.specs.Char.{is_ascii};
 
 /// A set of ASCII letters: a bit for each.
-#[derive(Clone, Copy, Debug)]
+#[derive(Clone, Copy, Debug, Default)]
 pub struct LetterSet {
     bits: u128,
 }

@@ -3,20 +3,26 @@
 #![tactic(auto)]
 
 pub mod build;
+mod counts;
 mod front;
+mod known;
 pub mod laws;
 mod letter_set;
 mod memory;
 mod moves;
 pub mod node;
+mod over;
 pub mod plain;
+mod probe;
 mod row;
 mod rows;
 pub mod run;
 pub mod seek;
 mod shift;
+pub mod spelled;
 pub mod state;
 pub mod stretch;
 pub mod test;
+mod threads;
 mod walk;
 mod window;

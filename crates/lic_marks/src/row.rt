@@ -1,6 +1,6 @@
 //! Rows of flags that know where flags are set.
 
-ghost use Rattle.std.specs.Prelude.{◌≡◌, ℕ, ◌+◌, ◌<◌, ◌≤◌, ◌==◌, ◌&&◌, ◌↔◌, IsTrue, IfOk, IfSome, false, true, length, get_or, replicate};
+ghost use Rattle.std.specs.Prelude.{◌≡◌, ℕ, ◌+◌, ◌<◌, ◌≤◌, ◌==◌, ◌&&◌, ◌↔◌, IsTrue, IfOk, IfSome, IfNone, false, true, length, get_or, replicate};
 ghost use Rattle.lic_marks.specs.Rows.{weight, either_row, unset_count, Leaves, Shifts};
 ghost use Rattle.lic_marks.specs.Cores.{Core};
 ghost use Rattle.lic_marks.specs.Nodes.{core_of, is_measured};
@@ -47,6 +47,13 @@ impl Row {
         let flags = Bits::new(alloc, len)?;
         let window = Window::empty();
         Ok(Row { flags, window })
+    }
+
+    /// How many flags there are.
+    pub fn len(&self) -> usize
+        ensures { result ≡ length self.now }
+    {
+        self.flags.len()
     }
 
     /// Whether no flag is set.
@@ -174,6 +181,23 @@ impl Row {
         let place = self.window.to.checked_sub(1)?;
         if place == self.window.from && self.flags.get(place) {
             Some(place)
+        } else {
+            None
+        }
+    }
+
+    /// The first flag from this place on that is set.
+    pub fn next(&self, at: usize) -> Option<usize>
+        ensures found { IfSome result (λ k. (at ≤ k) × (k < length self.now)
+            × (get_or self.now k false ≡ true)
+            × ((i : ℕ) → at ≤ i → i < k → get_or self.now i false ≡ false)) }
+        ensures none { IfNone result ((i : ℕ) → at ≤ i → i < length self.now
+            → get_or self.now i false ≡ false) }
+    {
+        let from = at.max(self.window.from);
+        let to = self.window.to;
+        if from < to {
+            self.flags.next_set(from, to)
         } else {
             None
         }

@@ -17,6 +17,7 @@ use crate::front::Front;
 use crate::node::Node;
 use crate::plain::Plain;
 use crate::row::Row;
+use crate::spelled::Spelled;
 use crate::state::State;
 use crate::stretch::{Stretch, Way};
 use lic_words::turned_letters::TurnedLetters;
@@ -140,13 +141,16 @@ impl<'a> Seeker<'a> {
         if !self.state.is_dead() {
             return false;
         }
-        let Some(way) = front.over(token) else {
+        let Some(spelled) = Spelled::turned(token, ' ') else {
             return false;
         };
-        if let Way::To { place, last } = way {
+        let Some(way) = front.over(spelled.letters()) else {
+            return false;
+        };
+        if let Way::To { place } = way {
             self.stretch = front.rest;
             self.state.mark_alone(self.tree, front.rest, place);
-            self.last = last;
+            self.last = spelled.last_letter();
         }
         true
     }
@@ -173,7 +177,16 @@ impl<'a> Seeker<'a> {
             self.last = plain.last;
             return true;
         }
-        if !self.state.follow(self.tree, self.stretch, token, self.last) {
+        if !self.state.is_lone() {
+            return false;
+        }
+        let Some(spelled) = Spelled::turned(token, self.last) else {
+            return false;
+        };
+        if !self
+            .state
+            .follow(self.tree, self.stretch, spelled.letters())
+        {
             return false;
         }
         self.last = plain.last;

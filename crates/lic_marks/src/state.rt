@@ -1,12 +1,13 @@
 //! The state of a position automaton (Glushkov's) that reads letters and gaps: which positions are marked.
 
-ghost use Rattle.std.specs.Prelude.{◌≡◌, ℕ, ◌<◌, ◌≤◌, ◌↔◌, ◌⊎◌, ◌||◌, true, false, IsTrue, IfOk, IfSome, List, [], ◌∷◌, ◌++◌, length, reverse};
+ghost use Rattle.std.specs.Prelude.{◌≡◌, ℕ, ◌<◌, ◌≤◌, ◌↔◌, ◌⊎◌, ◌||◌, true, false, IsTrue, IfOk, IfSome, IfNone, List, [], ◌∷◌, ◌++◌, length, get_or, map};
+ghost use Rattle.std.specs.Option.{ForSome};
 ghost use Rattle.std.specs.Str.{chars};
 ghost use Rattle.lic_words.specs.Words.{Word, blanks};
 ghost use Rattle.lic_words.specs.Spelling.{Gap, free, gapped_from, last_letter, SpellsGapped};
 ghost use Rattle.lic_words.specs.Reading.{gapped_letter, turned_last_in, turned_letters_left};
 ghost use Rattle.lic_marks.specs.Cores.{Core, WordsOf};
-ghost use Rattle.lic_marks.specs.Marks.{can_leave, no_marks};
+ghost use Rattle.lic_marks.specs.Marks.{can_leave, join, no_marks};
 ghost use Rattle.lic_marks.specs.Rows.{weight, marks_of};
 ghost use Rattle.lic_marks.specs.Nodes.{core_of, is_measured};
 ghost use Rattle.lic_marks.specs.Stretches.{IsLone, IsStretchOf};
@@ -16,6 +17,8 @@ ghost use Rattle.lic_marks.specs.Standing.{After, AfterAny, StandsAtOnce, each_w
 ghost use Rattle.lic_marks.specs.Deciding.{over_blanks};
 ghost use Rattle.lic_marks.specs.Memories.{Remembers, kept_marks, room_in};
 ghost use Rattle.lic_marks.specs.Plain.{IsPlain};
+ghost use Rattle.lic_marks.specs.Counts.{IsQuiet, IsQuietApart};
+ghost use Rattle.lic_marks.specs.Lone.{Behind, LeadFromBoth, mark_of};
 
 use crate::memory::Memory;
 use crate::node::Node;
@@ -50,7 +53,7 @@ pub struct State {
 }
 
 impl State {
-    ghost use Rattle.lic_marks.specs.States.{HasFirstBlanks, HasTaken, HasTakenAny, IsFresh, IsRemembering, NoneGoesOn, has_gap, room_of};
+    ghost use Rattle.lic_marks.specs.States.{HasFirstBlanks, HasLeft, HasTaken, HasTakenAny, IsFresh, IsRemembering, NoneGoesOn, has_gap, room_of};
 
     /// A state that has taken nothing, with room for the positions of this expression.
     ///
@@ -128,6 +131,8 @@ impl State {
         ensures any { (lists : List (List (Gap × ℕ)))
             → HasTakenAny (core_of tree.now) self.old lists
             → HasTakenAny (core_of tree.now) self.new lists }
+        ensures behind { (k : ℕ) → HasLeft (core_of tree.now) self.old (Behind (core_of tree.now) k)
+            → HasLeft (core_of tree.now) self.new (Behind (core_of tree.now) k) }
         ensures open { IsTrue (has_gap self.new) }
     {
         if self.is_apart {
@@ -178,6 +183,8 @@ impl State {
         ensures any { (lists : List (List (Gap × ℕ)))
             → HasTakenAny (core_of tree.now) self.now lists
             → IsTrue result ↔ ((n : ℕ) × AfterAny (WordsOf (core_of tree.now)) lists (blanks n)) }
+        ensures behind { (k : ℕ) → HasLeft (core_of tree.now) self.now (Behind (core_of tree.now) k)
+            → IsTrue result ↔ ((n : ℕ) × Behind (core_of tree.now) k (blanks n)) }
     {
         if self.is_closed {
             if let Some(answer) = self.memory.answer() {
@@ -246,6 +253,11 @@ impl State {
         ensures { (r : Core) → IsTrue result → NoneGoesOn r self.now }
     {
         !self.entry & self.at_once.is_clear()
+    }
+
+    /// Whether one position alone is marked, as far as is seen at once.
+    pub fn is_lone(&self) -> bool {
+        self.at_once.lone().is_some()
     }
 
     /// Forgets all that was taken. No word goes on, nor may one begin but where a token enters.
@@ -359,10 +371,9 @@ impl State {
         self.memory.are_steady(plain.others) & self.memory.is_steady(first)
     }
 
-    /// Takes a token, read from its end behind the letter `last`, and opens a gap behind it, where one position alone is marked
-    /// and the stretch says where the token leads from there: the mark moves on by as many places at once, or no word goes on.
-    /// Otherwise nothing is done.
-    pub fn follow(&mut self, tree: &Node, stretch: Stretch<'_>, token: &str, last: char) -> bool
+    /// Takes the letters of a token, and opens a gap behind them, where one position alone is marked and the stretch says where
+    /// they lead from there: the mark moves on by as many places at once, or no word goes on. Otherwise nothing is done.
+    pub fn follow(&mut self, tree: &Node, stretch: Stretch<'_>, letters: &[Letter]) -> bool
         requires measured { IsTrue (is_measured tree.now) }
         requires room { weight (core_of tree.now) ≤ room_of self.old }
         requires stretch { IsStretchOf (core_of tree.now) stretch }
@@ -374,14 +385,14 @@ impl State {
         ensures any { (lists : List (List (Gap × ℕ)))
             → HasTakenAny (core_of tree.now) self.old lists
             → IsTrue result → HasTakenAny (core_of tree.now) self.new
-            (each_with (gapped_from last true (reverse (chars token.now))) lists) }
+            (each_with (map gapped_letter letters.now) lists) }
         ensures open { IsTrue (has_gap self.new) }
     {
-        let Some((place, way)) = self.way(stretch, token, last) else {
+        let Some((place, way)) = self.way(stretch, letters) else {
             return false;
         };
         match way {
-            Way::To { place: end, .. } => {
+            Way::To { place: end } => {
                 self.at_once.move_to(place, end);
                 self.memory.compare(&self.at_once);
                 self.is_apart = false;
@@ -403,6 +414,8 @@ impl State {
             → HasTakenAny (core_of tree.now) self.old before
             → GoesOnAt (core_of tree.now) place after
             → HasTakenAny (core_of tree.now) self.new after }
+        ensures behind { IsRemembering (core_of tree.now) self.old
+            → HasLeft (core_of tree.now) self.new (Behind (core_of tree.now) place) }
         ensures open { IsTrue (has_gap self.new) }
     {
         self.at_once.set_alone(place);
@@ -412,18 +425,110 @@ impl State {
         self.gap(tree, stretch);
     }
 
-    // The place of the one mark, and where the token leads from there along the stretch.
-    fn way(&self, stretch: Stretch<'_>, token: &str, last: char) -> Option<(usize, Way)>
+    /// Marks these positions, each where there is one, in place of all that were marked, and opens a gap behind them.
+    pub fn mark_both(&mut self, tree: &Node, one: Option<usize>, other: Option<usize>)
+        requires measured { IsTrue (is_measured tree.now) }
+        requires room { weight (core_of tree.now) ≤ room_of self.old }
+        ensures room { room_of self.new ≡ room_of self.old }
+        ensures taken { (letters : List (Gap × ℕ)) → IsRemembering (core_of tree.now) self.old
+            → ForSome one (λ k. k < weight (core_of tree.now))
+            → ForSome other (λ k. k < weight (core_of tree.now))
+            → LeadFromBoth (core_of tree.now) one other (After (WordsOf (core_of tree.now)) letters)
+            → HasTaken (core_of tree.now) self.new letters }
+        ensures open { IsTrue (has_gap self.new) }
+    {
+        self.at_once.clear();
+        self.mark_too(one);
+        self.mark_too(other);
+        self.memory.compare(&self.at_once);
+        self.entry = false;
+        self.is_apart = false;
+        self.gap(tree, Stretch::none());
+    }
+
+    // Marks this position besides, where there is one.
+    fn mark_too(&mut self, place: Option<usize>)
+        ensures room { room_of self.new ≡ room_of self.old }
+        ensures marks { (r : Core) → ForSome place (λ k. k < room_of self.old)
+            → marks_of r self.new.at_once
+            ≡ join r (marks_of r self.old.at_once) (mark_of r place) }
+        ensures after_blanks { self.new.after_blanks ≡ self.old.after_blanks }
+        ensures closed { self.new.is_closed ≡ self.old.is_closed }
+        ensures memory { self.new.memory ≡ self.old.memory }
+    {
+        let Some(place) = place else {
+            return;
+        };
+        if place < self.spare.len() {
+            self.spare.set_alone(place);
+            self.at_once.join(&self.spare);
+        }
+    }
+
+    /// The first position from this one on that is marked.
+    pub fn next_mark(&self, at: usize) -> Option<usize>
+        ensures found { IfSome result (λ k. (at ≤ k) × (k < room_of self.now)
+            × (get_or self.now.at_once k false ≡ true)
+            × ((i : ℕ) → at ≤ i → i < k → get_or self.now.at_once i false ≡ false)) }
+        ensures none { IfNone result ((i : ℕ) → at ≤ i → i < room_of self.now
+            → get_or self.now.at_once i false ≡ false) }
+    {
+        self.at_once.next(at)
+    }
+
+    /// Whether a word may still begin.
+    pub fn may_begin(&self) -> bool
+        ensures { result ≡ self.now.entry }
+    {
+        self.entry
+    }
+
+    /// Whether no word goes on with the letter at once. `spare` is room to work in.
+    pub fn is_quiet(&self, tree: &Node, letter: char, spare: &mut Row) -> bool
+        requires measured { IsTrue (is_measured tree.now) }
+        requires room { weight (core_of tree.now) ≤ room_of self.now }
+        requires size { length spare.old ≡ room_of self.now }
+        ensures size { length spare.new ≡ length spare.old }
+        ensures quiet { (k : ℕ)
+            → HasLeft (core_of tree.now) self.now (Behind (core_of tree.now) k)
+            → IsTrue result → IsQuiet (core_of tree.now) k letter }
+    {
+        if self.entry {
+            return false;
+        }
+        spare.copy_from(&self.at_once);
+        spare.shift(tree, false, false, letter);
+        spare.is_clear()
+    }
+
+    /// Whether no word goes on with the letter behind one blank or more. A gap must be open. `spare` is room to work in.
+    pub fn is_quiet_apart(&self, tree: &Node, letter: char, spare: &mut Row) -> bool
+        requires measured { IsTrue (is_measured tree.now) }
+        requires room { weight (core_of tree.now) ≤ room_of self.now }
+        requires size { length spare.old ≡ room_of self.now }
+        ensures size { length spare.new ≡ length spare.old }
+        ensures quiet { (k : ℕ)
+            → HasLeft (core_of tree.now) self.now (Behind (core_of tree.now) k)
+            → has_gap self.now ≡ true → IsTrue result
+            → IsQuietApart (core_of tree.now) k letter }
+    {
+        spare.copy_from(&self.after_blanks);
+        spare.shift(tree, true, false, letter);
+        spare.is_clear()
+    }
+
+    // The place of the one mark, and where the letters lead from there along the stretch.
+    fn way(&self, stretch: Stretch<'_>, letters: &[Letter]) -> Option<(usize, Way)>
         ensures begun { IfSome result (λ found. self.now.entry ≡ false) }
         ensures lone { IfSome result (λ found. IsLone self.now.at_once found.0) }
         ensures leads { IfSome result (λ found. (r : Core) → IsStretchOf r stretch.entry
-            → IsWay r found.0 (gapped_from last true (reverse (chars token.now))) found.1) }
+            → IsWay r found.0 (map gapped_letter letters.now) found.1) }
     {
         if self.entry {
             return None;
         }
         let place = self.at_once.lone()?;
-        let way = stretch.over(place, token, last)?;
+        let way = stretch.over(place, letters)?;
         Some((place, way))
     }
 

@@ -1,17 +1,15 @@
 //! Stretches of text in a compiled expression: literals, in which a lone mark moves on letter by letter.
 
-ghost use Rattle.std.specs.Prelude.{true, IfSome, IsTrue, map, reverse};
-ghost use Rattle.std.specs.Str.{chars};
+ghost use Rattle.std.specs.Prelude.{true, IfSome, IsTrue, map};
 ghost use Rattle.std.specs.List.{list_all};
 ghost use Rattle.lic_marks.specs.Cores.{cat_all, alt_all};
 ghost use Rattle.lic_marks.specs.Nodes.{core_of, is_measured};
 ghost use Rattle.lic_marks.specs.Stretches.{IsStretch};
-ghost use Rattle.lic_words.specs.Spelling.{gap_of, gapped_from};
-ghost use Rattle.lic_words.specs.Reading.{turned_last_in, turned_letters_left};
+ghost use Rattle.lic_words.specs.Spelling.{gap_of};
+ghost use Rattle.lic_words.specs.Reading.{gapped_letter};
 
 use crate::node::Node;
 use lic_words::letters::Letter;
-use lic_words::turned_letters::TurnedLetters;
 
 /// The letters behind a place of a compiled expression in its stretch of text: from a mark at that place alone they lead on one by one.
 #[derive(Clone, Copy, Debug)]
@@ -23,8 +21,8 @@ pub struct Stretch<'a> {
 /// Where letters lead from a mark at one place alone.
 #[derive(Clone, Copy, Debug)]
 pub enum Way {
-    /// To this place alone. The letter is the last that was read.
-    To { place: usize, last: char },
+    /// To this place alone.
+    To { place: usize },
     /// Nowhere: no word goes on with them.
     Nowhere,
 }
@@ -32,7 +30,7 @@ pub enum Way {
 impl<'a> Stretch<'a> {
     ghost use Rattle.lic_marks.specs.Cores.{Core};
     ghost use Rattle.lic_marks.specs.Stretches.{LeadsTo, IsStretchOf};
-    ghost use Rattle.lic_marks.specs.Ways.{EndsIn, IsGapWay, IsWay, IsWayAlong};
+    ghost use Rattle.lic_marks.specs.Ways.{IsGapWay, IsWay, IsWayAlong};
 
     /// No letters.
     pub fn none() -> Stretch<'a>
@@ -70,16 +68,17 @@ impl<'a> Stretch<'a> {
         Some(self.letters[distance])
     }
 
-    /// Where a token leads from a place of the stretch on, if that is known here. It is read from its end, behind the letter `last`
-    /// and a gap.
-    pub fn over(self, place: usize, token: &str, last: char) -> Option<Way>
+    /// Where letters lead from a place of the stretch on, if that is known here. The first stands behind a gap.
+    pub fn over(self, place: usize, letters: &[Letter]) -> Option<Way>
         ensures { IfSome result (λ way. (r : Core) → IsStretchOf r self.entry
-            → IsWay r place (gapped_from last true (reverse (chars token.now))) way) }
+            → IsWay r place (map gapped_letter letters.now) way) }
     {
-        let mut letters = TurnedLetters::new(token, last, true);
-        let first = letters.next()?;
-        match self.over_gap(place, first)? {
-            Way::To { place: at, .. } => self.along(at, letters),
+        let (first, others) = letters.split_first()?;
+        if !first.is_apart {
+            return None;
+        }
+        match self.over_gap(place, *first)? {
+            Way::To { place: at } => self.along(at, others),
             Way::Nowhere => Some(Way::Nowhere),
         }
     }
@@ -96,10 +95,7 @@ impl<'a> Stretch<'a> {
             let after_blank = self.letter_behind(behind)?;
             let end = behind.checked_add(1)?;
             if after_blank == letter.letter {
-                Some(Way::To {
-                    place: end,
-                    last: letter.letter,
-                })
+                Some(Way::To { place: end })
             } else if after_blank == ' ' {
                 None
             } else {
@@ -108,24 +104,19 @@ impl<'a> Stretch<'a> {
         } else if is_needed {
             Some(Way::Nowhere)
         } else if next == letter.letter {
-            Some(Way::To {
-                place: behind,
-                last: letter.letter,
-            })
+            Some(Way::To { place: behind })
         } else {
             Some(Way::Nowhere)
         }
     }
 
-    /// Where the letters lead one by one, each at once, if that is known here.
-    pub fn along(self, place: usize, letters: TurnedLetters<'_>) -> Option<Way>
-        ensures leads { IfSome result (λ way. (r : Core) → IsStretchOf r self.entry
-            → IsWayAlong r place (turned_letters_left letters.entry) way) }
-        ensures last { IfSome result (EndsIn (turned_last_in letters.entry)) }
+    /// Where letters lead one by one, each at once, if that is known here.
+    pub fn along(self, place: usize, letters: &[Letter]) -> Option<Way>
+        ensures { IfSome result (λ way. (r : Core) → IsStretchOf r self.entry
+            → IsWayAlong r place (map gapped_letter letters.now) way) }
     {
-        let mut letters = letters;
         let mut at = place;
-        while let Some(letter) = letters.next() {
+        for letter in letters {
             let next = self.letter_behind(at)?;
             if letter.is_apart | (next != letter.letter) {
                 // behind a gap within the token that is not looked into
@@ -137,8 +128,7 @@ impl<'a> Stretch<'a> {
             }
             at = at.checked_add(1)?;
         }
-        let last = letters.last_letter();
-        Some(Way::To { place: at, last })
+        Some(Way::To { place: at })
     }
 }
 

@@ -1,14 +1,16 @@
-use Rattle.std.proofs.Common.{◌≡◌, ℕ, ◌<◌, List, [], ◌∷◌, ◌++◌, true, reverse, sym, ◌∙◌, subst, arith}
+use Rattle.std.proofs.Common.{◌≡◌, ℕ, ◌<◌, List, [], ◌∷◌, ◌++◌, true, append-nil, map, reverse, sym, ap, ◌∙◌, subst, arith}
 use Rattle.std.specs.Str.{chars}
 use Rattle.lic_words.specs.Words.{Word, blank}
 use Rattle.lic_words.specs.Letters.{letters_in}
-use Rattle.lic_words.specs.Spelling.{last_letter}
+use Rattle.lic_words.specs.Spelling.{gapped, gapped_from, last_letter}
+use Rattle.lic_words.specs.Reading.{gapped_letter}
 use Rattle.lic_words.proofs.Counts.{letters_in-reverse}
 use Rattle.lic_marks.specs.Cores.{WordsOf}
 use Rattle.lic_marks.specs.Nodes.{core_of}
-use Rattle.lic_marks.specs.Fronts.{IsFrontOf}
+use Rattle.lic_marks.specs.Fronts.{IsEntryWay, IsFrontOf}
 use Rattle.lic_marks.specs.Seeks.{GoOnAsEnds}
 use Rattle.lic_marks.specs.Standing.{AfterAny}
+use Rattle.lic_marks.specs.declared.stretch.Way.TheVariants.{To, Nowhere}
 use Rattle.lic_marks.proofs.Beginning.{goes_on_at, none_entered, own_last, still_none}
 use Rattle.lic_marks.proofs.Seeking.{any_last, entered, with_token}
 use Rattle.lic_marks.proofs.seek.Seeker.enters.Goals as goal
@@ -26,8 +28,10 @@ returns-in-To-clause-stands c = λ e ts s _.
     let t : List ℕ = reverse (chars c.args.token.now) in
     let front : IsFrontOf r c.in-Some.front = self.fronted c.in-Some.front c.in-Some.is in
     let dead = λ (v : Word) (h : AfterAny (WordsOf r) s.lists v). c.is_dead.ensures r c.if-not-is_dead.false v (s.taken.leads.now.complete v h) in
-    let way = rw c.in-To.is at (c.in-Some-over.ensures.leads r front) in
-    let last : c.in-To.last ≡ last_letter blank t = rw c.in-To.is at c.in-Some-over.ensures.last in
+    let spelled : map gapped_letter c.letters.result.now ≡ gapped (t ∷ []) =
+    c.letters.ensures ∙ c.in-Some-turned.ensures.letters ∙ ap (gapped_from blank true) (sym (append-nil t)) in
+    let way = subst (λ l. IsEntryWay r l (To c.in-To.place)) spelled (rw c.in-To.is at (c.in-Some-over.ensures r front)) in
+    let last : c.last_letter-self.result ≡ last_letter blank t = c.last_letter-self.ensures ∙ c.in-Some-turned.ensures.last in
     let some : 0 < letters_in t = let same = letters_in-reverse (chars c.args.token.now) in omega (arith, c.requires, same) in
     let own = own_last self.last t some in
     let lists = with_token true self.last t s.lists in
@@ -45,7 +49,9 @@ returns-in_default-way-clause-stands c = λ e ts s _.
     let t : List ℕ = reverse (chars c.args.token.now) in
     let front : IsFrontOf r c.in-Some.front = self.fronted c.in-Some.front c.in-Some.is in
     let dead = λ (v : Word) (h : AfterAny (WordsOf r) s.lists v). c.is_dead.ensures r c.if-not-is_dead.false v (s.taken.leads.now.complete v h) in
-    let way = rw c.in_default-way.is at (c.in-Some-over.ensures.leads r front) in
+    let spelled : map gapped_letter c.letters.result.now ≡ gapped (t ∷ []) =
+    c.letters.ensures ∙ c.in-Some-turned.ensures.letters ∙ ap (gapped_from blank true) (sym (append-nil t)) in
+    let way = subst (λ l. IsEntryWay r l Nowhere) spelled (rw c.in_default-way.is at (c.in-Some-over.ensures r front)) in
     let some : 0 < letters_in t = let same = letters_in-reverse (chars c.args.token.now) in omega (arith, c.requires, same) in
     let own = own_last self.last t some in
     let lists = with_token true self.last t s.lists in

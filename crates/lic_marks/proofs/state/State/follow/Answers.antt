@@ -1,12 +1,12 @@
-use Rattle.std.proofs.Common.{ℕ, List, true, reverse, arith}
-use Rattle.std.specs.Str.{chars}
+use Rattle.std.proofs.Common.{ℕ, List, ◌++◌, map, arith}
 use Rattle.lic_words.specs.Words.{Word}
-use Rattle.lic_words.specs.Spelling.{Gap, gapped_from}
+use Rattle.lic_words.specs.Spelling.{Gap}
+use Rattle.lic_words.specs.Reading.{gapped_letter}
 use Rattle.lic_marks.specs.Cores.{WordsOf}
 use Rattle.lic_marks.specs.Nodes.{core_of}
 use Rattle.lic_marks.specs.Rows.{marks_of}
 use Rattle.lic_marks.specs.Standing.{After, AfterAny, each_with}
-use Rattle.lic_marks.proofs.Lists.{AfterAny-append, append-AfterAny}
+use Rattle.lic_marks.proofs.Lists.{After-append, append-After, AfterAny-append, append-AfterAny}
 use Rattle.lic_marks.proofs.Standing.{Leads-same}
 use Rattle.lic_marks.proofs.StateLemmas.{none_left, without_gap}
 use Rattle.lic_marks.proofs.Following.{follows, over_within}
@@ -33,7 +33,7 @@ pub returns-in-To-clause-any : goal.returns-in-To-clause-any
 returns-in-To-clause-any c = λ lists s _.
     let r = core_of c.args.tree.now in
     let old = c.args.self.now in
-    let letters : List (Gap × ℕ) = gapped_from c.args.last true (reverse (chars c.args.token.now)) in
+    let letters : List (Gap × ℕ) = map gapped_letter c.args.letters.now in
     let A : Word → Type 0 = AfterAny (WordsOf r) lists in
     let more : List (List (Gap × ℕ)) = each_with letters lists in
     let all = follows r old.entry old.at_once c.move_to.new.self c.in-Some.place c.in-To.end A letters
@@ -54,7 +54,7 @@ pub returns-in-Nowhere-clause-any : goal.returns-in-Nowhere-clause-any
 returns-in-Nowhere-clause-any c = λ lists s _.
     let r = core_of c.args.tree.now in
     let old = c.args.self.now in
-    let letters : List (Gap × ℕ) = gapped_from c.args.last true (reverse (chars c.args.token.now)) in
+    let letters : List (Gap × ℕ) = map gapped_letter c.args.letters.now in
     none_left r _ (AfterAny (WordsOf r) (each_with letters lists)) (c.clear.ensures.any r) (λ v h.
     nowhere_left r old.entry old.at_once c.in-Some.place (AfterAny (WordsOf r) lists) letters c.in-Some.ensures.begun s.leads.now c.in-Some.ensures.lone
     (rw c.in-Nowhere.is at (c.in-Some.ensures.leads r c.requires.stretch)) v (AfterAny-append (WordsOf r) lists letters v h))

@@ -1,0 +1,13 @@
+-- The letters of a token that are kept together.
+use Rattle.std.specs.Prelude.{ℕ, List, map, take}
+use Rattle.lic_words.specs.Spelling.{Gap}
+use Rattle.lic_words.specs.Reading.{gapped_letter}
+use Rattle.lic_marks.specs.declared.spelled.Spelled.{Spelled}
+
+-- the letters, each with the gap before it
+abbrev pub gapped_in : Spelled → List (Gap × ℕ)
+gapped_in s = map gapped_letter (take s.count s.letters)
+
+-- the last of them, or else the one behind which they were read
+abbrev pub last_in : Spelled → ℕ
+last_in s = s.last

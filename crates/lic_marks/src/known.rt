@@ -1,0 +1,177 @@
+//! What is known of the letters that follow positions which stand alone.
+
+ghost use Rattle.std.specs.Prelude.{◌≡◌, ℕ, ◌≤◌, IsTrue, IfOk};
+ghost use Rattle.lic_marks.specs.Cores.{Core};
+ghost use Rattle.lic_marks.specs.Counts.{IsQuiet, IsQuietBehindBlanks};
+ghost use Rattle.lic_marks.specs.Lone.{NoneEnds};
+ghost use Rattle.lic_marks.specs.Nodes.{core_of, is_measured};
+ghost use Rattle.lic_marks.specs.Rows.{weight};
+
+use crate::letter_set::LetterSet;
+use crate::node::Node;
+use crate::probe::Probe;
+use std::alloc::{AllocError, Global};
+
+/// What is known of a position.
+#[derive(Clone, Copy, Debug)]
+pub struct Known {
+    place: usize,
+    /// Letters with which no word goes on at once.
+    at_once: LetterSet,
+    /// Those with which none goes on at once or behind blanks.
+    behind_blanks: LetterSet,
+    /// It is known that no word ends there, but for blanks.
+    none_ends: bool,
+}
+
+impl Known {
+    ghost use Rattle.lic_marks.specs.Known.{IsKnown, room_in_probe};
+
+    // Nothing is known of the position.
+    fn none(place: usize) -> Known
+        ensures known { (r : Core) → IsKnown r result }
+        ensures place { result.place ≡ place }
+    {
+        Known {
+            place,
+            at_once: LetterSet::none(),
+            behind_blanks: LetterSet::none(),
+            none_ends: false,
+        }
+    }
+
+    // As `Knowledge::is_quiet`, of this position.
+    fn is_quiet(&mut self, tree: &Node, letter: char, probe: &mut Probe) -> bool
+        requires measured { IsTrue (is_measured tree.now) }
+        requires room { weight (core_of tree.now) ≤ room_in_probe probe.old }
+        requires known { IsKnown (core_of tree.now) self.old }
+        ensures room { room_in_probe probe.new ≡ room_in_probe probe.old }
+        ensures known { IsKnown (core_of tree.now) self.new }
+        ensures place { self.new.place ≡ self.old.place }
+        ensures quiet { IsTrue result → IsQuiet (core_of tree.now) self.old.place letter }
+    {
+        if self.at_once.has(letter) {
+            return true;
+        }
+        let is_quiet = probe.is_quiet(tree, self.place, letter);
+        if is_quiet {
+            self.at_once.add(letter);
+        }
+        is_quiet
+    }
+
+    // As `Knowledge::is_quiet_behind_blanks`, of this position.
+    fn is_quiet_behind_blanks(&mut self, tree: &Node, letter: char, probe: &mut Probe) -> bool
+        requires measured { IsTrue (is_measured tree.now) }
+        requires room { weight (core_of tree.now) ≤ room_in_probe probe.old }
+        requires known { IsKnown (core_of tree.now) self.old }
+        ensures room { room_in_probe probe.new ≡ room_in_probe probe.old }
+        ensures known { IsKnown (core_of tree.now) self.new }
+        ensures place { self.new.place ≡ self.old.place }
+        ensures quiet { IsTrue result
+            → IsQuietBehindBlanks (core_of tree.now) self.old.place letter }
+    {
+        if self.behind_blanks.has(letter) {
+            return true;
+        }
+        let is_quiet = probe.is_quiet_behind_blanks(tree, self.place, letter);
+        if is_quiet {
+            self.behind_blanks.add(letter);
+        }
+        is_quiet
+    }
+
+    // As `Knowledge::none_ends`, of this position.
+    fn none_ends(&mut self, tree: &Node, probe: &mut Probe) -> bool
+        requires measured { IsTrue (is_measured tree.now) }
+        requires room { weight (core_of tree.now) ≤ room_in_probe probe.old }
+        requires known { IsKnown (core_of tree.now) self.old }
+        ensures room { room_in_probe probe.new ≡ room_in_probe probe.old }
+        ensures known { IsKnown (core_of tree.now) self.new }
+        ensures place { self.new.place ≡ self.old.place }
+        ensures none { IsTrue result → NoneEnds (core_of tree.now) self.old.place }
+    {
+        if !self.none_ends {
+            self.none_ends = probe.none_ends(tree, self.place);
+        }
+        self.none_ends
+    }
+}
+
+/// What is known of two positions, the last that were asked for, and what more can be learned.
+#[derive(Drop, Debug)]
+pub struct Knowledge {
+    first: Known,
+    second: Known,
+    probe: Probe,
+}
+
+impl Knowledge {
+    ghost use Rattle.lic_marks.specs.Known.{IsKnowledge};
+
+    /// Nothing is known.
+    ///
+    /// # Errors
+    /// Out of memory.
+    pub fn new(alloc: Global, tree: &Node) -> Result<Knowledge, AllocError>
+        requires { IsTrue (is_measured tree.now) }
+        ensures { IfOk result (IsKnowledge (core_of tree.now)) }
+    {
+        let probe = Probe::new(alloc, tree)?;
+        Ok(Knowledge {
+            first: Known::none(0),
+            second: Known::none(0),
+            probe,
+        })
+    }
+
+    /// Whether no word goes on from the position with the letter at once.
+    pub fn is_quiet(&mut self, tree: &Node, place: usize, letter: char) -> bool
+        requires measured { IsTrue (is_measured tree.now) }
+        requires knowledge { IsKnowledge (core_of tree.now) self.old }
+        ensures knowledge { IsKnowledge (core_of tree.now) self.new }
+        ensures quiet { IsTrue result → IsQuiet (core_of tree.now) place letter }
+    {
+        self.bring(place);
+        self.first.is_quiet(tree, letter, &mut self.probe)
+    }
+
+    /// Whether no word goes on from the position with the letter, at once or behind blanks.
+    pub fn is_quiet_behind_blanks(&mut self, tree: &Node, place: usize, letter: char) -> bool
+        requires measured { IsTrue (is_measured tree.now) }
+        requires knowledge { IsKnowledge (core_of tree.now) self.old }
+        ensures knowledge { IsKnowledge (core_of tree.now) self.new }
+        ensures quiet { IsTrue result → IsQuietBehindBlanks (core_of tree.now) place letter }
+    {
+        self.bring(place);
+        self.first
+            .is_quiet_behind_blanks(tree, letter, &mut self.probe)
+    }
+
+    /// Whether no word ends behind the position, but for blanks.
+    pub fn none_ends(&mut self, tree: &Node, place: usize) -> bool
+        requires measured { IsTrue (is_measured tree.now) }
+        requires knowledge { IsKnowledge (core_of tree.now) self.old }
+        ensures knowledge { IsKnowledge (core_of tree.now) self.new }
+        ensures none { IsTrue result → NoneEnds (core_of tree.now) place }
+    {
+        self.bring(place);
+        self.first.none_ends(tree, &mut self.probe)
+    }
+
+    // Brings what is known of the position to the front; where nothing is, it takes the place of the other.
+    fn bring(&mut self, place: usize)
+        ensures knowledge { (r : Core) → IsKnowledge r self.old → IsKnowledge r self.new }
+        ensures place { self.new.first.place ≡ place }
+    {
+        if self.first.place != place {
+            let known = if self.second.place == place {
+                self.second
+            } else {
+                Known::none(place)
+            };
+            self.second = self.first;
+            self.first = known;
+        }
+    }
+}

@@ -1,0 +1,145 @@
+//! Where the letters of a token lead from one position that stands in a text, or counts letters.
+
+ghost use Rattle.std.specs.Prelude.{◌≡◌, ℕ, ◌+◌, ◌<◌, ◌≤◌, ◌∷◌, [], None, Some, if◌then◌else◌, nat_lt, IsTrue, true, IfSome, map};
+ghost use Rattle.std.specs.Option.{ForSome};
+ghost use Rattle.lic_words.specs.Reading.{gapped_letter};
+ghost use Rattle.lic_marks.specs.Cores.{Core};
+ghost use Rattle.lic_marks.specs.Known.{IsKnowledge};
+ghost use Rattle.lic_marks.specs.Lone.{MovesTo, NoneEnds};
+ghost use Rattle.lic_marks.specs.Nodes.{core_of, is_measured, passes};
+ghost use Rattle.lic_marks.specs.Rows.{weight};
+ghost use Rattle.lic_marks.specs.Stretches.{IsStretchOf};
+ghost use Rattle.lic_marks.specs.Threads.{AreCounts, IsAmongCounts};
+
+use crate::counts::Counts;
+use crate::known::Knowledge;
+use crate::node::Node;
+use crate::stretch::{Stretch, Way};
+use lic_words::letters::Letter;
+
+/// Where the letters of a token lead from a place in a text, if that is known and no word ends there.
+pub fn over_text(stretch: Stretch<'_>, place: usize, letters: &[Letter]) -> Option<Option<usize>>
+    ensures moves { IfSome result (λ found. (r : Core) → IsStretchOf r stretch.entry
+        → MovesTo r (Some place) (map gapped_letter letters.now) found) }
+    ensures stays { IfSome result (λ found. (r : Core) → IsStretchOf r stretch.entry
+        → ForSome found (λ k. (k < weight r) × NoneEnds r k)) }
+{
+    match stretch.over(place, letters)? {
+        Way::To { place: end } if none_ends(stretch, end) => Some(Some(end)),
+        Way::To { .. } => None,
+        Way::Nowhere => Some(None),
+    }
+}
+
+/// Whether it is known that no word ends behind the place, but for blanks: a letter that is no blank comes next in the stretch, or
+/// next but for one blank.
+pub fn none_ends(stretch: Stretch<'_>, place: usize) -> bool
+    ensures { (r : Core) → IsStretchOf r stretch.entry → IsTrue result
+        → (place < weight r) × NoneEnds r place }
+{
+    let Some(next) = stretch.letter_behind(place) else {
+        return false;
+    };
+    if next != ' ' {
+        return true;
+    }
+    let Some(second) = place.checked_add(1) else {
+        return false;
+    };
+    match stretch.letter_behind(second) {
+        Some(behind) => behind != ' ',
+        None => false,
+    }
+}
+
+/// Where the letters of a token lead from a place that counts letters, if that is known.
+pub fn over_counts(
+    counts: Counts<'_>,
+    place: usize,
+    tree: &Node,
+    letters: &[Letter],
+    knowledge: &mut Knowledge,
+) -> Option<Option<usize>>
+    requires measured { IsTrue (is_measured tree.now) }
+    requires knowledge { IsKnowledge (core_of tree.now) knowledge.old }
+    ensures knowledge { IsKnowledge (core_of tree.now) knowledge.new }
+    ensures moves { IfSome result (λ found. AreCounts (core_of tree.now) counts.entry place
+        → MovesTo (core_of tree.now) (Some place) (map gapped_letter letters.now) found
+        × ForSome found (IsAmongCounts counts.entry)) }
+{
+    let mut at = place;
+    for letter in letters {
+        match over_letter(counts, at, tree, *letter, knowledge)? {
+            Some(next) => at = next,
+            None => return Some(None),
+        }
+    }
+    Some(Some(at))
+}
+
+// Where a letter leads from a place that counts letters, if that is known.
+fn over_letter(
+    counts: Counts<'_>,
+    place: usize,
+    tree: &Node,
+    letter: Letter,
+    knowledge: &mut Knowledge,
+) -> Option<Option<usize>>
+    requires measured { IsTrue (is_measured tree.now) }
+    requires knowledge { IsKnowledge (core_of tree.now) knowledge.old }
+    ensures knowledge { IsKnowledge (core_of tree.now) knowledge.new }
+    ensures moves { IfSome result (λ found. AreCounts (core_of tree.now) counts.entry place
+        → MovesTo (core_of tree.now) (Some place) (gapped_letter letter ∷ []) found
+        × ForSome found (IsAmongCounts counts.entry)) }
+{
+    if !counts.test.passes(letter.letter) {
+        return None;
+    }
+    if letter.is_apart {
+        return over_gap(counts, place, tree, letter, knowledge);
+    }
+    if !knowledge.is_quiet(tree, counts.last, letter.letter) {
+        return None;
+    }
+    Some(next_count(counts, place, 1))
+}
+
+// Where a letter that passes leads behind a gap from a place that counts letters, if that is known.
+fn over_gap(
+    counts: Counts<'_>,
+    place: usize,
+    tree: &Node,
+    letter: Letter,
+    knowledge: &mut Knowledge,
+) -> Option<Option<usize>>
+    requires measured { IsTrue (is_measured tree.now) }
+    requires knowledge { IsKnowledge (core_of tree.now) knowledge.old }
+    requires passes { passes counts.test.now letter.letter ≡ true }
+    requires apart { letter.is_apart ≡ true }
+    ensures knowledge { IsKnowledge (core_of tree.now) knowledge.new }
+    ensures moves { IfSome result (λ found. AreCounts (core_of tree.now) counts.entry place
+        → MovesTo (core_of tree.now) (Some place) (gapped_letter letter ∷ []) found
+        × ForSome found (IsAmongCounts counts.entry)) }
+{
+    if !counts.test.passes(' ') {
+        return None;
+    }
+    if !knowledge.is_quiet_behind_blanks(tree, counts.last, letter.letter) {
+        return None;
+    }
+    let step = if letter.are_words { 2 } else { 1 };
+    Some(next_count(counts, place, step))
+}
+
+// The place by so many letters on, if it is one of the counts.
+fn next_count(counts: Counts<'_>, place: usize, step: usize) -> Option<usize>
+    ensures { result ≡ (if nat_lt (counts.entry.first + counts.entry.most) (place + step) then None
+        else Some (place + step)) }
+{
+    let next = place.checked_add(step)?;
+    if next <= counts.last {
+        Some(next)
+    } else {
+        None
+    }
+}
