@@ -1,6 +1,6 @@
 -- Letters with which no word goes on from a position alone.
 use Rattle.std.specs.Prelude.{◌≡◌, ℕ, ◌≤◌, true}
-use Rattle.std.specs.List.{All}
+use Rattle.std.specs.Option.{ForSome}
 use Rattle.lic_marks.specs.Cores.{Core}
 use Rattle.lic_marks.specs.Rows.{weight}
 use Rattle.lic_marks.specs.Counts.{IsQuiet, IsQuietBehindBlanks}
@@ -25,4 +25,4 @@ pub record IsKnown (r : Core) (known : Known) : Type 0 where
 pub record IsKnowledge (r : Core) (knowledge : Knowledge) : Type 0 where
   pub first : IsKnown r knowledge.first
   pub second : IsKnown r knowledge.second
-  pub room : weight r ≤ room_in_probe knowledge.probe
+  pub room : ForSome knowledge.probe (λ probe. weight r ≤ room_in_probe probe)

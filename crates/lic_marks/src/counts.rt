@@ -40,6 +40,27 @@ impl<'a> Counts<'a> {
     }
 }
 
+/// Whether letters are counted anywhere in the expression.
+#[cycle(has_counts)]
+pub fn has_counts(node: &Node) -> bool {
+    match node {
+        Node::UpTo { .. } => true,
+        Node::Cat { children, .. } => any_has_counts(children),
+        Node::Alt { children, .. } => any_has_counts(children),
+        Node::Tidy { child, .. } => has_counts(child),
+        _ => false,
+    }
+}
+
+#[cycle(has_counts)]
+fn any_has_counts(children: &[Node]) -> bool {
+    let mut any = false;
+    for child in children {
+        any = any | has_counts(child);
+    }
+    any
+}
+
 /// The positions that count letters, where this one is among them.
 #[cycle(counts_at)]
 pub fn counts_at(node: &Node, place: usize) -> Option<Counts<'_>>

@@ -7,6 +7,7 @@ ghost use Rattle.lic_marks.specs.Lone.{NoneEnds};
 ghost use Rattle.lic_marks.specs.Nodes.{core_of, is_measured};
 ghost use Rattle.lic_marks.specs.Rows.{weight};
 
+use crate::counts::has_counts;
 use crate::letter_set::LetterSet;
 use crate::node::Node;
 use crate::probe::Probe;
@@ -20,6 +21,8 @@ pub struct Known {
     at_once: LetterSet,
     /// Those with which none goes on at once or behind blanks.
     behind_blanks: LetterSet,
+    /// Those with which some may go on so, as far as was asked.
+    loud: LetterSet,
     /// It is known that no word ends there, but for blanks.
     none_ends: bool,
 }
@@ -36,6 +39,7 @@ impl Known {
             place,
             at_once: LetterSet::none(),
             behind_blanks: LetterSet::none(),
+            loud: LetterSet::none(),
             none_ends: false,
         }
     }
@@ -74,9 +78,14 @@ impl Known {
         if self.behind_blanks.has(letter) {
             return true;
         }
+        if self.loud.has(letter) {
+            return false;
+        }
         let is_quiet = probe.is_quiet_behind_blanks(tree, self.place, letter);
         if is_quiet {
             self.behind_blanks.add(letter);
+        } else {
+            self.loud.add(letter);
         }
         is_quiet
     }
@@ -103,7 +112,8 @@ impl Known {
 pub struct Knowledge {
     first: Known,
     second: Known,
-    probe: Probe,
+    /// Where letters are counted at all.
+    probe: Option<Probe>,
 }
 
 impl Knowledge {
@@ -117,7 +127,11 @@ impl Knowledge {
         requires { IsTrue (is_measured tree.now) }
         ensures { IfOk result (IsKnowledge (core_of tree.now)) }
     {
-        let probe = Probe::new(alloc, tree)?;
+        let probe = if has_counts(tree) {
+            Some(Probe::new(alloc, tree)?)
+        } else {
+            None
+        };
         Ok(Knowledge {
             first: Known::none(0),
             second: Known::none(0),
@@ -133,7 +147,10 @@ impl Knowledge {
         ensures quiet { IsTrue result → IsQuiet (core_of tree.now) place letter }
     {
         self.bring(place);
-        self.first.is_quiet(tree, letter, &mut self.probe)
+        match &mut self.probe {
+            Some(probe) => self.first.is_quiet(tree, letter, probe),
+            None => false,
+        }
     }
 
     /// Whether no word goes on from the position with the letter, at once or behind blanks.
@@ -144,8 +161,10 @@ impl Knowledge {
         ensures quiet { IsTrue result → IsQuietBehindBlanks (core_of tree.now) place letter }
     {
         self.bring(place);
-        self.first
-            .is_quiet_behind_blanks(tree, letter, &mut self.probe)
+        match &mut self.probe {
+            Some(probe) => self.first.is_quiet_behind_blanks(tree, letter, probe),
+            None => false,
+        }
     }
 
     /// Whether no word ends behind the position, but for blanks.
@@ -156,7 +175,10 @@ impl Knowledge {
         ensures none { IsTrue result → NoneEnds (core_of tree.now) place }
     {
         self.bring(place);
-        self.first.none_ends(tree, &mut self.probe)
+        match &mut self.probe {
+            Some(probe) => self.first.none_ends(tree, probe),
+            None => false,
+        }
     }
 
     // Brings what is known of the position to the front; where nothing is, it takes the place of the other.
