@@ -1,9 +1,8 @@
 //! Seekers, one for each template, over a list of tokens that is read from its end.
 
-ghost use Rattle.std.specs.Prelude.{◌≡◌, ℕ, ◌<◌, ◌≤◌, ◌↔◌, ◌∷◌, List, [], IfOk, IfSome, false, length, reverse, take, vec_len, Contains};
+ghost use Rattle.std.specs.Prelude.{◌≡◌, ℕ, ◌<◌, ◌≤◌, ◌↔◌, ◌∷◌, List, [], IfOk, false, length, take, vec_len, Contains};
 ghost use Rattle.std.specs.Str.{chars};
 ghost use Rattle.lic_words.specs.Letters.{letters_in};
-ghost use Rattle.lic_marks.specs.Plain.{IsPlain};
 ghost use Rattle.lic_keys.specs.Rising.{IsRising};
 ghost use Rattle.lic_auto.specs.Choices.{templates_of};
 ghost use Rattle.lic_auto.specs.Changes.{AreKeptOf};
@@ -72,13 +71,13 @@ pub fn take_turned(
         (TakesTurned entered.now (chars token.now)) places.now seekers.old seekers.new }
     ensures kept { AreKeptOf IsQuiet places.now (take result kept.new) seekers.new }
 {
-    let known = looked_at(token, places.len() > entered.len());
+    let known = Plain::turned(token);
     let mut count = 0;
     for place in places {
         let place = *place;
         let may_begin = has(entered, place);
         let seeker = &mut seekers[place];
-        seeker.push_known(token, known, may_begin);
+        seeker.push_known(token, known.as_ref(), may_begin);
         if !seeker.is_dead() {
             kept[count] = place;
             count += 1;
@@ -94,19 +93,9 @@ pub fn take_alone(seekers: &mut [Seeker<'_>], place: usize, token: &str, may_beg
     ensures { AreTurned
         (TakesAlone may_begin (chars token.now)) (place ∷ []) seekers.old seekers.new }
 {
+    let known = Plain::turned(token);
     let seeker = &mut seekers[place];
-    seeker.push_turned(token, may_begin);
-}
-
-// What is known of a token's letters. They are looked at only where they may serve some template that is on its way.
-fn looked_at(token: &str, may_serve: bool) -> Option<Plain>
-    ensures { IfSome result (λ plain. IsPlain plain (reverse (chars token.now))) }
-{
-    if may_serve {
-        Plain::turned(token)
-    } else {
-        None
-    }
+    seeker.push_known(token, known.as_ref(), may_begin);
 }
 
 // Whether a list of rising numbers may have this one.

@@ -1,9 +1,7 @@
 -- A token that is entered where no word goes on.
-use Rattle.std.proofs.Common.{◌≡◌, ℕ, ◌<◌, true, false, List, [], ◌∷◌, length, inl, inr, refl, sym, ap, ◌∙◌, arith}
-use Rattle.lic_words.specs.Words.{Word, blank}
-use Rattle.lic_words.specs.Letters.{letters_in}
-use Rattle.lic_words.specs.Spelling.{Gap, gapped, gapped_from, last_letter}
-use Rattle.lic_words.proofs.Counts.{length-gapped_from}
+use Rattle.std.proofs.Common.{ℕ, true, false, List, [], ◌∷◌, inl, inr}
+use Rattle.lic_words.specs.Words.{Word}
+use Rattle.lic_words.specs.Spelling.{Gap, gapped, gapped_from}
 use Rattle.lic_marks.specs.Cores.{Core, WordsOf}
 use Rattle.lic_marks.specs.Fronts.{GoesOnAt}
 use Rattle.lic_marks.specs.Rows.{marks_of}
@@ -12,7 +10,7 @@ use Rattle.lic_marks.specs.States.{HasLeft, HasTakenAny}
 use Rattle.lic_marks.specs.Stretches.{mark_at}
 use Rattle.lic_marks.specs.declared.state.State.{State}
 use Rattle.lic_marks.proofs.Lists.{After-some, AfterAny-append}
-use Rattle.lic_marks.proofs.Seeking.{last_letter-own, with_token}
+use Rattle.lic_marks.proofs.Seeking.{with_token}
 use Rattle.lic_marks.proofs.Standing.{Leads-same}
 use Rattle.lic_marks.proofs.StateLemmas.{LeadsSoFar-same}
 
@@ -43,11 +41,3 @@ still_none r state lists A s dead none = record {
       (λ v h. absurd (dead v h)) (λ v h. absurd (none v h)) s.leads;
   kept = s.kept;
 }
-
--- a token that has letters ends with one of its own
-pub own_last : (last : ℕ) (t : List ℕ) → 0 < letters_in t → last_letter last t ≡ last_letter blank t
-own_last last t some = by_letters (gapped_from last true t) refl
-  where
-    by_letters : (letters : List (Gap × ℕ)) → gapped_from last true t ≡ letters → last_letter last t ≡ last_letter blank t
-    by_letters [] e = let count : letters_in t ≡ 0 = sym (length-gapped_from last true t) ∙ ap length e in absurd (omega (arith, some, count))
-    by_letters (p ∷ rest) e = last_letter-own last t p rest e

@@ -5,6 +5,7 @@ use Rattle.lic_words.specs.Letters.{is_word}
 use Rattle.lic_words.specs.Spelling.{Gap, no_gap, gap_of, gapped_from, last_letter}
 use Rattle.lic_marks.specs.Memories.{has}
 use Rattle.lic_marks.specs.declared.letter_set.LetterSet.{LetterSet}
+use Rattle.lic_marks.specs.Spelled.{gapped_in}
 use Rattle.lic_marks.specs.declared.plain.Plain.{Plain}
 
 -- the letters come at once, and each is in the set
@@ -12,9 +13,12 @@ abbrev pub ComeJoined : LetterSet → List (Gap × ℕ) → Type 0
 ComeJoined set [] = Unit {0}
 ComeJoined set (p ∷ rest) = (p.0 ≡ no_gap) × ((p.1 ≡ blank) → ⊥) × (has set p.1 ≡ true) × ComeJoined set rest
 
+-- the letters behind the first, each with the gap before it
+abbrev pub others_in : Plain → List (Gap × ℕ)
+others_in plain = gapped_in plain.rest
+
 -- The row of letters is what `plain` says of it, behind any letter: the first, then letters that come at once, up to the last.
 pub record IsPlain (plain : Plain) (row : List ℕ) : Type 0 where
-  pub others : List (Gap × ℕ)
-  pub letters : (last : ℕ) → gapped_from last true row ≡ (gap_of true (is_word last && is_word plain.first), plain.first) ∷ others
-  pub joined : ComeJoined plain.others others
+  pub letters : (last : ℕ) → gapped_from last true row ≡ (gap_of true (is_word last && is_word plain.first), plain.first) ∷ others_in plain
+  pub joined : ComeJoined plain.others (others_in plain)
   pub last : (last : ℕ) → last_letter last row ≡ plain.last

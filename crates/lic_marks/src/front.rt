@@ -38,16 +38,12 @@ impl<'a> Front<'a> {
         })
     }
 
-    /// Where letters lead at the beginning of a word, if that is known here. The first stands behind a gap that may be none.
-    pub fn over(self, letters: &[Letter]) -> Option<Way>
+    /// Where letters lead at the beginning of a word, if that is known here. The gap before the first may be none.
+    pub fn over(self, first: Letter, others: &[Letter]) -> Option<Way>
         ensures { IfSome result (λ way. (r : Core) → IsFrontOf r self.entry
-            → IsEntryWay r (map gapped_letter letters.now) way) }
+            → IsEntryWay r ((free, first.letter) ∷ map gapped_letter others.now) way) }
     {
-        let (first, others) = letters.split_first()?;
-        if !first.is_apart || first.are_words {
-            return None;
-        }
-        match self.over_first(*first)? {
+        match self.over_first(first)? {
             Way::To { place } => self.rest.along(place, others),
             Way::Nowhere => Some(Way::Nowhere),
         }

@@ -17,7 +17,6 @@ use crate::front::Front;
 use crate::node::Node;
 use crate::plain::Plain;
 use crate::row::Row;
-use crate::spelled::Spelled;
 use crate::state::State;
 use crate::stretch::{Stretch, Way};
 use lic_words::turned_letters::TurnedLetters;
@@ -108,31 +107,31 @@ impl<'a> Seeker<'a> {
         self.last = self.state.rest_of_token(self.tree, self.stretch, letters);
     }
 
-    /// As `push_turned`, of a token of which the caller may know that it is plain: where its letters are known to leave the
-    /// marks as they are, it is not read. Where one mark alone stands in a text, or none does and all words begin with a text, the
-    /// letters are compared with that.
-    pub fn push_known(&mut self, token: &str, known: Option<Plain>, may_begin: bool)
+    /// As `push_turned`, of a token of which the caller may know that it is plain: then it is not read again where its letters are
+    /// known to leave the marks as they are, nor where one mark alone stands in a text, or none does and all words begin with a text:
+    /// its letters are compared with that.
+    pub fn push_known(&mut self, token: &str, known: Option<&Plain>, may_begin: bool)
         requires letters { 0 < letters_in (chars token.now) }
-        requires known { IfSome known (λ plain. IsPlain plain (reverse (chars token.now))) }
+        requires known { IfSome known (λ plain. IsPlain plain.now (reverse (chars token.now))) }
         ensures stands { (e : Expression) (ts : List (List ℕ)) → Seeks self.old e ts
             → (may_begin ≡ false → NoneBegins e (reverse (chars token.now)))
             → Seeks self.new e (ts ++ reverse (chars token.now) ∷ []) }
         ensures tree { tree_of self.new ≡ tree_of self.old }
     {
-        if self.passes(token, known, may_begin) {
+        if self.passes(known, may_begin) {
             return;
         }
         self.push_turned(token, may_begin);
     }
 
-    // Takes a token that is entered while nothing is marked, where the text with which all words begin says where it leads:
+    // Takes a plain token that is entered while nothing is marked, where the text with which all words begin says where it leads:
     // the token's letters are compared with that. Otherwise nothing is done.
-    fn enters(&mut self, token: &str) -> bool
-        requires { 0 < letters_in (chars token.now) }
+    fn enters(&mut self, plain: &Plain) -> bool
         ensures none { (e : Expression) (ts : List (List ℕ)) → Seeks self.old e ts
             → result ≡ false → Seeks self.new e ts }
-        ensures stands { (e : Expression) (ts : List (List ℕ)) → Seeks self.old e ts
-            → IsTrue result → Seeks self.new e (ts ++ reverse (chars token.now) ∷ []) }
+        ensures stands { (e : Expression) (ts : List (List ℕ)) (token : List ℕ)
+            → Seeks self.old e ts → IsTrue result
+            → IsPlain plain.now token → Seeks self.new e (ts ++ token ∷ []) }
         ensures tree { tree_of self.new ≡ tree_of self.old }
     {
         let Some(front) = self.front else {
@@ -141,51 +140,42 @@ impl<'a> Seeker<'a> {
         if !self.state.is_dead() {
             return false;
         }
-        let Some(spelled) = Spelled::turned(token, ' ') else {
-            return false;
-        };
-        let Some(way) = front.over(spelled.letters()) else {
+        let Some(way) = front.over(plain.first_behind(' '), plain.rest()) else {
             return false;
         };
         if let Way::To { place } = way {
             self.stretch = front.rest;
             self.state.mark_alone(self.tree, front.rest, place);
-            self.last = spelled.last_letter();
+            self.last = plain.last;
         }
         true
     }
 
-    // Takes a token where that is known without a walk over the tree: as `enters`, or not entered, where its letters are known to
+    // Takes a plain token where that is known without a walk over the tree: as `enters`, or not entered, where its letters are known to
     // leave the marks as they are, or the text in which a lone mark stands says where it leads. Otherwise nothing is done.
-    fn passes(&mut self, token: &str, known: Option<Plain>, may_begin: bool) -> bool
-        requires letters { 0 < letters_in (chars token.now) }
-        requires known { IfSome known (λ plain. IsPlain plain (reverse (chars token.now))) }
+    fn passes(&mut self, known: Option<&Plain>, may_begin: bool) -> bool
         ensures none { (e : Expression) (ts : List (List ℕ)) → Seeks self.old e ts
             → result ≡ false → Seeks self.new e ts }
-        ensures stands { (e : Expression) (ts : List (List ℕ)) → Seeks self.old e ts → IsTrue result
-            → (may_begin ≡ false → NoneBegins e (reverse (chars token.now)))
-            → Seeks self.new e (ts ++ reverse (chars token.now) ∷ []) }
+        ensures stands { (e : Expression) (ts : List (List ℕ)) (token : List ℕ)
+            → Seeks self.old e ts → IsTrue result
+            → IfSome known.entry (λ plain. IsPlain plain.now token)
+            → (may_begin ≡ false → NoneBegins e token) → Seeks self.new e (ts ++ token ∷ []) }
         ensures tree { tree_of self.new ≡ tree_of self.old }
     {
-        if may_begin {
-            return self.enters(token);
-        }
         let Some(plain) = known else {
             return false;
         };
+        if may_begin {
+            return self.enters(plain);
+        }
         if self.state.stays(plain, self.last) {
             self.last = plain.last;
             return true;
         }
-        if !self.state.is_lone() {
-            return false;
-        }
-        let Some(spelled) = Spelled::turned(token, self.last) else {
-            return false;
-        };
+        let first = plain.first_behind(self.last);
         if !self
             .state
-            .follow(self.tree, self.stretch, spelled.letters())
+            .follow(self.tree, self.stretch, first, plain.rest())
         {
             return false;
         }

@@ -1,12 +1,11 @@
 //! The letters of a token, read once for all that go over them.
 
-ghost use Rattle.std.specs.Prelude.{◌≡◌, ◌≤◌, ◌∷◌, ◌++◌, [], true, IfSome, IsTrue, map, reverse};
+ghost use Rattle.std.specs.Prelude.{◌≡◌, ◌≤◌, ◌∷◌, ◌++◌, [], true, IfSome, IsTrue, map};
 ghost use Rattle.std.specs.Str.{chars};
 ghost use Rattle.lic_words.specs.Spelling.{gapped_from, last_letter};
 ghost use Rattle.lic_words.specs.Reading.{gapped_letter};
 
 use lic_words::letters::{Letter, Letters};
-use lic_words::turned_letters::TurnedLetters;
 
 /// The letters of a token, each with the gap before it as it is read, where they are not many.
 #[derive(Clone, Copy, Debug)]
@@ -38,22 +37,6 @@ impl Spelled {
         Some(spelled)
     }
 
-    /// The letters of a token that is read from its end, behind the letter `last` and a gap, unless there are too many.
-    pub fn turned(token: &str, last: char) -> Option<Spelled>
-        ensures letters { IfSome result (λ spelled. gapped_in spelled ≡ gapped_from last true (reverse (chars token.now))) }
-        ensures last { IfSome result (λ spelled. last_in spelled ≡ last_letter last (reverse (chars token.now))) }
-    {
-        let mut spelled = Spelled::none(last);
-        let mut letters = TurnedLetters::new(token, last, true);
-        while let Some(letter) = letters.next() {
-            if !spelled.push(letter) {
-                return None;
-            }
-        }
-        spelled.last = letters.last_letter();
-        Some(spelled)
-    }
-
     /// The letters in order.
     #[inline]
     pub fn letters(&self) -> &[Letter]
@@ -70,9 +53,9 @@ impl Spelled {
         self.last
     }
 
-    // No letters, with room for them.
+    /// No letters, with room for them.
     #[inline]
-    fn none(last: char) -> Spelled
+    pub fn none(last: char) -> Spelled
         ensures { gapped_in result ≡ [] }
     {
         let filler = Letter {
@@ -87,9 +70,9 @@ impl Spelled {
         }
     }
 
-    // Adds a letter behind the others, if there is room.
+    /// Adds a letter behind the others, if there is room.
     #[inline]
-    fn push(&mut self, letter: Letter) -> bool
+    pub fn push(&mut self, letter: Letter) -> bool
         ensures { IsTrue result → gapped_in self.new ≡ gapped_in self.old ++ gapped_letter letter ∷ [] }
     {
         let count = self.count;

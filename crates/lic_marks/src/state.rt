@@ -25,7 +25,6 @@ use crate::node::Node;
 use crate::plain::Plain;
 use crate::row::Row;
 use crate::stretch::{Stretch, Way};
-use lic_kind::is_word;
 use lic_words::letters::{Letter, Letters};
 use lic_words::turned_letters::TurnedLetters;
 use std::alloc::{AllocError, Global};
@@ -255,11 +254,6 @@ impl State {
         !self.entry & self.at_once.is_clear()
     }
 
-    /// Whether one position alone is marked, as far as is seen at once.
-    pub fn is_lone(&self) -> bool {
-        self.at_once.lone().is_some()
-    }
-
     /// Forgets all that was taken. No word goes on, nor may one begin but where a token enters.
     pub fn clear(&mut self)
         ensures room { room_of self.new ≡ room_of self.old }
@@ -355,25 +349,26 @@ impl State {
     }
 
     /// Whether the letters of a plain token, behind the letter `last` and a gap, are known to leave the state as it is.
-    pub fn stays(&self, plain: Plain, last: char) -> bool
+    pub fn stays(&self, plain: &Plain, last: char) -> bool
         ensures { (r : Core) (row : List ℕ) (lists : List (List (Gap × ℕ)))
-            → IsPlain plain row → HasTakenAny r self.now lists → IsTrue result
+            → IsPlain plain.now row → HasTakenAny r self.now lists → IsTrue result
             → HasTakenAny r self.now (each_with (gapped_from last true row) lists) }
     {
         if self.entry | !self.is_closed {
             return false;
         }
-        let first = Letter {
-            letter: plain.first,
-            is_apart: true,
-            are_words: is_word(last) & is_word(plain.first),
-        };
-        self.memory.are_steady(plain.others) & self.memory.is_steady(first)
+        self.memory.are_steady(plain.others) & self.memory.is_steady(plain.first_behind(last))
     }
 
     /// Takes the letters of a token, and opens a gap behind them, where one position alone is marked and the stretch says where
     /// they lead from there: the mark moves on by as many places at once, or no word goes on. Otherwise nothing is done.
-    pub fn follow(&mut self, tree: &Node, stretch: Stretch<'_>, letters: &[Letter]) -> bool
+    pub fn follow(
+        &mut self,
+        tree: &Node,
+        stretch: Stretch<'_>,
+        first: Letter,
+        others: &[Letter],
+    ) -> bool
         requires measured { IsTrue (is_measured tree.now) }
         requires room { weight (core_of tree.now) ≤ room_of self.old }
         requires stretch { IsStretchOf (core_of tree.now) stretch }
@@ -385,10 +380,10 @@ impl State {
         ensures any { (lists : List (List (Gap × ℕ)))
             → HasTakenAny (core_of tree.now) self.old lists
             → IsTrue result → HasTakenAny (core_of tree.now) self.new
-            (each_with (map gapped_letter letters.now) lists) }
+            (each_with (gapped_letter first ∷ map gapped_letter others.now) lists) }
         ensures open { IsTrue (has_gap self.new) }
     {
-        let Some((place, way)) = self.way(stretch, letters) else {
+        let Some((place, way)) = self.way(stretch, first, others) else {
             return false;
         };
         match way {
@@ -518,17 +513,17 @@ impl State {
     }
 
     // The place of the one mark, and where the letters lead from there along the stretch.
-    fn way(&self, stretch: Stretch<'_>, letters: &[Letter]) -> Option<(usize, Way)>
+    fn way(&self, stretch: Stretch<'_>, first: Letter, others: &[Letter]) -> Option<(usize, Way)>
         ensures begun { IfSome result (λ found. self.now.entry ≡ false) }
         ensures lone { IfSome result (λ found. IsLone self.now.at_once found.0) }
         ensures leads { IfSome result (λ found. (r : Core) → IsStretchOf r stretch.entry
-            → IsWay r found.0 (map gapped_letter letters.now) found.1) }
+            → IsWay r found.0 (gapped_letter first ∷ map gapped_letter others.now) found.1) }
     {
         if self.entry {
             return None;
         }
         let place = self.at_once.lone()?;
-        let way = stretch.over(place, letters)?;
+        let way = stretch.over_token(place, first, others)?;
         Some((place, way))
     }
 

@@ -1,6 +1,6 @@
 //! Stretches of text in a compiled expression: literals, in which a lone mark moves on letter by letter.
 
-ghost use Rattle.std.specs.Prelude.{true, IfSome, IsTrue, map};
+ghost use Rattle.std.specs.Prelude.{◌∷◌, true, IfSome, IsTrue, map};
 ghost use Rattle.std.specs.List.{list_all};
 ghost use Rattle.lic_marks.specs.Cores.{cat_all, alt_all};
 ghost use Rattle.lic_marks.specs.Nodes.{core_of, is_measured};
@@ -74,10 +74,18 @@ impl<'a> Stretch<'a> {
             → IsWay r place (map gapped_letter letters.now) way) }
     {
         let (first, others) = letters.split_first()?;
+        self.over_token(place, *first, others)
+    }
+
+    /// The same, with the first letter apart from the others.
+    pub fn over_token(self, place: usize, first: Letter, others: &[Letter]) -> Option<Way>
+        ensures { IfSome result (λ way. (r : Core) → IsStretchOf r self.entry
+            → IsWay r place (gapped_letter first ∷ map gapped_letter others.now) way) }
+    {
         if !first.is_apart {
             return None;
         }
-        match self.over_gap(place, *first)? {
+        match self.over_gap(place, first)? {
             Way::To { place: at } => self.along(at, others),
             Way::Nowhere => Some(Way::Nowhere),
         }

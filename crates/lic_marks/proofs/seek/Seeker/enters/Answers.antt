@@ -1,19 +1,28 @@
-use Rattle.std.proofs.Common.{◌≡◌, ℕ, ◌<◌, List, [], ◌∷◌, ◌++◌, true, append-nil, map, reverse, sym, ap, ◌∙◌, subst, arith}
-use Rattle.std.specs.Str.{chars}
+use Rattle.std.proofs.Common.{◌≡◌, ℕ, List, [], ◌∷◌, ◌++◌, ◌&&◌, true, append-nil, map, sym, ap, ◌∙◌, subst}
 use Rattle.lic_words.specs.Words.{Word, blank}
-use Rattle.lic_words.specs.Letters.{letters_in}
-use Rattle.lic_words.specs.Spelling.{gapped, gapped_from, last_letter}
+use Rattle.lic_words.specs.Letters.{is_word}
+use Rattle.lic_words.specs.Spelling.{Gap, free, gap_of, gapped, gapped_from, last_letter}
 use Rattle.lic_words.specs.Reading.{gapped_letter}
-use Rattle.lic_words.proofs.Counts.{letters_in-reverse}
+use Rattle.lic_words.proofs.Spellings.{gap-behind_blank}
 use Rattle.lic_marks.specs.Cores.{WordsOf}
 use Rattle.lic_marks.specs.Nodes.{core_of}
 use Rattle.lic_marks.specs.Fronts.{IsEntryWay, IsFrontOf}
+use Rattle.lic_marks.specs.Plain.{IsPlain, others_in}
 use Rattle.lic_marks.specs.Seeks.{GoOnAsEnds}
 use Rattle.lic_marks.specs.Standing.{AfterAny}
+use Rattle.lic_marks.specs.declared.plain.Plain.{Plain}
 use Rattle.lic_marks.specs.declared.stretch.Way.TheVariants.{To, Nowhere}
-use Rattle.lic_marks.proofs.Beginning.{goes_on_at, none_entered, own_last, still_none}
+use Rattle.lic_marks.proofs.Beginning.{goes_on_at, none_entered, still_none}
 use Rattle.lic_marks.proofs.Seeking.{any_last, entered, with_token}
 use Rattle.lic_marks.proofs.seek.Seeker.enters.Goals as goal
+
+-- the letters of a plain token alone
+alone : (plain : Plain) (t : List ℕ) → IsPlain plain t → (c : ℕ) → c ≡ plain.first → (rest : List (Gap × ℕ)) → rest ≡ others_in plain → (free, c) ∷ rest ≡ gapped (t ∷ [])
+alone plain t known c first rest others =
+    let gap : free ≡ gap_of true (is_word blank && is_word plain.first) = sym (gap-behind_blank plain.first) in
+    let whole : gapped (t ∷ []) ≡ gapped_from blank true t = ap (gapped_from blank true) (append-nil t) in
+    let letters = known.letters blank in
+    cc
 
 pub mark_alone-requires-clause-stretch : goal.mark_alone-requires-clause-stretch
 mark_alone-requires-clause-stretch c = (c.args.self.now.fronted c.in-Some.front c.in-Some.is).rest
@@ -22,38 +31,33 @@ pub invariant_of-self-clause-stretched : goal.invariant_of-self-clause-stretched
 invariant_of-self-clause-stretched c = (c.args.self.now.fronted c.in-Some.front c.in-Some.is).rest
 
 pub returns-in-To-clause-stands : goal.returns-in-To-clause-stands
-returns-in-To-clause-stands c = λ e ts s _.
+returns-in-To-clause-stands c = λ e ts t s _ known.
     let self = c.args.self.now in
+    let plain = c.args.plain.now in
     let r = core_of self.tree.now in
-    let t : List ℕ = reverse (chars c.args.token.now) in
     let front : IsFrontOf r c.in-Some.front = self.fronted c.in-Some.front c.in-Some.is in
     let dead = λ (v : Word) (h : AfterAny (WordsOf r) s.lists v). c.is_dead.ensures r c.if-not-is_dead.false v (s.taken.leads.now.complete v h) in
-    let spelled : map gapped_letter c.letters.result.now ≡ gapped (t ∷ []) =
-    c.letters.ensures ∙ c.in-Some-turned.ensures.letters ∙ ap (gapped_from blank true) (sym (append-nil t)) in
-    let way = subst (λ l. IsEntryWay r l (To c.in-To.place)) spelled (rw c.in-To.is at (c.in-Some-over.ensures r front)) in
-    let last : c.last_letter-self.result ≡ last_letter blank t = c.last_letter-self.ensures ∙ c.in-Some-turned.ensures.last in
-    let some : 0 < letters_in t = let same = letters_in-reverse (chars c.args.token.now) in omega (arith, c.requires, same) in
-    let own = own_last self.last t some in
+    let letters = alone plain t known c.first_behind.result.letter (ap (λ p. p.1) c.first_behind.ensures) (map gapped_letter c.rest.result.now) c.rest.ensures in
+    let way = subst (λ l. IsEntryWay r l (To c.in-To.place)) letters (rw c.in-To.is at (c.in-Some-over.ensures r front)) in
+    let own : last_letter self.last t ≡ last_letter blank t = known.last self.last ∙ sym (known.last blank) in
     let lists = with_token true self.last t s.lists in
     record {
       words = s.words;
       lists = lists;
       taken = c.mark_alone.ensures.any s.lists lists s.taken (goes_on_at r self.last t s.lists dead c.in-To.place way.1);
-      ends = subst (λ l. GoOnAsEnds e r l lists (ts ++ t ∷ [])) (own ∙ sym last) (entered e r self.last s.lists ts s.ends t own);
+      ends = subst (λ l. GoOnAsEnds e r l lists (ts ++ t ∷ [])) (known.last self.last) (entered e r self.last s.lists ts s.ends t own);
     }
 
 pub returns-in_default-way-clause-stands : goal.returns-in_default-way-clause-stands
-returns-in_default-way-clause-stands c = λ e ts s _.
+returns-in_default-way-clause-stands c = λ e ts t s _ known.
     let self = c.args.self.now in
+    let plain = c.args.plain.now in
     let r = core_of self.tree.now in
-    let t : List ℕ = reverse (chars c.args.token.now) in
     let front : IsFrontOf r c.in-Some.front = self.fronted c.in-Some.front c.in-Some.is in
     let dead = λ (v : Word) (h : AfterAny (WordsOf r) s.lists v). c.is_dead.ensures r c.if-not-is_dead.false v (s.taken.leads.now.complete v h) in
-    let spelled : map gapped_letter c.letters.result.now ≡ gapped (t ∷ []) =
-    c.letters.ensures ∙ c.in-Some-turned.ensures.letters ∙ ap (gapped_from blank true) (sym (append-nil t)) in
-    let way = subst (λ l. IsEntryWay r l Nowhere) spelled (rw c.in_default-way.is at (c.in-Some-over.ensures r front)) in
-    let some : 0 < letters_in t = let same = letters_in-reverse (chars c.args.token.now) in omega (arith, c.requires, same) in
-    let own = own_last self.last t some in
+    let letters = alone plain t known c.first_behind.result.letter (ap (λ p. p.1) c.first_behind.ensures) (map gapped_letter c.rest.result.now) c.rest.ensures in
+    let way = subst (λ l. IsEntryWay r l Nowhere) letters (rw c.in_default-way.is at (c.in-Some-over.ensures r front)) in
+    let own : last_letter self.last t ≡ last_letter blank t = known.last self.last ∙ sym (known.last blank) in
     let lists = with_token true self.last t s.lists in
     let none = none_entered r self.last t s.lists dead way in
     record {

@@ -1,13 +1,16 @@
-use Rattle.std.proofs.Common.{◌≡◌, ℕ, List, [], ◌∷◌, ◌++◌, true, map, reverse, ◌∙◌, subst}
-use Rattle.std.specs.Str.{chars}
-use Rattle.lic_words.specs.Spelling.{gapped_from}
+use Rattle.std.proofs.Common.{◌≡◌, ℕ, List, [], ◌∷◌, ◌++◌, true, map, sym, ◌∙◌, subst}
+use Rattle.lic_words.specs.Spelling.{Gap, gapped_from}
 use Rattle.lic_words.specs.Reading.{gapped_letter}
 use Rattle.lic_marks.specs.Nodes.{core_of}
+use Rattle.lic_marks.specs.Plain.{IsPlain}
 use Rattle.lic_marks.specs.Standing.{each_with}
 use Rattle.lic_marks.specs.States.{HasTakenAny}
 use Rattle.lic_marks.specs.Seeks.{GoOnAsEnds}
 use Rattle.lic_marks.proofs.Seeking.{passed}
 use Rattle.lic_marks.proofs.seek.Seeker.passes.Goals as goal
+
+pub returns-then-may_begin-clause-stands : goal.returns-then-may_begin-clause-stands
+returns-then-may_begin-clause-stands c = λ e ts t s h known none. c.enters.ensures.stands e ts t s h (rw c.in-Some.is at known)
 
 pub returns-then-not-follow-clause-none : goal.returns-then-not-follow-clause-none
 returns-then-not-follow-clause-none c = λ e ts s is. record {
@@ -18,11 +21,10 @@ returns-then-not-follow-clause-none c = λ e ts s is. record {
 }
 
 pub returns-then-stays-clause-stands : goal.returns-then-stays-clause-stands
-returns-then-stays-clause-stands c = λ e ts s _ none.
+returns-then-stays-clause-stands c = λ e ts t s _ h none.
     let r = core_of c.args.self.now.tree.now in
     let last = c.args.self.now.last in
-    let t : List ℕ = reverse (chars c.args.token.now) in
-    let known = rw c.in-Some.is at c.requires.known in
+    let known : IsPlain c.in-Some.plain.now t = rw c.in-Some.is at h in
     let lists = each_with (gapped_from last true t) s.lists in
     record {
       words = s.words;
@@ -32,16 +34,19 @@ returns-then-stays-clause-stands c = λ e ts s _ none.
     }
 
 pub returns-clause-stands : goal.returns-clause-stands
-returns-clause-stands c = λ e ts s _ none.
+returns-clause-stands c = λ e ts t s _ h none.
     let r = core_of c.args.self.now.tree.now in
     let last = c.args.self.now.last in
-    let t : List ℕ = reverse (chars c.args.token.now) in
-    let known = rw c.in-Some.is at c.requires.known in
-    let spelled : map gapped_letter c.letters.result.now ≡ gapped_from last true t = c.letters.ensures ∙ c.in-Some-turned.ensures.letters in
+    let known : IsPlain c.in-Some.plain.now t = rw c.in-Some.is at h in
+    let rest : List (Gap × ℕ) = map gapped_letter c.rest.result.now in
+    let letters : gapped_letter c.first_behind-first.result ∷ rest ≡ gapped_from last true t =
+    let first = c.first_behind-first.ensures in
+    let others = c.rest.ensures in
+    let whole = known.letters last in cc in
     let lists = each_with (gapped_from last true t) s.lists in
     record {
       words = s.words;
       lists = lists;
-      taken = subst (λ l. HasTakenAny r c.follow.new.self (each_with l s.lists)) spelled (c.follow.ensures.any s.lists s.taken c.if-not-follow.false);
+      taken = subst (λ l. HasTakenAny r c.follow.new.self (each_with l s.lists)) letters (c.follow.ensures.any s.lists s.taken c.if-not-follow.false);
       ends = subst (λ l. GoOnAsEnds e r l lists (ts ++ t ∷ [])) (known.last last) (passed e r last s.lists ts s.ends t (none c.if-may_begin.false));
     }

@@ -1,7 +1,10 @@
+use Rattle.std.proofs.Common.{reverse}
+use Rattle.std.specs.Str.{chars}
 use Rattle.lic_marks.proofs.seek.Seeker.push_known.Goals as goal
 
 pub returns-clause-stands : goal.returns-clause-stands
 returns-clause-stands c = λ e ts s none. c.push_turned.ensures.stands e ts (c.passes.ensures.none e ts s c.if-passes.false) none
 
 pub returns-then-passes-clause-stands : goal.returns-then-passes-clause-stands
-returns-then-passes-clause-stands c = λ e ts s none. c.passes.ensures.stands e ts s c.if-passes.true none
+returns-then-passes-clause-stands c = λ e ts s none.
+    c.passes.ensures.stands e ts (reverse (chars c.args.token.now)) s c.if-passes.true c.requires.known none

@@ -1,4 +1,4 @@
-use Rattle.std.proofs.Common.{ℕ, List, ◌++◌, map, arith}
+use Rattle.std.proofs.Common.{ℕ, List, ◌∷◌, ◌++◌, map, arith}
 use Rattle.lic_words.specs.Words.{Word}
 use Rattle.lic_words.specs.Spelling.{Gap}
 use Rattle.lic_words.specs.Reading.{gapped_letter}
@@ -15,12 +15,16 @@ use Rattle.lic_marks.proofs.state.State.follow.Goals as goal
 
 pub move_to-requires-clause-order : goal.move_to-requires-clause-order
 move_to-requires-clause-order c =
-    let within = over_within (core_of c.args.tree.now) _ _ _ (rw c.in-To.is at (c.in-Some.ensures.leads (core_of c.args.tree.now) c.requires.stretch)) in
+    let r = core_of c.args.tree.now in
+    let letters : List (Gap × ℕ) = gapped_letter c.args.first ∷ map gapped_letter c.args.others.now in
+    let within = over_within r c.in-Some.place c.in-To.end letters (rw c.in-To.is at (c.in-Some.ensures.leads r c.requires.stretch)) in
     omega (arith, within.0)
 
 pub move_to-requires-clause-room : goal.move_to-requires-clause-room
 move_to-requires-clause-room c =
-    let within = over_within (core_of c.args.tree.now) _ _ _ (rw c.in-To.is at (c.in-Some.ensures.leads (core_of c.args.tree.now) c.requires.stretch)) in
+    let r = core_of c.args.tree.now in
+    let letters : List (Gap × ℕ) = gapped_letter c.args.first ∷ map gapped_letter c.args.others.now in
+    let within = over_within r c.in-Some.place c.in-To.end letters (rw c.in-To.is at (c.in-Some.ensures.leads r c.requires.stretch)) in
     omega (arith, within.1, c.requires.room)
 
 pub returns-in_default-clause-none : goal.returns-in_default-clause-none
@@ -33,7 +37,7 @@ pub returns-in-To-clause-any : goal.returns-in-To-clause-any
 returns-in-To-clause-any c = λ lists s _.
     let r = core_of c.args.tree.now in
     let old = c.args.self.now in
-    let letters : List (Gap × ℕ) = map gapped_letter c.args.letters.now in
+    let letters : List (Gap × ℕ) = gapped_letter c.args.first ∷ map gapped_letter c.args.others.now in
     let A : Word → Type 0 = AfterAny (WordsOf r) lists in
     let more : List (List (Gap × ℕ)) = each_with letters lists in
     let all = follows r old.entry old.at_once c.move_to.new.self c.in-Some.place c.in-To.end A letters
@@ -54,7 +58,7 @@ pub returns-in-Nowhere-clause-any : goal.returns-in-Nowhere-clause-any
 returns-in-Nowhere-clause-any c = λ lists s _.
     let r = core_of c.args.tree.now in
     let old = c.args.self.now in
-    let letters : List (Gap × ℕ) = map gapped_letter c.args.letters.now in
+    let letters : List (Gap × ℕ) = gapped_letter c.args.first ∷ map gapped_letter c.args.others.now in
     none_left r _ (AfterAny (WordsOf r) (each_with letters lists)) (c.clear.ensures.any r) (λ v h.
     nowhere_left r old.entry old.at_once c.in-Some.place (AfterAny (WordsOf r) lists) letters c.in-Some.ensures.begun s.leads.now c.in-Some.ensures.lone
     (rw c.in-Nowhere.is at (c.in-Some.ensures.leads r c.requires.stretch)) v (AfterAny-append (WordsOf r) lists letters v h))
