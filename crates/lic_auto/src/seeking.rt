@@ -1,8 +1,9 @@
 //! Seekers, one for each template, over a list of tokens that is read from its end.
 
-ghost use Rattle.std.specs.Prelude.{◌≡◌, ℕ, ◌<◌, ◌≤◌, ◌↔◌, ◌∷◌, List, [], IfOk, false, length, take, vec_len, Contains};
+ghost use Rattle.std.specs.Prelude.{◌≡◌, ℕ, ◌<◌, ◌≤◌, ◌↔◌, ◌∷◌, List, [], IfOk, IfSome, false, length, reverse, take, vec_len, Contains};
 ghost use Rattle.std.specs.Str.{chars};
 ghost use Rattle.lic_words.specs.Letters.{letters_in};
+ghost use Rattle.lic_marks.specs.Plain.{IsPlain};
 ghost use Rattle.lic_keys.specs.Rising.{IsRising};
 ghost use Rattle.lic_auto.specs.Choices.{templates_of};
 ghost use Rattle.lic_auto.specs.Changes.{AreKeptOf};
@@ -71,7 +72,7 @@ pub fn take_turned(
         (TakesTurned entered.now (chars token.now)) places.now seekers.old seekers.new }
     ensures kept { AreKeptOf IsQuiet places.now (take result kept.new) seekers.new }
 {
-    let known = Plain::turned(token);
+    let known = looked_at(token, !places.is_empty());
     let mut count = 0;
     for place in places {
         let place = *place;
@@ -96,6 +97,17 @@ pub fn take_alone(seekers: &mut [Seeker<'_>], place: usize, token: &str, may_beg
     let known = Plain::turned(token);
     let seeker = &mut seekers[place];
     seeker.push_known(token, known.as_ref(), may_begin);
+}
+
+// What is known of a token's letters. They are read only where some template takes them.
+fn looked_at(token: &str, is_taken: bool) -> Option<Plain>
+    ensures { IfSome result (λ plain. IsPlain plain (reverse (chars token.now))) }
+{
+    if is_taken {
+        Plain::turned(token)
+    } else {
+        None
+    }
 }
 
 // Whether a list of rising numbers may have this one.
