@@ -40,6 +40,7 @@ pub mod Beginning
 mod DescribedExamples
 pub mod TextEnds
 pub mod LetterSlices
+pub mod TextMarks
 pub mod Moved
 pub mod ThreadRows
 pub mod MarkedRows

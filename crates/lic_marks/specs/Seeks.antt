@@ -1,5 +1,5 @@
 -- For which expression and list of tokens a seeker stands.
-use Rattle.std.specs.Prelude.{◌≡◌, ℕ, ◌<◌, List, ◌∷◌, ◌++◌, length, drop}
+use Rattle.std.specs.Prelude.{◌≡◌, ℕ, ◌<◌, List, ◌∷◌, ◌++◌, Option, Some, None, length, drop}
 use Rattle.lic_words.specs.Words.{Word, blank}
 use Rattle.lic_words.specs.Expressions.{Expression}
 use Rattle.lic_words.specs.Describing.{IsDescribed}
@@ -7,7 +7,10 @@ use Rattle.lic_words.specs.Spelling.{Gap, gapped, last_of}
 use Rattle.lic_marks.specs.Cores.{Core, HasWordsOf, WordsOf}
 use Rattle.lic_marks.specs.Nodes.{core_of}
 use Rattle.lic_marks.specs.Standing.{After, AfterAny}
-use Rattle.lic_marks.specs.States.{HasTakenAny}
+use Rattle.lic_marks.specs.Fronts.{GoesOnAt}
+use Rattle.lic_marks.specs.States.{HasTakenAny, IsRemembering}
+use Rattle.lic_marks.specs.declared.state.State.{State}
+use Rattle.lic_marks.specs.declared.threads.InText.{InText}
 use Rattle.lic_marks.specs.declared.node.Node.{Node}
 use Rattle.lic_marks.specs.declared.seek.Seeker.{Seeker}
 
@@ -33,9 +36,14 @@ pub record GoOnAsEnds (e : Expression) (r : Core) (last : ℕ) (lists : List (Li
       (v : Word) → After (WordsOf r) (gapped (drop n ts)) v
       → (last ≡ last_of blank (drop n ts)) × AfterAny (WordsOf r) lists v
 
--- The seeker's tree has the words of the expression, and its state has taken the letters of the ends of the list.
+-- the state has taken these lists of letters, or the mark stands for them that is alone in a text
+abbrev pub StandsFor : Core → Option InText → State → List (List (Gap × ℕ)) → Type 0
+StandsFor r None state lists = HasTakenAny r state lists
+StandsFor r (Some text) state lists = IsRemembering r state × GoesOnAt r text.place lists
+
+-- The seeker's tree has the words of the expression, and its state, or its lone mark, has taken the letters of the ends of the list.
 pub record Seeks (s : Seeker) (e : Expression) (ts : List (List ℕ)) : Type 0 where
   pub words : HasWordsOf (core_of s.tree.now) e
   pub lists : List (List (Gap × ℕ))
-  pub taken : HasTakenAny (core_of s.tree.now) s.state lists
+  pub taken : StandsFor (core_of s.tree.now) s.lone s.state lists
   pub ends : GoOnAsEnds e (core_of s.tree.now) s.last lists ts

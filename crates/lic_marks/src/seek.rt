@@ -1,6 +1,6 @@
 //! A compiled expression on its way over a list of tokens, entered at every token. The tokens are read from their ends.
 
-ghost use Rattle.std.specs.Prelude.{◌≡◌, ℕ, ◌<◌, ◌≤◌, ◌↔◌, IsTrue, IfOk, List, [], ◌∷◌, ◌++◌, IfSome, false, length, reverse};
+ghost use Rattle.std.specs.Prelude.{◌≡◌, ℕ, ◌<◌, ◌≤◌, ◌↔◌, IsTrue, IfOk, List, [], ◌∷◌, ◌++◌, IfSome, None, false, length, reverse};
 ghost use Rattle.std.specs.Option.{ForSome};
 ghost use Rattle.std.specs.Str.{chars};
 ghost use Rattle.lic_words.specs.Letters.{letters_in};
@@ -12,22 +12,28 @@ ghost use Rattle.lic_marks.specs.Plain.{IsPlain};
 ghost use Rattle.lic_marks.specs.States.{HasFirstBlanks, has_gap, room_of};
 ghost use Rattle.lic_marks.specs.Fronts.{IsFrontOf};
 ghost use Rattle.lic_marks.specs.Stretches.{IsStretchOf};
+ghost use Rattle.lic_marks.specs.Threads.{IsInText};
 
 use crate::front::Front;
 use crate::node::Node;
+use crate::over::none_ends;
 use crate::plain::Plain;
 use crate::row::Row;
 use crate::state::State;
 use crate::stretch::{Stretch, Way};
+use crate::threads::InText;
 use lic_words::turned_letters::TurnedLetters;
 use std::alloc::{AllocError, Global};
 
 /// A run of a compiled expression that is entered at every token: it tells whether the expression describes some end of
-/// the list. It keeps no token, and takes memory in `new` alone. What is not entered, and has nothing marked, costs nothing.
+/// the list. It keeps no token, and takes memory in `new` alone. What is not entered, and has nothing marked, costs nothing; one mark
+/// alone in a text costs no more than to compare the token with the text.
 #[derive(Drop, Debug)]
 pub struct Seeker<'a> {
     tree: &'a Node,
     state: State,
+    /// One mark alone, in place of all those of the state: it stands in a text, and no word ends there.
+    lone: Option<InText<'a>>,
     /// Where one position alone was marked, the stretch in which it stands.
     stretch: Stretch<'a>,
     /// The text with which all words begin, where there is one.
@@ -41,6 +47,7 @@ pub struct Seeker<'a> {
     ghost open: { IsTrue (has_gap state) },
     ghost size: { length first ≡ room_of state },
     ghost stretched: { IsStretchOf (core_of tree.now) stretch },
+    ghost in_text: { ForSome lone (IsInText (core_of tree.now)) },
     ghost fronted: { ForSome front (IsFrontOf (core_of tree.now)) },
     ghost blanks: { HasFirstBlanks (core_of tree.now) first },
 }
@@ -64,6 +71,7 @@ impl<'a> Seeker<'a> {
         Ok(Seeker {
             tree,
             state,
+            lone: None,
             stretch: Stretch::none(),
             front: Front::of(tree),
             first,
@@ -77,6 +85,7 @@ impl<'a> Seeker<'a> {
             → Seeks self.new e [] }
         ensures tree { tree_of self.new ≡ tree_of self.old }
     {
+        self.lone = None;
         self.state.clear();
     }
 
@@ -96,6 +105,7 @@ impl<'a> Seeker<'a> {
         let Some(letter) = letters.next() else {
             return;
         };
+        self.put_back();
         self.stretch = self.state.stretch_of(self.tree, self.stretch);
         if may_begin {
             self.state
@@ -105,6 +115,37 @@ impl<'a> Seeker<'a> {
         }
         self.stretch = self.state.stretch_of(self.tree, self.stretch);
         self.last = self.state.rest_of_token(self.tree, self.stretch, letters);
+        self.take_out();
+    }
+
+    // Puts the mark that stands alone in a text back among those of the state.
+    fn put_back(&mut self)
+        ensures stands { (e : Expression) (ts : List (List ℕ)) → Seeks self.old e ts → Seeks self.new e ts }
+        ensures tree { tree_of self.new ≡ tree_of self.old }
+        ensures last { self.new.last ≡ self.old.last }
+        ensures none { self.new.lone ≡ None }
+    {
+        let Some(text) = self.lone else {
+            return;
+        };
+        self.lone = None;
+        self.stretch = text.stretch;
+        self.state.mark_alone(self.tree, text.stretch, text.place);
+    }
+
+    // Takes the mark out of the state, where it stands alone in a text and no word ends there.
+    fn take_out(&mut self)
+        requires { self.old.lone ≡ None }
+        ensures stands { (e : Expression) (ts : List (List ℕ)) → Seeks self.old e ts → Seeks self.new e ts }
+        ensures tree { tree_of self.new ≡ tree_of self.old }
+    {
+        let Some(place) = self.state.lone() else {
+            return;
+        };
+        let stretch = self.stretch;
+        if none_ends(stretch, place) {
+            self.lone = Some(InText { place, stretch });
+        }
     }
 
     /// As `push_turned`, of a token of which the caller may know that it is plain: then it is not read again where its letters are
@@ -137,17 +178,57 @@ impl<'a> Seeker<'a> {
         let Some(front) = self.front else {
             return false;
         };
+        let None = self.lone else {
+            return false;
+        };
         if !self.state.is_dead() {
             return false;
         }
         let Some(way) = front.over(plain.first_behind(' '), plain.rest()) else {
             return false;
         };
-        if let Way::To { place } = way {
-            self.stretch = front.rest;
-            self.state.mark_alone(self.tree, front.rest, place);
-            self.last = plain.last;
+        let Way::To { place } = way else {
+            return true;
+        };
+        self.last = plain.last;
+        let stretch = front.rest;
+        if none_ends(stretch, place) {
+            self.lone = Some(InText { place, stretch });
+            return true;
         }
+        self.stretch = stretch;
+        self.state.mark_alone(self.tree, stretch, place);
+        true
+    }
+
+    // Takes a plain token where one mark stands alone in a text, and that says where its letters lead. Otherwise nothing is done.
+    fn follows(&mut self, plain: &Plain) -> bool
+        ensures none { (e : Expression) (ts : List (List ℕ)) → Seeks self.old e ts
+            → result ≡ false → Seeks self.new e ts }
+        ensures stands { (e : Expression) (ts : List (List ℕ)) (token : List ℕ)
+            → Seeks self.old e ts → IsTrue result
+            → IsPlain plain.now token → NoneBegins e token → Seeks self.new e (ts ++ token ∷ []) }
+        ensures tree { tree_of self.new ≡ tree_of self.old }
+    {
+        let Some(text) = self.lone else {
+            return false;
+        };
+        let stretch = text.stretch;
+        let first = plain.first_behind(self.last);
+        let Some(way) = stretch.over_token(text.place, first, plain.rest()) else {
+            return false;
+        };
+        let Way::To { place } = way else {
+            self.lone = None;
+            self.state.clear();
+            self.last = plain.last;
+            return true;
+        };
+        if !none_ends(stretch, place) {
+            return false;
+        }
+        self.lone = Some(InText { place, stretch });
+        self.last = plain.last;
         true
     }
 
@@ -168,6 +249,9 @@ impl<'a> Seeker<'a> {
         if may_begin {
             return self.enters(plain);
         }
+        let None = self.lone else {
+            return self.follows(plain);
+        };
         if self.state.stays(plain, self.last) {
             self.last = plain.last;
             return true;
@@ -188,11 +272,14 @@ impl<'a> Seeker<'a> {
         ensures { (e : Expression) (ts : List (List ℕ)) → Seeks self.now e ts
             → IsTrue result ↔ DescribesEnd e ts }
     {
-        self.state.accepts(self.tree, self.stretch)
+        match self.lone {
+            Some(_) => false,
+            None => self.state.accepts(self.tree, self.stretch),
+        }
     }
 
     /// True where no position is marked: then it stands as it is for the list with one token more that no described list
-    /// begins with. It looks at one flag.
+    /// begins with. It looks at a few flags.
     pub fn is_dead(&self) -> bool
         ensures none { (e : Expression) (ts : List (List ℕ)) → Seeks self.now e ts → IsTrue result
             → ¬ (DescribesEnd e ts) }
@@ -200,6 +287,9 @@ impl<'a> Seeker<'a> {
             → Seeks self.now e ts → IsTrue result
             → NoneBegins e token → Seeks self.now e (ts ++ token ∷ []) }
     {
-        self.state.is_dead()
+        match self.lone {
+            Some(_) => false,
+            None => self.state.is_dead(),
+        }
     }
 }

@@ -254,6 +254,18 @@ impl State {
         !self.entry & self.at_once.is_clear()
     }
 
+    /// The place of the one mark, where one position alone is marked and no word may begin, as far as is seen at once.
+    pub fn lone(&self) -> Option<usize>
+        ensures begun { IfSome result (λ place. self.now.entry ≡ false) }
+        ensures lone { IfSome result (IsLone self.now.at_once) }
+    {
+        if self.entry {
+            None
+        } else {
+            self.at_once.lone()
+        }
+    }
+
     /// Forgets all that was taken. No word goes on, nor may one begin but where a token enters.
     pub fn clear(&mut self)
         ensures room { room_of self.new ≡ room_of self.old }

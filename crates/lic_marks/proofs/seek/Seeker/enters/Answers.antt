@@ -8,12 +8,14 @@ use Rattle.lic_marks.specs.Cores.{WordsOf}
 use Rattle.lic_marks.specs.Nodes.{core_of}
 use Rattle.lic_marks.specs.Fronts.{IsEntryWay, IsFrontOf}
 use Rattle.lic_marks.specs.Plain.{IsPlain, others_in}
-use Rattle.lic_marks.specs.Seeks.{GoOnAsEnds}
+use Rattle.lic_marks.specs.Seeks.{GoOnAsEnds, StandsFor}
+use Rattle.lic_marks.specs.States.{HasTakenAny}
 use Rattle.lic_marks.specs.Standing.{AfterAny}
 use Rattle.lic_marks.specs.declared.plain.Plain.{Plain}
 use Rattle.lic_marks.specs.declared.stretch.Way.TheVariants.{To, Nowhere}
 use Rattle.lic_marks.proofs.Beginning.{goes_on_at, none_entered, still_none}
 use Rattle.lic_marks.proofs.Seeking.{any_last, entered, with_token}
+use Rattle.lic_marks.proofs.TextMarks.{in_text}
 use Rattle.lic_marks.proofs.seek.Seeker.enters.Goals as goal
 
 -- the letters of a plain token alone
@@ -27,16 +29,24 @@ alone plain t known c first rest others =
 pub mark_alone-requires-clause-stretch : goal.mark_alone-requires-clause-stretch
 mark_alone-requires-clause-stretch c = (c.args.self.now.fronted c.in-Some.front c.in-Some.is).rest
 
-pub invariant_of-self-clause-stretched : goal.invariant_of-self-clause-stretched
-invariant_of-self-clause-stretched c = (c.args.self.now.fronted c.in-Some.front c.in-Some.is).rest
+pub invariant_of-self-clause-in_text : goal.invariant_of-self-clause-in_text
+invariant_of-self-clause-in_text c =
+    let r = core_of c.args.self.now.tree.now in
+    let stretch = (c.args.self.now.fronted c.in-Some.front c.in-Some.is).rest in
+    let ends = c.none_ends.ensures r stretch c.if-none_ends.true in
+    in_text r _ record { stretch = stretch; within = ends.0; none_ends = ends.1 }
 
-pub returns-in-To-clause-stands : goal.returns-in-To-clause-stands
-returns-in-To-clause-stands c = λ e ts t s _ known.
+pub invariant_of-self-2-clause-stretched : goal.invariant_of-self-2-clause-stretched
+invariant_of-self-2-clause-stretched c = (c.args.self.now.fronted c.in-Some.front c.in-Some.is).rest
+
+pub returns-then-none_ends-clause-stands : goal.returns-then-none_ends-clause-stands
+returns-then-none_ends-clause-stands c = λ e ts t s _ known.
     let self = c.args.self.now in
     let plain = c.args.plain.now in
     let r = core_of self.tree.now in
     let front : IsFrontOf r c.in-Some.front = self.fronted c.in-Some.front c.in-Some.is in
-    let dead = λ (v : Word) (h : AfterAny (WordsOf r) s.lists v). c.is_dead.ensures r c.if-not-is_dead.false v (s.taken.leads.now.complete v h) in
+    let taken : HasTakenAny r self.state s.lists = subst (λ l. StandsFor r l self.state s.lists) c.in-None.is s.taken in
+    let dead = λ (v : Word) (h : AfterAny (WordsOf r) s.lists v). c.is_dead.ensures r c.if-not-is_dead.false v (taken.leads.now.complete v h) in
     let letters = alone plain t known c.first_behind.result.letter (ap (λ p. p.1) c.first_behind.ensures) (map gapped_letter c.rest.result.now) c.rest.ensures in
     let way = subst (λ l. IsEntryWay r l (To c.in-To.place)) letters (rw c.in-To.is at (c.in-Some-over.ensures r front)) in
     let own : last_letter self.last t ≡ last_letter blank t = known.last self.last ∙ sym (known.last blank) in
@@ -44,7 +54,27 @@ returns-in-To-clause-stands c = λ e ts t s _ known.
     record {
       words = s.words;
       lists = lists;
-      taken = c.mark_alone.ensures.any s.lists lists s.taken (goes_on_at r self.last t s.lists dead c.in-To.place way.1);
+      taken = (taken.kept, goes_on_at r self.last t s.lists dead c.in-To.place way.1);
+      ends = subst (λ l. GoOnAsEnds e r l lists (ts ++ t ∷ [])) (known.last self.last) (entered e r self.last s.lists ts s.ends t own);
+    }
+
+pub returns-clause-stands : goal.returns-clause-stands
+returns-clause-stands c = λ e ts t s _ known.
+    let self = c.args.self.now in
+    let plain = c.args.plain.now in
+    let r = core_of self.tree.now in
+    let front : IsFrontOf r c.in-Some.front = self.fronted c.in-Some.front c.in-Some.is in
+    let taken : HasTakenAny r self.state s.lists = subst (λ l. StandsFor r l self.state s.lists) c.in-None.is s.taken in
+    let dead = λ (v : Word) (h : AfterAny (WordsOf r) s.lists v). c.is_dead.ensures r c.if-not-is_dead.false v (taken.leads.now.complete v h) in
+    let letters = alone plain t known c.first_behind.result.letter (ap (λ p. p.1) c.first_behind.ensures) (map gapped_letter c.rest.result.now) c.rest.ensures in
+    let way = subst (λ l. IsEntryWay r l (To c.in-To.place)) letters (rw c.in-To.is at (c.in-Some-over.ensures r front)) in
+    let own : last_letter self.last t ≡ last_letter blank t = known.last self.last ∙ sym (known.last blank) in
+    let lists = with_token true self.last t s.lists in
+    record {
+      words = s.words;
+      lists = lists;
+      taken = subst (λ l. StandsFor r l c.mark_alone.new.self lists) (sym c.in-None.is)
+          (c.mark_alone.ensures.any s.lists lists taken (goes_on_at r self.last t s.lists dead c.in-To.place way.1));
       ends = subst (λ l. GoOnAsEnds e r l lists (ts ++ t ∷ [])) (known.last self.last) (entered e r self.last s.lists ts s.ends t own);
     }
 
@@ -54,7 +84,8 @@ returns-in_default-way-clause-stands c = λ e ts t s _ known.
     let plain = c.args.plain.now in
     let r = core_of self.tree.now in
     let front : IsFrontOf r c.in-Some.front = self.fronted c.in-Some.front c.in-Some.is in
-    let dead = λ (v : Word) (h : AfterAny (WordsOf r) s.lists v). c.is_dead.ensures r c.if-not-is_dead.false v (s.taken.leads.now.complete v h) in
+    let taken : HasTakenAny r self.state s.lists = subst (λ l. StandsFor r l self.state s.lists) c.in-None.is s.taken in
+    let dead = λ (v : Word) (h : AfterAny (WordsOf r) s.lists v). c.is_dead.ensures r c.if-not-is_dead.false v (taken.leads.now.complete v h) in
     let letters = alone plain t known c.first_behind.result.letter (ap (λ p. p.1) c.first_behind.ensures) (map gapped_letter c.rest.result.now) c.rest.ensures in
     let way = subst (λ l. IsEntryWay r l Nowhere) letters (rw c.in_default-way.is at (c.in-Some-over.ensures r front)) in
     let own : last_letter self.last t ≡ last_letter blank t = known.last self.last ∙ sym (known.last blank) in
@@ -63,6 +94,7 @@ returns-in_default-way-clause-stands c = λ e ts t s _ known.
     record {
       words = s.words;
       lists = lists;
-      taken = still_none r self.state s.lists (AfterAny (WordsOf r) lists) s.taken dead none;
+      taken = subst (λ l. StandsFor r l self.state lists) (sym c.in-None.is)
+          (still_none r self.state s.lists (AfterAny (WordsOf r) lists) taken dead none);
       ends = any_last e r (last_letter self.last t) self.last lists (ts ++ t ∷ []) (entered e r self.last s.lists ts s.ends t own) none;
     }

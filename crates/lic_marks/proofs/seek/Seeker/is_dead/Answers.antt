@@ -1,16 +1,26 @@
+use Rattle.std.proofs.Common.{subst, sym}
 use Rattle.lic_marks.specs.Nodes.{core_of}
+use Rattle.lic_marks.specs.Seeks.{StandsFor}
+use Rattle.lic_marks.specs.States.{HasTakenAny}
 use Rattle.lic_marks.proofs.Seeking.{answer_complete, skipped}
 use Rattle.lic_marks.proofs.seek.Seeker.is_dead.Goals as goal
 
-pub returns-clause-none : goal.returns-clause-none
-returns-clause-none c = λ e ts s h described.
+pub returns-in-None-clause-none : goal.returns-in-None-clause-none
+returns-in-None-clause-none c = λ e ts s h described.
+    let self = c.args.self.now in
+    let r = core_of self.tree.now in
+    let taken : HasTakenAny r self.state s.lists = subst (λ l. StandsFor r l self.state s.lists) c.in-None.is s.taken in
     let word = answer_complete e _ _ s.lists ts s.ends s.words described in
-    c.is_dead.ensures (core_of c.args.self.now.tree.now) h _ (s.taken.leads.now.complete _ word.1)
+    c.is_dead.ensures r h _ (taken.leads.now.complete _ word.1)
 
-pub returns-clause-skips : goal.returns-clause-skips
-returns-clause-skips c = λ e ts token s h none. record {
-  words = s.words;
-  lists = s.lists;
-  taken = s.taken;
-  ends = skipped e _ _ s.lists ts s.ends token (λ v follows. c.is_dead.ensures (core_of c.args.self.now.tree.now) h v (s.taken.leads.now.complete v follows)) none;
-}
+pub returns-in-None-clause-skips : goal.returns-in-None-clause-skips
+returns-in-None-clause-skips c = λ e ts token s h none.
+    let self = c.args.self.now in
+    let r = core_of self.tree.now in
+    let taken : HasTakenAny r self.state s.lists = subst (λ l. StandsFor r l self.state s.lists) c.in-None.is s.taken in
+    record {
+      words = s.words;
+      lists = s.lists;
+      taken = s.taken;
+      ends = skipped e _ _ s.lists ts s.ends token (λ v follows. c.is_dead.ensures r h v (taken.leads.now.complete v follows)) none;
+    }

@@ -9,6 +9,7 @@ use Rattle.lic_marks.specs.Nodes.{core_of}
 use Rattle.lic_marks.specs.Cores.{WordsOf}
 use Rattle.lic_marks.specs.Standing.{AfterAny, each_with}
 use Rattle.lic_marks.specs.States.{HasTakenAny}
+use Rattle.lic_marks.specs.Seeks.{GoOnAsEnds, StandsFor}
 use Rattle.lic_marks.proofs.Seeking.{first_apart, last_letter-own, with_token, goes_on, enters, passed, entered, known_last}
 use Rattle.lic_marks.proofs.StateLemmas.{none_of}
 use Rattle.lic_marks.proofs.seek.Seeker.push_turned.Goals as goal
@@ -33,8 +34,12 @@ enter-requires-clause-apart c =
     (sym c.new-letters.ensures.letters ∙ c.in-Some.ensures.steps.first) c.in-Some.letter.is_apart c.in-Some.letter.are_words refl
 
 pub returns-clause-stands : goal.returns-clause-stands
-returns-clause-stands c = λ e ts s none.
-    let r = core_of c.args.self.now.tree.now in
+returns-clause-stands c = λ e ts given none.
+    let self = c.put_back.new.self in
+    let r = core_of self.tree.now in
+    let s = c.put_back.ensures.stands e ts given in
+    let before : HasTakenAny r self.state s.lists = subst (λ l. StandsFor r l self.state s.lists) c.put_back.ensures.none s.taken in
+    let ends : GoOnAsEnds e r c.args.self.now.last s.lists ts = subst (λ l. GoOnAsEnds e r l s.lists ts) c.put_back.ensures.last s.ends in
     let last = c.args.self.now.last in
     let t : List ℕ = reverse (chars c.args.token.now) in
     let p : Gap × ℕ = gapped_letter c.in-Some.letter in
@@ -48,27 +53,27 @@ returns-clause-stands c = λ e ts s none.
       | inl same ↦ inl (same ∙ step)
       | inr none ↦ inr (none_of r _ (AfterAny (WordsOf r) lists) (none r) taken)
     ] in
-    elim c.if-may_begin.branch [
+    c.take_out.ensures.stands e (ts ++ t ∷ []) (elim c.if-may_begin.branch [
       | then-may_begin w ↦
           let lists = with_token true last t s.lists in
           let taken : HasTakenAny r c.rest_of_token-self.new.self lists =
           subst (HasTakenAny r c.rest_of_token-self.new.self) (enters last t p rest split s.lists)
-          ((rw w.self-is at c.rest_of_token-self.ensures.any) (((free, p.1) ∷ []) ∷ each_with (p ∷ []) s.lists) (w.enter.ensures.any s.lists s.taken)) in
+          ((rw w.self-is at c.rest_of_token-self.ensures.any) (((free, p.1) ∷ []) ∷ each_with (p ∷ []) s.lists) (w.enter.ensures.any s.lists before)) in
           record {
             words = s.words;
             lists = lists;
-            taken = taken;
-            ends = known_last e r right _ lists (ts ++ t ∷ []) (entered e r last s.lists ts s.ends t (last_letter-own last t p rest split)) (known lists taken);
+            taken = subst (λ l. StandsFor r l c.rest_of_token-self.new.self lists) (sym c.put_back.ensures.none) taken;
+            ends = known_last e r right _ lists (ts ++ t ∷ []) (entered e r last s.lists ts ends t (last_letter-own last t p rest split)) (known lists taken);
           }
       | else-may_begin w ↦
           let lists = with_token false last t s.lists in
           let taken : HasTakenAny r c.rest_of_token-self.new.self lists =
           subst (HasTakenAny r c.rest_of_token-self.new.self) (goes_on last t p rest split s.lists)
-          ((rw w.self-is at c.rest_of_token-self.ensures.any) (each_with (p ∷ []) s.lists) (w.letter.ensures.any s.lists s.taken)) in
+          ((rw w.self-is at c.rest_of_token-self.ensures.any) (each_with (p ∷ []) s.lists) (w.letter.ensures.any s.lists before)) in
           record {
             words = s.words;
             lists = lists;
-            taken = taken;
-            ends = known_last e r right _ lists (ts ++ t ∷ []) (passed e r last s.lists ts s.ends t (none w.if-may_begin.false)) (known lists taken);
+            taken = subst (λ l. StandsFor r l c.rest_of_token-self.new.self lists) (sym c.put_back.ensures.none) taken;
+            ends = known_last e r right _ lists (ts ++ t ∷ []) (passed e r last s.lists ts ends t (none w.if-may_begin.false)) (known lists taken);
           }
-    ]
+    ])
