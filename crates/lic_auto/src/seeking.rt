@@ -103,11 +103,7 @@ pub fn take_alone(seekers: &mut [Seeker<'_>], place: usize, token: &str, may_beg
 fn looked_at(token: &str, is_taken: bool) -> Option<Plain>
     ensures { IfSome result (λ plain. IsPlain plain (reverse (chars token.now))) }
 {
-    if is_taken {
-        Plain::turned(token)
-    } else {
-        None
-    }
+    if is_taken { Plain::turned(token) } else { None }
 }
 
 // Whether a list of rising numbers may have this one.

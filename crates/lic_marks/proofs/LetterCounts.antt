@@ -121,7 +121,7 @@ module _ (p : ℕ → Bool) where
 
       last : (j : ℕ) (after : Bool) (c : ℕ) → (if p c then mark_at (row_of (suc most)) (suc (0 + j)) else no_marks (row_of (suc most)))
           ≡ join (row_of (suc most)) (if p c then mark_at (row_of (suc most)) (0 + suc j) else no_marks (row_of (suc most)))
-            (shift (row_of (suc most)) after false (mark_at (row_of (suc most)) (0 + most)) c)
+          (shift (row_of (suc most)) after false (mark_at (row_of (suc most)) (0 + most)) c)
       last j after c =
           let same : suc (0 + j) ≡ 0 + suc j = omega arith in
           let gone : shift (row_of (suc most)) after false (mark_at (row_of (suc most)) (0 + most)) c ≡ no_marks (row_of (suc most)) =
@@ -150,8 +150,10 @@ module _ (a b : Core) where
           let same : shift b after (can_leave a after false (mark_at a (first + j))) (no_marks b) c
           ≡ shift b after (can_leave a after false (mark_at a (first + most))) (no_marks b) c = ap (λ e. shift b after e (no_marks b) c) leaves in
           let both : shift (cat a b) after false (mark_at a (first + j), no_marks b) c
-          ≡ (join a (if inside after c then mark_at a (first + suc j) else no_marks a) (shift a after false (mark_at a (first + most)) c),
-          join b (no_marks b) (shift b after (can_leave a after false (mark_at a (first + most))) (no_marks b) c)) =
+          ≡ (
+            join a (if inside after c then mark_at a (first + suc j) else no_marks a) (shift a after false (mark_at a (first + most)) c),
+            join b (no_marks b) (shift b after (can_leave a after false (mark_at a (first + most))) (no_marks b) c),
+          ) =
           λ i. (first_moves i, (same ∙ sym (no_marks-join b (shift b after (can_leave a after false (mark_at a (first + most))) (no_marks b) c))) i) in
           ap (λ m. shift (cat a b) after false m c) (left_mark a b (first + j) (near j (omega (arith, low)))) ∙ both
           ∙ ap (λ m. join (cat a b) m (shift (cat a b) after false (mark_at a (first + most), no_marks b) c)) (by_test j low (inside after c))
@@ -174,8 +176,10 @@ module _ (a b : Core) where
       moves = λ j low after c.
           let first_moves = h.moves j low after c in
           let both : shift (alt a b) after false (mark_at a (first + j), no_marks b) c
-          ≡ (join a (if inside after c then mark_at a (first + suc j) else no_marks a) (shift a after false (mark_at a (first + most)) c),
-          join b (no_marks b) (shift b after false (no_marks b) c)) =
+          ≡ (
+            join a (if inside after c then mark_at a (first + suc j) else no_marks a) (shift a after false (mark_at a (first + most)) c),
+            join b (no_marks b) (shift b after false (no_marks b) c),
+          ) =
           λ i. (first_moves i, sym (no_marks-join b (shift b after false (no_marks b) c)) i) in
           ap (λ m. shift (alt a b) after false m c) (left_alt a b (first + j) (near j (omega (arith, low)))) ∙ both
           ∙ ap (λ m. join (alt a b) m (shift (alt a b) after false (mark_at a (first + most), no_marks b) c)) (by_test j low (inside after c))
@@ -207,8 +211,11 @@ module _ (a b : Core) where
           ≡ join b (if inside after c then mark_at b (first + suc j) else no_marks b)
           (shift b after (can_leave a after false (no_marks a)) (mark_at b (first + most)) c) = rw closed (h.moves j low after c) in
           let both : shift (cat a b) after false (no_marks a, mark_at b (first + j)) c
-          ≡ (join a (no_marks a) (shift a after false (no_marks a) c), join b (if inside after c then mark_at b (first + suc j) else no_marks b)
-          (shift b after (can_leave a after false (no_marks a)) (mark_at b (first + most)) c)) = λ i. (none_first i, second i) in
+          ≡ (
+            join a (no_marks a) (shift a after false (no_marks a) c),
+            join b (if inside after c then mark_at b (first + suc j) else no_marks b)
+                (shift b after (can_leave a after false (no_marks a)) (mark_at b (first + most)) c),
+          ) = λ i. (none_first i, second i) in
           ap (λ m. shift (cat a b) after false m c) (right_mark a b (k + j) (first + j) (behind j)) ∙ both
           ∙ ap (λ m. join (cat a b) m (shift (cat a b) after false (no_marks a, mark_at b (first + most)) c)) (by_test j (inside after c))
           ∙ sym (ap (λ m. join (cat a b) (if inside after c then mark_at (cat a b) (k + suc j) else no_marks (cat a b)) (shift (cat a b) after false m c))
@@ -231,8 +238,11 @@ module _ (a b : Core) where
           let none_first = sym (no_marks-join a (shift a after false (no_marks a) c)) in
           let second = h.moves j low after c in
           let both : shift (alt a b) after false (no_marks a, mark_at b (first + j)) c
-          ≡ (join a (no_marks a) (shift a after false (no_marks a) c), join b (if inside after c then mark_at b (first + suc j) else no_marks b)
-          (shift b after false (mark_at b (first + most)) c)) = λ i. (none_first i, second i) in
+          ≡ (
+            join a (no_marks a) (shift a after false (no_marks a) c),
+            join b (if inside after c then mark_at b (first + suc j) else no_marks b)
+                (shift b after false (mark_at b (first + most)) c),
+          ) = λ i. (none_first i, second i) in
           ap (λ m. shift (alt a b) after false m c) (right_alt a b (k + j) (first + j) (behind j)) ∙ both
           ∙ ap (λ m. join (alt a b) m (shift (alt a b) after false (no_marks a, mark_at b (first + most)) c)) (by_test j (inside after c))
           ∙ sym (ap (λ m. join (alt a b) (if inside after c then mark_at (alt a b) (k + suc j) else no_marks (alt a b)) (shift (alt a b) after false m c))
@@ -266,7 +276,7 @@ HasCounts-tidy a first most inside h = record {
         ≡ join a (if inside after c then mark_at a (first + suc j) else no_marks a) (shift a after false (mark_at a (first + most)) c) → (b : Bool) →
         (if b then (if after then no_marks a else shift a after false (mark_at a (first + j)) c) else shift a after false (mark_at a (first + j)) c)
         ≡ join a (if (if b then (if after then false else inside after c) else inside after c) then mark_at a (first + suc j) else no_marks a)
-          (if b then (if after then no_marks a else shift a after false (mark_at a (first + most)) c) else shift a after false (mark_at a (first + most)) c)
+        (if b then (if after then no_marks a else shift a after false (mark_at a (first + most)) c) else shift a after false (mark_at a (first + most)) c)
     by_blank j true c e true = sym (no_marks-join a (no_marks a))
     by_blank j false c e true = e
     by_blank j after c e false = e

@@ -23,8 +23,7 @@ some_mark (cat a b) row after v (inl (u, w, p, q, e)) =
     (k, within, flag, subst (λ (m : Marks (cat a b)). Completes (cat a b) after m v) (sym (left_mark a b k low)) (inl (u, w, rest, q, e)))
 some_mark (cat a b) row after v (inr h) =
     let (k, low, flag, rest) = some_mark b (drop (weight a) row) after v h in
-    let within : weight a + k < weight (cat a b) = omega (arith, low) in
-    (
+    let within : weight a + k < weight (cat a b) = omega (arith, low) in (
       weight a + k,
       within,
       sym (get_or-drop (weight a) row k false) ∙ flag,
@@ -37,8 +36,7 @@ some_mark (alt a b) row after v (inl h) =
     (k, within, flag, subst (λ (m : Marks (alt a b)). Completes (alt a b) after m v) (sym (left_alt a b k low)) (inl rest))
 some_mark (alt a b) row after v (inr h) =
     let (k, low, flag, rest) = some_mark b (drop (weight a) row) after v h in
-    let within : weight a + k < weight (alt a b) = omega (arith, low) in
-    (
+    let within : weight a + k < weight (alt a b) = omega (arith, low) in (
       weight a + k,
       within,
       sym (get_or-drop (weight a) row k false) ∙ flag,

@@ -67,7 +67,7 @@ pub fn counts_at(node: &Node, place: usize) -> Option<Counts<'_>>
     requires { IsTrue (is_measured node.now) }
     ensures { IfSome result (λ found.
         DoCount (core_of node.now) found.first found.most (passes found.test.now)
-            × (found.first ≤ place) × (place ≤ found.first + found.most)) }
+        × (found.first ≤ place) × (place ≤ found.first + found.most)) }
 {
     match node {
         Node::UpTo { test, count } if place < *count => Some(Counts {
@@ -89,7 +89,7 @@ fn counts_in_row(children: &[Node], place: usize) -> Option<Counts<'_>>
     requires { IsTrue (list_all is_measured children.now) }
     ensures { IfSome result (λ found.
         DoCount (cat_all (map core_of children.now)) found.first found.most (passes found.test.now)
-            × (found.first ≤ place) × (place ≤ found.first + found.most)) }
+        × (found.first ≤ place) × (place ≤ found.first + found.most)) }
 {
     let mut before = 0;
     let mut at = place;
@@ -111,7 +111,7 @@ fn counts_in_any(children: &[Node], place: usize) -> Option<Counts<'_>>
     requires { IsTrue (list_all is_measured children.now) }
     ensures { IfSome result (λ found.
         DoCount (alt_all (map core_of children.now)) found.first found.most (passes found.test.now)
-            × (found.first ≤ place) × (place ≤ found.first + found.most)) }
+        × (found.first ≤ place) × (place ≤ found.first + found.most)) }
 {
     let mut before = 0;
     let mut at = place;

@@ -89,9 +89,7 @@ impl<'a> Run<'a> {
         }
         self.gather();
         self.stretch = self.state.stretch_of(self.tree, self.stretch);
-        self.last = self
-            .state
-            .token(self.tree, self.stretch, token, self.last);
+        self.last = self.state.token(self.tree, self.stretch, token, self.last);
         self.part();
     }
 

@@ -37,8 +37,7 @@ counts_at-counts_at-requires t c = (
 
 pub counts_at-returns-in-UpTo : goal.counts_at-returns-in-UpTo
 counts_at-returns-in-UpTo t c =
-    let some : suc (c.in-UpTo.count - 1) ≡ c.in-UpTo.count = omega (arith, c.if-place-count.true) in
-    (
+    let some : suc (c.in-UpTo.count - 1) ≡ c.in-UpTo.count = omega (arith, c.if-place-count.true) in (
       rw (c.in-UpTo.is, core_of-UpTo) (subst (λ n. Counts (any_front (replicate n (one (passes c.in-UpTo.test)))) 0 (c.in-UpTo.count - 1) (passes c.in-UpTo.test)) some
           (Counts-row (passes c.in-UpTo.test) (c.in-UpTo.count - 1))),
       omega arith,

@@ -40,8 +40,7 @@ loop-letter-preserved c = record {
       let so_far = c.loop-letter.invariant.moves are in
       let next = c.in_ok-next.ensures.moves record { positions = are.positions; among = so_far.1 } in
       let on = one_on r c.args.counts c.args.place c.loop-letter.at c.args.letters.now c.loop-letter.letter-index c.letter-item.result c.loop-letter-test.true
-      c.letter-item.is c.in_ok-next.field-0 so_far.0 next.0 in
-      (
+      c.letter-item.is c.in_ok-next.field-0 so_far.0 next.0 in (
         subst (λ f. MovesTo r (Some c.args.place) (map gapped_letter (take (c.loop-letter.letter-index + 1) c.args.letters.now)) f) c.in-Some.is on,
         next.1 c.in-Some.next c.in-Some.is,
       );
@@ -53,8 +52,7 @@ returns-in-None c = record {
   moves = λ are.
       let r = core_of c.args.tree.now in
       let so_far = c.loop-letter.invariant.moves are in
-      let next = c.in_ok-next.ensures.moves record { positions = are.positions; among = so_far.1 } in
-      (
+      let next = c.in_ok-next.ensures.moves record { positions = are.positions; among = so_far.1 } in (
         none_on r c.args.counts c.args.place c.loop-letter.at c.args.letters.now c.loop-letter.letter-index c.letter-item.result c.loop-letter-test.true
             c.letter-item.is c.in_ok-next.field-0 so_far.0 next.0 c.in-None.is,
         λ x e. absurd (let never : None ≡ Some x = e in cc),

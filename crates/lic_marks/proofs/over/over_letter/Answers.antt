@@ -16,8 +16,7 @@ returns-clause-moves c = λ are.
     let pass : passes counts.test.now letter.letter ≡ true = sym c.passes.ensures ∙ c.if-not-passes.false in
     let quiet : IsQuiet r (counts.first + counts.most) letter.letter =
     subst (λ k. IsQuiet r k letter.letter) (sym counts.sum) (c.is_quiet.ensures.quiet c.if-not-is_quiet.false) in
-    let moves = moves_next r counts c.args.place letter.letter are pass letter.is_letter quiet in
-    (
+    let moves = moves_next r counts c.args.place letter.letter are pass letter.is_letter quiet in (
       subst (λ found. MovesTo r (Some c.args.place) ((gap_of letter.is_apart letter.are_words, letter.letter) ∷ []) found) (sym c.next_count.ensures)
           (subst (λ b. MovesTo r (Some c.args.place) ((gap_of b letter.are_words, letter.letter) ∷ []) (next_of counts c.args.place 1)) (sym c.if-letter.false) moves),
       subst (λ found. ForSome found (IsAmongCounts counts)) (sym c.next_count.ensures) (next_among counts c.args.place 1 are.among.low),

@@ -19,8 +19,7 @@ returns-clause-taken c = λ letters h s.
     let same : map gapped_letter c.letters-letters.result.now ≡ gapped_from run.last true (chars c.args.token.now) =
     c.letters-letters.ensures ∙ c.in-Some-of.ensures.letters in
     let lead = lead_more r c.in-Some.threads c.in-Some-over.moved letters (map gapped_letter c.letters-letters.result.now) (WordsOf r) have.2
-    (c.in-Some-over.ensures.moves have.1) in
-    (
+    (c.in-Some-over.ensures.moves have.1) in (
       have.0,
       c.in-Some-over.ensures.threads have.1,
       subst (λ more. ThreadsLead r c.in-Some-over.moved (After (WordsOf r) (letters ++ more))) same lead,
