@@ -1,5 +1,5 @@
 -- Positions that count letters: those of one letter test, up to so many times, and those of a child in its parent.
-use Rattle.std.proofs.Common.{◌≡◌, ℕ, zero, suc, ◌+◌, ◌-◌, ◌<◌, ◌≤◌, ◌==◌, ◌&&◌, ◌||◌, Bool, true, false, replicate, refl, sym, ap, ◌∙◌, arith, if◌then◌else◌, eqb-true}
+use Rattle.std.proofs.Common.{◌≡◌, ℕ, zero, suc, ◌+◌, ◌-◌, ◌<◌, ◌≤◌, ◌==◌, ◌||◌, Bool, true, false, replicate, refl, sym, ap, ◌∙◌, arith, if◌then◌else◌, eqb-true}
 use Rattle.std.proofs.lemmas.Bool.{le-ltb, ne_eqb}
 use Rattle.lic_words.specs.Words.{blank}
 use Rattle.lic_marks.specs.Cores.{Core, empty, one, cat, none, alt, plus, tidy, any_front}

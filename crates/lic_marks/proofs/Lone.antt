@@ -4,7 +4,7 @@ use Rattle.std.specs.Prelude.{replicate}
 use Rattle.lic_words.specs.Words.{Word, blank}
 use Rattle.lic_marks.specs.Cores.{Core, empty, one, cat, none, alt, plus, tidy}
 use Rattle.lic_marks.specs.Marks.{Marks, no_marks, join, shift}
-use Rattle.lic_marks.specs.Rests.{Completes, GoesOn}
+use Rattle.lic_marks.specs.Rests.{Completes}
 use Rattle.lic_marks.specs.Rows.{marks_of, Shifts}
 use Rattle.lic_marks.specs.Standing.{Leads}
 use Rattle.lic_marks.specs.Lone.{BehindSome, LeadFromBoth, mark_of}

@@ -1,20 +1,18 @@
 -- Where letters lead from positions that stand alone.
-use Rattle.std.proofs.Common.{◌≡◌, ℕ, zero, suc, ◌+◌, ◌-◌, ◌<◌, ◌≤◌, Bool, true, false, nat_lt, List, [], ◌∷◌, ◌++◌, Option, Some, None, length, inl, inr, refl, sym, ap, ◌∙◌, subst, arith, if◌then◌else◌}
+use Rattle.std.proofs.Common.{◌≡◌, ℕ, suc, ◌+◌, ◌-◌, ◌<◌, ◌≤◌, Bool, true, false, nat_lt, List, [], ◌∷◌, ◌++◌, Option, Some, None, length, refl, sym, ◌∙◌, subst, arith, if◌then◌else◌}
 use Rattle.std.proofs.lemmas.Bool.{ltb-true, ltb-false}
 use Rattle.std.specs.Option.{ForSome}
-use Rattle.lic_words.specs.Words.{Word, blank, blanks}
+use Rattle.lic_words.specs.Words.{Word, blank}
 use Rattle.lic_words.specs.Spelling.{Gap, no_gap, gap_of}
 use Rattle.lic_marks.specs.Cores.{Core}
 use Rattle.lic_marks.specs.Standing.{After, Then, Leads}
 use Rattle.lic_marks.specs.Stretches.{mark_at, LeadsOver}
-use Rattle.lic_marks.specs.Counts as specs
 use Rattle.lic_marks.specs.Counts.{IsQuiet, IsQuietBehindBlanks}
 use Rattle.lic_marks.specs.Lone.{Behind, BehindSome, MovesTo}
 use Rattle.lic_marks.specs.Nodes.{passes}
 use Rattle.lic_marks.specs.Threads.{AreCounts, IsAmongCounts}
-use Rattle.lic_marks.specs.Ways.{IsWay, LeadsNowhere}
+use Rattle.lic_marks.specs.Ways.{IsWay}
 use Rattle.lic_marks.specs.declared.counts.Counts.{Counts}
-use Rattle.lic_marks.specs.declared.stretch.Way.{Way}
 use Rattle.lic_marks.specs.declared.stretch.Way.TheVariants.{To, Nowhere}
 use Rattle.lic_marks.proofs.Counting.{counts_next, counts_first, step as step_count, step_of}
 use Rattle.lic_marks.proofs.Following.{follows_gap, follows_along}

@@ -1,9 +1,9 @@
 -- Where no word ends in a text.
-use Rattle.std.proofs.Common.{◌≡◌, ℕ, zero, suc, ◌+◌, Bool, false, true, [], ◌∷◌, ◌++◌, inl, inr, sym, ◌∙◌, subst, arith}
-use Rattle.lic_words.specs.Words.{Word, blank, blanks}
+use Rattle.std.proofs.Common.{◌≡◌, ℕ, zero, suc, Bool, false, true, [], ◌∷◌, inl, sym, ◌∙◌}
+use Rattle.lic_words.specs.Words.{blank, blanks}
 use Rattle.lic_marks.specs.Cores.{Core}
-use Rattle.lic_marks.specs.Rests.{Completes, GoesOn}
-use Rattle.lic_marks.specs.Lone.{Behind, NoneEnds}
+use Rattle.lic_marks.specs.Rests.{Completes}
+use Rattle.lic_marks.specs.Lone.{NoneEnds}
 use Rattle.lic_marks.specs.Stretches.{mark_at, LeadsTo}
 use Rattle.lic_marks.proofs.Following.{led_off, marked, steps_on}
 use Rattle.lic_marks.proofs.Shifting.{shift_complete, can_leave_complete}

@@ -2,18 +2,18 @@
 use Rattle.std.proofs.Common.{◌≡◌, ℕ, ◌+◌, ◌<◌, ◌≤◌, ◌↔◌, ◌⊎◌, Bool, true, false, List, ◌++◌, Option, Some, None, length, get_or, [], ◌∷◌, ◌-◌, inl, inr, refl, sym, ◌∙◌, subst, arith, IfSome}
 use Rattle.std.specs.Option.{ForSome}
 use Rattle.std.proofs.lemmas.Bool.{cases_lt}
-use Rattle.lic_words.specs.Words.{Word, blank, blanks}
+use Rattle.lic_words.specs.Words.{Word, blanks}
 use Rattle.lic_words.specs.Spelling.{Gap}
 use Rattle.lic_marks.specs.Cores.{Core}
 use Rattle.lic_marks.specs.Rests.{Completes, GoesOn}
 use Rattle.lic_marks.specs.Rows.{weight, marks_of}
 use Rattle.lic_marks.specs.Standing.{After, Then}
 use Rattle.lic_marks.specs.Stretches.{mark_at}
-use Rattle.lic_marks.specs.Lone.{Behind, BehindSome, IsAmong, LeadFromBoth, MovesTo, NoneEnds}
+use Rattle.lic_marks.specs.Lone.{Behind, BehindSome, IsAmong, MovesTo, NoneEnds}
 use Rattle.lic_marks.specs.Nodes.{passes}
 use Rattle.lic_marks.specs.States.{HasLeft}
 use Rattle.lic_marks.specs.Runs.{HaveLeft}
-use Rattle.lic_marks.specs.Threads.{AreCounts, AreThreads, BehindThreads, IsAmongCounts, IsCounting, IsInText, ThreadsLead, place_counted, place_in_text}
+use Rattle.lic_marks.specs.Threads.{AreCounts, AreThreads, BehindThreads, IsCounting, IsInText, ThreadsLead, place_counted, place_in_text}
 use Rattle.lic_marks.specs.declared.counts.Counts.{Counts}
 use Rattle.lic_marks.specs.declared.state.State.{State}
 use Rattle.lic_marks.specs.declared.threads.Counting.{Counting}

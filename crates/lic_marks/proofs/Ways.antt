@@ -4,7 +4,7 @@ use Rattle.lic_words.specs.Words.{Word, blank, blanks}
 use Rattle.lic_words.specs.Spelling.{Gap, no_gap, free, needed, gap_of}
 use Rattle.lic_marks.specs.Cores.{Core}
 use Rattle.lic_marks.specs.Marks.{Marks}
-use Rattle.lic_marks.specs.Rests.{Completes, GoesOn}
+use Rattle.lic_marks.specs.Rests.{Completes}
 use Rattle.lic_marks.specs.Rows.{marks_of}
 use Rattle.lic_marks.specs.Standing.{After, Then, Leads}
 use Rattle.lic_marks.specs.Stretches.{mark_at, IsLone, LeadsTo, LeadsAlong, LeadsOverGap}

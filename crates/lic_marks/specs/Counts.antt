@@ -1,7 +1,6 @@
 -- Positions that count letters: the repetition of one letter test up to so many times.
 use Rattle.std.specs.Prelude.{◌≡◌, ℕ, suc, ◌+◌, ◌<◌, ◌≤◌, Bool, true, false, if◌then◌else◌, ◌++◌, ◌∷◌}
 use Rattle.lic_words.specs.Words.{Word, blank, blanks}
-use Rattle.lic_words.specs.Spelling.{Gap}
 use Rattle.lic_marks.specs.Cores.{Core}
 use Rattle.lic_marks.specs.Marks.{no_marks, can_leave, join, shift}
 use Rattle.lic_marks.specs.Rests.{Completes}

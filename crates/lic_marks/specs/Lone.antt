@@ -1,5 +1,5 @@
 -- What may follow marks that stand alone.
-use Rattle.std.specs.Prelude.{◌≡◌, ◌↔◌, ℕ, ◌⊎◌, false, List, Option, Some, None}
+use Rattle.std.specs.Prelude.{◌↔◌, ℕ, ◌⊎◌, false, List, Option, Some, None}
 use Rattle.lic_words.specs.Spelling.{Gap}
 use Rattle.lic_marks.specs.Standing.{After}
 use Rattle.lic_words.specs.Words.{Word, blanks}

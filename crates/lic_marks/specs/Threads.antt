@@ -1,5 +1,5 @@
 -- Two marks that stand alone, and what may follow them.
-use Rattle.std.specs.Prelude.{◌≡◌, ℕ, ◌+◌, ◌<◌, ◌≤◌, ◌⊎◌, Option, Some, None}
+use Rattle.std.specs.Prelude.{ℕ, ◌+◌, ◌<◌, ◌≤◌, ◌⊎◌, Option, Some, None}
 use Rattle.std.specs.Option.{ForSome}
 use Rattle.lic_words.specs.Words.{Word}
 use Rattle.lic_marks.specs.Cores.{Core}

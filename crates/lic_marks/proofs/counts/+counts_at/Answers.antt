@@ -1,4 +1,4 @@
-use Rattle.std.proofs.Common.{◌≡◌, suc, ◌+◌, ◌-◌, ◌<◌, ◌≤◌, ℕ, Option, Some, None, IfSome, map, rules, replicate, subst, arith}
+use Rattle.std.proofs.Common.{◌≡◌, suc, ◌+◌, ◌-◌, ◌≤◌, ℕ, Option, Some, None, IfSome, map, rules, replicate, subst, arith}
 use Rattle.lic_marks.specs.Cores.{Core, one, tidy, any_front, cat_all, alt_all}
 use Rattle.lic_marks.specs.Counts.{Counts}
 use Rattle.lic_marks.specs.Nodes.{core_of, passes}

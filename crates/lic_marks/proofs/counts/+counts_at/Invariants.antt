@@ -1,4 +1,4 @@
-use Rattle.std.proofs.Common.{◌≡◌, ◌+◌, ◌≤◌, ℕ, Bool, map, drop}
+use Rattle.std.proofs.Common.{◌≡◌, ◌+◌, ℕ, Bool, map, drop}
 use Rattle.lic_marks.specs.Cores.{cat_all, alt_all}
 use Rattle.lic_marks.specs.Counts.{Counts}
 use Rattle.lic_marks.specs.Nodes.{core_of}

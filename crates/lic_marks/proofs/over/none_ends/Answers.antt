@@ -1,4 +1,4 @@
-use Rattle.std.proofs.Common.{◌≡◌, ◌+◌, ◌<◌, ℕ, suc, sym, subst, arith}
+use Rattle.std.proofs.Common.{◌≡◌, ◌<◌, suc, subst, arith}
 use Rattle.std.proofs.lemmas.Bool.{eqb-false}
 use Rattle.lic_words.specs.Words.{blank}
 use Rattle.lic_marks.specs.Stretches.{LeadsTo}

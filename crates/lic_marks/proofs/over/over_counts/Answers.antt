@@ -1,4 +1,4 @@
-use Rattle.std.proofs.Common.{◌≡◌, ◌∷◌, ◌++◌, [], ℕ, ◌+◌, ◌<◌, List, Option, Some, None, get_or, map, take, drop, length, sym, subst}
+use Rattle.std.proofs.Common.{◌≡◌, ◌∷◌, [], ℕ, ◌+◌, ◌<◌, List, Option, Some, None, get_or, map, take, drop, length, sym, subst}
 use Rattle.lic_words.specs.Spelling.{Gap}
 use Rattle.lic_words.specs.Reading.{gapped_letter}
 use Rattle.lic_words.specs.declared.letters.Letter.{Letter}

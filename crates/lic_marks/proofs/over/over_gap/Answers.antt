@@ -1,4 +1,4 @@
-use Rattle.std.proofs.Common.{◌≡◌, ◌∷◌, [], ℕ, ◌+◌, Bool, true, Some, sym, ap, ◌∙◌, subst, if◌then◌else◌, rules}
+use Rattle.std.proofs.Common.{◌≡◌, ◌∷◌, [], ◌+◌, true, Some, sym, ◌∙◌, subst, if◌then◌else◌}
 use Rattle.std.specs.Option.{ForSome}
 use Rattle.lic_words.specs.Words.{blank}
 use Rattle.lic_words.specs.Spelling.{gap_of}

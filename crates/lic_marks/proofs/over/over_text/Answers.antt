@@ -1,5 +1,4 @@
-use Rattle.std.proofs.Common.{rules}
-use Rattle.lic_marks.proofs.Moved.{way_moves, nowhere_moves}
+use Rattle.lic_marks.proofs.Moved.{way_moves}
 use Rattle.lic_marks.proofs.over.over_text.Goals as goal
 
 pub returns-in-To-clause-moves : goal.returns-in-To-clause-moves

@@ -1,4 +1,4 @@
-use Rattle.std.proofs.Common.{◌≡◌, Option, Some, None, map, sym, subst}
+use Rattle.std.proofs.Common.{◌≡◌, Some, None, map, sym, subst}
 use Rattle.lic_words.specs.Reading.{gapped_letter}
 use Rattle.lic_marks.specs.Lone.{MovesTo}
 use Rattle.lic_marks.specs.Nodes.{core_of}

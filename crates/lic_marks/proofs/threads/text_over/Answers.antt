@@ -1,8 +1,7 @@
-use Rattle.std.proofs.Common.{◌≡◌, Option, Some, None, map, sym, subst}
+use Rattle.std.proofs.Common.{◌≡◌, Some, None, map, sym, subst}
 use Rattle.lic_words.specs.Reading.{gapped_letter}
 use Rattle.lic_marks.specs.Lone.{MovesTo}
 use Rattle.lic_marks.specs.Threads.{IsInText, place_in_text}
-use Rattle.lic_marks.specs.declared.threads.InText.{InText}
 use Rattle.lic_marks.proofs.Moved.{moves_none}
 use Rattle.lic_marks.proofs.threads.text_over.Goals as goal
 

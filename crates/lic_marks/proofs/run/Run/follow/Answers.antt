@@ -1,4 +1,4 @@
-use Rattle.std.proofs.Common.{◌≡◌, ◌∷◌, ◌++◌, Some, map, true, subst, sym, ◌∙◌}
+use Rattle.std.proofs.Common.{◌≡◌, ◌++◌, Some, map, true, subst, ◌∙◌}
 use Rattle.std.specs.Str.{chars}
 use Rattle.lic_words.specs.Spelling.{gapped_from}
 use Rattle.lic_words.specs.Reading.{gapped_letter}

@@ -1,9 +1,6 @@
-use Rattle.std.proofs.Common.{Some, sym, subst}
-use Rattle.std.specs.Option.{ForSome}
+use Rattle.std.proofs.Common.{Some, subst}
 use Rattle.lic_marks.specs.Cores.{WordsOf}
-use Rattle.lic_marks.specs.Lone.{LeadFromBoth}
 use Rattle.lic_marks.specs.Nodes.{core_of}
-use Rattle.lic_marks.specs.Rows.{weight}
 use Rattle.lic_marks.specs.Standing.{After}
 use Rattle.lic_marks.specs.Runs.{HaveLeft}
 use Rattle.lic_marks.proofs.ThreadRows.{text_within, counted_within}

@@ -1,13 +1,11 @@
-use Rattle.std.proofs.Common.{◌≡◌, ℕ, List, [], ◌∷◌, ◌++◌, true, map, subst}
-use Rattle.lic_words.specs.Spelling.{Gap, gapped_from}
+use Rattle.std.proofs.Common.{◌≡◌, [], ◌∷◌, ◌++◌, true, map, subst}
+use Rattle.lic_words.specs.Spelling.{gapped_from}
 use Rattle.lic_words.specs.Reading.{gapped_letter}
 use Rattle.lic_marks.specs.Cores.{WordsOf}
 use Rattle.lic_marks.specs.Nodes.{core_of}
-use Rattle.lic_marks.specs.Plain.{IsPlain, others_in}
 use Rattle.lic_marks.specs.Standing.{AfterAny, each_with}
 use Rattle.lic_marks.specs.Seeks.{GoOnAsEnds, StandsFor}
 use Rattle.lic_marks.specs.Ways.{IsWay}
-use Rattle.lic_marks.specs.declared.plain.Plain.{Plain}
 use Rattle.lic_marks.specs.declared.stretch.Way.TheVariants.{To, Nowhere}
 use Rattle.lic_marks.proofs.Seeking.{passed}
 use Rattle.lic_marks.proofs.StateLemmas.{none_left}

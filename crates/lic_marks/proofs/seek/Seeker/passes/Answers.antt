@@ -1,4 +1,4 @@
-use Rattle.std.proofs.Common.{◌≡◌, ℕ, List, [], ◌∷◌, ◌++◌, true, map, sym, ◌∙◌, subst}
+use Rattle.std.proofs.Common.{◌≡◌, ℕ, List, [], ◌∷◌, ◌++◌, true, map, sym, subst}
 use Rattle.lic_words.specs.Spelling.{Gap, gapped_from}
 use Rattle.lic_words.specs.Reading.{gapped_letter}
 use Rattle.lic_marks.specs.Nodes.{core_of}

@@ -1,4 +1,4 @@
-use Rattle.std.proofs.Common.{ℕ, List, ◌∷◌, ◌++◌, map, arith}
+use Rattle.std.proofs.Common.{ℕ, List, ◌∷◌, map, arith}
 use Rattle.lic_words.specs.Words.{Word}
 use Rattle.lic_words.specs.Spelling.{Gap}
 use Rattle.lic_words.specs.Reading.{gapped_letter}
@@ -6,7 +6,7 @@ use Rattle.lic_marks.specs.Cores.{WordsOf}
 use Rattle.lic_marks.specs.Nodes.{core_of}
 use Rattle.lic_marks.specs.Rows.{marks_of}
 use Rattle.lic_marks.specs.Standing.{After, AfterAny, each_with}
-use Rattle.lic_marks.proofs.Lists.{After-append, append-After, AfterAny-append, append-AfterAny}
+use Rattle.lic_marks.proofs.Lists.{AfterAny-append, append-AfterAny}
 use Rattle.lic_marks.proofs.Standing.{Leads-same}
 use Rattle.lic_marks.proofs.StateLemmas.{none_left, without_gap}
 use Rattle.lic_marks.proofs.Following.{follows, over_within}

@@ -1,4 +1,4 @@
-use Rattle.std.proofs.Common.{◌≡◌, false, Bool, List, ◌∷◌, inl, sym, ap, ◌∙◌, subst}
+use Rattle.std.proofs.Common.{false, ◌∷◌, inl, sym, subst}
 use Rattle.lic_marks.specs.Nodes.{core_of}
 use Rattle.lic_marks.specs.Lone.{Behind}
 use Rattle.lic_marks.specs.Rests.{Completes}

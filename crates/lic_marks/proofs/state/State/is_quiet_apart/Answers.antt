@@ -1,5 +1,4 @@
-use Rattle.std.proofs.Common.{◌≡◌, true, ◌∷◌, ◌++◌, inl, sym, subst}
-use Rattle.lic_words.specs.Words.{blank, blanks}
+use Rattle.std.proofs.Common.{true, ◌∷◌, inl, sym, subst}
 use Rattle.lic_marks.specs.Nodes.{core_of}
 use Rattle.lic_marks.specs.Rests.{Completes}
 use Rattle.lic_marks.specs.Rows.{marks_of}

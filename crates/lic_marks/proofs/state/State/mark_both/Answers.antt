@@ -1,4 +1,4 @@
-use Rattle.std.proofs.Common.{◌≡◌, ◌<◌, ◌≤◌, ℕ, Option, Some, None, Bool, List, false, refl, sym, ap, ◌∙◌, subst, arith}
+use Rattle.std.proofs.Common.{◌≡◌, ◌<◌, ◌≤◌, ℕ, Option, false, refl, sym, ap, ◌∙◌, arith}
 use Rattle.std.specs.Option.{ForSome}
 use Rattle.lic_marks.specs.Cores.{WordsOf}
 use Rattle.lic_marks.specs.Lone.{mark_of}

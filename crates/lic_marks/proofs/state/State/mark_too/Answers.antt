@@ -1,4 +1,4 @@
-use Rattle.std.proofs.Common.{◌≡◌, ◌<◌, ◌≤◌, ℕ, Option, Some, None, length, refl, sym, ap, ◌∙◌, arith}
+use Rattle.std.proofs.Common.{◌≡◌, ℕ, Option, Some, None, length, refl, sym, ap, ◌∙◌, arith}
 use Rattle.lic_marks.specs.Cores.{Core}
 use Rattle.lic_marks.specs.Lone.{mark_of}
 use Rattle.lic_marks.specs.Marks.{join, no_marks}

@@ -1,7 +1,7 @@
-use Rattle.std.proofs.Common.{◌≡◌, ◌+◌, sym, subst, arith}
-use Rattle.lic_marks.specs.Lone.{IsAmong, NoneEnds}
+use Rattle.std.proofs.Common.{◌+◌, sym, subst, arith}
+use Rattle.lic_marks.specs.Lone.{NoneEnds}
 use Rattle.lic_marks.specs.Nodes.{core_of}
-use Rattle.lic_marks.specs.Threads.{AreCounts, IsCounting, IsInText}
+use Rattle.lic_marks.specs.Threads.{AreCounts}
 use Rattle.lic_marks.proofs.ThreadRows.{some_so, add_text, add_counted, threads_with_text, threads_with_counted, itself_among, later_among}
 use Rattle.lic_marks.proofs.threads.Threads.with.Goals as goal
 
