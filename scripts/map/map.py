@@ -1,6 +1,7 @@
 #!/usr/bin/env python3
-"""Writes docs/FILES.md: every file of code and of definitions, crate by crate, with the line that it begins with.
+"""Writes docs/FILES.md: every file of code, of definitions and of lemmas, crate by crate, and every script, with the words that it begins with.
 Usage: map.py [--check]. With --check it writes nothing, and says whether the page is that of the tree."""
+import ast
 import os
 import sys
 
@@ -11,9 +12,16 @@ TOP = os.path.realpath(os.path.join(os.path.dirname(os.path.abspath(__file__)), 
 PAGE = f"{TOP}/docs/FILES.md"
 HEAD = """# Every file
 
-Made by `scripts/map/map.py` from the first line of each file, crate by crate from the ground up; the gate checks it. What the crates
-do together is said in [the map](ARCHITECTURE.md), what is proved of each in its own README.
+Made by `scripts/map/map.py` from the first lines of each file, crate by crate from the ground up, and then the scripts; the gate checks it. What
+the crates do together is said in [the map](ARCHITECTURE.md), what is proved of each in its own README.
+
+Left out are the files that hold the proof of one function (`Answers.antt`, `Invariants.antt`, in `proofs/MODULE/FUNCTION`) and do not
+begin with a comment, and data.
 """
+# the folders of a crate, the ending of their files, and what begins a line that says what a file holds
+PARTS = (("src", ".rt", "//!"), ("specs", ".antt", "-- "), ("proofs", ".antt", "-- "))
+OF_ONE_FUNCTION = ("Answers.antt", "Invariants.antt")
+TABLE = "| file | what it {} |\n|---|---|"
 
 
 def crates():
@@ -34,12 +42,25 @@ def first_words(path, mark):
     return " ".join(words)
 
 
-def files_of(folder, ending):
-    """The files below a folder with this ending, by their paths within it."""
+def first_sentence(path):
+    """The first sentence of a script's docstring, or of the comment that a file in C begins with."""
+    with open(path, encoding="utf-8") as file:
+        text = file.read()
+    text = ast.get_docstring(ast.parse(text)) or "" if path.endswith(".py") else text.removeprefix("/* ")
+    sentence, dot, _ = " ".join(text.split("\n\n")[0].split()).partition(". ")
+    return sentence + dot.strip()
+
+
+def files_of(folder, *endings):
+    """The files below a folder with one of these endings, by their paths within it."""
     found = []
     for at, _, names in os.walk(folder):
-        found += [os.path.relpath(os.path.join(at, it), folder) for it in names if it.endswith(ending)]
+        found += [os.path.relpath(os.path.join(at, it), folder) for it in names if it.endswith(endings)]
     return sorted(found)
+
+
+def row(file, words):
+    return f"| `{file}` | {words.replace('|', chr(92) + '|')} |"
 
 
 def page():
@@ -50,17 +71,24 @@ def page():
         lines.append(f"## {name}\n\n{first_words(f'{folder}/src/{top}', '//!')}\n")
         if below:
             lines.append(f"Stands on {', '.join(below)}.\n")
-        lines.append("| file | what it holds |\n|---|---|")
-        for part, ending, mark in (("src", ".rt", "//!"), ("specs", ".antt", "-- ")):
+        lines.append(TABLE.format("holds"))
+        for part, ending, mark in PARTS:
             for file in files_of(f"{folder}/{part}", ending):
-                if file in (top, "Lib.antt"):
-                    continue
                 words = first_words(f"{folder}/{part}/{file}", mark)
+                if file in (top, "Lib.antt") or not words and os.path.basename(file) in OF_ONE_FUNCTION:
+                    continue
                 if not words:
                     bare.append(f"crates/{name}/{part}/{file}")
-                lines.append(f"| `{part}/{file}` | {words.replace('|', chr(92) + '|')} |")
+                lines.append(row(f"{part}/{file}", words))
         lines.append("")
-    return "\n".join(lines), bare
+    lines.append("## Scripts\n\n" + TABLE.format("does"))
+    for folder in ("scripts", "bench"):
+        for file in files_of(f"{TOP}/{folder}", ".py", ".c"):
+            words = first_sentence(f"{TOP}/{folder}/{file}")
+            if not words:
+                bare.append(f"{folder}/{file}")
+            lines.append(row(f"{folder}/{file}", words))
+    return "\n".join([*lines, ""]), bare
 
 
 def main(words):

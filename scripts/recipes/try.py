@@ -48,7 +48,7 @@ def try_examples(program):
         os.symlink(program, os.path.join(folder, 'bin', 'licscan'))
         os.symlink(os.path.join(TOP, 'examples'), os.path.join(folder, 'examples'))
         path = os.path.join(folder, 'bin') + ':' + os.environ['PATH']
-        # files that the manual tells in one line, and those that stand in a block behind their name
+        # files that the manual gives in one line, and those that stand in a block behind their name
         for name, text in re.findall(r'\(`(\w+/\w+\.template\.txt)` holds `(.*)`\.\)', manual):
             write(folder, name, text)
         for before, block in re.findall(r'([^\n]*)\n\n```\n(.*?)^```$', manual, re.M | re.S):

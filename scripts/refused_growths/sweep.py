@@ -67,7 +67,7 @@ NONE = b'z ' * 50
 LONGER = 60
 # after so many seconds a run is stopped
 SECONDS = 20
-# what follows from a template that wants memory
+# what follows from a template for which memory runs out
 FOLLOWS = b'licscan: --after: no template A'
 
 
@@ -128,7 +128,7 @@ def main():
         for words, given in CASES:
             whole = run(program, folder, library, words, given, 0)
             n, same = 0, 0
-            # (a growth that a library can do without changes nothing: 40 such in a row are the end)
+            # (a refused request that a library can do without changes nothing: 40 such in a row are the end)
             while same < 40:
                 n += 1
                 ran = run(program, folder, library, words, given, n)

@@ -153,7 +153,7 @@ fn tokens_command<'a>(alloc: Global) -> Result<Command<'a>, AllocError> {
         .arg(files_argument(alloc))
 }
 
-/// Reads the words after the program's name.
+/// Reads the words of the command line, of which the first is the program's name.
 pub fn parse<'a>(alloc: Global, words: &'a [&'a str]) -> Result<ArgMatches<'a>, Error> {
     Command::new(alloc, "licscan")
         .version(VERSION)

@@ -23,7 +23,7 @@ module _ (head front rest : List ℕ) (utf8 : IsUtf8 head) (utf8_front : IsUtf8 
       sym (encodes-chars head utf8) ∙ ap encodes turned ∙ encodes-append (reverse rest) (chars front)
       ∙ ap (λ x. encodes (reverse rest) ++ x) (encodes-chars front utf8_front)
 
--- a test of the bytes has told that a text does not begin, or end, with another
+-- a test of the bytes has shown that a text does not begin, or end, with another
 module _ (head front bytes part : List ℕ) (r : Bool) (same : bytes ≡ head) (same_part : part ≡ front) (no : r ≡ false) where
   pub begins_not : r ≡ starts_with nat_eq bytes part → (rest : List ℕ) → head ≡ front ++ rest → ⊥
   begins_not value rest whole =

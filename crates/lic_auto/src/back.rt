@@ -1,4 +1,4 @@
-//! Templates of a set on their way over a list of tokens that grows at its front.
+//! Reverse automata: templates of a set on their way over a list of tokens that grows at its front.
 
 ghost use Rattle.std.specs.Prelude.{◌≡◌, ◌<◌, ◌≤◌, ◌+◌, ◌*◌, ◌-◌, ◌^◌, ◌∷◌, ◌↔◌, [], ℕ, List, length, take, vec_len, IfOk, IsTrue, Contains};
 ghost use Rattle.std.specs.Str.{chars};

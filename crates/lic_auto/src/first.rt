@@ -1,4 +1,4 @@
-//! The heads with which the words of a compiled expression can begin.
+//! First sets: the heads with which the words of a compiled expression can begin.
 
 ghost use Rattle.std.specs.Prelude.{◌≡◌, ◌≢◌, ◌≤◌, ℕ, [], List, IfOk, OnOk, Contains, false, length, map, replicate, reverse, string_bytes, take};
 ghost use Rattle.lic_auto.specs.declared.direction.Direction.TheVariants.{Forward, Backward};

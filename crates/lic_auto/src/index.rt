@@ -1,4 +1,4 @@
-//! Which templates a text can enter, by the head of its first token.
+//! A literal-prefix index: which templates a text can enter, by the head of its first token.
 
 ghost use Rattle.std.specs.Prelude.{◌≡◌, ◌<◌, ◌≤◌, ◌-◌, ◌+◌, ◌↔◌, ℕ, IfOk, OnOk, IsTrue, length, map, slice_index_or, vec_len, List, Some, Contains, string_bytes, []};
 ghost use Rattle.std.specs.HashMap.{get_by_text};

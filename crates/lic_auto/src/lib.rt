@@ -1,4 +1,4 @@
-//! All templates at once: which of them describe a list of tokens that comes token by token.
+//! Multi-pattern matching: which templates of a set describe a list of tokens that comes token by token.
 #![tactic(auto)]
 
 pub mod back;

@@ -1,4 +1,4 @@
-//! The walk over a text: where templates describe ranges of its tokens.
+//! All matches in a text: where templates describe ranges of its tokens, found one after another.
 #![tactic(auto)]
 
 pub mod ask;

@@ -1,4 +1,4 @@
-//! The walk from the end of a text that notes the first tokens of matches.
+//! Seeding: the walk from the end of a text that notes the first tokens of matches, from which a finder's walks begin.
 
 ghost use Rattle.std.specs.Prelude.{◌<◌, ◌≤◌, ◌-◌, ◌*◌, ◌^◌, IfOk, length, drop};
 ghost use Rattle.lic_keys.specs.Looks.{OthersDescribeNoRange};

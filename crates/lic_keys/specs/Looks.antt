@@ -24,7 +24,7 @@ pub record Finds (keys : List (Option (List ℕ))) (flags : List Bool) (held let
 abbrev pub HoldsAll : Look → List ℕ → Type 0
 HoldsAll look letters = Finds (keys_of look) look.flags.items look.letters.items letters
 
--- these tokens were taken, as far as keys tell: each key that stands in their letters was found, or will be
+-- these tokens were taken, as far as keys show: each key that stands in their letters was found, or will be
 abbrev pub HasTaken : Look → List (List ℕ) → Type 0
 HasTaken look ts = HoldsAll look (letters_of ts)
 

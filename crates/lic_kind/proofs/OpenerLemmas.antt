@@ -1,4 +1,4 @@
--- What a quick look that says no tells of a list of texts.
+-- What a quick look that says no shows of a list of texts.
 use Rattle.std.proofs.Common.{◌≡◌, inl, inr, ℕ, suc, false, ◌||◌, List, [], ◌∷◌, refl, sym, ap, ◌∙◌, arith, true≢false}
 use Rattle.std.proofs.lemmas.Bool.{cases_Bool}
 use Rattle.std.specs.List.{All, list_any}

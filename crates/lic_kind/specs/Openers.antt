@@ -8,7 +8,7 @@ abbrev pub opens_in : ℕ → List ℕ → Bool
 opens_in c [] = false
 opens_in c (d ∷ text) = is_whitespace d || (d == c)
 
--- whether the table has the character, or does not tell
+-- whether the table has the character, or nothing is said
 abbrev pub may_open : Openers → ℕ → Bool
 may_open o c = o.white || (not (nat_lt c 128) || slice_index_or o.ascii c false)
 

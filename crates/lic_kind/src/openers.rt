@@ -72,7 +72,7 @@ impl Openers {
         }
     }
 
-    /// Whether the table has the character; it does not tell where white space begins a text, nor outside of ASCII.
+    /// Whether the table has the character; it says nothing where white space begins a text, nor outside of ASCII.
     #[inline(always)]
     pub(crate) fn may_open(&self, c: char) -> bool
         ensures { result ≡ may_open self.now c }

@@ -158,7 +158,7 @@ module _ (flags : List Bool) (line : List ℕ) (end : ℕ) where
   where_on true q = refl
   where_on false q = ends_piece-none flags line end
 
-  -- whether a piece ends here is told kind by kind
+  -- whether a piece ends here is decided kind by kind
   pub side_ends : (rules : LineRules) (side : Side) → ends_piece (is_walked_piece rules side) flags line end
       ≡ (((ends_piece is_space flags line end || (rules.separators && ends_piece is_separator flags line end))
       || list_any (λ t. ends_piece (bytes_eq (walked side t)) flags line end) (side_texts rules side))

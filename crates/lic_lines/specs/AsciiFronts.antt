@@ -16,7 +16,7 @@ abbrev pub ascii_token : Bool → ℕ → ℕ → List ℕ → Token
 ascii_token after_blank at n text =
     record { text = take n (map to_ascii_lowercase text); start = at; end = at + n; after_blank = after_blank }
 
--- what is told of the front of a text: a byte that is a blank, or a token of so many bytes, or nothing
+-- what is said of the front of a text: a byte that is a blank, or a token of so many bytes, or nothing
 abbrev pub IsFront : AsciiFront → List ℕ → Type 0
 IsFront front.Blank text = (rules : LineRules) (after_blank : Bool) (at : ℕ)
     → ascii_tokens rules true (at + 1) (drop 1 text) ≡ ascii_tokens rules after_blank at text

@@ -51,7 +51,7 @@ fn place(characters: &mut Vec<SourceChar>, at: u32, text: &[u8]) -> Result<(), A
     Ok(())
 }
 
-/// What is taken from a whole line: mostly a quick look tells.
+/// What is taken from a whole line: mostly a quick look says it.
 fn cut_of_line(
     alloc: Global,
     rules: &Rules,

@@ -56,7 +56,7 @@ fn three_alike(side: Side, line: &[u8], place: usize) -> bool
         && byte_at(line, side, place + 2) == byte
 }
 
-/// How long the longest row of pieces is where it is white space alone, as far as the bytes behind that tell.
+/// How long the longest row of pieces is where it is white space alone, as far as the bytes behind that show.
 #[inline(always)]
 fn space_row(rules: &Rules, side: Side, line: &[u8]) -> Option<usize>
     ensures row { IfSome result (λ n. n
@@ -108,7 +108,7 @@ fn begins_item(byte: u8) -> bool
     byte == b'(' || byte.is_ascii_digit()
 }
 
-/// Whether this word may have the form of a list item, as far as its length, its first byte and its last tell.
+/// Whether this word may have the form of a list item, as far as its length, its first byte and its last show.
 #[inline(always)]
 fn may_be_item(word: &[u8]) -> bool
     ensures { result ≡ false → is_item_form word.now ≡ false }
@@ -125,7 +125,7 @@ fn may_be_item(word: &[u8]) -> bool
     begins_item(word[0])
 }
 
-/// Whether no list item stands in front of a line, whose lead is taken already, as far as its first word tells.
+/// Whether no list item stands in front of a line, whose lead is taken already, as far as its first word shows.
 #[inline(always)]
 fn has_no_item(line: &[u8]) -> bool
     ensures { IsTrue result → (rules : LineRules) → item_length rules line.now ≡ 0 }
@@ -134,7 +134,7 @@ fn has_no_item(line: &[u8]) -> bool
     end >= line.len() || !may_be_item(&line[..end])
 }
 
-/// What is taken from a whole line, where a quick look tells that it is white space alone.
+/// What is taken from a whole line, where a quick look shows that it is white space alone.
 pub(crate) fn quick_cut(rules: &Rules, line: &[u8]) -> Option<LineCut>
     ensures cut { IfSome result (λ cut. cut ≡ cut_of (rules_of rules.now) whole_line line.now) }
     ensures within { IfSome result (λ cut. cut.lead + cut.item + cut.tail ≤ length line.now) }

@@ -12,7 +12,7 @@ pub enum AsciiFront {
     Blank,
     /// A token of so many bytes, which has these in small letters.
     Token(usize),
-    /// Marks of which this look does not tell.
+    /// Marks of which this look says nothing.
     Marks,
 }
 

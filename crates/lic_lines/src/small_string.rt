@@ -36,7 +36,7 @@ impl SmallString {
         }
     }
 
-    /// A string of any length. Takes memory where it has more than 24 bytes; the error is want of it.
+    /// A string of any length. Takes memory where it has more than 24 bytes; the error is lack of it.
     pub fn from_str(alloc: Global, text: &str) -> Result<SmallString, AllocError>
         ensures { IfOk result (λ string. small_bytes string ≡ text.now) }
     {

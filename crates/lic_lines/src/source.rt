@@ -12,7 +12,7 @@ pub struct SourceChar {
     pub char: char,
     /// Its first byte.
     pub start: u32,
-    /// The byte behind its last.
+    /// The byte just past its end.
     pub end: u32,
 }
 

@@ -97,7 +97,7 @@ fn three_alike(side: Side, line: &[SourceChar], place: usize) -> bool
 }
 
 /// How long the longest row of pieces is where it is white space alone, as far as the character behind
-/// that tells, if there is one.
+/// that shows, if there is one.
 fn space_row(rules: &Rules, side: Side, line: &[SourceChar]) -> Option<usize>
     ensures row { IfSome result (λ n. n
         ≡ longest_front (is_row (is_walked_piece (rules_of rules.now) side))

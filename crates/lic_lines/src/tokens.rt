@@ -19,7 +19,7 @@ pub struct FirstToken {
     pub text: SmallString,
     /// The first byte of its first source character.
     pub start: u32,
-    /// The byte behind its last source character.
+    /// The byte just past the end of its last source character.
     pub end: u32,
     pub after_blank: bool,
 }

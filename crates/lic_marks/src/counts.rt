@@ -1,4 +1,4 @@
-//! Positions of a compiled expression that count letters.
+//! Counters, for the bounded repetition of one letter test: positions of a compiled expression that count letters.
 
 ghost use Rattle.std.specs.Prelude.{◌≡◌, ◌+◌, ◌≤◌, IfSome, IsTrue, map};
 ghost use Rattle.std.specs.List.{list_all};

@@ -1,4 +1,4 @@
-//! Texts with which each word of a compiled expression begins.
+//! Literal prefixes: the text with which each word of a compiled expression begins.
 
 ghost use Rattle.std.specs.Prelude.{◌∷◌, [], IfSome, IsTrue, map};
 ghost use Rattle.lic_words.specs.Spelling.{free};

@@ -1,4 +1,4 @@
-//! Marks moved on by one place.
+//! The transition within a text, or within a repetition of one letter test: marks moved on by one place.
 
 ghost use Rattle.std.specs.Prelude.{◌≡◌, ◌==◌, ◌+◌, ◌-◌, ◌<◌, ◌≤◌, min, length, slice_index, slice_set};
 ghost use Rattle.lic_marks.specs.Windows.{IsClearOutside, TakesIn, Moves, Advances};

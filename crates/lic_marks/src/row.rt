@@ -63,7 +63,7 @@ impl Row {
         rows::is_clear_within(&self.flags, self.window)
     }
 
-    /// Whether it is the other row. One with another window is not looked at.
+    /// Whether it is the other row. One with another window is taken for another row.
     pub fn is_same(&self, other: &Row) -> bool
         ensures { IsTrue result → self.now ≡ other.now }
     {

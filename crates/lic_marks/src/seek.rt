@@ -25,7 +25,7 @@ use crate::threads::InText;
 use lic_words::turned_letters::TurnedLetters;
 use std::alloc::{AllocError, Global};
 
-/// A run of a compiled expression that is entered at every token: it tells whether the expression describes some end of
+/// A run of a compiled expression that is entered at every token: it says whether the expression describes some end of
 /// the list. It keeps no token, and takes memory in `new` alone. What is not entered, and has nothing marked, costs nothing; one mark
 /// alone in a text costs no more than to compare the token with the text.
 #[derive(Drop, Debug)]

@@ -1,4 +1,4 @@
-//! The marks of a compiled expression after one more letter.
+//! The transition over a letter: the marks of a compiled expression after one more letter.
 
 ghost use Rattle.std.specs.Prelude.{◌≡◌, ℕ, ◌+◌, ◌≤◌, IsTrue, length, map, replicate};
 ghost use Rattle.std.specs.List.{list_all};

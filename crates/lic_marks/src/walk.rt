@@ -1,4 +1,4 @@
-//! Whether one may stand behind a compiled expression.
+//! Whether the marks of a compiled expression are accepting: whether one may stand behind it.
 
 ghost use Rattle.std.specs.Prelude.{◌≡◌, ℕ, Bool, ◌+◌, ◌≤◌, IsTrue, length, map, replicate};
 ghost use Rattle.std.specs.List.{list_all};

@@ -1,4 +1,4 @@
--- The fault that is told is the first.
+-- The fault that is reported is the first.
 use Rattle.std.proofs.Common.{◌≡◌, ℕ, suc, ◌≤◌, ◌<◌, Bool, true, false, cond, not, List, [], ◌∷◌, ◌++◌, length, Some, Result, Ok, Err, refl, sym, ap, subst, ◌∙◌, append_assoc, append-nil, arith}
 use Rattle.std.specs.Prelude.{nat_lt}
 use Rattle.std.proofs.lemmas.Bool.Decides.{nat_tests}
@@ -243,6 +243,6 @@ module _ (line_rules : LineRules) (words : List Phrase) where
       let es : List Element = elements [] 0 (located template) in
       otherwise short (first_by es e (faulty es [] start e refl faults.none nowhere h))
 
-  -- the fault that is told is the first
+  -- the fault that is reported is the first
   pub reading-IsFaultOf : (template : List ℕ) (e : MarkupFault) → reading.reading line_rules words template ≡ Err e → IsFaultOf line_rules words template e
   reading-IsFaultOf template e h = long_by template e (nat_lt max_length (length template)) refl h

@@ -11,7 +11,7 @@ use Rattle.lic_markup.specs.Texts.{text_of, place_of, unescaped, begins_with, be
 use Rattle.lic_markup.specs.Rules as rules
 use Rattle.lic_markup.specs.Rules.{Rule}
 
--- The characters cs are those in front and then rest, and that is the first place at which `stands` holds, which is told
+-- The characters cs are those in front and then rest, and that is the first place at which `stands` holds, which is given
 -- what is in front of a place and what stands from there on.
 pub record UpTo (stands : List Located → List Located → Bool) (cs front rest : List Located) : Type 0 where
   pub parts : cs ≡ front ++ rest

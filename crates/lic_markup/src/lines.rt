@@ -30,7 +30,7 @@ pub fn at_line_start(so_far: bool, piece: &[(usize, char)]) -> bool
     at_start
 }
 
-/// Whether only white space stands from the begin of a piece to the end of the line, where `behind` says so of what
+/// Whether only white space stands from the beginning of a piece to the end of the line, where `behind` says so of what
 /// follows it.
 fn line_ends(behind: bool, piece: &[(usize, char)]) -> bool
     ensures { result ≡ lines.line_ends behind piece.now }

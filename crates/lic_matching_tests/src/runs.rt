@@ -49,7 +49,7 @@ fn tell(run: &Run<'_>, told: &mut String) -> Result<(), Fail> {
     Ok(())
 }
 
-/// What a run tells of each of these lists of tokens; it begins anew for each but the first.
+/// What a run says of each of these lists of tokens; it begins anew for each but the first.
 fn told(alloc: Global, templates: &[&str], lists: &[&str]) -> Result<String, Fail> {
     let set = set_of(alloc, templates)?;
     let mut run = Run::new(alloc, &set)?;
@@ -149,7 +149,7 @@ fn tell_live(back: &Back<'_>, told: &mut String) -> Result<(), Fail> {
     Ok(())
 }
 
-/// What is told of each token that comes from the end, and once the machine begins anew.
+/// What is said of each token that comes from the end, and once the machine begins anew.
 fn told_from_the_end(alloc: Global, tokens: &[&str]) -> Result<String, Fail> {
     let set = set_of(alloc, &TWO)?;
     let mut back = Back::new(alloc, &set)?;

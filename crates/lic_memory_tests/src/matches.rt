@@ -1,4 +1,4 @@
-//! Matches in worked texts, one by one and after one; filters of them, the values of one, and what the machines tell.
+//! Matches in worked texts, one by one and after one; filters of them, the values of one, and what the machines answer.
 
 use crate::lent::{CHOICE, OF, ONE, OPTIONAL, TWO, Templates, lend};
 use crate::refused::{Refused, retried};

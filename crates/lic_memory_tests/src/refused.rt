@@ -1,4 +1,4 @@
-//! Why a call was refused, and how a call is made that may be refused for want of memory.
+//! Why a call was refused, and how a call is made that may be refused for lack of memory.
 
 ghost use Rattle.std.specs.Prelude.{◌≡◌};
 ghost use Rattle.lic_memory_tests.specs.declared.refused.Refused.TheVariants.{Memory};
@@ -36,7 +36,7 @@ impl From<AllocError> for Refused {
 }
 
 impl Refused {
-    /// Whether memory ran out, told at the place where that is told.
+    /// Whether memory ran out, reported at the place where that is reported.
     fn is_memory(&self) -> bool {
         match self {
             Refused::Words(WordsFault { line, cause }) => {

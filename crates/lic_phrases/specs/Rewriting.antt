@@ -88,7 +88,7 @@ phrases_behind words zero (t ∷ ts) =
     let phrase = longest_phrase words (t ∷ ts) in
     first_as phrase t ts ∷ phrases_behind words (count_behind phrase) ts
 
--- from the left, at each token the longest phrase as one token, which is not looked at again
+-- from the left, at each token the longest phrase as one token, which is left as it is from then on
 abbrev pub phrases_joined : List Phrase → List Token → List Token
 phrases_joined words ts = phrases_behind words 0 ts
 

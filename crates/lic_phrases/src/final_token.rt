@@ -17,6 +17,6 @@ pub struct FinalToken {
     pub text: TokenText,
     /// The first byte of its first source character.
     pub start: u32,
-    /// The byte behind its last source character.
+    /// The byte just past the end of its last source character.
     pub end: u32,
 }

@@ -89,7 +89,7 @@ impl Phrases {
         }
     }
 
-    /// Adds a class with this spelling, and gives its number: classes are numbered from 0. Want of
+    /// Adds a class with this spelling, and gives its number: classes are numbered from 0. Lack of
     /// memory changes nothing.
     pub fn add_class(&mut self, spelling: String) -> Result<usize, AllocError>
         ensures number { IfOk result (λ class. class ≡ length self.old.spellings) }

@@ -1,4 +1,4 @@
-//! Readers and writers that tell their bytes and count their failed calls, and whole inputs and outputs over them.
+//! Readers and writers that report their bytes and count their failed calls, and whole inputs and outputs over them.
 #![tactic(auto)]
 
 pub mod stream;

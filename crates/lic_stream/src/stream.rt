@@ -1,4 +1,4 @@
-//! Readers and writers that tell their bytes and count their failed calls.
+//! Readers and writers that report their bytes and count their failed calls.
 
 ghost use Rattle.std.specs.Prelude.{◌≡◌, ℕ, List, Option};
 ghost use Rattle.std.specs.Io.{ReadsAtMost, WritesAtMost};

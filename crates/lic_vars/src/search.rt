@@ -1,4 +1,4 @@
-//! The least record, by a search that goes back: depth first, in the order of records, and no place is tried twice.
+//! The least record, by backtracking: depth first, in the order of records, and no place is tried twice.
 
 ghost use Rattle.std.specs.Prelude.{◌≡◌, ◌+◌, ◌<◌, ◌↔◌, List, Option, false, IfOk, OnOk, IsTrue, MatchOption, length, drop, Contains, ◌∷◌, ◌++◌, ◌⊎◌};
 ghost use Rattle.std.specs.List.{All};

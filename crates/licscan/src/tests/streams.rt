@@ -286,7 +286,7 @@ fn a_failed_write_keeps_a_beginning_of_a_check(rt: HostRuntime) -> Result<(), Fa
     Ok(())
 }
 
-/// The status of a scan whose reader fails at this call and whose writer has this room, and what it tells of it.
+/// The status of a scan whose reader fails at this call and whose writer has this room, and what it reports of it.
 fn told_of_streams<Rt: Files + AllocGlobal + Clone + Drop>(
     rt: &Rt,
     folder: &str,
