@@ -5,6 +5,7 @@ ghost use Rattle.std.specs.List.{slice_get};
 ghost use Rattle.std.specs.Str.{chars};
 ghost use Rattle.lic_words.specs.Describing.{IsDescribed};
 ghost use Rattle.lic_words.specs.Letters.{letters_in};
+ghost use Rattle.lic_marks.specs.Plain.{IsPlain};
 ghost use Rattle.lic_phrases.specs.TokenTexts.{IsTokenText};
 ghost use Rattle.lic_auto.specs.Sets.{Known, words_of};
 ghost use Rattle.lic_keys.specs.Rising.{IsRising};
@@ -13,6 +14,7 @@ ghost use Rattle.lic_auto.specs.declared.direction.Direction.TheVariants.{Forwar
 ghost use Rattle.lic_auto.specs.Walks.{AreChanged, AreKept, Resets, Takes};
 
 use crate::chosen::Chosen;
+use lic_marks::plain::Plain;
 use lic_marks::run::Run as TreeRun;
 
 /// Begins anew with the templates that a text with this first token can enter, and gives how many they are. Their numbers
@@ -94,17 +96,25 @@ fn take_each(runs: &mut [TreeRun<'_>], numbers: &mut [usize], token: &str) -> us
     ensures taken { AreChanged (Takes (chars token.now)) numbers.old runs.old runs.new }
     ensures kept { AreKept numbers.old (take result numbers.new) runs.new }
 {
+    let known = looked_at(token, !numbers.is_empty());
     let mut kept = 0;
     for i in 0..numbers.len() {
         let number = numbers[i];
         let run = &mut runs[number];
-        run.push(token);
+        run.push_known(token, known.as_ref());
         if !run.is_dead() {
             numbers[kept] = number;
             kept += 1;
         }
     }
     kept
+}
+
+// What is known of a token's letters. They are read only where some template takes them.
+fn looked_at(token: &str, is_taken: bool) -> Option<Plain>
+    ensures { IfSome result (λ plain. IsPlain plain (chars token.now)) }
+{
+    if is_taken { Plain::of(token) } else { None }
 }
 
 /// How many bytes a text has that is ASCII without a blank: as many as it has letters.

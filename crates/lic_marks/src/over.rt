@@ -18,13 +18,18 @@ use crate::stretch::{Stretch, Way};
 use lic_words::letters::Letter;
 
 /// Where the letters of a token lead from a place in a text, if that is known and no word ends there.
-pub fn over_text(stretch: Stretch<'_>, place: usize, letters: &[Letter]) -> Option<Option<usize>>
+pub fn over_text(
+    stretch: Stretch<'_>,
+    place: usize,
+    first: Letter,
+    others: &[Letter],
+) -> Option<Option<usize>>
     ensures moves { IfSome result (λ found. (r : Core) → IsStretchOf r stretch.entry
-        → MovesTo r (Some place) (map gapped_letter letters.now) found) }
+        → MovesTo r (Some place) (gapped_letter first ∷ map gapped_letter others.now) found) }
     ensures stays { IfSome result (λ found. (r : Core) → IsStretchOf r stretch.entry
         → ForSome found (λ k. (k < weight r) × NoneEnds r k)) }
 {
-    match stretch.over(place, letters)? {
+    match stretch.over_token(place, first, others)? {
         Way::To { place: end } if none_ends(stretch, end) => Some(Some(end)),
         Way::To { .. } => None,
         Way::Nowhere => Some(None),
@@ -54,6 +59,28 @@ pub fn none_ends(stretch: Stretch<'_>, place: usize) -> bool
 
 /// Where the letters of a token lead from a place that counts letters, if that is known.
 pub fn over_counts(
+    counts: Counts<'_>,
+    place: usize,
+    tree: &Node,
+    first: Letter,
+    others: &[Letter],
+    knowledge: &mut Knowledge,
+) -> Option<Option<usize>>
+    requires measured { IsTrue (is_measured tree.now) }
+    requires knowledge { IsKnowledge (core_of tree.now) knowledge.old }
+    ensures knowledge { IsKnowledge (core_of tree.now) knowledge.new }
+    ensures moves { IfSome result (λ found. AreCounts (core_of tree.now) counts.entry place
+        → MovesTo (core_of tree.now) (Some place) (gapped_letter first ∷ map gapped_letter others.now) found
+        × ForSome found (IsAmongCounts counts.entry)) }
+{
+    match over_letter(counts, place, tree, first, knowledge)? {
+        Some(next) => over_letters(counts, next, tree, others, knowledge),
+        None => Some(None),
+    }
+}
+
+// Where letters lead one after another from a place that counts letters, if that is known.
+fn over_letters(
     counts: Counts<'_>,
     place: usize,
     tree: &Node,

@@ -1,6 +1,6 @@
 //! Tokens of plain letters, read once for all that take them.
 
-ghost use Rattle.std.specs.Prelude.{◌≡◌, ◌≢◌, ◌&&◌, true, IfSome, IsTrue, map, reverse};
+ghost use Rattle.std.specs.Prelude.{◌≡◌, ◌≢◌, ◌&&◌, ◌∷◌, ◌++◌, [], true, IfSome, IsTrue, map, reverse};
 ghost use Rattle.std.specs.Str.{chars};
 ghost use Rattle.lic_words.specs.Letters.{is_word};
 ghost use Rattle.lic_words.specs.Reading.{gapped_letter};
@@ -10,51 +10,93 @@ ghost use Rattle.lic_words.specs.Words.{blank};
 use crate::letter_set::LetterSet;
 use crate::spelled::Spelled;
 use lic_kind::is_word;
-use lic_words::letters::Letter;
+use lic_words::letters::{Letter, Letters};
 use lic_words::turned_letters::TurnedLetters;
 
-/// A token as it is read from its end, where the letters behind the first are not many, all are of ASCII and no gap stands before any
-/// of them.
+/// A token as it is read from one of its ends, where the letters behind the first are not many, all are of ASCII and no gap stands before
+/// any of them.
 #[derive(Clone, Copy, Debug)]
 pub struct Plain {
-    /// The first letter, which is the token's last.
+    /// The first letter.
     pub first: char,
+    /// Whether it belongs to words.
+    is_of_word: bool,
     /// Which letters the others are.
     pub others: LetterSet,
-    /// The last letter, which is the token's first.
+    /// The last letter.
     pub last: char,
     /// The others in order.
     rest: Spelled,
     ghost is_letter: { first ≢ blank },
+    ghost class: { is_of_word ≡ is_word first },
 }
 
 impl Plain {
-    ghost use Rattle.lic_marks.specs.Plain.{IsPlain, others_in};
+    ghost use Rattle.lic_marks.specs.Plain.{ComeJoined, IsPlain, others_in};
 
-    /// The token, if it is plain.
+    /// The token read from its beginning, if it is plain.
+    pub fn of(token: &str) -> Option<Plain>
+        ensures { IfSome result (λ plain. IsPlain plain (chars token.now)) }
+    {
+        let mut letters = Letters::new(token, ' ', true);
+        let first = letters.next()?;
+        let mut plain = Plain::begin(first);
+        while let Some(letter) = letters.next() {
+            if !plain.add(letter) {
+                return None;
+            }
+        }
+        plain.last = letters.last_letter();
+        Some(plain)
+    }
+
+    /// The token read from its end, if it is plain.
     pub fn turned(token: &str) -> Option<Plain>
         ensures { IfSome result (λ plain. IsPlain plain (reverse (chars token.now))) }
     {
         let mut letters = TurnedLetters::new(token, ' ', true);
         let first = letters.next()?;
-        let mut others = LetterSet::none();
-        let mut rest = Spelled::none(' ');
+        let mut plain = Plain::begin(first);
         while let Some(letter) = letters.next() {
-            if letter.is_apart | !letter.letter.is_ascii() {
+            if !plain.add(letter) {
                 return None;
             }
-            if !rest.push(letter) {
-                return None;
-            }
-            others.add(letter.letter);
         }
-        let last = letters.last_letter();
-        Some(Plain {
-            first: first.letter,
-            others,
-            last,
-            rest,
-        })
+        plain.last = letters.last_letter();
+        Some(plain)
+    }
+
+    // The first letter alone.
+    fn begin(first: Letter) -> Plain
+        ensures first { result.first ≡ first.letter }
+        ensures others { others_in result ≡ [] }
+    {
+        let letter = first.letter;
+        Plain {
+            first: letter,
+            is_of_word: is_word(letter),
+            others: LetterSet::none(),
+            last: letter,
+            rest: Spelled::none(' '),
+        }
+    }
+
+    // Adds a letter behind the others, if it comes at once and is one of ASCII, and there is room.
+    fn add(&mut self, letter: Letter) -> bool
+        ensures first { self.new.first ≡ self.old.first }
+        ensures others { IsTrue result
+            → others_in self.new ≡ others_in self.old ++ gapped_letter letter ∷ [] }
+        ensures joined { IsTrue result → ComeJoined self.old.others (others_in self.old)
+            → ComeJoined self.new.others (others_in self.new) }
+    {
+        if letter.is_apart | !letter.letter.is_ascii() {
+            return false;
+        }
+        if !self.rest.push(letter) {
+            return false;
+        }
+        self.others.add(letter.letter);
+        true
     }
 
     /// The first letter behind the letter `last` and a gap.
@@ -65,7 +107,7 @@ impl Plain {
         Letter {
             letter: self.first,
             is_apart: true,
-            are_words: is_word(last) & is_word(self.first),
+            are_words: is_word(last) & self.is_of_word,
         }
     }
 

@@ -1,6 +1,6 @@
 //! A compiled expression on its way over a list of tokens.
 
-ghost use Rattle.std.specs.Prelude.{◌≡◌, ℕ, ◌≤◌, ◌↔◌, IsTrue, true, false, None, IfOk, List, [], ◌∷◌, ◌++◌};
+ghost use Rattle.std.specs.Prelude.{◌≡◌, ℕ, ◌≤◌, ◌↔◌, IsTrue, true, false, None, Some, IfOk, IfSome, List, [], ◌∷◌, ◌++◌, map};
 ghost use Rattle.std.specs.Str.{chars};
 ghost use Rattle.lic_words.specs.Expressions.{Expression};
 ghost use Rattle.lic_words.specs.Describing.{IsDescribed};
@@ -10,14 +10,18 @@ ghost use Rattle.lic_marks.specs.Nodes.{core_of, is_measured};
 ghost use Rattle.lic_marks.specs.States.{HasTaken, has_gap, room_of};
 ghost use Rattle.lic_marks.specs.Stretches.{IsStretchOf};
 ghost use Rattle.lic_marks.specs.Known.{IsKnowledge};
+ghost use Rattle.lic_words.specs.Reading.{gapped_letter};
 ghost use Rattle.lic_words.specs.Spelling.{Gap, gapped_from, last_letter};
+ghost use Rattle.lic_marks.specs.Plain.{IsPlain};
 
 use crate::known::Knowledge;
 use crate::node::Node;
+use crate::plain::Plain;
 use crate::spelled::Spelled;
 use crate::state::State;
 use crate::stretch::Stretch;
 use crate::threads::Threads;
+use lic_words::letters::Letter;
 use std::alloc::{AllocError, Global};
 
 /// A run of a compiled expression over a list of tokens. It keeps no token, and takes memory in `new` alone.
@@ -83,8 +87,19 @@ impl<'a> Run<'a> {
             → Stands self.new e (ts ++ chars token.now ∷ []) }
         ensures tree { tree_of self.new ≡ tree_of self.old }
     {
+        self.push_known(token, None);
+    }
+
+    /// As `push`, of a token of which the caller may know that it is plain: then it is not read again where a few positions alone are
+    /// marked and it is known where it leads from each.
+    pub fn push_known(&mut self, token: &str, known: Option<&Plain>)
+        requires { IfSome known (λ plain. IsPlain plain.now (chars token.now)) }
+        ensures stands { (e : Expression) (ts : List (List ℕ)) → Stands self.old e ts
+            → Stands self.new e (ts ++ chars token.now ∷ []) }
+        ensures tree { tree_of self.new ≡ tree_of self.old }
+    {
         self.is_empty = false;
-        if self.follow(token) {
+        if self.passes(token, known) {
             return;
         }
         self.gather();
@@ -94,7 +109,9 @@ impl<'a> Run<'a> {
     }
 
     // Takes a token where a few positions alone are marked and it is known where it leads from each. Otherwise nothing is done.
-    fn follow(&mut self, token: &str) -> bool
+    #[inline]
+    fn passes(&mut self, token: &str, known: Option<&Plain>) -> bool
+        requires { IfSome known (λ plain. IsPlain plain.now (chars token.now)) }
         ensures none { (letters : List (Gap × ℕ)) → result ≡ false
             → HaveTaken self.old letters → HaveTaken self.new letters }
         ensures taken { (letters : List (Gap × ℕ)) → IsTrue result → HaveTaken self.old letters
@@ -107,15 +124,54 @@ impl<'a> Run<'a> {
         let Some(threads) = self.threads else {
             return false;
         };
+        match known {
+            Some(plain) => {
+                let first = plain.first_behind(self.last);
+                self.follow(threads, first, plain.rest(), plain.last)
+            }
+            None => self.spell(threads, token),
+        }
+    }
+
+    // The same, of a token that is read for this run alone.
+    fn spell(&mut self, threads: Threads<'a>, token: &str) -> bool
+        requires { self.old.threads ≡ Some threads }
+        ensures none { (letters : List (Gap × ℕ)) → result ≡ false
+            → HaveTaken self.old letters → HaveTaken self.new letters }
+        ensures taken { (letters : List (Gap × ℕ)) → IsTrue result → HaveTaken self.old letters
+            → HaveTaken self.new (letters ++ gapped_from self.old.last true (chars token.now)) }
+        ensures last { IsTrue result → self.new.last ≡ last_letter self.old.last (chars token.now) }
+        ensures before { result ≡ false → self.new.last ≡ self.old.last }
+        ensures empty { self.new.is_empty ≡ self.old.is_empty }
+        ensures tree { tree_of self.new ≡ tree_of self.old }
+    {
         let Some(spelled) = Spelled::of(token, self.last) else {
             return false;
         };
-        let letters = spelled.letters();
-        let Some(moved) = threads.over(self.tree, letters, &mut self.knowledge) else {
+        match spelled.letters().split_first() {
+            Some((first, others)) => self.follow(threads, *first, others, spelled.last_letter()),
+            None => false,
+        }
+    }
+
+    // Takes the letters of a token, of which this is the last, where it is known where they lead from the marks that stand alone.
+    // Otherwise nothing is done.
+    fn follow(&mut self, threads: Threads<'a>, first: Letter, others: &[Letter], last: char) -> bool
+        requires { self.old.threads ≡ Some threads }
+        ensures none { (letters : List (Gap × ℕ)) → result ≡ false
+            → HaveTaken self.old letters → HaveTaken self.new letters }
+        ensures taken { (letters : List (Gap × ℕ)) → IsTrue result → HaveTaken self.old letters
+            → HaveTaken self.new (letters ++ gapped_letter first ∷ map gapped_letter others.now) }
+        ensures last { IsTrue result → self.new.last ≡ last }
+        ensures before { result ≡ false → self.new.last ≡ self.old.last }
+        ensures empty { self.new.is_empty ≡ self.old.is_empty }
+        ensures tree { tree_of self.new ≡ tree_of self.old }
+    {
+        let Some(moved) = threads.over(self.tree, first, others, &mut self.knowledge) else {
             return false;
         };
         self.threads = Some(moved);
-        self.last = spelled.last_letter();
+        self.last = last;
         true
     }
 

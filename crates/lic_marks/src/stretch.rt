@@ -69,15 +69,6 @@ impl<'a> Stretch<'a> {
     }
 
     /// Where letters lead from a place of the stretch on, if that is known here. The first stands behind a gap.
-    pub fn over(self, place: usize, letters: &[Letter]) -> Option<Way>
-        ensures { IfSome result (λ way. (r : Core) → IsStretchOf r self.entry
-            → IsWay r place (map gapped_letter letters.now) way) }
-    {
-        let (first, others) = letters.split_first()?;
-        self.over_token(place, *first, others)
-    }
-
-    /// The same, with the first letter apart from the others.
     pub fn over_token(self, place: usize, first: Letter, others: &[Letter]) -> Option<Way>
         ensures { IfSome result (λ way. (r : Core) → IsStretchOf r self.entry
             → IsWay r place (gapped_letter first ∷ map gapped_letter others.now) way) }

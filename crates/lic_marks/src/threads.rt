@@ -1,6 +1,6 @@
 //! Two marks that stand alone, one in a text and one that counts letters, in place of a state of all: they move on by whole tokens.
 
-ghost use Rattle.std.specs.Prelude.{◌≡◌, ◌+◌, ◌<◌, ◌≤◌, ◌↔◌, ◌⊎◌, ℕ, None, Some, false, IsTrue, IfSome, map};
+ghost use Rattle.std.specs.Prelude.{◌≡◌, ◌∷◌, ◌+◌, ◌<◌, ◌≤◌, ◌↔◌, ◌⊎◌, ℕ, None, Some, false, IsTrue, IfSome, map};
 ghost use Rattle.lic_words.specs.Words.{Word};
 ghost use Rattle.lic_words.specs.Reading.{gapped_letter};
 ghost use Rattle.lic_marks.specs.Cores.{Core};
@@ -160,7 +160,8 @@ impl<'a> Threads<'a> {
     pub fn over(
         self,
         tree: &Node,
-        letters: &[Letter],
+        first: Letter,
+        others: &[Letter],
         knowledge: &mut Knowledge,
     ) -> Option<Threads<'a>>
         requires measured { IsTrue (is_measured tree.now) }
@@ -170,10 +171,11 @@ impl<'a> Threads<'a> {
             → IfSome result (AreThreads (core_of tree.now)) }
         ensures moves { AreThreads (core_of tree.now) self.entry
             → IfSome result (λ moved. (v : Word) → BehindThreads (core_of tree.now) moved v
-            ↔ After (BehindThreads (core_of tree.now) self.entry) (map gapped_letter letters.now) v) }
+            ↔ After (BehindThreads (core_of tree.now) self.entry)
+            (gapped_letter first ∷ map gapped_letter others.now) v) }
     {
-        let counted = counted_over(self.counted, tree, letters, knowledge)?;
-        let text = text_over(self.text, letters)?;
+        let counted = counted_over(self.counted, tree, first, others, knowledge)?;
+        let text = text_over(self.text, first, others)?;
         Some(Threads { text, counted })
     }
 
@@ -206,16 +208,20 @@ impl<'a> Threads<'a> {
 }
 
 // Where the letters lead from a mark in a text, if there is one, and if that is known.
-fn text_over<'a>(text: Option<InText<'a>>, letters: &[Letter]) -> Option<Option<InText<'a>>>
+fn text_over<'a>(
+    text: Option<InText<'a>>,
+    first: Letter,
+    others: &[Letter],
+) -> Option<Option<InText<'a>>>
     ensures moves { IfSome result (λ found. (r : Core) → ForSome text.entry (IsInText r)
-        → MovesTo r (place_in_text text.entry) (map gapped_letter letters.now) (place_in_text found)
+        → MovesTo r (place_in_text text.entry) (gapped_letter first ∷ map gapped_letter others.now) (place_in_text found)
         × ForSome found (IsInText r)) }
 {
     let here = match text {
         Some(here) => here,
         None => return Some(None),
     };
-    match over_text(here.stretch, here.place, letters)? {
+    match over_text(here.stretch, here.place, first, others)? {
         Some(place) => Some(Some(InText {
             place,
             stretch: here.stretch,
@@ -228,7 +234,8 @@ fn text_over<'a>(text: Option<InText<'a>>, letters: &[Letter]) -> Option<Option<
 fn counted_over<'a>(
     counted: Option<Counting<'a>>,
     tree: &Node,
-    letters: &[Letter],
+    first: Letter,
+    others: &[Letter],
     knowledge: &mut Knowledge,
 ) -> Option<Option<Counting<'a>>>
     requires measured { IsTrue (is_measured tree.now) }
@@ -236,14 +243,14 @@ fn counted_over<'a>(
     ensures knowledge { IsKnowledge (core_of tree.now) knowledge.new }
     ensures moves { IfSome result (λ found. ForSome counted.entry (IsCounting (core_of tree.now))
         → MovesTo (core_of tree.now) (place_counted counted.entry)
-        (map gapped_letter letters.now) (place_counted found)
+        (gapped_letter first ∷ map gapped_letter others.now) (place_counted found)
         × ForSome found (IsCounting (core_of tree.now))) }
 {
     let here = match counted {
         Some(here) => here,
         None => return Some(None),
     };
-    match over_counts(here.counts, here.place, tree, letters, knowledge)? {
+    match over_counts(here.counts, here.place, tree, first, others, knowledge)? {
         Some(place) => Some(Some(Counting {
             place,
             counts: here.counts,

@@ -21,7 +21,7 @@ loop-i-preserved c =
     let kept = c.loop-i.kept in
     let n = get_or now i 0 in
     let a = get_or runs n c.index-runs-number.result in
-    let b = c.push.new.self in
+    let b = c.push_known.new.self in
     let invariant = c.loop-i.invariant in
     let inside : i < length old = omega (arith, c.loop-i-test.true, c.loop-i.auto) in
     let is : n ≡ get_or old i 0 = invariant.rest i (omega arith) in
@@ -33,7 +33,7 @@ loop-i-preserved c =
     let taken : AreChanged (Takes (chars c.args.token.now)) (take (i + 1) old) c.args.runs.now (set runs n b) =
     subst (λ s. AreChanged (Takes (chars c.args.token.now)) s c.args.runs.now (set runs n b)) (sym more)
     (Changed-more tree_of (λ _. Takes (chars c.args.token.now))
-    (take i old) n c.args.runs.now runs a b invariant.taken fresh here c.push.ensures.tree c.push.ensures.stands) in
+    (take i old) n c.args.runs.now runs a b invariant.taken fresh here c.push_known.ensures.tree c.push_known.ensures.stands) in
     elim c.if-not-is_dead.branch [
       | then-not-is_dead w ↦
           let room : kept < length now = omega (arith, invariant.count, inside, c.loop-i.auto) in

@@ -4,7 +4,7 @@ use Rattle.lic_marks.specs.Known.{IsKnowledge}
 use Rattle.lic_marks.specs.Lone.{MovesTo}
 use Rattle.lic_marks.specs.Nodes.{core_of}
 use Rattle.lic_marks.specs.Threads.{AreCounts, IsAmongCounts}
-use Rattle.lic_marks.proofs.over.over_counts.Given as goal
+use Rattle.lic_marks.proofs.over.over_letters.Given as goal
 
 -- the letters so far have led on
 abbrev pub invariant-loop-letter : goal.invariant-loop-letter

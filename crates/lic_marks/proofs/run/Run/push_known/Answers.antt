@@ -9,7 +9,7 @@ use Rattle.lic_marks.specs.Nodes.{core_of}
 use Rattle.lic_marks.specs.Runs.{HaveTaken, Stands}
 use Rattle.lic_marks.specs.declared.run.Run.{Run}
 use Rattle.lic_marks.proofs.TokenRows.{gapped-snoc}
-use Rattle.lic_marks.proofs.run.Run.push.Goals as goal
+use Rattle.lic_marks.proofs.run.Run.push_known.Goals as goal
 
 some_token : (ts : List (List ℕ)) (t : List ℕ) → ts ++ t ∷ [] ≡ [] → ⊥
 some_token [] t e = cc
@@ -26,18 +26,18 @@ module _ (run : Run) (e : Expression) (ts : List (List ℕ)) (t : List ℕ) wher
     taken = rw gapped-snoc taken;
   }
 
-pub returns-then-follow-clause-stands : goal.returns-then-follow-clause-stands
-returns-then-follow-clause-stands c = λ e ts s.
+pub returns-then-passes-clause-stands : goal.returns-then-passes-clause-stands
+returns-then-passes-clause-stands c = λ e ts s.
     let t = chars c.args.token.now in
-    let done = c.if-follow.ensures in
-    one_more c.follow.new.self e ts t (subst (λ tree. HasWordsOf (core_of tree) e) (sym done.tree) s.words) done.empty
+    let done = c.if-passes.ensures in
+    one_more c.passes.new.self e ts t (subst (λ tree. HasWordsOf (core_of tree) e) (sym done.tree) s.words) done.empty
     (done.last refl ∙ ap (λ l. last_letter l t) s.last)
-    (subst (λ l. HaveTaken c.follow.new.self (gapped ts ++ gapped_from l true t)) s.last (done.taken (gapped ts) refl s.taken))
+    (subst (λ l. HaveTaken c.passes.new.self (gapped ts ++ gapped_from l true t)) s.last (done.taken (gapped ts) refl s.taken))
 
 pub returns-clause-stands : goal.returns-clause-stands
 returns-clause-stands c = λ e ts s.
     let t = chars c.args.token.now in
-    let before = c.if-follow.ensures in
+    let before = c.if-passes.ensures in
     let tree : c.part.new.self.tree.now ≡ c.args.self.now.tree.now = c.part.ensures.tree ∙ c.gather.ensures.tree ∙ before.tree in
     let last : c.gather.new.self.last ≡ last_of blank ts = c.gather.ensures.last ∙ before.before refl ∙ s.last in
     let whole = c.gather.ensures.taken (gapped ts) (before.none (gapped ts) refl s.taken) in
