@@ -14,6 +14,9 @@ pub fn join_rising(some: &[usize], others: &[usize], joined: &mut [usize]) -> us
     ensures both { (k : ℕ) → Contains (take result joined.new) k
         ↔ (Contains some.now k ⊎ Contains others.now k) }
 {
+    if others.is_empty() {
+        return copy_rising(some, joined);
+    }
     let mut some = some;
     let mut others = others;
     let mut count = 0;
@@ -23,6 +26,18 @@ pub fn join_rising(some: &[usize], others: &[usize], joined: &mut [usize]) -> us
         joined[count] = number;
         count += 1;
     }
+    count
+}
+
+// Writes the numbers of one rising list, and gives how many they are.
+fn copy_rising(numbers: &[usize], copied: &mut [usize]) -> usize
+    requires { IsRising numbers.now (length copied.old) }
+    ensures room { length copied.new ≡ length copied.old }
+    ensures count { result ≤ length copied.new }
+    ensures same { take result copied.new ≡ numbers.now }
+{
+    let count = numbers.len();
+    copied[..count].copy_from_slice(numbers);
     count
 }
 

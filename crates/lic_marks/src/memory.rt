@@ -134,6 +134,7 @@ impl Memory {
     }
 
     /// Whether the letter is known to leave the marks that stand now as they are, behind its gap.
+    #[inline]
     pub fn is_steady(&self, letter: Letter) -> bool
         ensures { (r : Core) (row : List Bool) → Remembers r self.now row → IsTrue result
             → shift_over r false (marks_of r row) (over_blanks r false (marks_of r row))
@@ -153,6 +154,7 @@ impl Memory {
     }
 
     /// Whether each letter of the set is known to leave the marks that stand now as they are, where it comes at once.
+    #[inline]
     pub fn are_steady(&self, letters: LetterSet) -> bool
         ensures { (r : Core) (row : List Bool) → Remembers r self.now row → IsTrue result
             → (row ≡ kept_marks self.now)

@@ -25,11 +25,14 @@ pub fn is_any_set(row: &Bits, at: usize, end: usize, live: Window) -> bool
 {
     let first = live.from.max(at);
     let last = live.to.min(end);
-    if first < last {
-        row.is_any_set(first, last)
-    } else {
-        false
+    if first >= last {
+        return false;
     }
+    // most windows begin where a flag is set
+    if row.get(first) {
+        return true;
+    }
+    row.is_any_set(first, last)
 }
 
 /// Takes back the flags from `at` to before `end`, of which none is set outside the window.

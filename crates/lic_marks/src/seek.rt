@@ -91,6 +91,7 @@ impl<'a> Seeker<'a> {
 
     /// Takes a token from its last letter to its first. `may_begin` is false where no described list begins with it: then
     /// it is not entered there.
+    #[inline(never)]
     pub fn push_turned(&mut self, token: &str, may_begin: bool)
         requires { 0 < letters_in (chars token.now) }
         ensures stands { (e : Expression) (ts : List (List ℕ)) → Seeks self.old e ts
@@ -151,6 +152,7 @@ impl<'a> Seeker<'a> {
     /// As `push_turned`, of a token of which the caller may know that it is plain: then it is not read again where its letters are
     /// known to leave the marks as they are, nor where one mark alone stands in a text, or none does and all words begin with a text:
     /// its letters are compared with that.
+    #[inline]
     pub fn push_known(&mut self, token: &str, known: Option<&Plain>, may_begin: bool)
         requires letters { 0 < letters_in (chars token.now) }
         requires known { IfSome known (λ plain. IsPlain plain.now (reverse (chars token.now))) }
@@ -167,6 +169,7 @@ impl<'a> Seeker<'a> {
 
     // Takes a plain token that is entered while nothing is marked, where the text with which all words begin says where it leads:
     // the token's letters are compared with that. Otherwise nothing is done.
+    #[inline(never)]
     fn enters(&mut self, plain: &Plain) -> bool
         ensures none { (e : Expression) (ts : List (List ℕ)) → Seeks self.old e ts
             → result ≡ false → Seeks self.new e ts }
@@ -202,6 +205,7 @@ impl<'a> Seeker<'a> {
     }
 
     // Takes a plain token where one mark stands alone in a text, and that says where its letters lead. Otherwise nothing is done.
+    #[inline(never)]
     fn follows(&mut self, plain: &Plain) -> bool
         ensures none { (e : Expression) (ts : List (List ℕ)) → Seeks self.old e ts
             → result ≡ false → Seeks self.new e ts }
@@ -234,6 +238,7 @@ impl<'a> Seeker<'a> {
 
     // Takes a plain token where that is known without a walk over the tree: as `enters`, or not entered, where its letters are known to
     // leave the marks as they are, or the text in which a lone mark stands says where it leads. Otherwise nothing is done.
+    #[inline]
     fn passes(&mut self, known: Option<&Plain>, may_begin: bool) -> bool
         ensures none { (e : Expression) (ts : List (List ℕ)) → Seeks self.old e ts
             → result ≡ false → Seeks self.new e ts }
@@ -268,6 +273,7 @@ impl<'a> Seeker<'a> {
     }
 
     /// Whether the expression describes some end of the list of tokens.
+    #[inline]
     pub fn accepts(&self) -> bool
         ensures { (e : Expression) (ts : List (List ℕ)) → Seeks self.now e ts
             → IsTrue result ↔ DescribesEnd e ts }
@@ -280,6 +286,7 @@ impl<'a> Seeker<'a> {
 
     /// True where no position is marked: then it stands as it is for the list with one token more that no described list
     /// begins with. It looks at a few flags.
+    #[inline]
     pub fn is_dead(&self) -> bool
         ensures none { (e : Expression) (ts : List (List ℕ)) → Seeks self.now e ts → IsTrue result
             → ¬ (DescribesEnd e ts) }

@@ -248,6 +248,7 @@ impl State {
     }
 
     /// Whether no position is marked, and no word may begin: then no word goes on.
+    #[inline]
     pub fn is_dead(&self) -> bool
         ensures { (r : Core) → IsTrue result → NoneGoesOn r self.now }
     {
@@ -361,6 +362,7 @@ impl State {
     }
 
     /// Whether the letters of a plain token, behind the letter `last` and a gap, are known to leave the state as it is.
+    #[inline]
     pub fn stays(&self, plain: &Plain, last: char) -> bool
         ensures { (r : Core) (row : List ℕ) (lists : List (List (Gap × ℕ)))
             → IsPlain plain.now row → HasTakenAny r self.now lists → IsTrue result
@@ -374,6 +376,7 @@ impl State {
 
     /// Takes the letters of a token, and opens a gap behind them, where one position alone is marked and the stretch says where
     /// they lead from there: the mark moves on by as many places at once, or no word goes on. Otherwise nothing is done.
+    #[inline(never)]
     pub fn follow(
         &mut self,
         tree: &Node,

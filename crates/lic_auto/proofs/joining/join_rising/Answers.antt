@@ -1,6 +1,7 @@
 use Rattle.std.proofs.Common.{◌≡◌, ◌+◌, ◌<◌, [], ◌∷◌, ◌++◌, length, take, refl, sym, ◌∙◌, subst, arith}
 use Rattle.std.proofs.Math.ListN.{set}
 use Rattle.std.proofs.lemmas.List.{length-take-le, length-set, take_more_set}
+use Rattle.lic_keys.specs.Rising.{IsRising}
 use Rattle.lic_auto.specs.Joining.{IsLeastIn}
 use Rattle.lic_auto.proofs.Joined.{AreJoined, AreJoined-start, AreJoined-more, AreJoined-end, fewer_joined}
 use Rattle.lic_auto.proofs.joining.join_rising.Goals as goal
@@ -73,3 +74,8 @@ returns-clause-both c =
     let l = c.loop-number in
     AreJoined-end (length l.joined)
     (take l.count l.joined) l.some.now l.others.now c.args.some.now c.args.others.now l.invariant.joined c.in_default.ensures.none.0 c.in_default.ensures.none.1
+
+pub returns-then-is_empty-clause-rising : goal.returns-then-is_empty-clause-rising
+returns-then-is_empty-clause-rising c =
+    subst (λ xs. IsRising xs (length c.copy_rising.new.copied)) (sym c.copy_rising.ensures.same)
+    (subst (λ n. IsRising c.args.some.now n) (sym c.copy_rising.ensures.room) c.requires.some)

@@ -2,8 +2,8 @@ use Rattle.std.proofs.Common.{⊎_elim, arith}
 use Rattle.std.proofs.lemmas.Bool.{cases_lt}
 use Rattle.lic_marks.proofs.rows.is_any_set.Goals as goal
 
-pub returns-then-first-last : goal.returns-then-first-last
-returns-then-first-last c = (
+pub returns : goal.returns
+returns c = (
   λ h. let e = c.is_any_set.ensures.0 h in (e.0, omega (arith, e.1), omega (arith, e.2), e.3),
   λ e. c.is_any_set.ensures.1 (
     e.0,
@@ -14,11 +14,4 @@ returns-then-first-last c = (
         (cases_lt e.0 c.min-last.result),
     e.3,
   ),
-)
-
-pub returns-else-first-last : goal.returns-else-first-last
-returns-else-first-last c = (
-  λ h. absurd cc,
-  λ e. absurd (⊎_elim (λ near. let none = c.requires.live.before e.0 e.1 e.2 near in let some = e.3 in cc)
-      (λ far. let none = c.requires.live.behind e.0 e.1 e.2 (omega (arith, far, e.1, e.2)) in let some = e.3 in cc) (cases_lt e.0 c.args.live.from)),
 )
