@@ -7,6 +7,7 @@ ghost use Rattle.lic_marks.specs.Nodes.{is_measured};
 use lic_ere::Ere;
 use lic_marks::build;
 use lic_marks::node::{Node, Times};
+use lic_marks::plain::Plain;
 use lic_marks::run::Run;
 use lic_marks::test::Test;
 use std::alloc::{AllocError, Global};
@@ -107,6 +108,36 @@ fn assert_run(rt: &impl Abort, alloc: Global, tree: &Node, cases: &[Case]) -> Re
         assert_eq!(rt; run.accepts(), *is_described, "{tokens:?}");
         assert_eq!(rt; run.is_dead(), *is_dead, "{tokens:?}");
     }
+    Ok(())
+}
+
+#[test]
+fn a_token_is_plain_from_either_end(rt: HostRuntime) -> Result<(), AllocError> {
+    let table: &[(&str, bool)] = &[
+        ("holder", true),
+        ("1,000", true),
+        ("a b", false),
+        ("na\u{ef}ve", false),
+        ("abcdefghijklmnopqrstuvwxy", true),
+        ("abcdefghijklmnopqrstuvwxyz", false),
+    ];
+    for (token, is_plain) in table {
+        assert_eq!(rt; Plain::of(token).is_some(), *is_plain, "{token:?}");
+        assert_eq!(rt; Plain::turned(token).is_some(), *is_plain, "{token:?}");
+    }
+    Ok(())
+}
+
+#[test]
+fn a_plain_token_is_taken_as_any_other(rt: HostRuntime) -> Result<(), AllocError> {
+    let tree = up_to_two_and_end(rt.alloc()).expect(&rt, "memory");
+    let mut run = Run::new(rt.alloc(), &tree)?;
+    let tokens: &[&str] = &["ab", "end"];
+    for token in tokens {
+        let known = Plain::of(token);
+        run.push_known(token, known.as_ref());
+    }
+    assert!(rt; run.accepts());
     Ok(())
 }
 
