@@ -1,4 +1,4 @@
-use Rattle.std.proofs.Common.{◌≡◌, ◌∷◌, [], ℕ, Option, Some, None, map, subst}
+use Rattle.std.proofs.Common.{◌≡◌, ◌∷◌, [], Some, None, map, subst}
 use Rattle.std.specs.Option.{ForSome}
 use Rattle.lic_words.specs.Reading.{gapped_letter}
 use Rattle.lic_marks.specs.Lone.{MovesTo}

@@ -1,4 +1,4 @@
-use Rattle.std.proofs.Common.{◌≡◌, ℕ, List, [], ◌∷◌, ◌++◌, true, false, sym, ap, ◌∙◌, subst}
+use Rattle.std.proofs.Common.{◌≡◌, ℕ, List, [], ◌∷◌, ◌++◌, false, sym, ap, ◌∙◌, subst}
 use Rattle.lic_words.specs.Spelling.{Gap, gap_of}
 use Rattle.lic_words.specs.Reading.{gapped_letter}
 use Rattle.lic_marks.specs.Plain.{ComeJoined}
