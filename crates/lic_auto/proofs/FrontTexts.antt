@@ -1,5 +1,5 @@
 -- Texts that begin with a front as they are read, and lists of fronts that are tried one by one.
-use Rattle.std.proofs.Common.{◌≡◌, ◌≢◌, ◌⊎◌, ℕ, ◌+◌, ◌-◌, ◌<◌, ◌≤◌, Bool, false, nat_eq, take, drop, List, [], ◌++◌, map, length, get_or, reverse, String, Global, string_bytes, sym, ap, ◌∙◌, subst, arith}
+use Rattle.std.proofs.Common.{◌≡◌, ◌≢◌, ℕ, ◌+◌, ◌-◌, ◌<◌, ◌≤◌, Bool, false, nat_eq, take, drop, List, [], ◌++◌, map, length, get_or, reverse, String, Global, string_bytes, sym, ap, ◌∙◌, subst, arith}
 use Rattle.std.specs.List.{Contains, starts_with, ends_with}
 use Rattle.std.specs.Cmp.Lexicographic.{other_text}
 use Rattle.std.proofs.Math.Seq.{take-append_seam, drop-append_seam}

@@ -1,4 +1,4 @@
-use Rattle.std.proofs.Common.{◌≡◌, string_bytes, sym, subst, arith}
+use Rattle.std.proofs.Common.{string_bytes, subst, arith}
 use Rattle.lic_auto.specs.Fronts.{IsFrontOf}
 use Rattle.lic_auto.proofs.FrontTexts.{none_more, none_at_all}
 use Rattle.lic_auto.proofs.first.has_front.Goals as goal

@@ -1,4 +1,4 @@
-use Rattle.std.proofs.Common.{◌≡◌, reverse, sym, subst}
+use Rattle.std.proofs.Common.{reverse, subst}
 use Rattle.std.proofs.Math.Utf8.{encodes}
 use Rattle.lic_auto.specs.Fronts.{IsFrontOf}
 use Rattle.lic_auto.proofs.FrontTexts.{front_bytes, back_bytes, begins_not, ends_not}

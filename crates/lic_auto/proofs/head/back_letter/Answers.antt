@@ -1,4 +1,4 @@
-use Rattle.std.proofs.Common.{◌≡◌, List, ℕ, [], ◌∷◌, ◌++◌, length, reverse, take, append-nil, rules, sym, ap, ◌∙◌}
+use Rattle.std.proofs.Common.{◌≡◌, List, ℕ, [], ◌++◌, length, reverse, take, append-nil, rules, sym, ap, ◌∙◌}
 use Rattle.std.specs.Char.{IsScalar, encode_utf8}
 use Rattle.std.specs.Str.{chars}
 use Rattle.std.proofs.Math.Utf8.{encode, encodes}

@@ -1,4 +1,4 @@
-use Rattle.std.proofs.Common.{◌≡◌, List, ℕ, ◌-◌, [], ◌∷◌, ◌++◌, length, take, sym, ap, ◌∙◌, subst, arith}
+use Rattle.std.proofs.Common.{◌≡◌, List, ℕ, ◌-◌, [], length, take, sym, ap, ◌∙◌, subst, arith}
 use Rattle.std.specs.Char.{len_utf8}
 use Rattle.std.specs.List.{slice_range}
 use Rattle.std.specs.Str.{chars, IsCharBoundary}
