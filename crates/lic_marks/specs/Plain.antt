@@ -1,4 +1,4 @@
--- Tokens of plain letters, as they are read from their ends.
+-- Tokens of plain letters, as they are read from one of their ends.
 use Rattle.std.specs.Prelude.{◌≡◌, ℕ, true, ◌&&◌, List, [], ◌∷◌}
 use Rattle.lic_words.specs.Words.{blank}
 use Rattle.lic_words.specs.Letters.{is_word}
