@@ -288,4 +288,5 @@ def main():
             PARTS[name](program, lambda file: os.path.join(folder, file), sources)
 
 
-main()
+if __name__ == '__main__':
+    main()
