@@ -1,41 +1,18 @@
 #!/usr/bin/env python3
-"""Proves and builds the program crates/licscan, with each crate that it stands on.
-
-The crates are proved one after another, the lowest first, each on all cores: most of them stand on each other. A line on standard error says
-when each is proved. Work that earlier checks kept is used.
+"""Proves and builds the program crates/licscan, with each crate that it stands on. Says on standard error how far it is.
 Usage: build.py TOP, where TOP is the repository's top."""
 import fcntl
 import os
 import shutil
-import subprocess
 import sys
+import tempfile
 import time
 
 sys.path.insert(0, os.path.join(os.path.dirname(os.path.realpath(__file__)), "..", "crates"))
 from listed import from_the_ground, read_crates
+from proving import copy_crates, minutes, prove, say
 
 PROGRAM = "licscan"
-
-
-def say(text):
-    print(f"licscan: {text}", file=sys.stderr, flush=True)
-
-
-def jobs():
-    """How many functions are proved at a time: one for each core, and for each 4 GB of memory."""
-    memory = os.sysconf("SC_PAGE_SIZE") * os.sysconf("SC_PHYS_PAGES")
-    return max(1, min(os.cpu_count() or 1, memory // 4_000_000_000))
-
-
-def minutes(start):
-    return f"{(time.monotonic() - start) / 60:.0f} minutes"
-
-
-def run(folder, log, *words):
-    """Runs rt in a crate's folder, and returns its status. What it says goes to a file in out/."""
-    os.makedirs(f"{folder}/out", exist_ok=True)
-    with open(f"{folder}/out/{log}", "w", encoding="utf-8") as file:
-        return subprocess.run(["rt", *words], cwd=folder, stdin=subprocess.DEVNULL, stdout=file, stderr=file).returncode
 
 
 def newest_source(folder):
@@ -49,25 +26,6 @@ def newest_source(folder):
     return newest
 
 
-def time_of(path):
-    return os.path.getmtime(path) if os.path.exists(path) else 0
-
-
-def prove(top, crates, libraries, start):
-    """Proves in turn the libraries that are older than a source of theirs or than one below. Says whether all are proved."""
-    made = {}
-    for number, name in enumerate(libraries, 1):
-        folder = f"{top}/crates/{name}"
-        stamp = f"{folder}/out/rlib/stamp"
-        if time_of(stamp) <= max([newest_source(folder), *(made[it] for it in crates[name])]):
-            if run(folder, "build.log", "lib", "--jobs", str(jobs())):
-                say(f"{name} could not be proved (log: crates/{name}/out/build.log)")
-                return False
-            say(f"{number} of {len(libraries) + 1} crates proved ({name}; {minutes(start)})")
-        made[name] = time_of(stamp)
-    return True
-
-
 def is_current(top):
     """Whether the program is there, and no source of a crate is newer."""
     program = f"{top}/crates/{PROGRAM}/out/{PROGRAM}"
@@ -75,20 +33,22 @@ def is_current(top):
 
 
 def build(top):
-    """Proves all, links the program, and returns the exit status."""
+    """Proves all, builds the program, and returns the exit status."""
     start = time.monotonic()
-    crates = read_crates(top)
-    order = from_the_ground(crates, [PROGRAM])
-    say(f"proving what is new of {len(order)} crates, then building the program: all of them take some 50 minutes on four cores")
-    if not prove(top, crates, order[:-1], start):
-        return 2
-    program = f"{top}/crates/{PROGRAM}/out/{PROGRAM}"
-    # it proves and links the program, and then shows its help, whose status is 0
-    status = run(f"{top}/crates/{PROGRAM}", "build.log", "run", "--jobs", str(jobs()), "--", "--help")
-    if status or not os.access(program, os.X_OK):
-        say(f"the program could not be proved and built (log: crates/{PROGRAM}/out/build.log)")
-        return 2
-    os.utime(program)
+    names = from_the_ground(read_crates(top), [PROGRAM])
+    to = f"{top}/crates/{PROGRAM}/out"
+    say(f"proving {len(names)} crates and building the program: some 40 minutes on four cores, and none for a crate that was proved before")
+    with tempfile.TemporaryDirectory(prefix="licscan-build-") as room:
+        copy_crates(top, names, room)
+        status = prove(room, len(names), f"{to}/build.log", start)
+        built = f"{room}/crates/{PROGRAM}/out/{PROGRAM}"
+        if status or not os.access(built, os.X_OK):
+            say(f"the program could not be proved and built (log: crates/{PROGRAM}/out/build.log)")
+            return 2
+        # renamed, so that no other run meets half of it
+        shutil.copyfile(built, f"{to}/{PROGRAM}.new")
+    os.chmod(f"{to}/{PROGRAM}.new", 0o755)
+    os.replace(f"{to}/{PROGRAM}.new", f"{to}/{PROGRAM}")
     say(f"proved and built in {minutes(start)}")
     return 0
 

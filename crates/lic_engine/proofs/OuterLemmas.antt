@@ -7,7 +7,7 @@ use Rattle.lic_norm.specs.Tokens.{TokenValue}
 use Rattle.lic_auto.specs.Sets.{Known}
 use Rattle.lic_find.specs.Matches.{AreMatches}
 use Rattle.lic_find.specs.declared.triple.Triple.{Triple}
-use Rattle.lic_vars.specs.Filters.{outer_of}
+use Rattle.lic_filters.specs.Filters.{outer_of}
 use Rattle.lic_vars.specs.Values.{Assigned, AreValues}
 use Rattle.lic_stream.specs.Stream.{BeginsWith}
 use Rattle.lic_report.specs.Report.{AreOuterLines, HasItsValues, Valued, match_line, triple_of, value_line, valued_lines}

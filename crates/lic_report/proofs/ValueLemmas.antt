@@ -9,7 +9,7 @@ use Rattle.lic_norm.specs.declared.token.Span.{Span}
 use Rattle.lic_auto.specs.Sets.{Known}
 use Rattle.lic_find.specs.Matches.{AreMatches, IsMatch}
 use Rattle.lic_find.specs.declared.triple.Triple.{Triple}
-use Rattle.lic_vars.specs.Filters.{tight_of, outer_of}
+use Rattle.lic_filters.specs.Filters.{tight_of, outer_of}
 use Rattle.lic_vars.specs.Values.{Assigned, AreValues, RunsFrom}
 use Rattle.lic_vars.specs.Views.{value_of}
 use Rattle.lic_vars.specs.declared.values.Value.{Value}

@@ -8,7 +8,7 @@ use Rattle.lic_phrases.specs.Rewriting.{Phrase}
 use Rattle.lic_auto.specs.Sets.{Known}
 use Rattle.lic_find.specs.Matches.{AreMatches}
 use Rattle.lic_find.specs.declared.triple.Triple.{Triple}
-use Rattle.lic_vars.specs.Filters.{outer_of}
+use Rattle.lic_filters.specs.Filters.{outer_of}
 use Rattle.lic_vars.specs.Values.{Assigned, AreValues}
 use Rattle.lic_find.specs.declared.ask.Ask.{Ask}
 use Rattle.lic_fields.specs.Fields.{escaped, field}

@@ -4,7 +4,7 @@ ghost use Rattle.std.specs.Prelude.{◌≡◌, ◌≤◌, ◌++◌, ℕ, List, A
 ghost use Rattle.std.specs.List.{flat_map};
 ghost use Rattle.lic_find.specs.Matches.{AreMatches, IsMatch};
 ghost use Rattle.lic_norm.specs.declared.token.Span.{Span};
-ghost use Rattle.lic_vars.specs.Filters.{outer_of};
+ghost use Rattle.lic_filters.specs.Filters.{outer_of};
 ghost use Rattle.lic_vars.specs.Values.{Assigned, AreValues};
 ghost use Rattle.lic_vars.specs.Views.{value_of};
 ghost use Rattle.lic_report.specs.Report.{value_line, valued_lines};
@@ -12,13 +12,14 @@ ghost use Rattle.lic_report.specs.Report.{value_line, valued_lines};
 use crate::assigners::Assigners;
 use crate::lines::{add_match, add_value};
 use lic_auto::set::Set;
+use lic_filters::filters::outer;
+use lic_filters::laws::{outer_ones_are_tight, tight_ones_are_tight};
 use lic_find::laws::matches_exist;
 use lic_find::triple::Triple;
 use lic_norm::laws::tokens_have_spans;
 use lic_norm::text::Text;
 use lic_tight::matches::tight_matches;
-use lic_vars::filters::outer;
-use lic_vars::laws::{outer_ones_are_tight, tight_ones_are_tight, values_run_over_tokens};
+use lic_vars::laws::values_run_over_tokens;
 use lic_vars::values::Value;
 use std::alloc::{AllocError, Global};
 

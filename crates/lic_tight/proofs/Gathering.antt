@@ -10,9 +10,9 @@ use Rattle.lic_find.specs.Matches.{IsMatch, AreMatches}
 use Rattle.lic_find.specs.declared.triple.Triple.{Triple}
 use Rattle.lic_find.proofs.Triples.{same_from_members}
 use Rattle.lic_find.proofs.Collecting.{Collects, Collects-filter}
-use Rattle.lic_vars.specs.Filters.{is_inside, is_tight, tight_of, triple_cmp}
-use Rattle.lic_vars.proofs.Members.{not-list_any}
-use Rattle.lic_vars.proofs.Ranges.{IsInside, IsInside-test, test-IsInside, same_triple}
+use Rattle.lic_filters.specs.Filters.{is_inside, is_tight, tight_of, triple_cmp}
+use Rattle.lic_filters.proofs.Members.{not-list_any}
+use Rattle.lic_filters.proofs.Ranges.{IsInside, IsInside-test, test-IsInside, same_triple}
 use Rattle.lic_tight.specs.TightMatches.{IsTightMatch}
 use Rattle.lic_tight.specs.Walked.{AreOnce}
 use Rattle.lic_tight.proofs.Sorting.{once_moved, ascending_sorted}

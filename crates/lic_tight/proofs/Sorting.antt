@@ -12,11 +12,11 @@ use Rattle.std.proofs.lemmas.List.Elements.{Contains-push_cases}
 use Rattle.std.proofs.lemmas.Map.Keys.{IsDistinct-head, IsDistinct-tail, IsDistinct-cons, IsDistinct-IsPermutation}
 use Rattle.lic_find.specs.Matches.{Precedes, AreAscending}
 use Rattle.lic_find.specs.declared.triple.Triple.{Triple}
-use Rattle.lic_vars.proofs.Ranges.{same_triple}
+use Rattle.lic_filters.proofs.Ranges.{same_triple}
 use Rattle.lic_tight.specs.Walked.{is_same, AreOnce}
 use Rattle.lic_find.proofs.Triples.{Contains-nil, Contains-head, Contains-tail, Contains-cons_cases}
-use Rattle.lic_vars.specs.Filters.{triple_cmp}
-use Rattle.lic_vars.proofs.Orders.{AllPairs-from_sorted}
+use Rattle.lic_filters.specs.Filters.{triple_cmp}
+use Rattle.lic_filters.proofs.Orders.{AllPairs-from_sorted}
 
 same_bools : (b c : Bool) → (b ≡ true → c ≡ true) → (c ≡ true → b ≡ true) → b ≡ c
 same_bools true c to from = sym (to refl)

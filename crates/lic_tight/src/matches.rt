@@ -3,7 +3,7 @@
 ghost use Rattle.std.specs.Prelude.{◌≡◌, ◌<◌, ◌≤◌, ◌+◌, ◌-◌, ◌*◌, ◌^◌, ℕ, List, length, IfOk, None};
 ghost use Rattle.lic_find.specs.Matches.{AreMatches};
 ghost use Rattle.lic_find.specs.declared.triple.Triple.{Triple};
-ghost use Rattle.lic_vars.specs.Filters.{tight_of};
+ghost use Rattle.lic_filters.specs.Filters.{tight_of};
 ghost use Rattle.lic_tight.specs.Steps.{range_steps, replayed_letters, text_letters};
 
 use crate::walk::Walk;

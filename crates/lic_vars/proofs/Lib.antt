@@ -1,11 +1,3 @@
-pub mod Members
-pub mod Sweeps
-pub mod Orders
-pub mod Ranges
-pub mod TightLemmas
-pub mod OutermostLemmas
-pub mod Searching
-pub mod FilterLaws
 pub mod ReadLemmas
 pub mod LeastLemmas
 pub mod TreeLemmas
@@ -28,4 +20,3 @@ pub mod StepLemmas
 pub mod AssignLemmas
 pub mod OneListLemmas
 pub mod RunLemmas
-pub mod Examples

@@ -1,4 +1,3 @@
-pub mod Filters
 pub mod Derivations
 pub mod Values
 pub mod Moves

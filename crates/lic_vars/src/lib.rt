@@ -1,4 +1,4 @@
-//! What a scan reports of its matches: the tight ones, the outer ones among these, and what the variables stand for.
+//! What the variables of a match stand for. The filters of matches are handed on from lic_filters.
 #![tactic(auto)]
 
 mod branch;

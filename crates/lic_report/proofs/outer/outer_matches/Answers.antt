@@ -1,7 +1,7 @@
 use Rattle.std.proofs.Common.{rules, ◌≡◌, ◌∙◌, ap, List, None}
 use Rattle.std.proofs.lemmas.Result.{IfOk-weaker}
 use Rattle.lic_find.specs.declared.triple.Triple.{Triple}
-use Rattle.lic_vars.specs.Filters.{outer_of, outermost_of}
+use Rattle.lic_filters.specs.Filters.{outer_of, outermost_of}
 use Rattle.lic_report.proofs.ValueLemmas.{outer_are_matches}
 use Rattle.lic_report.proofs.outer.outer_matches.Goals as goal
 

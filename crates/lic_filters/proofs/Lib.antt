@@ -1,0 +1,9 @@
+pub mod Members
+pub mod Sweeps
+pub mod Orders
+pub mod Ranges
+pub mod TightLemmas
+pub mod OutermostLemmas
+pub mod Searching
+pub mod FilterLaws
+pub mod Examples

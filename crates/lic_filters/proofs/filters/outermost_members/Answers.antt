@@ -1,0 +1,20 @@
+use Rattle.std.proofs.Common.{◌≡◌, List, rules, subst, sym}
+use Rattle.std.proofs.lemmas.Fn.{dedup_same, always_returns_same}
+use Rattle.std.specs.List.{dedup}
+use Rattle.std.specs.List.Sorted.{IsPermutation, IsSortedBy}
+use Rattle.std.specs.Ordering.{is_lt}
+use Rattle.lic_find.specs.declared.triple.Triple.{Triple}
+use Rattle.lic_filters.specs.Filters.{SameMembers, outermost_of}
+use Rattle.lic_filters.proofs.Orders.{by_range}
+use Rattle.lic_filters.proofs.OutermostLemmas.{is_under, outermost_of-swept}
+use Rattle.lic_filters.proofs.filters.outermost_members.Goals as goal
+
+pub returns : goal.returns
+returns c =
+    let sorted : List Triple = c.sort_unstable_by_key.new.self.items in
+    let order : IsSortedBy (λ x y. is_lt (by_range x y)) sorted =
+    c.sort_unstable_by_key.ensures.sorted (λ t. (t.first, record { 0 = t.last })) (always_returns_same _ _ _ (λ a r f' k. search rules)) in
+    let kept : c.dedup_by.new.self.items ≡ dedup is_under sorted = dedup_same _ is_under _ (λ x y b f' x' y' k. search rules) _ _ c.dedup_by.ensures.filtered in
+    let moved : IsPermutation c.args.tight.now sorted =
+    subst (λ list. IsPermutation list sorted) c.in_ok-members.ensures.items c.sort_unstable_by_key.ensures.permutation in
+    subst (λ members. SameMembers members (outermost_of c.args.tight.now)) (sym kept) (outermost_of-swept c.args.tight.now sorted c.requires moved order)

@@ -1,5 +1,0 @@
-use Rattle.lic_vars.proofs.FilterLaws.{tight_within}
-use Rattle.lic_vars.proofs.laws.each_holds_a_tight_one.Goals as goal
-
-pub returns : goal.returns
-returns c = tight_within

@@ -1,5 +1,0 @@
-use Rattle.lic_vars.proofs.FilterLaws.{outer_of-outer_of}
-use Rattle.lic_vars.proofs.laws.outer_ones_are_outer.Goals as goal
-
-pub returns : goal.returns
-returns c = outer_of-outer_of

@@ -1,0 +1,79 @@
+#!/usr/bin/env python3
+"""Proves all crates and their tests, and says when each is proved. Meanwhile the must-fail edits of the crates that are proved are tried on
+what the proofs leave of the cores.
+
+`rt ci` alone lets edits of lower crates take cores from the upper ones that wait to be proved, so the longest chain of crates gets one core.
+Here the chain has all cores that it can use. What is proved and tried is kept by rt: the gate itself, which runs after this, does what is
+left. Usage: proofs.py"""
+import os
+import queue
+import shutil
+import subprocess
+import sys
+import tempfile
+import threading
+import time
+
+TOP = os.path.dirname(os.path.dirname(os.path.dirname(os.path.realpath(__file__))))
+sys.path[:0] = [f"{TOP}/scripts/crates", f"{TOP}/scripts/build"]
+from listed import from_the_ground, read_crates
+from proving import copy_crates, minutes, prove, say
+
+# a trial of edits takes up to two of these
+MEMORY_OF_A_CHECK = 3_000_000_000
+
+
+def workers():
+    """How many crates' edits are tried at a time."""
+    memory = os.sysconf("SC_PAGE_SIZE") * os.sysconf("SC_PHYS_PAGES")
+    return max(1, min(os.cpu_count() or 1, memory // (2 * MEMORY_OF_A_CHECK)))
+
+
+def try_edits(name, start):
+    """Tries a proved crate's edits. What comes of it, the gate says later."""
+    if not os.path.isdir(f"{TOP}/crates/{name}/must-fail"):
+        return
+    with tempfile.TemporaryDirectory(prefix="licscan-edits-") as room:
+        copy_crates(TOP, from_the_ground(read_crates(TOP), [name]), room)
+        shutil.copytree(f"{TOP}/crates/{name}/must-fail", f"{room}/crates/{name}/must-fail")
+        subprocess.run(
+            ["nice", "-n", "19", "rt", "ci"],
+            cwd=room,
+            env=dict(os.environ, RT_JOBS="2"),
+            stdin=subprocess.DEVNULL,
+            stdout=subprocess.DEVNULL,
+            stderr=subprocess.DEVNULL,
+            check=False,
+        )
+    say(f"edits of {name} tried ({minutes(start)})")
+
+
+def work(names, start):
+    while (name := names.get()) is not None:
+        try_edits(name, start)
+
+
+def main():
+    start = time.monotonic()
+    crates = list(read_crates(TOP))
+    names = queue.Queue()
+    threads = [threading.Thread(target=work, args=(names, start)) for _ in range(workers())]
+    for thread in threads:
+        thread.start()
+    with tempfile.TemporaryDirectory(prefix="licscan-proofs-") as room:
+        copy_crates(TOP, crates, room)
+        log = f"{room}/proofs.log"
+        status = prove(room, len(crates), log, start, names.put)
+        if status:
+            with open(log, "rb") as file:
+                sys.stdout.buffer.write(file.read())
+    say(f"the proofs took {minutes(start)}")
+    for _ in threads:
+        names.put(None)
+    for thread in threads:
+        thread.join()
+    return status
+
+
+if __name__ == "__main__":
+    sys.exit(main())
