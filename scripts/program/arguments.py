@@ -1,0 +1,22 @@
+"""Cases of arguments that are refused."""
+from running import Case, templates
+
+SCAN = ['scan', '--templates', 'T']
+E_REFUSED = b'licscan: template E: M10 at 0: no letter in it\n'
+
+# the arguments behind the folder of the templates, and the first fault
+FAULTS = [
+    (['--limit=1', '--after=x', 'a', 'b'], b'licscan: --after needs --all\n'),
+    (['--limit', '1', 'a', 'b'], b'licscan: --limit needs --all\n'),
+    (['--all', '--after=x', 'a', 'b'], b'licscan: --after takes one file\n'),
+    (['--all', '--after', '0-1:A', 'a'], b'licscan: --after: bad triple\n'),
+    (['--all', '--after', '+0:1:A', 'a'], b'licscan: --after: bad triple\n'),
+    (['--all', '--after', ':1:A', 'a'], b'licscan: --after: bad triple\n'),
+    (['--all', '--after', '0:18446744073709551616:A', 'a'], b'licscan: --after: bad triple\n'),
+    (['--all', '--after', '0:1:Z\n', 'a'], E_REFUSED + b'licscan: --after: no template Z\\n\n'),
+    (['--all', '--after', '0:1:E', 'a'], E_REFUSED + b'licscan: --after: no template E\n'),
+    (['--all', '--after', '0:1:', 'a'], E_REFUSED + b'licscan: --after: no template \n'),
+]
+
+CASES = [Case(f'the first fault is told: {args}', SCAN + args, templates(A=b'foo bar', E=b' '), given=b'foo bar', status=2, err=err)
+         for args, err in FAULTS]
