@@ -11,5 +11,3 @@ mod reading;
 mod refused;
 #[cfg(test)]
 mod runs;
-#[cfg(test)]
-mod streams;

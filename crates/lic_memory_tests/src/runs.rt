@@ -2,7 +2,6 @@
 
 use crate::lent::{CHECKED, OF, OPTIONAL, TWO, Templates, set_of, text_of};
 use crate::refused::{Refused, retried};
-use crate::streams::{Awaited, Pieces};
 use lic_auto::set::Set;
 use lic_engine::check::check;
 use lic_engine::engine::{run, run_tokens};
@@ -10,6 +9,7 @@ use lic_find::ask::Ask;
 use lic_find::triple::Triple;
 use lic_kind::Rules;
 use lic_norm::words::Words;
+use lic_test_streams::streams::{Awaited, Pieces};
 use std::alloc::Global;
 use std::process::Abort;
 

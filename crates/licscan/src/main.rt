@@ -5,8 +5,6 @@ pub mod faults;
 pub mod files;
 pub mod program;
 pub mod progress;
-#[cfg(test)]
-mod tests;
 
 use crate::faults::{Stop, tell_stop};
 pub use crate::program::command;

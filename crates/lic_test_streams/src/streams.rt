@@ -1,36 +1,55 @@
-//! A reader and a writer that take no memory: an input that comes in pieces, and a report that is taken as it comes.
+//! An input that comes byte by byte, and a report that is taken as it comes; either may fail.
 
 use lic_stream::stream::{Sink, Source};
 use std::io;
 
-/// A reader that gives three bytes a call.
+/// A reader that gives one byte a call, and of whose calls one may fail.
 #[derive(Drop)]
 pub struct Pieces {
     rest: &'static [u8],
+    calls: usize,
+    fails_at: usize,
+    failed: u64,
 }
 
 impl Pieces {
+    /// A reader whose call of this number fails, counted from 1. With 0, none does.
+    pub fn failing(input: &'static [u8], fails_at: usize) -> Pieces {
+        Pieces {
+            rest: input,
+            calls: 0,
+            fails_at,
+            failed: 0,
+        }
+    }
+
+    /// A reader that does not fail.
     pub fn of(input: &'static [u8]) -> Pieces {
-        Pieces { rest: input }
+        Pieces::failing(input, 0)
     }
 }
 
 impl Source for Pieces {
-    ghost use Rattle.std.specs.Prelude.{Some};
+    ghost use Rattle.std.specs.Prelude.{None};
 
-    ghost left = { λ s. Some s.rest.now };
+    ghost left = { λ _. None };
 
-    ghost failed = { λ _. 0 };
+    ghost failed = { λ s. s.failed };
 
     fn pull(&mut self, buf: &mut [u8]) -> io::Result<usize> {
-        let n = self.rest.len().min(buf.len()).min(3);
+        self.calls = self.calls.saturating_add(1);
+        if self.calls == self.fails_at {
+            self.failed = self.failed.saturating_add(1);
+            return Err(io::Error::from(io::ErrorKind::Interrupted));
+        }
+        let n = self.rest.len().min(buf.len()).min(1);
         buf[..n].copy_from_slice(&self.rest[..n]);
         self.rest = &self.rest[n..];
         Ok(n)
     }
 
     fn failures(&self) -> u64 {
-        0
+        self.failed
     }
 }
 

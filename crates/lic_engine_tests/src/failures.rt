@@ -1,0 +1,176 @@
+//! Calls of the engine of whose reads one fails, or whose writer has room for a beginning of what is written.
+
+use lic_auto::set::Set;
+use lic_engine::check::check;
+use lic_engine::engine::{run, run_tokens};
+use lic_engine::fault::RunFault;
+use lic_find::ask::Ask;
+use lic_kind::Rules;
+use lic_markup::read_template;
+use lic_norm::words::Words;
+use lic_stream::stream::Sink;
+use lic_test_streams::streams::{Awaited, Pieces};
+use std::alloc::Global;
+use std::process::Abort;
+use std::test::Fail;
+
+/// Identifiers and texts of templates.
+type Templates = &'static [(&'static str, &'static str)];
+
+const ONE: Templates = &[("A", "foo bar")];
+
+/// A word and three letters.
+const LETTERS: Templates = &[("A", r#"foo <<var;name="v";original="";match=".{3}">>"#)];
+
+/// Two templates that describe the same tokens.
+const TWO: Templates = &[
+    ("A", "foo bar"),
+    ("B", r#"foo <<var;name="w";original="bar";match="[a-z]+">>"#),
+];
+
+/// A call of the engine.
+#[derive(Clone, Copy)]
+enum Call {
+    Run(Ask),
+    Tokens,
+    Check,
+}
+
+const ALL: Call = Call::Run(Ask {
+    all: true,
+    after: None,
+    limit: None,
+});
+
+const OUTER: Call = Call::Run(Ask {
+    all: false,
+    after: None,
+    limit: Some(1),
+});
+
+/// A call, its templates and its input, and what it writes.
+#[derive(Clone, Copy)]
+struct Row {
+    call: Call,
+    templates: Templates,
+    input: &'static [u8],
+    report: &'static [u8],
+}
+
+const ROWS: &[Row] = &[
+    Row {
+        call: ALL,
+        templates: ONE,
+        input: b"foo bar foo bar",
+        report: b"-\tA\t0\t1\t0\t7\n-\tA\t2\t3\t8\t15\n",
+    },
+    Row {
+        call: OUTER,
+        templates: TWO,
+        input: b"foo bar",
+        report: b"-\tA\t0\t1\t0\t7\n-\tB\t0\t1\t0\t7\n\tw\t4\t7\tbar\n",
+    },
+    Row {
+        call: OUTER,
+        templates: LETTERS,
+        input: b"foo bar foo bar",
+        report: b"-\tA\t0\t1\t0\t7\n\tv\t4\t7\tbar\n-\tA\t2\t3\t8\t15\n\tv\t12\t15\tbar\n",
+    },
+    Row {
+        call: Call::Tokens,
+        templates: &[],
+        input: b"foo bar",
+        report: b"-\t0\t3\tfoo\n-\t4\t7\tbar\n",
+    },
+    Row {
+        call: Call::Check,
+        templates: ONE,
+        input: b"",
+        report: b"A\t7\tyes\n",
+    },
+];
+
+/// How many reads a call makes: one for each byte of its input, and one that finds its end.
+fn count_reads(row: &Row) -> usize {
+    match row.call {
+        Call::Check => 0,
+        _ => row.input.len() + 1,
+    }
+}
+
+/// The set of these templates.
+fn set_of(alloc: Global, templates: Templates, words: &Words, rules: &Rules) -> Result<Set, Fail> {
+    let mut all = Vec::new(alloc);
+    for (id, text) in templates {
+        let template = read_template(alloc, text, words, rules)?;
+        all.push((id.to_string(alloc)?, template))?;
+    }
+    Ok(Set::build(alloc, all)?)
+}
+
+/// What a call answers, whether its writer has all that it has room for, and how often it failed.
+type Outcome = (Result<bool, RunFault>, bool, u64);
+
+/// Makes a call by the rules of the profile. The read of this number fails, and the writer has room for this beginning.
+fn outcome_of(
+    alloc: Global,
+    row: &Row,
+    fails_at: usize,
+    room: &'static [u8],
+) -> Result<Outcome, Fail> {
+    let words = Words::none(alloc);
+    let rules = Rules::profile(alloc);
+    let set = set_of(alloc, row.templates, &words, &rules)?;
+    let mut input = Pieces::failing(row.input, fails_at);
+    let mut out = Awaited::of(room);
+    let answer = match &row.call {
+        Call::Run(ask) => run(alloc, "-", &mut input, &mut out, &set, &words, &rules, ask),
+        Call::Tokens => run_tokens(alloc, "-", &mut input, &mut out, &words, &rules),
+        Call::Check => check(alloc, &set, &words, &mut out, &rules),
+    };
+    Ok((answer, out.is_whole(), out.failures()))
+}
+
+/// Makes a call with each of its reads failed in turn, and with none.
+fn fail_reads(rt: &impl Abort, alloc: Global, row: &Row) -> Result<(), Fail> {
+    let reads = count_reads(row);
+    for k in 0..reads {
+        let outcome = outcome_of(alloc, row, k + 1, b"")?;
+        assert_eq!(rt; outcome, (Err(RunFault::Read), true, 0), "read {k}");
+    }
+    let outcome = outcome_of(alloc, row, reads.saturating_add(1), row.report)?;
+    assert_eq!(rt; outcome, (Ok(true), true, 0), "no read failed");
+    Ok(())
+}
+
+#[test]
+fn a_failed_read_writes_nothing(rt: HostRuntime) -> Result<(), Fail> {
+    for row in ROWS {
+        fail_reads(&rt, rt.alloc(), row)?;
+    }
+    Ok(())
+}
+
+/// Makes a call with room for each beginning of what it writes, and for all of it.
+fn fail_writes(rt: &impl Abort, alloc: Global, row: &Row) -> Result<(), Fail> {
+    let all = row.report.len();
+    for room in 0..all {
+        let outcome = outcome_of(alloc, row, 0, &row.report[..room])?;
+        assert_eq!(rt;
+            outcome,
+            (Err(RunFault::Write), true, 1),
+            "with room for {room}"
+        );
+    }
+    let outcome = outcome_of(alloc, row, 0, row.report)?;
+    assert_eq!(rt; outcome, (Ok(true), true, 0), "with room for all");
+    Ok(())
+}
+
+#[test]
+fn a_failed_write_keeps_a_beginning(rt: HostRuntime) -> Result<(), Fail> {
+    for row in ROWS {
+        fail_writes(&rt, rt.alloc(), row)?;
+    }
+    Ok(())
+}
