@@ -1,5 +1,5 @@
 #!/usr/bin/env python3
-"""Looks whether the files of examples/rules stand as they are in the tests, which see no files, and the profile's in its proved example."""
+"""Looks whether examples/rules/profile.rules is what stands in the proved example, by which its rules are those of the profile."""
 import os, re, sys
 
 TOP = os.path.dirname(os.path.dirname(os.path.dirname(os.path.abspath(__file__))))
@@ -10,19 +10,12 @@ def text_of(*path):
 
 
 def main():
-    tests = text_of('crates', 'lic_letters_tests', 'src', 'line_rules.rt')
     proof = text_of('crates', 'lic_kind', 'proofs', 'examples', 'RuleExamples.antt')
-    wrong = []
-    for name, file in [('PROFILE', 'profile'), ('DEBIAN', 'debian-copyright'), ('MORE', 'more-comments')]:
-        text = re.search(f'const {name}: &str =\\s*r#+"(.*?)"#+;', tests, re.S).group(1)
-        if text != text_of('examples', 'rules', f'{file}.rules'):
-            wrong.append(f'{file}.rules is not what stands in the tests')
     lines = re.findall(r'codes "((?:[^"\\]|\\.)*)"', proof[proof.index('profile_file =\n'):proof.index('profile_as_file')])
     unescaped = ''.join(lines).replace('\\n', '\n').replace('\\"', '"').replace('\\\\', '\\')
-    if unescaped != text_of('examples', 'rules', 'profile.rules'):
-        wrong.append('profile.rules is not what stands in the proved example')
-    print('\n'.join(wrong) or 'the same')
-    sys.exit(bool(wrong))
+    same = unescaped == text_of('examples', 'rules', 'profile.rules')
+    print('the same' if same else 'profile.rules is not what stands in the proved example')
+    sys.exit(not same)
 
 
 main()
