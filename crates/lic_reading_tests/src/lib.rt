@@ -1,9 +1,5 @@
-//! Tests of lines, texts and inputs that come in pieces, by their public calls: worked examples, texts of faults, and that a call succeeds where there is memory.
+//! Tests of inputs that come in pieces, by the public calls: what a feeder gives however an input is cut, what is ready meanwhile, and a refusal that stays.
 #![tactic(auto)]
 
 #[cfg(test)]
 mod feeders;
-#[cfg(test)]
-mod lines;
-#[cfg(test)]
-mod texts;
