@@ -1,7 +1,7 @@
 //! The filters of the default report.
 
+use lic_filters::filters::{outer, tight};
 use lic_find::triple::Triple;
-use lic_vars::filters::{outer, tight};
 use std::alloc::{AllocError, Global};
 use std::fmt::Write;
 use std::test::Fail;
@@ -37,16 +37,15 @@ fn shown(alloc: Global, triples: &[Triple]) -> Result<String, Fail> {
     Ok(shown)
 }
 
-/// The tight triples of a list.
-fn shown_tight(alloc: Global, rows: Rows) -> Result<String, Fail> {
+/// The tight triples of a list, or the outer ones.
+fn kept(alloc: Global, rows: Rows, is_outer: bool) -> Result<String, Fail> {
     let all = triples(alloc, rows)?;
-    shown(alloc, &tight(alloc, &all)?)
-}
-
-/// The outer ones.
-fn shown_outer(alloc: Global, rows: Rows) -> Result<String, Fail> {
-    let all = triples(alloc, rows)?;
-    shown(alloc, &outer(alloc, &all)?)
+    let kept = if is_outer {
+        outer(alloc, &all)?
+    } else {
+        tight(alloc, &all)?
+    };
+    shown(alloc, &kept)
 }
 
 #[test]
@@ -91,10 +90,10 @@ fn keeps_tight_and_outer_triples(rt: HostRuntime) -> Result<(), Fail> {
         (&[(5, 1, 0), (3, 4, 0), (4, 2, 1)], "5-1-0 4-2-1 ", "4-2-1 "),
     ];
     for (rows, wanted_tight, wanted_outer) in table {
-        let shown = shown_tight(rt.alloc(), rows)?;
-        assert_eq!(rt; shown.as_str(), *wanted_tight);
-        let shown = shown_outer(rt.alloc(), rows)?;
-        assert_eq!(rt; shown.as_str(), *wanted_outer);
+        for (is_outer, wanted) in [(false, wanted_tight), (true, wanted_outer)] {
+            let kept = kept(rt.alloc(), rows, is_outer)?;
+            assert_eq!(rt; kept.as_str(), *wanted);
+        }
     }
     Ok(())
 }
@@ -137,9 +136,7 @@ fn ends_soon_on_long_lists(rt: HostRuntime) -> Result<(), Fail> {
         (Long::Apart, 200_000, 200_000),
     ];
     for (long, wanted_tight, wanted_outer) in table {
-        let (tight_length, outer_length) = lengths(rt.alloc(), *long)?;
-        assert_eq!(rt; tight_length, *wanted_tight);
-        assert_eq!(rt; outer_length, *wanted_outer);
+        assert_eq!(rt; lengths(rt.alloc(), *long)?, (*wanted_tight, *wanted_outer));
     }
     Ok(())
 }

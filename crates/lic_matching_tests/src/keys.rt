@@ -26,10 +26,10 @@ fn keys_of(alloc: Global, templates: &[Template]) -> Result<Keys, AllocError> {
     Keys::build(alloc, &all)
 }
 
-/// The numbers of the templates that are kept for these tokens.
-fn kept_by(alloc: Global, keys: &Keys, tokens: &[&str]) -> Result<String, Fail> {
+/// The numbers of the templates that are kept for these tokens, with a `|` between two.
+fn kept_by(alloc: Global, keys: &Keys, tokens: &str) -> Result<String, Fail> {
     let mut look = Look::new(alloc, keys)?;
-    for token in tokens {
+    for token in tokens.split('|') {
         look.push(token)?;
     }
     let mut shown = String::new(alloc);
@@ -40,7 +40,7 @@ fn kept_by(alloc: Global, keys: &Keys, tokens: &[&str]) -> Result<String, Fail> 
 }
 
 /// Those of the templates of these texts.
-fn kept(alloc: Global, texts: &[&str], tokens: &[&str]) -> Result<String, Fail> {
+fn kept(alloc: Global, texts: &[&str], tokens: &str) -> Result<String, Fail> {
     let templates = templates_of(alloc, texts)?;
     kept_by(alloc, &keys_of(alloc, &templates)?, tokens)
 }
@@ -49,121 +49,93 @@ const MIT: &str = "Permission is hereby granted, free of charge";
 
 const BSD: &str = "Redistribution and use in source and binary forms";
 
+/// Sixteen letters: the text has one window.
+const SHORT: &str = "abcdefgh ijklmnop";
+
 #[test]
 fn keeps_the_templates_whose_key_stands(rt: HostRuntime) -> Result<(), Fail> {
-    let table: &[(&[&str], &str)] = &[
+    // templates, tokens with a `|` between two, and which templates are kept
+    let table: &[(&[&str], &str, &str)] = &[
         (
-            &[
-                "permission",
-                "is",
-                "hereby",
-                "granted",
-                ",",
-                "free",
-                "of",
-                "charge",
-            ],
+            &[MIT, BSD],
+            "permission|is|hereby|granted|,|free|of|charge",
             "0 ",
         ),
         (
-            &[
-                "so",
-                "redistribution",
-                "and",
-                "use",
-                "in",
-                "source",
-                "and",
-                "binary",
-                "forms",
-                "go",
-            ],
+            &[MIT, BSD],
+            "so|redistribution|and|use|in|source|and|binary|forms|go",
             "1 ",
         ),
         (
-            &["permission", "ishereby", "gran", "ted,", "freeofcharge"],
+            &[MIT, BSD],
+            "permission|ishereby|gran|ted,|freeofcharge",
             "0 ",
         ),
+        (&[MIT, BSD], "permission|is|not|hereby|granted|free", ""),
+        (&[MIT, BSD], "a", ""),
+        (&[MIT, BSD], "", ""),
+        // a key at the very end
+        (&[SHORT], "x|abcdefgh|ijklmnop", "0 "),
+        (&[SHORT], "abcdefgh|ijklmno", ""),
+        // a blank within a token breaks no key
+        (&[MIT], "permission|is hereby|granted, free|of|charge", "0 "),
+        // templates without a key are kept
         (
-            &["permission", "is", "not", "hereby", "granted", "free"],
-            "",
+            &[
+                "abcdefgh ijklmno",
+                MIT,
+                "<<beginOptional>>Redistribution and use in source and binary forms<<endOptional>> x",
+                "x <<var;name=\"a\";original=\"b\";match=\".+\">>",
+            ],
+            "y",
+            "0 2 3 ",
         ),
-        (&["a"], ""),
-        (&[], ""),
     ];
-    for (tokens, wanted) in table {
-        let shown = kept(rt.alloc(), &[MIT, BSD], tokens)?;
-        assert_eq!(rt; shown.as_str(), *wanted, "at {tokens:?}");
+    for (texts, tokens, wanted) in table {
+        let shown = kept(rt.alloc(), texts, tokens)?;
+        assert_eq!(rt; shown.as_str(), *wanted, "at {tokens}");
     }
     Ok(())
 }
 
-#[test]
-fn finds_a_key_at_the_very_end(rt: HostRuntime) -> Result<(), Fail> {
-    // sixteen letters: the text has one window
-    let table: &[(&[&str], &str)] = &[
-        (&["x", "abcdefgh", "ijklmnop"], "0 "),
-        (&["abcdefgh", "ijklmno"], ""),
-    ];
-    for (tokens, wanted) in table {
-        let shown = kept(rt.alloc(), &["abcdefgh ijklmnop"], tokens)?;
-        assert_eq!(rt; shown.as_str(), *wanted, "at {tokens:?}");
+/// How many templates are kept for so many letters and the first half of a key, and for its other half behind them.
+fn kept_behind(alloc: Global, letters: usize) -> Result<(usize, usize), Fail> {
+    let templates = templates_of(alloc, &[SHORT])?;
+    let keys = keys_of(alloc, &templates)?;
+    let mut look = Look::new(alloc, &keys)?;
+    for _ in 0..letters {
+        look.push("x")?;
     }
-    Ok(())
+    look.push("abcdefgh")?;
+    let half = look.kept(alloc)?.len();
+    look.push("ijklmnop")?;
+    look.push("y")?;
+    Ok((half, look.kept(alloc)?.len()))
 }
 
 #[test]
 fn finds_a_key_behind_any_number_of_letters(rt: HostRuntime) -> Result<(), Fail> {
-    let alloc = rt.alloc();
-    let templates = templates_of(alloc, &["abcdefgh ijklmnop"])?;
-    let keys = keys_of(alloc, &templates)?;
     // around the 4,096 letters that a look holds
     for letters in 4070..4110 {
-        let mut look = Look::new(alloc, &keys)?;
-        for _ in 0..letters {
-            look.push("x")?;
-        }
-        look.push("abcdefgh")?;
-        assert_eq!(rt; look.kept(alloc)?.len(), 0, "half of it behind {letters}");
-        look.push("ijklmnop")?;
-        look.push("y")?;
-        assert_eq!(rt; look.kept(alloc)?.len(), 1, "behind {letters}");
+        assert_eq!(rt;
+            kept_behind(rt.alloc(), letters)?,
+            (0, 1),
+            "behind {letters}"
+        );
     }
     Ok(())
+}
+
+/// Whether all templates are kept whatever the text, where one of this text is all.
+fn keeps_all(alloc: Global, text: &str) -> Result<bool, Fail> {
+    let templates = templates_of(alloc, &[text])?;
+    let keys = keys_of(alloc, &templates)?;
+    Ok(Look::new(alloc, &keys)?.keeps_all())
 }
 
 #[test]
 fn a_set_without_keys_keeps_all(rt: HostRuntime) -> Result<(), Fail> {
-    let alloc = rt.alloc();
-    for (text, wanted) in [("abcdefgh ijklmno", true), (MIT, false)] {
-        let templates = templates_of(alloc, &[text])?;
-        let keys = keys_of(alloc, &templates)?;
-        let look = Look::new(alloc, &keys)?;
-        assert_eq!(rt; look.keeps_all(), wanted, "at {text}");
-    }
-    Ok(())
-}
-
-#[test]
-fn a_blank_within_a_token_breaks_no_key(rt: HostRuntime) -> Result<(), Fail> {
-    let shown = kept(
-        rt.alloc(),
-        &[MIT],
-        &["permission", "is hereby", "granted, free", "of", "charge"],
-    )?;
-    assert_eq!(rt; shown.as_str(), "0 ");
-    Ok(())
-}
-
-#[test]
-fn templates_without_a_key_are_kept(rt: HostRuntime) -> Result<(), Fail> {
-    let templates = [
-        "abcdefgh ijklmno",
-        MIT,
-        "<<beginOptional>>Redistribution and use in source and binary forms<<endOptional>> x",
-        "x <<var;name=\"a\";original=\"b\";match=\".+\">>",
-    ];
-    let shown = kept(rt.alloc(), &templates, &["y"])?;
-    assert_eq!(rt; shown.as_str(), "0 2 3 ");
+    assert!(rt; keeps_all(rt.alloc(), "abcdefgh ijklmno")?);
+    assert!(rt; !keeps_all(rt.alloc(), MIT)?);
     Ok(())
 }

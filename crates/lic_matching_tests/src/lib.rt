@@ -1,4 +1,4 @@
-//! Tests of the libraries that match, by their public calls: worked examples, and that a call succeeds where there is memory.
+//! Tests of the libraries that match, by their public calls, for what no run of the program shows.
 #![tactic(auto)]
 
 #[cfg(test)]
@@ -8,7 +8,11 @@ mod finder;
 #[cfg(test)]
 mod keys;
 #[cfg(test)]
+mod letters;
+#[cfg(test)]
 mod profile;
+#[cfg(test)]
+mod rows;
 #[cfg(test)]
 mod runs;
 #[cfg(test)]

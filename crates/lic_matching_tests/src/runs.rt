@@ -64,30 +64,6 @@ fn told(alloc: Global, templates: &[&str], lists: &[&str]) -> Result<String, Fai
     Ok(told)
 }
 
-#[test]
-fn templates_are_told_in_order(rt: HostRuntime) -> Result<(), Fail> {
-    let table: &[(&str, &str)] = &[
-        ("", "- - - live; "),
-        ("foo bar", "0 1 - live; "),
-        ("foo bar x", "- - - dead; "),
-    ];
-    for (tokens, expected) in table {
-        let told = told(rt.alloc(), &TWO, &[*tokens])?;
-        assert_eq!(&rt; told.as_str(), *expected, "{tokens}");
-    }
-    Ok(())
-}
-
-#[test]
-fn a_run_begins_anew(rt: HostRuntime) -> Result<(), Fail> {
-    let told = told(rt.alloc(), &TWO, &["foo", "", "bar", "foo qux"])?;
-    assert_eq!(&rt;
-        told.as_str(),
-        "- - - live; - - - live; - - - dead; 1 1 - live; "
-    );
-    Ok(())
-}
-
 /// The steps of a new run, once it has taken the tokens, and once it begins anew.
 fn steps(alloc: Global, tokens: &str) -> Result<(u64, u64, u64), Fail> {
     let set = set_of(alloc, &TWO)?;
@@ -118,25 +94,35 @@ const HEADS: [&str; 5] = [
 ];
 
 #[test]
-fn templates_are_entered_by_their_heads(rt: HostRuntime) -> Result<(), Fail> {
-    let lists = [
-        "foo bar",
-        "[ x ] foo",
-        "foo",
-        "foo !",
-        "qux !",
-        "foo . bar",
-        "the foo . bar",
-        "the",
-        "[[",
-        "foob ar",
+fn templates_are_told_in_order(rt: HostRuntime) -> Result<(), Fail> {
+    let table: &[(&[&str], &[&str], &str)] = &[
+        (
+            &TWO,
+            &["", "foo bar", "foo bar x", "foo", "", "bar", "foo qux"],
+            "- - - live; 0 1 - live; - - - dead; - - - live; - - - live; - - - dead; 1 1 - live; ",
+        ),
+        (
+            &HEADS,
+            &[
+                "foo bar",
+                "[ x ] foo",
+                "foo",
+                "foo !",
+                "qux !",
+                "foo . bar",
+                "the foo . bar",
+                "the",
+                "[[",
+                "foob ar",
+            ],
+            "0 - - live; 1 1 - live; 2 2 2 live; 3 3 3 live; 3 3 3 live; 4 4 4 live; 4 4 4 live; \
+                - - - live; - - - dead; - - - dead; ",
+        ),
     ];
-    let told = told(rt.alloc(), &HEADS, &lists)?;
-    assert_eq!(&rt;
-        told.as_str(),
-        "0 - - live; 1 1 - live; 2 2 2 live; 3 3 3 live; 3 3 3 live; 4 4 4 live; 4 4 4 live; \
-            - - - live; - - - dead; - - - dead; "
-    );
+    for (templates, lists, expected) in table {
+        let told = told(rt.alloc(), templates, lists)?;
+        assert_eq!(&rt; told.as_str(), *expected);
+    }
     Ok(())
 }
 
@@ -168,14 +154,20 @@ fn told_from_the_end(alloc: Global, tokens: &[&str]) -> Result<String, Fail> {
 
 #[test]
 fn a_run_from_the_end_tells_what_begins_here(rt: HostRuntime) -> Result<(), Fail> {
-    let told = told_from_the_end(rt.alloc(), &["x", "bar", "foo", "foo", "!"])?;
-    assert_eq!(&rt; told.as_str(), "dead; dead; 0 1 live; 1 live; dead; dead; ");
-    Ok(())
-}
-
-#[test]
-fn a_run_from_the_end_reads_letter_by_letter(rt: HostRuntime) -> Result<(), Fail> {
-    let told = told_from_the_end(rt.alloc(), &["car", "bar", "food", "bar", "foo"])?;
-    assert_eq!(&rt; told.as_str(), "dead; dead; dead; dead; 0 1 live; dead; ");
+    let table: &[(&[&str], &str)] = &[
+        (
+            &["x", "bar", "foo", "foo", "!"],
+            "dead; dead; 0 1 live; 1 live; dead; dead; ",
+        ),
+        // letter by letter
+        (
+            &["car", "bar", "food", "bar", "foo"],
+            "dead; dead; dead; dead; 0 1 live; dead; ",
+        ),
+    ];
+    for (tokens, expected) in table {
+        let told = told_from_the_end(rt.alloc(), tokens)?;
+        assert_eq!(&rt; told.as_str(), *expected);
+    }
     Ok(())
 }

@@ -1,7 +1,7 @@
-//! Sets of templates, and why one is refused.
+//! Sets of templates: how they are numbered, and why one is refused.
 
 use crate::profile::template_of;
-use lic_auto::set::{BuildFault, Set};
+use lic_auto::set::Set;
 use lic_markup::Template;
 use std::alloc::Global;
 use std::fmt::Write;
@@ -23,8 +23,7 @@ fn templates(alloc: Global, count: usize, ids: &str) -> Result<Vec<(String, Temp
 }
 
 /// The identifiers of a set's templates, each with its template's original text.
-fn named(alloc: Global, ids: &str) -> Result<String, Fail> {
-    let set = Set::build(alloc, templates(alloc, 0, ids)?)?;
+fn named(alloc: Global, set: &Set) -> Result<String, Fail> {
     let mut named = String::new(alloc);
     for k in 0..set.len() {
         write!(named, "{}={} ", set.id(k), set.template(k).original())?;
@@ -32,31 +31,26 @@ fn named(alloc: Global, ids: &str) -> Result<String, Fail> {
     Ok(named)
 }
 
-/// How many templates a set has that is built of so many.
-fn length_of(alloc: Global, count: usize) -> Result<usize, Fail> {
-    Ok(Set::build(alloc, templates(alloc, count, "")?)?.len())
-}
-
-#[test]
-fn numbers_templates_by_the_bytes_of_their_identifiers(rt: HostRuntime) -> Result<(), Fail> {
-    let named = named(rt.alloc(), "b B ab \u{e9} a a-1")?;
-    assert_eq!(rt; named.as_str(), "B=B a=a a-1=a-1 ab=ab b=b \u{e9}=\u{e9} ");
-    assert_eq!(rt; length_of(rt.alloc(), 0)?, 0);
-    assert_eq!(rt; length_of(rt.alloc(), 4096)?, 4096);
-    Ok(())
-}
-
-/// What is said of templates that are no set.
+/// What is said of templates: how they are numbered, or why they are no set. Of those that are many, how many they are.
 fn told(alloc: Global, count: usize, ids: &str) -> Result<String, Fail> {
     match Set::build(alloc, templates(alloc, count, ids)?) {
-        Ok(_) => Ok(String::new(alloc)),
+        Ok(set) if count > 0 => Ok(format!(in alloc; "{} templates", set.len())?),
+        Ok(set) => named(alloc, &set),
         Err(fault) => Ok(format!(in alloc; "{fault}")?),
     }
 }
 
 #[test]
-fn tells_why_templates_are_no_set(rt: HostRuntime) -> Result<(), Fail> {
+fn templates_are_numbered_or_no_set(rt: HostRuntime) -> Result<(), Fail> {
     let table: &[(usize, &str, &str)] = &[
+        (0, "", ""),
+        // by the bytes of their identifiers
+        (
+            0,
+            "b B ab \u{e9} a a-1",
+            "B=B a=a a-1=a-1 ab=ab b=b \u{e9}=\u{e9} ",
+        ),
+        (4096, "", "4096 templates"),
         (0, "K L K", "B1: K"),
         (4093, "K K L", "B1: K"),
         (4094, "K K L", "B2: more than 4096 templates"),
@@ -66,7 +60,5 @@ fn tells_why_templates_are_no_set(rt: HostRuntime) -> Result<(), Fail> {
         let told = told(rt.alloc(), *count, ids)?;
         assert_eq!(rt; told.as_str(), *expected, "{count} and {ids}");
     }
-    let told = format!(in rt.alloc(); "{}", BuildFault::Memory)?;
-    assert_eq!(rt; told.as_str(), "B3: out of memory");
     Ok(())
 }

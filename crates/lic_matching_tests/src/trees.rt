@@ -1,90 +1,62 @@
-//! Compiled patterns.
+//! Compiled patterns: what the tree of each is and weighs, and what a run of it says of tokens.
 
 use lic_auto::compile::compile_pattern;
 use lic_marks::node::Node;
+use lic_marks::plain::Plain;
 use lic_marks::run::Run;
-use std::alloc::{AllocError, Global};
+use std::alloc::Global;
 use std::test::Fail;
-
-/// Patterns, what the tree of each weighs, tokens that its words spell, and others that they do not.
-const PATTERNS: [(&str, usize, &str, &str); 20] = [
-    ("(((){65535}){65535}){65535}", 0, "", "a"),
-    ("((((a{65535}){65535}){65535}){65535}){0}b", 1, "b", "a ab"),
-    ("a(()()()(){3}()*){65535}b", 2, "ab", "a b"),
-    ("((()|()*){9}|a){2,3}b", 4, "b ab aab aaab", "aaaab a"),
-    ("(a|b)*c", 3, "c abbac", "ab ca"),
-    ("(ab)+", 2, "ab abab", "a aba"),
-    ("(ab){2,}", 4, "abab ababab", "ab aba"),
-    ("(ab){1,2}", 4, "ab abab", "aba ababab"),
-    ("(a|b){3}", 6, "aaa aba bab bbb", "aa ab aaaa abab abc"),
-    ("(a|b){0,3}c", 7, "c ac abc babc", "aaaac ab abcb"),
-    ("(ab){2,4}", 8, "abab ababab abababab", "ab aba ababababab"),
-    ("(ab){3,}c", 7, "abababc ababababc", "ababc abababac"),
-    ("(a|bc){2,3}", 9, "aa bca abc aaa bcbcbc", "a bc ab aaaa"),
-    ("(a|){5}", 5, "a aa aaaaa", "aaaaaa b"),
-    (
-        "((a|b){2}c){3}",
-        15,
-        "abcbacaac",
-        "abcbac abcbacaacabc abcacaac",
-    ),
-    (
-        "((a|bc){1,2}d){2,}",
-        14,
-        "adad bcadabcd adadbcbcd",
-        "ad aaad adaaad",
-    ),
-    ("[a-c]{2}.?", 3, "ab abc abx", "a ad abxx"),
-    ("(a{2}|b?){1,2}", 6, "aa b aab aaaa bb", "a aaa bbb"),
-    (".{0,5000}", 5000, "a abc", ""),
-    ("[^a]{3,}", 3, "b bcd bcde", "a bcda"),
-];
-
-/// Adds those of the tokens that a run accepts, with a blank between two.
-fn add_accepted(run: &mut Run, tokens: &str, accepted: &mut String) -> Result<(), AllocError> {
-    for token in tokens.split_whitespace() {
-        run.reset();
-        run.push(token);
-        if run.accepts() {
-            if !accepted.is_empty() {
-                accepted.push(' ')?;
-            }
-            accepted.push_str(token)?;
-        }
-    }
-    Ok(())
-}
-
-/// The weight of a compiled pattern, and those of two lists of tokens that its words spell.
-fn weight_and_accepted(
-    alloc: Global,
-    pattern: &str,
-    some: &str,
-    others: &str,
-) -> Result<(usize, String), Fail> {
-    let ere = lic_ere::read(alloc, pattern)?;
-    let tree = compile_pattern(alloc, &ere)?;
-    let mut run = Run::new(alloc, &tree)?;
-    let mut accepted = String::new(alloc);
-    add_accepted(&mut run, some, &mut accepted)?;
-    add_accepted(&mut run, others, &mut accepted)?;
-    Ok((tree.weight(), accepted))
-}
-
-#[test]
-fn patterns_have_their_words_and_their_weights(rt: HostRuntime) -> Result<(), Fail> {
-    for (pattern, weight, described, others) in &PATTERNS {
-        let (weighed, accepted) = weight_and_accepted(rt.alloc(), pattern, described, others)?;
-        assert_eq!(rt; weighed, *weight, "{pattern}");
-        assert_eq!(rt; accepted.as_str(), *described, "{pattern}");
-    }
-    Ok(())
-}
 
 /// The tree of a pattern.
 fn tree_of(alloc: Global, pattern: &str) -> Result<Node, Fail> {
     let ere = lic_ere::read(alloc, pattern)?;
     Ok(compile_pattern(alloc, &ere)?)
+}
+
+/// What it weighs.
+fn weight_of(alloc: Global, pattern: &str) -> Result<usize, Fail> {
+    Ok(tree_of(alloc, pattern)?.weight())
+}
+
+/// Whether a pattern has no tree, since it would weigh more than a number can be.
+fn is_too_heavy(alloc: Global, pattern: &str) -> bool {
+    match lic_ere::read(alloc, pattern) {
+        Ok(ere) => compile_pattern(alloc, &ere).is_err(),
+        Err(_) => false,
+    }
+}
+
+#[test]
+fn trees_have_their_weights(rt: HostRuntime) -> Result<(), Fail> {
+    let table: &[(&str, usize)] = &[
+        ("(((){65535}){65535}){65535}", 0),
+        ("((((a{65535}){65535}){65535}){65535}){0}b", 1),
+        ("a(()()()(){3}()*){65535}b", 2),
+        ("((()|()*){9}|a){2,3}b", 4),
+        ("(a|b)*c", 3),
+        ("(ab)+", 2),
+        ("(ab){2,}", 4),
+        ("(ab){1,2}", 4),
+        ("(a|b){3}", 6),
+        ("(a|b){0,3}c", 7),
+        ("(ab){2,4}", 8),
+        ("(ab){3,}", 6),
+        ("(ab){3,}c", 7),
+        ("(a|bc){2,3}", 9),
+        ("(a|){5}", 5),
+        ("((a|b){2}c){3}", 15),
+        ("((a|bc){1,2}d){2,}", 14),
+        ("[a-c]{2}.?", 3),
+        ("(a{2}|b?){1,2}", 6),
+        (".{0,5000}", 5000),
+        ("[^a]{3,}", 3),
+    ];
+    for (pattern, weight) in table {
+        assert_eq!(rt; weight_of(rt.alloc(), pattern)?, *weight, "{pattern}");
+    }
+    // more than the greatest number there is
+    assert!(rt; is_too_heavy(rt.alloc(), "((((a{65535}){65535}){65535}){65535}){2}"));
+    Ok(())
 }
 
 #[test]
@@ -103,4 +75,85 @@ fn what_stands_many_times_is_compiled_once(rt: HostRuntime) -> Result<(), Fail> 
     let tree = tree_of(rt.alloc(), "a||||||")?;
     assert!(rt; matches!(&tree, Node::Alt { children, .. } if children.len() == 2));
     Ok(())
+}
+
+/// Whether a pattern describes tokens, with a `|` between two, and whether a run of it is dead then. They are read one by one, and once
+/// more where what is known of plain ones is handed in.
+fn told(alloc: Global, pattern: &str, tokens: &str) -> Result<(bool, bool), Fail> {
+    let tree = tree_of(alloc, pattern)?;
+    let mut run = Run::new(alloc, &tree)?;
+    let mut knowing = Run::new(alloc, &tree)?;
+    for token in tokens.split('|') {
+        if !token.is_empty() {
+            let known = Plain::of(token);
+            run.push(token);
+            knowing.push_known(token, known.as_ref());
+        }
+    }
+    if knowing.accepts() != run.accepts() {
+        return Err(Fail::from("a plain token is another"));
+    }
+    Ok((run.accepts(), run.is_dead()))
+}
+
+#[test]
+fn a_run_that_is_dead_says_so(rt: HostRuntime) -> Result<(), Fail> {
+    let table: &[(&str, &str, bool, bool)] = &[
+        ("holders?", "", false, false),
+        ("holders?", "holder", true, false),
+        ("holders?", "holders", true, false),
+        ("holders?", "holder|s", false, true),
+        ("holders?", "hold|er", false, true),
+        ("holders?", "the", false, true),
+        (".{0,2} end", "end", true, false),
+        (".{0,2} end", "a|end", true, false),
+        (".{0,2} end", "ab|end", true, false),
+        (".{0,2} end", "abc|end", false, true),
+        (".{0,2} end", "a|b|end", false, true),
+        ("[^0-9]+", "a|b", true, false),
+        ("[^0-9]+", "a b|c", true, false),
+        ("[^0-9]+", "a|1", false, true),
+        ("[ab]{2}c", "abc", true, false),
+        ("[ab]{2}c", "ab", false, false),
+        ("[ab]{2}c", "ac", false, true),
+        ("[ab]{2}c", "abbc", false, true),
+        ("[ab]{2}c", "adc", false, true),
+        ("(abc def|x)+", "abc|def", true, false),
+        ("(abc def|x)+", "abc|defx", true, false),
+        ("(abc def|x)+", "xxabc|defabc|defx", true, false),
+        ("(abc def|x)+", "abc|x", false, true),
+        ("(abc def|x)+", "xabc|de", false, false),
+        ("(abc def|x)+", "x|x", false, true),
+        ("(ab){2,4}", "ab", false, false),
+        ("(ab){2,4}", "abab", true, false),
+        ("(ab){2,4}", "ababa", false, false),
+        ("(ab){2,4}", "abababab", true, false),
+        ("(ab){2,4}", "ababababa", false, true),
+        ("(ab){2,4}", "abb", false, true),
+        ("(ab){3,}", "abab", false, false),
+        ("(ab){3,}", "abababababababab", true, false),
+        ("(ab){3,}", "abababa", false, false),
+        ("(ab){3,}", "ababb", false, true),
+    ];
+    for (pattern, tokens, is_described, is_dead) in table {
+        let told = told(rt.alloc(), pattern, tokens)?;
+        assert_eq!(rt; told, (*is_described, *is_dead), "{pattern} on {tokens}");
+    }
+    Ok(())
+}
+
+#[test]
+fn a_token_is_plain_from_either_end(rt: HostRuntime) {
+    let table: &[(&str, bool)] = &[
+        ("holder", true),
+        ("1,000", true),
+        ("a b", false),
+        ("na\u{EF}ve", false),
+        ("abcdefghijklmnopqrstuvwxy", true),
+        ("abcdefghijklmnopqrstuvwxyz", false),
+    ];
+    for (token, is_plain) in table {
+        assert_eq!(rt; Plain::of(token).is_some(), *is_plain, "{token:?}");
+        assert_eq!(rt; Plain::turned(token).is_some(), *is_plain, "{token:?}");
+    }
 }
