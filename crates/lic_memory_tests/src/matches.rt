@@ -5,6 +5,7 @@ use crate::refused::{Refused, retried};
 use lic_auto::back::Back;
 use lic_auto::run::Run;
 use lic_auto::set::Set;
+use lic_filters::filters::{outer, tight};
 use lic_find::finder::Finder;
 use lic_find::matches::is_match;
 use lic_find::triple::Triple;
@@ -12,10 +13,8 @@ use lic_kind::Rules;
 use lic_norm::text::Text;
 use lic_norm::token::Span;
 use lic_norm::words::Words;
-use lic_vars::filters::{outer, tight};
 use lic_vars::values::assign;
 use std::alloc::Global;
-use std::process::Abort;
 
 /// A range of tokens, the last one counted, and the number of a template.
 type Range = (usize, usize, usize);
@@ -97,35 +96,31 @@ fn triple_of(range: Range) -> Triple {
     }
 }
 
-/// Finds the matches one by one.
-fn search(
-    rt: &impl Abort,
-    alloc: Global,
-    set: &Set,
-    text: &Text,
-    matches: &[Range],
-) -> Result<(), Refused> {
+/// Whether these are the matches, found one by one.
+fn finds(alloc: Global, set: &Set, text: &Text, matches: &[Range]) -> Result<bool, Refused> {
     let mut finder = Finder::new(alloc, set, text)?;
     for range in matches {
-        assert!(rt; finder.next() == Some(triple_of(*range)));
+        if finder.next() != Some(triple_of(*range)) {
+            return Ok(false);
+        }
     }
-    assert!(rt; finder.next().is_none());
-    Ok(())
+    Ok(finder.next().is_none())
 }
 
-/// Asks of ranges whether they are matches.
-fn ask(
-    rt: &impl Abort,
+/// Whether all of these ranges are matches, or none is.
+fn are_told(
     alloc: Global,
     set: &Set,
     text: &Text,
     ranges: &[Range],
     wanted: bool,
-) -> Result<(), Refused> {
+) -> Result<bool, Refused> {
     for range in ranges {
-        assert!(rt; is_match(alloc, set, text, triple_of(*range))? == wanted);
+        if is_match(alloc, set, text, triple_of(*range))? != wanted {
+            return Ok(false);
+        }
     }
-    Ok(())
+    Ok(true)
 }
 
 /// Lets a machine read the text: the first template that describes all of it.
@@ -146,21 +141,16 @@ fn read_back(alloc: Global, set: &Set, text: &Text) -> Result<bool, Refused> {
     Ok(machine.live())
 }
 
-/// Makes all calls of a row.
-fn answer(
-    rt: &impl Abort,
-    alloc: Global,
-    set: &Set,
-    text: &Text,
-    row: &Row,
-) -> Result<(), Refused> {
-    search(rt, alloc, set, text, row.matches)?;
-    ask(rt, alloc, set, text, row.matches, true)?;
-    ask(rt, alloc, set, text, row.others, false)?;
-    assert!(rt; read_on(alloc, set, text)? == row.whole);
+/// Makes all calls of a row: whether each answers rightly.
+fn answers(alloc: Global, set: &Set, text: &Text, row: &Row) -> Result<bool, Refused> {
     let begins = row.matches.first().is_some_and(|range| range.0 == 0);
-    assert!(rt; read_back(alloc, set, text)? == begins);
-    Ok(())
+    Ok(
+        finds(alloc, set, text, row.matches)?
+            && are_told(alloc, set, text, row.matches, true)?
+            && are_told(alloc, set, text, row.others, false)?
+            && read_on(alloc, set, text)? == row.whole
+            && read_back(alloc, set, text)? == begins,
+    )
 }
 
 #[test]
@@ -171,7 +161,7 @@ fn matches_are_found_when_there_is_memory(rt: HostRuntime) {
         let (set, text) = retried(&rt, || {
             lend(rt.alloc(), row.templates, row.input, &words, &rules)
         });
-        retried(&rt, || answer(&rt, rt.alloc(), &set, &text, row));
+        assert!(rt; retried(&rt, || answers(rt.alloc(), &set, &text, row)));
     }
 }
 
@@ -184,18 +174,18 @@ fn of(first: usize, last: usize) -> Triple {
     }
 }
 
-/// Filters matches.
-fn filter(rt: &impl Abort, alloc: Global) -> Result<(), Refused> {
+/// Whether two matches at the ends are the tight ones and the outer ones.
+fn filters(alloc: Global) -> Result<bool, Refused> {
     let all = [of(0, 2), of(0, 3), of(0, 4), of(1, 4), of(2, 4)];
     let ends = [of(0, 2), of(2, 4)];
-    assert_eq!(rt; tight(alloc, &all)?.as_slice(), ends.as_slice());
-    assert_eq!(rt; outer(alloc, &all)?.as_slice(), ends.as_slice());
-    Ok(())
+    let tight = tight(alloc, &all)?;
+    let outer = outer(alloc, &all)?;
+    Ok(tight.as_slice() == ends.as_slice() && outer.as_slice() == ends.as_slice())
 }
 
 #[test]
 fn matches_are_filtered_when_there_is_memory(rt: HostRuntime) {
-    retried(&rt, || filter(&rt, rt.alloc()));
+    assert!(rt; retried(&rt, || filters(rt.alloc())));
 }
 
 /// The match after another.
@@ -204,18 +194,21 @@ fn go_on(alloc: Global, set: &Set, text: &Text) -> Result<Option<Triple>, Refuse
     Ok(later.next())
 }
 
-/// Goes on to a match, and asks what its variables stand for.
-fn value(rt: &impl Abort, alloc: Global, set: &Set, text: &Text) -> Result<(), Refused> {
-    let whole = of(0, 4);
-    assert!(rt; go_on(alloc, set, text)? == Some(whole));
-    assert!(rt; is_match(alloc, set, text, whole)?);
-    let values = assign(alloc, set, text, whole)?;
-    let spans = [Span { start: 0, end: 1 }, Span { start: 5, end: 11 }];
-    assert_eq!(rt; values.len(), spans.len());
-    for (value, span) in values.iter().zip(&spans) {
-        assert!(rt; value.span == Some(*span));
+/// What the two variables of a match stand for; nothing where it is none.
+fn spans(
+    alloc: Global,
+    set: &Set,
+    text: &Text,
+    triple: Triple,
+) -> Result<Option<(Span, Span)>, Refused> {
+    if !is_match(alloc, set, text, triple)? {
+        return Ok(None);
     }
-    Ok(())
+    let values = assign(alloc, set, text, triple)?;
+    match values.as_slice() {
+        [first, second] => Ok(first.span.zip(second.span)),
+        _ => Ok(None),
+    }
 }
 
 #[test]
@@ -225,5 +218,9 @@ fn matches_have_values_when_there_is_memory(rt: HostRuntime) {
     let (set, text) = retried(&rt, || {
         lend(rt.alloc(), OF, b"x of y of z", &words, &rules)
     });
-    retried(&rt, || value(&rt, rt.alloc(), &set, &text));
+    let whole = of(0, 4);
+    assert!(rt; retried(&rt, || go_on(rt.alloc(), &set, &text)) == Some(whole));
+    let found = retried(&rt, || spans(rt.alloc(), &set, &text, whole));
+    let wanted = (Span { start: 0, end: 1 }, Span { start: 5, end: 11 });
+    assert!(rt; found == Some(wanted));
 }

@@ -11,7 +11,6 @@ use lic_kind::Rules;
 use lic_norm::words::Words;
 use lic_test_streams::streams::{Awaited, Pieces};
 use std::alloc::Global;
-use std::process::Abort;
 
 /// All matches.
 const ALL: Ask = Ask {
@@ -108,41 +107,34 @@ const ROWS: &[Row] = &[
     },
 ];
 
-/// Says of templates whether they describe their original texts.
-fn say(
-    rt: &impl Abort,
+/// Whether what is said of templates is all that, and no more.
+fn says(
     alloc: Global,
     set: &Set,
     words: &Words,
     rules: &Rules,
     said: &'static [u8],
-) -> Result<(), Refused> {
+) -> Result<bool, Refused> {
     let mut out = Awaited::of(said);
     let all = check(alloc, set, words, &mut out, rules).map_err(Refused::Run)?;
-    assert!(rt; out.is_whole());
-    assert_eq!(rt; all, !said.ends_with(b"\tno\n"));
-    Ok(())
+    Ok(out.is_whole() && all == !said.ends_with(b"\tno\n"))
 }
 
-/// Says what is to be said of templates, and writes the report of an input.
-fn report(
-    rt: &impl Abort,
+/// Whether the report of an input is all of the row's.
+fn reports(
     alloc: Global,
     set: &Set,
     words: &Words,
     rules: &Rules,
     row: &Row,
-) -> Result<(), Refused> {
-    say(rt, alloc, set, words, rules, row.said)?;
+) -> Result<bool, Refused> {
     let mut input = Pieces::of(row.input);
     let mut out = Awaited::of(row.report);
     let some = run(
         alloc, "-", &mut input, &mut out, set, words, rules, &row.ask,
     )
     .map_err(Refused::Run)?;
-    assert!(rt; out.is_whole());
-    assert_eq!(rt; some, !row.report.is_empty());
-    Ok(())
+    Ok(out.is_whole() && some == !row.report.is_empty())
 }
 
 #[test]
@@ -151,9 +143,8 @@ fn reports_are_written_when_there_is_memory(rt: HostRuntime) {
     let rules = Rules::profile(rt.alloc());
     for row in ROWS {
         let set = retried(&rt, || set_of(rt.alloc(), row.templates, &words, &rules));
-        retried(&rt, || {
-            report(&rt, rt.alloc(), &set, &words, &rules, row)
-        });
+        assert!(rt; retried(&rt, || says(rt.alloc(), &set, &words, &rules, row.said)));
+        assert!(rt; retried(&rt, || reports(rt.alloc(), &set, &words, &rules, row)));
     }
 }
 
@@ -197,21 +188,13 @@ const LISTED: &[Listed] = &[
     },
 ];
 
-/// Counts the tokens of an input, and writes their lines.
-fn write_tokens(
-    rt: &impl Abort,
-    alloc: Global,
-    words: &Words,
-    rules: &Rules,
-    row: &Listed,
-) -> Result<(), Refused> {
-    assert_eq!(rt; count_tokens(alloc, row.input, words, rules)?, row.count);
+/// Whether an input has so many tokens, and the lines that are written of them are all of the row's.
+fn lists(alloc: Global, words: &Words, rules: &Rules, row: &Listed) -> Result<bool, Refused> {
+    let count = count_tokens(alloc, row.input, words, rules)?;
     let mut input = Pieces::of(row.input);
     let mut out = Awaited::of(row.lines);
     let some = run_tokens(alloc, "-", &mut input, &mut out, words, rules).map_err(Refused::Run)?;
-    assert!(rt; out.is_whole());
-    assert_eq!(rt; some, !row.lines.is_empty());
-    Ok(())
+    Ok(count == row.count && out.is_whole() && some == !row.lines.is_empty())
 }
 
 #[test]
@@ -221,6 +204,6 @@ fn tokens_are_written_when_there_is_memory(rt: HostRuntime) {
         let words = retried(&rt, || {
             Words::read(rt.alloc(), row.list).map_err(Refused::Words)
         });
-        retried(&rt, || write_tokens(&rt, rt.alloc(), &words, &rules, row));
+        assert!(rt; retried(&rt, || lists(rt.alloc(), &words, &rules, row)));
     }
 }
