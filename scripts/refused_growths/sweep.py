@@ -4,11 +4,12 @@
   sweep.py PROGRAM
 
 A run in which a request was refused must either say and write what the whole run does, or end with
-status 2, report that memory ran out, and write and tell nothing else that the whole run does not. And two thousand matches must
+status 2, report that memory ran out by a text of the manual, and write and tell nothing else that the whole run does not; each text with a
+code must come. And two thousand matches must
 take no more requests than one match, but for the growth of the report: giving a match takes no memory. Needs a C
 compiler. Prints each run that breaks this; the last line is 'N runs, M bad', and the status is 1 if M is not 0.
 """
-import os, shutil, subprocess, sys, tempfile
+import os, re, shutil, subprocess, sys, tempfile
 
 HERE = os.path.dirname(os.path.abspath(__file__))
 SCAN = ['scan', '--all', '--templates', 'T']
@@ -69,6 +70,9 @@ LONGER = 60
 SECONDS = 20
 # what follows from a template for which memory runs out
 FOLLOWS = b'licscan: --after: no template A'
+# how it is told that memory ran out, and the codes of these texts
+TEXT = re.compile(rb'licscan: (rules: L4: |words: Q4: |templates: B3: |template [^ ]+: (M12 at 0: )?|[^ ]+: (X3: )?)?out of memory')
+CODES = {b'L4', b'Q4', b'B3', b'M12 at 0', b'X3'}
 
 
 def build(folder):
@@ -105,7 +109,7 @@ def is_right(ran, whole):
     if ran == whole:
         return True
     told, known = ran[2].splitlines(), whole[2].splitlines()
-    others = [it for it in told if not it.endswith(b'out of memory')]
+    others = [it for it in told if not TEXT.fullmatch(it)]
     lines = set(whole[1].splitlines())
     return (ran[0] == 2 and len(others) < len(told)
             and all(it in known or it == FOLLOWS for it in others)
@@ -115,6 +119,7 @@ def is_right(ran, whole):
 def main():
     program = os.path.abspath(sys.argv[1])
     runs = bad = 0
+    codes = set()
     with tempfile.TemporaryDirectory() as folder:
         library = build(folder)
         os.makedirs(os.path.join(folder, 'T', 'D.template.txt'))
@@ -133,6 +138,7 @@ def main():
                 n += 1
                 ran = run(program, folder, library, words, given, n)
                 same = same + 1 if ran == whole else 0
+                codes.update(re.findall(rb'(\w+(?: at \d+)?): out of memory\n', ran[2]))
                 if not is_right(ran, whole):
                     bad += 1
                     print(words, 'request', n, ran)
@@ -146,6 +152,9 @@ def main():
         if (none, still_none) != (0, 0) or long - short > LONGER:
             bad += 1
             print('requests', short, 'for a text without a match', long, 'for a long one')
+    if not codes >= CODES:
+        bad += 1
+        print('no run told', CODES - codes)
     print(f'{runs} runs, {bad} bad')
     return 1 if bad else 0
 
