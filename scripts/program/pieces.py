@@ -58,6 +58,9 @@ ROWS = [
     (f'{IN}# Foo', 5, [('q # foo', '0-2-0 ')]),
     (f'{IN}Foo\n# Bar', 8, [('qfoo bar', '0-1-0 ')]),
     (f'{A}# x #', 4, [('a # x', '0-2-0 ')]),
+    ('// -- x\n', 3, [('x', '0-0-0 ')]),
+    # what is dropped of a text is no letter
+    ('\uFEFFa\u00AD\u00E9', 2, [('a\u00E9', '0-0-0 ')]),
 ]
 
 # equivalent words, with a rule behind them and without

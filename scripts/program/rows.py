@@ -19,6 +19,16 @@ def of_tokens(name, given, shown, options=(), files=None):
     return Case(f'{name}: {given[:60]}', ['tokens', *options], files or {}, given=given, status=0 if out else 1, out=out)
 
 
+def joined(rows):
+    """Lines with their tokens as one text, with its tokens."""
+    text, shown = '', ''
+    for line, tokens in rows:
+        at = len(text.encode())
+        shown += re.sub(r' (\d+)-(\d+), ', lambda match: f' {int(match[1]) + at}-{int(match[2]) + at}, ', tokens)
+        text += line + '\n'
+    return text, shown
+
+
 def folder_of(texts):
     """The files of a folder of templates, which are numbered as they stand here; the folder alone where there is none."""
     return templates(**{str(k): text.encode() for k, text in enumerate(texts)}) or {'T': None}
@@ -26,7 +36,7 @@ def folder_of(texts):
 
 def match_lines(shown, given):
     """The lines of matches in a text of words with white space between, each of which is given as `FIRST-LAST-TEMPLATE `."""
-    words = [match.span() for match in re.finditer(r'\S+', given)]
+    words = [match.span() for match in re.finditer(rb'\S+', given.encode())]
     rows = [[int(number) for number in row.split('-')] for row in shown.split()]
     return ''.join(f'-\t{id}\t{first}\t{last}\t{words[first][0]}\t{words[last][1]}\n' for first, last, id in rows).encode()
 

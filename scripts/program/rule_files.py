@@ -1,7 +1,7 @@
 """Files of line rules that are read: those that are shipped, sign by sign, and small ones."""
 import os
 
-from rows import of_tokens
+from rows import joined, of_tokens
 
 RULES = os.path.join(os.path.dirname(os.path.abspath(__file__)), '..', '..', 'examples', 'rules')
 
@@ -62,14 +62,13 @@ SMALL = [
 
 
 def by_file(name, rows):
-    for given, shown in rows:
-        yield of_tokens(f'by {name}.rules', given, shown, ['--rules', 'rules'], {'rules': shipped(name)})
+    return of_tokens(f'by {name}.rules', *joined(rows), ['--rules', 'rules'], {'rules': shipped(name)})
 
 
 CASES = [
-    *(of_tokens('by no file', given, shown) for given, shown in [*PROFILE, ITEM, STOP, *BESIDE]),
-    *by_file('profile', [*PROFILE, ITEM, STOP, *BESIDE]),
-    *by_file('debian-copyright', [*PROFILE, *DEBIAN, NO_ITEM, *BESIDE]),
-    *by_file('more-comments', [*PROFILE, *MORE, ITEM, STOP]),
-    *(of_tokens(f'by {rules[:30]!r}', given, shown, ['--rules', 'rules'], {'rules': rules.encode()}) for rules, rows in SMALL for given, shown in rows),
+    of_tokens('by no file', *joined([*PROFILE, ITEM, STOP, *BESIDE])),
+    by_file('profile', [*PROFILE, ITEM, STOP, *BESIDE]),
+    by_file('debian-copyright', [*PROFILE, *DEBIAN, NO_ITEM, *BESIDE]),
+    by_file('more-comments', [*PROFILE, *MORE, ITEM, STOP]),
+    *(of_tokens(f'by {rules[:30]!r}', *joined(rows), ['--rules', 'rules'], {'rules': rules.encode()}) for rules, rows in SMALL),
 ]
