@@ -3,6 +3,7 @@
 use crate::profile::{set_of, text_of};
 use lic_find::matches::is_match;
 use lic_find::triple::Triple;
+use lic_norm::text::Text;
 use lic_vars::values::{Value, assign};
 use std::alloc::Global;
 use std::fmt::Write;
@@ -20,7 +21,27 @@ fn shown_values(alloc: Global, values: &[Value<'_>]) -> Result<String, Fail> {
     Ok(shown)
 }
 
-// Those of a match of a template in a source.
+// Those of a match of a template in a text.
+fn shown_of(
+    alloc: Global,
+    template: &str,
+    text: &Text,
+    first: usize,
+    last: usize,
+) -> Result<String, Fail> {
+    let set = set_of(alloc, &[template])?;
+    let triple = Triple {
+        first,
+        last,
+        template: 0,
+    };
+    if !is_match(alloc, &set, text, triple)? {
+        return Err(Fail::from("no match"));
+    }
+    shown_values(alloc, &assign(alloc, &set, text, triple)?)
+}
+
+// Those in a source.
 fn shown(
     alloc: Global,
     template: &str,
@@ -28,17 +49,8 @@ fn shown(
     first: usize,
     last: usize,
 ) -> Result<String, Fail> {
-    let set = set_of(alloc, &[template])?;
     let text = text_of(alloc, source)?;
-    let triple = Triple {
-        first,
-        last,
-        template: 0,
-    };
-    if !is_match(alloc, &set, &text, triple)? {
-        return Err(Fail::from("no match"));
-    }
-    shown_values(alloc, &assign(alloc, &set, &text, triple)?)
+    shown_of(alloc, template, &text, first, last)
 }
 
 const TWO: &str =
