@@ -16,10 +16,11 @@ parts, all of them where none is named:
   rules      `tokens` of 10 MB by the profile's line rules and 256 texts, against the profile alone: texts that begin with a sign, and with a letter
 Each figure is the quickest of three runs, but for those of more than ten seconds, which are run once.
 """
-import glob, os, random, resource, subprocess, sys, tempfile, time
+import glob, os, random, subprocess, sys, tempfile
 
 from published import texts, write_folder
 
+MEASURED = os.path.join(os.path.dirname(os.path.abspath(__file__)), 'measured.py')
 ENVIRONMENT = dict(os.environ, LC_ALL='C.UTF-8')
 
 
@@ -73,15 +74,12 @@ def timed(arguments, files=()):
     """Seconds and the greatest memory in megabytes of one run, over the files in as many calls as they need."""
     seconds, memory = 0, 0
     for at in range(0, max(1, len(files)), 4000):
-        start = time.monotonic()
-        done = subprocess.Popen(arguments + list(files[at:at + 4000]), stdout=subprocess.DEVNULL, stderr=subprocess.PIPE, env=ENVIRONMENT)
-        said = done.stderr.read().decode()
-        _, status, used = os.wait4(done.pid, 0)
-        done.returncode = os.waitstatus_to_exitcode(status)
-        seconds += time.monotonic() - start
-        memory = max(memory, used.ru_maxrss // 1024)
-        if done.returncode == 2:
-            sys.exit(f'{arguments}: {said}')
+        done = subprocess.run([sys.executable, '-S', MEASURED] + arguments + list(files[at:at + 4000]), capture_output=True, env=ENVIRONMENT, check=True)
+        taken, kilobytes, status = done.stdout.split()
+        seconds += float(taken)
+        memory = max(memory, int(kilobytes) // 1024)
+        if int(status) == 2:
+            sys.exit(f'{arguments}: {done.stderr.decode()}')
     return seconds, memory
 
 
