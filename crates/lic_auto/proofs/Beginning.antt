@@ -1,8 +1,9 @@
 -- The first letter of a token, and the heads of the words that spell lists which begin with it.
-use Rattle.std.proofs.Common.{◌≡◌, ◌≢◌, ℕ, true, false, List, [], ◌∷◌, ◌++◌, length, reverse, Some, ne_eqb, lit<, refl, sym, ap, ◌∙◌, arith}
-use Rattle.lic_words.specs.Words.{blank}
+use Rattle.std.proofs.Common.{◌≡◌, ◌≢◌, ◌<◌, ℕ, suc, true, false, List, [], ◌∷◌, ◌++◌, length, reverse, Some, ne_eqb, lit<, refl, sym, ap, ◌∙◌, arith}
+use Rattle.lic_words.specs.Words.{Word, blank}
 use Rattle.lic_words.specs.Describing.{IsDescribed}
 use Rattle.lic_words.specs.Expressions.{Expression}
+use Rattle.lic_words.specs.Letters.{letters_in}
 use Rattle.lic_marks.specs.Cores.{Core, WordsOf, HasWordsOf}
 use Rattle.lic_auto.specs.Heads.{head_of, BeginsWithLetter}
 use Rattle.lic_auto.specs.Beginnings.{HasHead}
@@ -26,6 +27,12 @@ pub HasHead-described : (r : Core) (e : Expression) (c : ℕ) (letters : List �
 HasHead-described r e c letters more words letter (some, w, language, spells) =
     let same = head-spelled w c letters more letter spells in
     (w, (words w).1 language, (λ no_head. head-some c letters (ne_eqb c blank letter) (sym same ∙ no_head)), same)
+
+-- what begins with a letter has one
+pub has_letters : (w : Word) → BeginsWithLetter w → 0 < letters_in w
+has_letters w (c, rest, other, is) =
+    let value : letters_in w ≡ suc (letters_in rest) = ap letters_in is ∙ rw (ne_eqb c blank other) refl in
+    omega (arith, value)
 
 -- the first letter of a row
 pub first_of : (cs : List ℕ) (c : ℕ) → slice_get cs 0 ≡ Some c → (rest : List ℕ) × (cs ≡ c ∷ rest)

@@ -382,6 +382,16 @@ module _ (letters more : List (List ℕ)) (n : ℕ) (old new : List ℕ → Opti
           let was : old q ≡ Some place = sym (after q ∙ ap (λ b. cond b (Some n) (old q)) h) ∙ is in
           kept place (in_range q place was) ∙ before q place was
 
+-- a text with a place is the head that got the last one, or had it before
+pub listed_before : (old new : List ℕ → Option ℕ) (head : List ℕ) (n : ℕ)
+    → ((q : List ℕ) → new q ≡ update bytes_eq old head (Some n) q)
+    → (q : List ℕ) (place : ℕ) → new q ≡ Some place → (q ≡ head) ⊎ (old q ≡ Some place)
+listed_before old new head n after q place is = by_head (bytes_eq head q) refl
+  where
+    by_head : (b : Bool) → bytes_eq head q ≡ b → (q ≡ head) ⊎ (old q ≡ Some place)
+    by_head true h = inl (sym ((bytes_eq-Decides head q).0 h))
+    by_head false h = inr (sym (after q ∙ ap (λ b. cond b (Some n) (old q)) h) ∙ is)
+
 -- the letters of the first lists
 pub taken_letters : (letters : List (String Global)) (n k : ℕ) → k < n
     → get_or (map string_bytes (take n letters)) k [] ≡ get_or (map string_bytes letters) k []

@@ -11,7 +11,7 @@ pub mod HeadTexts
 pub mod Beginning
 pub mod Walking
 pub mod Accepting
-pub mod Ends
+pub mod TurnedEnds
 pub mod FirstLemmas
 pub mod Gathering
 pub mod IndexLemmas
@@ -27,8 +27,10 @@ pub mod Ordering
 pub mod KnownTrees
 pub mod Places
 pub mod PickedLemmas
-pub mod TurnedSeekers
+pub mod MovedSeekers
+pub mod Finding
 pub mod Living
+pub mod Ending
 pub mod Joined
 pub mod Gathered
 pub mod OneTurned

@@ -5,4 +5,4 @@ use Rattle.lic_auto.specs.Backs.{set_behind, live_behind}
 use Rattle.lic_auto.specs.declared.back.Back.{Back}
 
 pub live_behind-rising : (back : Back) → IsRising (live_behind back) (length (set_behind back))
-live_behind-rising back = back.live_rising
+live_behind-rising back = back.seekers.found_rising

@@ -1,20 +1,20 @@
 -- For which lists of tokens a backward machine over templates of a set stands, and what it has counted.
-use Rattle.std.specs.Prelude.{◌≡◌, ◌≢◌, ◌↔◌, ℕ, List, take, slice_index, Some, Contains}
+use Rattle.std.specs.Prelude.{◌≡◌, ◌↔◌, ℕ, List, take, Some, Contains}
 use Rattle.std.specs.List.{slice_get}
 use Rattle.lic_words.specs.Describing.{IsDescribed}
 use Rattle.lic_words.specs.Mirrors.{turned}
 use Rattle.lic_auto.specs.Sets.{Known, words_of}
-use Rattle.lic_auto.specs.Choices.{templates_of}
-use Rattle.lic_auto.specs.Seeking.{SeekEach}
+use Rattle.lic_auto.specs.Found.{StandForEach, found_by}
 use Rattle.lic_auto.specs.declared.back.Back.{Back}
+pub use Rattle.lic_auto.specs.Found.{AreChangedListsAt}
 
 -- the templates
 abbrev pub set_behind : Back → List Known
-set_behind back = back.chosen.set.now
+set_behind back = back.seekers.chosen.set.now
 
 -- the numbers of the templates that it goes over
 abbrev pub numbers_behind : Back → List ℕ
-numbers_behind back = back.chosen.numbers.items
+numbers_behind back = back.seekers.chosen.numbers.items
 
 -- the steps that were counted
 abbrev pub steps_behind : Back → ℕ
@@ -22,7 +22,7 @@ steps_behind back = back.steps
 
 -- the numbers of the live templates
 abbrev pub live_behind : Back → List ℕ
-live_behind back = take back.live_count back.live.items
+live_behind back = found_by back.seekers
 
 -- the template of this number describes some beginning of the tokens
 abbrev pub IsLive : List Known → List (List ℕ) → ℕ → Type 0
@@ -30,7 +30,7 @@ IsLive set ts k = (known : Known) × (slice_get set k ≡ Some known) × (n : �
 
 -- For each template, by its number, a list of tokens that the machine stands for there: its seeker stands for the list from its end.
 pub record StandsForEach (back : Back) (lists : ℕ → List (List ℕ)) : Type 0 where
-  pub seekers : SeekEach (templates_of back.chosen) back.seekers.items (λ place. turned (lists (slice_index (numbers_behind back) place)))
+  pub seekers : StandForEach back.seekers (λ k. turned (lists k))
 
 -- the numbers that are kept as live are those of the templates that describe some beginning of their lists
 abbrev pub KnowsLive : Back → (ℕ → List (List ℕ)) → Type 0
@@ -41,8 +41,3 @@ KnowsLive back lists = (k : ℕ) → Contains (live_behind back) k
 pub record StandsBehind (back : Back) (ts : List (List ℕ)) : Type 0 where
   pub each : StandsForEach back (λ k. ts)
   pub live : KnowsLive back (λ k. ts)
-
--- The template of this number has this list now, and the others have theirs.
-pub record AreChangedListsAt (number : ℕ) (ts : List (List ℕ)) (lists changed : ℕ → List (List ℕ)) : Type 0 where
-  pub one : changed number ≡ ts
-  pub others : (k : ℕ) → k ≢ number → changed k ≡ lists k

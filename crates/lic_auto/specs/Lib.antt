@@ -14,5 +14,7 @@ pub mod Changes
 pub mod Joining
 pub mod Walks
 pub mod Seeking
+pub mod Found
 pub mod Backs
+pub mod Ends
 pub mod Runs

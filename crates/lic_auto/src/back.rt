@@ -1,22 +1,18 @@
 //! Reverse automata: templates of a set on their way over a list of tokens that grows at its front.
 
-ghost use Rattle.std.specs.Prelude.{◌≡◌, ◌<◌, ◌≤◌, ◌+◌, ◌*◌, ◌-◌, ◌^◌, ◌∷◌, ◌↔◌, [], ℕ, List, length, take, vec_len, IfOk, IsTrue, Contains};
+ghost use Rattle.std.specs.Prelude.{◌≡◌, ◌<◌, ◌≤◌, ◌+◌, ◌-◌, ◌^◌, ◌∷◌, ◌↔◌, [], ℕ, List, length, IfOk, IsTrue, Contains};
 ghost use Rattle.std.specs.Str.{chars};
 ghost use Rattle.lic_words.specs.Letters.{letters_in};
 ghost use Rattle.lic_phrases.specs.TokenTexts.{IsTokenText};
 ghost use Rattle.lic_keys.specs.Rising.{IsRising};
-ghost use Rattle.lic_auto.specs.Choices.{templates_of};
 ghost use Rattle.lic_auto.specs.Picked.{AreAll};
-ghost use Rattle.lic_auto.specs.Seeking.{AreQuietBut, HaveMirrors};
 ghost use Rattle.lic_auto.specs.declared.direction.Direction.TheVariants.{Backward};
 
-use crate::chosen::{Chosen, all_numbers};
+use crate::chosen::all_numbers;
 use crate::direction::Direction;
-use crate::joining::{add_number, join_rising};
-use crate::seeking::{begin_anew, gather_live, name_all, seekers_of, take_alone, take_turned};
+use crate::seekers::Seekers;
 use crate::set::Set;
 use crate::walk::count_steps;
-use lic_marks::seek::Seeker;
 use std::alloc::{AllocError, Global};
 
 /// Templates of a set, all or some, over a list of tokens that grows at its front. It keeps no token, and takes memory in its
@@ -24,33 +20,9 @@ use std::alloc::{AllocError, Global};
 /// are on their way; the others are ignored.
 #[derive(Debug, Drop)]
 pub struct Back<'s> {
-    chosen: Chosen<'s>,
-    // one for each template that was chosen
-    seekers: Vec<Seeker<'s>>,
-    // the places of the seekers that may not be dead in rising order, and then anything
-    marked: Vec<usize>,
-    marked_count: usize,
-    // room for the places of those that are entered at a token
-    entered: Vec<usize>,
-    // room for the places of those that take a token
-    turns: Vec<usize>,
-    // the numbers of the live templates in rising order, and then anything
-    live: Vec<usize>,
-    live_count: usize,
+    seekers: Seekers<'s>,
     steps: u64,
-    ghost backward: { chosen.direction ≡ Backward },
-    ghost count: { vec_len seekers ≡ length (templates_of chosen) },
-    ghost mirrors: { HaveMirrors (templates_of chosen) seekers.items },
-    ghost marked_room: { vec_len marked ≡ length (templates_of chosen) },
-    ghost marked_within: { marked_count ≤ vec_len marked },
-    ghost marked_rising: { IsRising (take marked_count marked.items)
-        (length (templates_of chosen)) },
-    ghost quiet: { AreQuietBut (take marked_count marked.items) seekers.items },
-    ghost entered_room: { vec_len entered ≡ length (templates_of chosen) },
-    ghost turns_room: { vec_len turns ≡ length (templates_of chosen) },
-    ghost live_room: { vec_len live ≡ length (templates_of chosen) },
-    ghost live_within: { live_count ≤ vec_len live },
-    ghost live_rising: { IsRising (take live_count live.items) (length chosen.set.now) },
+    ghost backward: { seekers.chosen.direction ≡ Backward },
 }
 
 impl<'s> Back<'s> {
@@ -75,25 +47,8 @@ impl<'s> Back<'s> {
         ensures steps { IfOk result (λ b. steps_behind b ≡ 0) }
         ensures numbers { IfOk result (λ b. numbers_behind b ≡ numbers.items) }
     {
-        let chosen = Chosen::new(alloc, set, numbers, Direction::Backward)?;
-        let count = chosen.len();
-        let mut marked = vec![in alloc; 0usize; count]?;
-        name_all(&mut marked);
-        let entered = vec![in alloc; 0usize; count]?;
-        let turns = vec![in alloc; 0usize; count]?;
-        let live = vec![in alloc; 0usize; count]?;
-        let seekers = seekers_of(alloc, &chosen)?;
-        Ok(Back {
-            chosen,
-            seekers,
-            marked,
-            marked_count: count,
-            entered,
-            turns,
-            live,
-            live_count: 0,
-            steps: 0,
-        })
+        let seekers = Seekers::over(alloc, set, numbers, Direction::Backward)?;
+        Ok(Back { seekers, steps: 0 })
     }
 
     /// Begins anew with the empty list. The steps stay counted.
@@ -104,17 +59,14 @@ impl<'s> Back<'s> {
         ensures steps { (steps_behind self.old ≤ steps_behind self.new)
             × (steps_behind self.new ≤ steps_behind self.old + 2) }
     {
-        name_all(&mut self.marked);
-        begin_anew(&mut self.seekers, &self.marked);
-        self.marked_count = self.marked.len();
-        self.live_count = 0;
+        self.seekers.reset();
     }
 
     /// For every list that the machine stood for, it now stands for that list with the token in front of it; and where it
     /// stood for a list of its own for each template, for each of these with the token in front.
     ///
-    /// A step is one letter, or one gap before a letter, that all live templates take together; their count stays at the
-    /// greatest `u64`.
+    /// A step is one letter, with the gap before it, that all live templates take together; their count stays at the greatest
+    /// `u64`.
     pub fn push_front(&mut self, text: &str)
         requires { IsTokenText text.now }
         ensures stands { (ts : List (List ℕ)) → StandsBehind self.old ts
@@ -126,19 +78,11 @@ impl<'s> Back<'s> {
         ensures numbers { numbers_behind self.new ≡ numbers_behind self.old }
         ensures least { steps_behind self.new < 2 ^ 64 - 1
             → steps_behind self.old + letters_in (chars text.now) ≤ steps_behind self.new }
-        ensures most { steps_behind self.new
-            ≤ steps_behind self.old + 2 * letters_in (chars text.now) }
+        ensures most { steps_behind self.new ≤ steps_behind self.old + letters_in (chars text.now) }
         ensures never_fall { steps_behind self.old ≤ steps_behind self.new }
     {
         self.steps = count_steps(self.steps, text);
-        let count = self.chosen.enter(text, &mut self.entered);
-        let entered = &self.entered[..count];
-        let marked = &self.marked[..self.marked_count];
-        let turn_count = join_rising(marked, entered, &mut self.turns);
-        let turns = &self.turns[..turn_count];
-        self.marked_count = take_turned(&mut self.seekers, turns, entered, text, &mut self.marked);
-        let marked = &self.marked[..self.marked_count];
-        self.live_count = gather_live(&self.chosen, &self.seekers, marked, &mut self.live);
+        self.seekers.take(text);
     }
 
     /// One of its templates begins anew with the empty list. The others stay as they are, and the steps stay counted. Which are
@@ -152,9 +96,7 @@ impl<'s> Back<'s> {
         ensures numbers { numbers_behind self.new ≡ numbers_behind self.old }
         ensures steps { steps_behind self.new ≡ steps_behind self.old }
     {
-        let place = self.chosen.place_of(number);
-        self.marked_count = add_number(&mut self.marked, self.marked_count, place, &mut self.turns);
-        begin_anew(&mut self.seekers, &[place]);
+        self.seekers.begin_one(number);
     }
 
     /// One of its templates stands for each list that it stood for with the token in front of it. The others stay as they are. The
@@ -170,15 +112,11 @@ impl<'s> Back<'s> {
         ensures numbers { numbers_behind self.new ≡ numbers_behind self.old }
         ensures least { steps_behind self.new < 2 ^ 64 - 1
             → steps_behind self.old + letters_in (chars text.now) ≤ steps_behind self.new }
-        ensures most { steps_behind self.new
-            ≤ steps_behind self.old + 2 * letters_in (chars text.now) }
+        ensures most { steps_behind self.new ≤ steps_behind self.old + letters_in (chars text.now) }
         ensures never_fall { steps_behind self.old ≤ steps_behind self.new }
     {
         self.steps = count_steps(self.steps, text);
-        let place = self.chosen.place_of(number);
-        self.marked_count = add_number(&mut self.marked, self.marked_count, place, &mut self.turns);
-        let may_begin = self.chosen.may_enter(place, text);
-        take_alone(&mut self.seekers, place, text, may_begin);
+        self.seekers.take_one(number, text);
     }
 
     /// Whether some template of this machine describes a beginning of the list of tokens.
@@ -187,7 +125,7 @@ impl<'s> Back<'s> {
             → IsTrue result ↔ ((k : ℕ) × Contains (numbers_behind self.now) k
             × IsLive (set_behind self.now) ts k) }
     {
-        self.live_count > 0
+        !self.live_numbers().is_empty()
     }
 
     /// The numbers of the templates that were live when all took a token, in rising order.
@@ -198,7 +136,7 @@ impl<'s> Back<'s> {
             → Contains result.now k
             ↔ (Contains (numbers_behind self.now) k × IsLive (set_behind self.now) ts k) }
     {
-        &self.live[..self.live_count]
+        self.seekers.found_numbers()
     }
 
     /// The steps that were counted, at most the greatest `u64`.

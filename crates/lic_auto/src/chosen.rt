@@ -30,7 +30,7 @@ pub struct Chosen<'s> {
     numbers: Vec<usize>,
     // the tree of each
     trees: Vec<&'s Node>,
-    direction: Direction,
+    pub direction: Direction,
     index: Index,
     // with which heads the words of each begin
     firsts: Vec<Firsts>,

@@ -1,6 +1,6 @@
 //! All templates of a set on their way over a list of tokens.
 
-ghost use Rattle.std.specs.Prelude.{◌≡◌, ◌<◌, ◌≤◌, ◌+◌, ◌*◌, ◌-◌, ◌^◌, ◌∷◌, ◌++◌, [], ℕ, List, false, length, take, vec_len, Some, IfOk, IfSome, IsTrue, Contains};
+ghost use Rattle.std.specs.Prelude.{◌≡◌, ◌<◌, ◌≤◌, ◌+◌, ◌-◌, ◌^◌, ◌∷◌, ◌++◌, [], ℕ, List, false, length, take, vec_len, Some, IfOk, IfSome, IsTrue, Contains};
 ghost use Rattle.std.specs.List.{slice_get};
 ghost use Rattle.std.specs.Str.{chars};
 ghost use Rattle.lic_words.specs.Describing.{IsDescribed};
@@ -112,8 +112,8 @@ impl<'s> Run<'s> {
 
     /// For every list that the run stood for, it now stands for that list with the token at its end.
     ///
-    /// A step is one letter, or one gap before a letter, that all live templates take together; their count stays at the
-    /// greatest `u64`.
+    /// A step is one letter, with the gap before it, that all live templates take together; their count stays at the greatest
+    /// `u64`.
     pub fn push(&mut self, text: &str)
         requires { IsTokenText text.now }
         ensures stands { (ts : List (List ℕ)) → StandsFor self.old ts
@@ -124,7 +124,7 @@ impl<'s> Run<'s> {
         ensures numbers { numbers_of self.new ≡ numbers_of self.old }
         ensures least { is_dead self.old ≡ false → steps_of self.new < 2 ^ 64 - 1
             → steps_of self.old + letters_in (chars text.now) ≤ steps_of self.new }
-        ensures most { steps_of self.new ≤ steps_of self.old + 2 * letters_in (chars text.now) }
+        ensures most { steps_of self.new ≤ steps_of self.old + letters_in (chars text.now) }
         ensures never_fall { steps_of self.old ≤ steps_of self.new }
     {
         let runs = self.runs.as_mut_slice();

@@ -1,26 +1,30 @@
-//! Seekers, one for each template, over a list of tokens that is read from its end.
+//! Seekers, one for each template, over a list of tokens that is read in one direction.
 
-ghost use Rattle.std.specs.Prelude.{◌≡◌, ℕ, ◌<◌, ◌≤◌, ◌↔◌, ◌∷◌, List, [], IfOk, IfSome, false, length, reverse, take, vec_len, Contains};
+ghost use Rattle.std.specs.Prelude.{◌≡◌, ℕ, ◌<◌, ◌≤◌, ◌↔◌, ◌∷◌, ◌++◌, List, [], IfOk, IfSome, false, length, take, vec_len, Contains};
 ghost use Rattle.std.specs.Str.{chars};
 ghost use Rattle.lic_words.specs.Letters.{letters_in};
+ghost use Rattle.lic_words.specs.Expressions.{Expression};
 ghost use Rattle.lic_marks.specs.Plain.{IsPlain};
+ghost use Rattle.lic_marks.specs.Seeks.{NoneBegins, Seeks, tree_of};
 ghost use Rattle.lic_keys.specs.Rising.{IsRising};
 ghost use Rattle.lic_auto.specs.Choices.{templates_of};
 ghost use Rattle.lic_auto.specs.Changes.{AreKeptOf};
-ghost use Rattle.lic_auto.specs.Seeking.{AllSeek, AreTurned, BeginsAnew, HaveMirrors, IsFoundAt, IsQuiet, SeekEach, TakesAlone, TakesTurned};
-ghost use Rattle.lic_auto.specs.declared.direction.Direction.TheVariants.{Backward};
+ghost use Rattle.lic_auto.specs.Directions.{ordered};
+ghost use Rattle.lic_auto.specs.Seeking.{AllSeek, BeginsAnew, HaveMoved, HaveWords, IsFoundAt, IsQuiet, SeekEach, TakesAlone, TakesEntered};
 
 use crate::chosen::Chosen;
+use crate::direction::{Direction, looked_at};
 use lic_marks::plain::Plain;
 use lic_marks::seek::Seeker;
 use std::alloc::{AllocError, Global};
 
-/// A seeker for each template of a choice that is read backward.
+/// A seeker for each template of a choice.
 pub fn seekers_of<'s>(alloc: Global, chosen: &Chosen<'s>) -> Result<Vec<Seeker<'s>>, AllocError>
-    requires { chosen.now.direction ≡ Backward }
     ensures count { IfOk result (λ seekers. vec_len seekers ≡ length (templates_of chosen.now)) }
-    ensures trees { IfOk result (λ seekers. HaveMirrors (templates_of chosen.now) seekers.items) }
-    ensures stand { IfOk result (λ seekers. AllSeek (templates_of chosen.now) seekers.items []) }
+    ensures words { IfOk result (λ seekers.
+        HaveWords chosen.now.direction (templates_of chosen.now) seekers.items) }
+    ensures stand { IfOk result (λ seekers.
+        AllSeek chosen.now.direction (templates_of chosen.now) seekers.items []) }
 {
     let count = chosen.len();
     let mut seekers = Vec::with_capacity(alloc, count)?;
@@ -44,7 +48,7 @@ pub fn name_all(places: &mut [usize])
 /// Those at these places begin anew.
 pub fn begin_anew(seekers: &mut [Seeker<'_>], places: &[usize])
     requires { IsRising places.now (length seekers.old) }
-    ensures { AreTurned BeginsAnew places.now seekers.old seekers.new }
+    ensures { HaveMoved BeginsAnew places.now seekers.old seekers.new }
 {
     for place in places {
         let seeker = &mut seekers[*place];
@@ -52,13 +56,14 @@ pub fn begin_anew(seekers: &mut [Seeker<'_>], places: &[usize])
     }
 }
 
-/// Those at these places take a token from its end, and are entered there where their places are among `entered`. Writes the
-/// places of those that are not dead then, and gives how many they are.
-pub fn take_turned(
+/// Those at these places take a token, and are entered there where their places are among `entered`. Writes the places of
+/// those that are not dead then, and gives how many they are.
+pub fn take_tokens(
     seekers: &mut [Seeker<'_>],
     places: &[usize],
     entered: &[usize],
     token: &str,
+    direction: Direction,
     kept: &mut [usize],
 ) -> usize
     requires rising { IsRising places.now (length seekers.old) }
@@ -68,17 +73,17 @@ pub fn take_turned(
     ensures count { result ≤ length kept.new }
     ensures room { length kept.new ≡ length kept.old }
     ensures rising { IsRising (take result kept.new) (length seekers.new) }
-    ensures taken { AreTurned
-        (TakesTurned entered.now (chars token.now)) places.now seekers.old seekers.new }
+    ensures taken { HaveMoved
+        (TakesEntered direction entered.now (chars token.now)) places.now seekers.old seekers.new }
     ensures kept { AreKeptOf IsQuiet places.now (take result kept.new) seekers.new }
 {
-    let known = looked_at(token, !places.is_empty());
+    let known = looked_at(token, direction, !places.is_empty());
     let mut count = 0;
     for place in places {
         let place = *place;
         let may_begin = has(entered, place);
         let seeker = &mut seekers[place];
-        seeker.push_known(token, known.as_ref(), may_begin);
+        push(seeker, token, direction, known.as_ref(), may_begin);
         if !seeker.is_dead() {
             kept[count] = place;
             count += 1;
@@ -87,23 +92,45 @@ pub fn take_turned(
     count
 }
 
-/// The one at this place takes a token from its end. `may_begin` is false only where no described list begins with it.
-pub fn take_alone(seekers: &mut [Seeker<'_>], place: usize, token: &str, may_begin: bool)
+/// The one at this place takes a token. `may_begin` is false only where no described list begins with it.
+pub fn take_alone(
+    seekers: &mut [Seeker<'_>],
+    place: usize,
+    token: &str,
+    direction: Direction,
+    may_begin: bool,
+)
     requires place { place < length seekers.old }
     requires letters { 0 < letters_in (chars token.now) }
-    ensures { AreTurned
-        (TakesAlone may_begin (chars token.now)) (place ∷ []) seekers.old seekers.new }
+    ensures { HaveMoved
+        (TakesAlone direction may_begin (chars token.now)) (place ∷ []) seekers.old seekers.new }
 {
-    let known = Plain::turned(token);
+    let known = direction.look_at(token);
     let seeker = &mut seekers[place];
-    seeker.push_known(token, known.as_ref(), may_begin);
+    push(seeker, token, direction, known.as_ref(), may_begin);
 }
 
-// What is known of a token's letters. They are read only where some template takes them.
-fn looked_at(token: &str, is_taken: bool) -> Option<Plain>
-    ensures { IfSome result (λ plain. IsPlain plain (reverse (chars token.now))) }
+// A seeker takes a token, as it is read in this direction.
+#[inline]
+fn push(
+    seeker: &mut Seeker<'_>,
+    token: &str,
+    direction: Direction,
+    known: Option<&Plain>,
+    may_begin: bool,
+)
+    requires letters { 0 < letters_in (chars token.now) }
+    requires known { IfSome known
+        (λ plain. IsPlain plain.now (ordered direction (chars token.now))) }
+    ensures stands { (e : Expression) (ts : List (List ℕ)) → Seeks seeker.old e ts
+        → (may_begin ≡ false → NoneBegins e (ordered direction (chars token.now)))
+        → Seeks seeker.new e (ts ++ ordered direction (chars token.now) ∷ []) }
+    ensures tree { tree_of seeker.new ≡ tree_of seeker.old }
 {
-    if is_taken { Plain::turned(token) } else { None }
+    match direction {
+        Direction::Forward => seeker.push(token, known, may_begin),
+        Direction::Backward => seeker.push_known(token, known, may_begin),
+    }
 }
 
 // Whether a list of rising numbers may have this one.
@@ -119,26 +146,26 @@ fn has(numbers: &[usize], number: usize) -> bool
 
 /// Of the templates at these places, puts the numbers of those that describe some end of the tokens to the front, in rising
 /// order, and gives how many they are.
-pub fn gather_live(
+pub fn gather_found(
     chosen: &Chosen<'_>,
     seekers: &[Seeker<'_>],
     places: &[usize],
-    live: &mut [usize],
+    found: &mut [usize],
 ) -> usize
     requires count { length seekers.now ≡ length (templates_of chosen.now) }
     requires rising { IsRising places.now (length seekers.now) }
-    requires room { length live.old ≡ length (templates_of chosen.now) }
-    ensures room { length live.new ≡ length live.old }
-    ensures count { result ≤ length live.new }
-    ensures rising { IsRising (take result live.new) (length chosen.now.set.now) }
+    requires room { length found.old ≡ length (templates_of chosen.now) }
+    ensures room { length found.new ≡ length found.old }
+    ensures count { result ≤ length found.new }
+    ensures rising { IsRising (take result found.new) (length chosen.now.set.now) }
     ensures exactly { (lists : ℕ → List (List ℕ))
-        → SeekEach (templates_of chosen.now) seekers.now lists
-        → (n : ℕ) → Contains (take result live.new) n ↔ IsFoundAt chosen.now places.now lists n }
+        → SeekEach chosen.now.direction (templates_of chosen.now) seekers.now lists
+        → (n : ℕ) → Contains (take result found.new) n ↔ IsFoundAt chosen.now places.now lists n }
 {
     let mut count = 0;
     for place in places {
         if seekers[*place].accepts() {
-            live[count] = chosen.number(*place);
+            found[count] = chosen.number(*place);
             count += 1;
         }
     }

@@ -1,11 +1,10 @@
 //! Runs, one for each template, of which some take a token.
 
-ghost use Rattle.std.specs.Prelude.{◌≡◌, ◌<◌, ◌≤◌, ◌+◌, ◌*◌, ◌-◌, ◌^◌, ◌∷◌, ℕ, List, length, take, IfSome, Some, Contains};
+ghost use Rattle.std.specs.Prelude.{◌≡◌, ◌<◌, ◌≤◌, ◌+◌, ◌-◌, ◌^◌, ◌∷◌, ℕ, List, length, take, IfSome, Some, Contains};
 ghost use Rattle.std.specs.List.{slice_get};
 ghost use Rattle.std.specs.Str.{chars};
 ghost use Rattle.lic_words.specs.Describing.{IsDescribed};
 ghost use Rattle.lic_words.specs.Letters.{letters_in};
-ghost use Rattle.lic_marks.specs.Plain.{IsPlain};
 ghost use Rattle.lic_phrases.specs.TokenTexts.{IsTokenText};
 ghost use Rattle.lic_auto.specs.Sets.{Known, words_of};
 ghost use Rattle.lic_keys.specs.Rising.{IsRising};
@@ -14,7 +13,7 @@ ghost use Rattle.lic_auto.specs.declared.direction.Direction.TheVariants.{Forwar
 ghost use Rattle.lic_auto.specs.Walks.{AreChanged, AreKept, Resets, Takes};
 
 use crate::chosen::Chosen;
-use lic_marks::plain::Plain;
+use crate::direction::{Direction, looked_at};
 use lic_marks::run::Run as TreeRun;
 
 /// Begins anew with the templates that a text with this first token can enter, and gives how many they are. Their numbers
@@ -96,7 +95,7 @@ fn take_each(runs: &mut [TreeRun<'_>], numbers: &mut [usize], token: &str) -> us
     ensures taken { AreChanged (Takes (chars token.now)) numbers.old runs.old runs.new }
     ensures kept { AreKept numbers.old (take result numbers.new) runs.new }
 {
-    let known = looked_at(token, !numbers.is_empty());
+    let known = looked_at(token, Direction::Forward, !numbers.is_empty());
     let mut kept = 0;
     for i in 0..numbers.len() {
         let number = numbers[i];
@@ -108,13 +107,6 @@ fn take_each(runs: &mut [TreeRun<'_>], numbers: &mut [usize], token: &str) -> us
         }
     }
     kept
-}
-
-// What is known of a token's letters. They are read only where some template takes them.
-fn looked_at(token: &str, is_taken: bool) -> Option<Plain>
-    ensures { IfSome result (λ plain. IsPlain plain (chars token.now)) }
-{
-    if is_taken { Plain::of(token) } else { None }
 }
 
 /// How many bytes a text has that is ASCII without a blank: as many as it has letters.
@@ -130,35 +122,22 @@ fn plain_length(token: &str) -> Option<usize>
     Some(bytes.len())
 }
 
-/// The steps so far and those of a token: one for each letter, and one for each gap before a letter.
+/// The steps so far and those of a token: one for each letter, with the gap before it.
 pub fn count_steps(before: u64, token: &str) -> u64
     ensures least { result < 2 ^ 64 - 1 → before + letters_in (chars token.now) ≤ result }
-    ensures most { result ≤ before + 2 * letters_in (chars token.now) }
+    ensures most { result ≤ before + letters_in (chars token.now) }
     ensures never_fall { before ≤ result }
 {
-    match plain_length(token) {
-        Some(0) => before,
-        Some(letters) => before.saturating_add(letters as u64).saturating_add(1),
-        None => count_letters(before, token),
-    }
+    let letters = match plain_length(token) {
+        Some(length) => length,
+        None => count_letters(token),
+    };
+    before.saturating_add(letters as u64)
 }
 
-/// The same, letter by letter.
-fn count_letters(before: u64, token: &str) -> u64
-    ensures least { result < 2 ^ 64 - 1 → before + letters_in (chars token.now) ≤ result }
-    ensures most { result ≤ before + 2 * letters_in (chars token.now) }
-    ensures never_fall { before ≤ result }
+/// How many letters a text has.
+fn count_letters(token: &str) -> usize
+    ensures { result ≡ letters_in (chars token.now) }
 {
-    let mut steps = before;
-    let mut is_apart = true;
-    for c in token.chars() {
-        if c == ' ' {
-            is_apart = true;
-        } else {
-            let gap = if is_apart { 1 } else { 0 };
-            steps = steps.saturating_add(1 + gap);
-            is_apart = false;
-        }
-    }
-    steps
+    token.chars().filter(|c| *c != ' ').count()
 }

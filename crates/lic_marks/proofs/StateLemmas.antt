@@ -86,13 +86,17 @@ cleared r at_once after_blanks n m e f = with_gap r false (marks_of r at_once) (
   blanks_complete = λ v n h. absurd h;
 }
 
--- a state that stands for no list stands for any set of no words
-pub none_left : (r : Core) (state : State) (A : Word → Type 0) → HasTakenAny r state [] → ((v : Word) → A v → ⊥) → HasLeft r state A
-none_left r state A s none = record {
-  leads = LeadsSoFar-same r state.entry (marks_of r state.at_once) (marks_of r state.after_blanks) state.is_apart (AfterAny (WordsOf r) []) A
-      (λ v h. absurd h) (λ v h. none v h) s.leads;
+-- a state that stands for a set of no words stands for any other
+pub none_still : (r : Core) (state : State) (A B : Word → Type 0) → HasLeft r state A → ((v : Word) → A v → ⊥) → ((v : Word) → B v → ⊥) → HasLeft r state B
+none_still r state A B s none others = record {
+  leads = LeadsSoFar-same r state.entry (marks_of r state.at_once) (marks_of r state.after_blanks) state.is_apart A B
+      (λ v h. absurd (none v h)) (λ v h. absurd (others v h)) s.leads;
   kept = s.kept;
 }
+
+-- and so does one that stands for no list
+pub none_left : (r : Core) (state : State) (A : Word → Type 0) → HasTakenAny r state [] → ((v : Word) → A v → ⊥) → HasLeft r state A
+none_left r state A s none = none_still r state (AfterAny (WordsOf r) []) A s (λ v h. h) none
 
 -- where it also stands for a set, that has no word
 pub none_of : (r : Core) (state : State) (A : Word → Type 0) → HasTakenAny r state [] → HasLeft r state A → (v : Word) → A v → ⊥

@@ -7,7 +7,7 @@ mod counts;
 mod front;
 mod known;
 pub mod laws;
-mod letter_set;
+pub mod letter_set;
 mod memory;
 mod moves;
 pub mod node;

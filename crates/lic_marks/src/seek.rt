@@ -1,4 +1,5 @@
-//! A compiled expression on its way over a list of tokens, entered at every token. The tokens are read from their ends.
+//! A compiled expression on its way over a list of tokens, entered at every token. The tokens are read in one direction:
+//! all from their ends, or all from their first letters on.
 
 ghost use Rattle.std.specs.Prelude.{◌≡◌, ℕ, ◌<◌, ◌≤◌, ◌↔◌, IsTrue, IfOk, List, [], ◌∷◌, ◌++◌, IfSome, None, false, length, reverse};
 ghost use Rattle.std.specs.Option.{ForSome};
@@ -22,6 +23,7 @@ use crate::row::Row;
 use crate::state::State;
 use crate::stretch::{Stretch, Way};
 use crate::threads::InText;
+use lic_words::letters::Letters;
 use lic_words::turned_letters::TurnedLetters;
 use std::alloc::{AllocError, Global};
 
@@ -119,6 +121,35 @@ impl<'a> Seeker<'a> {
         self.take_out();
     }
 
+    // Takes a token from its first letter to its last, by a walk over the tree.
+    #[inline(never)]
+    fn take(&mut self, token: &str, may_begin: bool)
+        requires { 0 < letters_in (chars token.now) }
+        ensures stands { (e : Expression) (ts : List (List ℕ)) → Seeks self.old e ts
+            → (may_begin ≡ false → NoneBegins e (chars token.now))
+            → Seeks self.new e (ts ++ chars token.now ∷ []) }
+        ensures tree { tree_of self.new ≡ tree_of self.old }
+    {
+        if !may_begin && self.is_dead() {
+            return;
+        }
+        let mut letters = Letters::new(token, self.last, true);
+        let Some(first) = letters.next() else {
+            return;
+        };
+        self.put_back();
+        self.stretch = self.state.stretch_of(self.tree, self.stretch);
+        if may_begin {
+            self.state
+                .enter(self.tree, self.stretch, &self.first, first);
+        } else {
+            self.state.letter(self.tree, self.stretch, first);
+        }
+        self.stretch = self.state.stretch_of(self.tree, self.stretch);
+        self.last = self.state.letters(self.tree, self.stretch, letters);
+        self.take_out();
+    }
+
     // Puts the mark that stands alone in a text back among those of the state.
     fn put_back(&mut self)
         ensures stands { (e : Expression) (ts : List (List ℕ)) → Seeks self.old e ts → Seeks self.new e ts }
@@ -146,6 +177,21 @@ impl<'a> Seeker<'a> {
         let stretch = self.stretch;
         if none_ends(stretch, place) {
             self.lone = Some(InText { place, stretch });
+        }
+    }
+
+    /// Takes a token from its first letter to its last, of which the caller may know that it is plain. `may_begin` as for `push_turned`.
+    #[inline]
+    pub fn push(&mut self, token: &str, known: Option<&Plain>, may_begin: bool)
+        requires letters { 0 < letters_in (chars token.now) }
+        requires known { IfSome known (λ plain. IsPlain plain.now (chars token.now)) }
+        ensures stands { (e : Expression) (ts : List (List ℕ)) → Seeks self.old e ts
+            → (may_begin ≡ false → NoneBegins e (chars token.now))
+            → Seeks self.new e (ts ++ chars token.now ∷ []) }
+        ensures tree { tree_of self.new ≡ tree_of self.old }
+    {
+        if !self.passes(known, may_begin) {
+            self.take(token, may_begin);
         }
     }
 

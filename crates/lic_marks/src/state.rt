@@ -5,7 +5,7 @@ ghost use Rattle.std.specs.Option.{ForSome};
 ghost use Rattle.std.specs.Str.{chars};
 ghost use Rattle.lic_words.specs.Words.{Word, blanks};
 ghost use Rattle.lic_words.specs.Spelling.{Gap, free, gapped_from, last_letter, SpellsGapped};
-ghost use Rattle.lic_words.specs.Reading.{gapped_letter, turned_last_in, turned_letters_left};
+ghost use Rattle.lic_words.specs.Reading.{gapped_letter, last_in, letters_left, turned_last_in, turned_letters_left};
 ghost use Rattle.lic_marks.specs.Cores.{Core, WordsOf};
 ghost use Rattle.lic_marks.specs.Marks.{can_leave, join, no_marks};
 ghost use Rattle.lic_marks.specs.Rows.{weight, marks_of};
@@ -163,9 +163,30 @@ impl State {
         ensures open { IsTrue (has_gap self.new) }
         ensures last { result ≡ last_letter last (chars token.now) }
     {
-        let mut letters = Letters::new(token, last, true);
+        self.letters(tree, stretch, Letters::new(token, last, true))
+    }
+
+    /// Takes the letters that are left of a token, and opens a gap behind them. Answers the last of them, or else the letter before.
+    pub fn letters(&mut self, tree: &Node, stretch: Stretch<'_>, letters: Letters) -> char
+        requires measured { IsTrue (is_measured tree.now) }
+        requires room { weight (core_of tree.now) ≤ room_of self.old }
+        requires stretch { IsStretchOf (core_of tree.now) stretch }
+        ensures room { room_of self.new ≡ room_of self.old }
+        ensures taken { (before : List (Gap × ℕ)) → HasTaken (core_of tree.now) self.old before
+            → HasTaken (core_of tree.now) self.new (before ++ letters_left letters.entry) }
+        ensures any { (lists : List (List (Gap × ℕ)))
+            → HasTakenAny (core_of tree.now) self.old lists
+            → HasTakenAny (core_of tree.now) self.new
+            (each_with (letters_left letters.entry) lists) }
+        ensures open { IsTrue (has_gap self.new) }
+        ensures last { result ≡ last_in letters.entry }
+    {
+        let mut letters = letters;
         while let Some(letter) = letters.next() {
-            self.letter(tree, stretch, letter);
+            // where no word goes on any more, the letters are passed over
+            if !self.is_dead() {
+                self.letter(tree, stretch, letter);
+            }
         }
         self.gap(tree, stretch);
         letters.last_letter()

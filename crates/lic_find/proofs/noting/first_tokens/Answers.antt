@@ -70,8 +70,8 @@ loop-first-preserved c =
     (c.live_numbers-live.ensures.exactly (all_letters (drop first tokens)) stands k)) in
     let more : letters_of (drop first tokens) ≡ letters_in (chars (get_or tokens first token).text) + letters_of (drop end tokens) =
     letters_of-drop tokens first token inside ∙ ap (λ n. letters_in (chars (get_or tokens first token).text) + letters_of (drop n tokens)) next in
-    let most : steps_behind back ≤ steps_behind c.loop-first.back + 2 * letters_in (chars (get_or tokens first token).text) =
-    subst (λ text. steps_behind back ≤ steps_behind c.loop-first.back + 2 * letters_in (chars text)) text c.push_front.ensures.most in
+    let most : steps_behind back ≤ steps_behind c.loop-first.back + letters_in (chars (get_or tokens first token).text) =
+    subst (λ text. steps_behind back ≤ steps_behind c.loop-first.back + letters_in (chars text)) text c.push_front.ensures.most in
     let least : steps_behind back < 2 ^ 64 - 1 → steps_behind c.loop-first.back + letters_in (chars (get_or tokens first token).text) ≤ steps_behind back =
     subst (λ text. steps_behind back < 2 ^ 64 - 1
     → steps_behind c.loop-first.back + letters_in (chars text)
@@ -122,8 +122,8 @@ loop-first-preserved-in-Continue-branch-2 c =
     (c.live_numbers-live.ensures.exactly (all_letters (drop first tokens)) stands k)) in
     let more : letters_of (drop first tokens) ≡ letters_in (chars (get_or tokens first token).text) + letters_of (drop end tokens) =
     letters_of-drop tokens first token inside ∙ ap (λ n. letters_in (chars (get_or tokens first token).text) + letters_of (drop n tokens)) next in
-    let most : steps_behind back ≤ steps_behind c.loop-first.back + 2 * letters_in (chars (get_or tokens first token).text) =
-    subst (λ text. steps_behind back ≤ steps_behind c.loop-first.back + 2 * letters_in (chars text)) text c.push_front.ensures.most in
+    let most : steps_behind back ≤ steps_behind c.loop-first.back + letters_in (chars (get_or tokens first token).text) =
+    subst (λ text. steps_behind back ≤ steps_behind c.loop-first.back + letters_in (chars text)) text c.push_front.ensures.most in
     let least : steps_behind back < 2 ^ 64 - 1 → steps_behind c.loop-first.back + letters_in (chars (get_or tokens first token).text) ≤ steps_behind back =
     subst (λ text. steps_behind back < 2 ^ 64 - 1
     → steps_behind c.loop-first.back + letters_in (chars text)

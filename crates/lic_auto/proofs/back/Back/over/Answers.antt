@@ -1,39 +1,11 @@
-use Rattle.std.proofs.Common.{◌≡◌, length, take, sym, subst, arith}
-use Rattle.std.proofs.lemmas.List.{take_all, with_items_is}
-use Rattle.lic_keys.specs.Rising.{IsRising}
-use Rattle.lic_auto.specs.Choices.{templates_of}
-use Rattle.lic_auto.specs.Seeking.{AreQuietBut}
-use Rattle.lic_auto.proofs.TurnedSeekers.{AreQuietBut-all}
+use Rattle.std.proofs.Common.{[], refl}
+use Rattle.lic_auto.proofs.Living.{found-live}
 use Rattle.lic_auto.proofs.back.Back.over.Goals as goal
 
-pub invariant_of-result-clause-quiet : goal.invariant_of-result-clause-quiet
-invariant_of-result-clause-quiet c =
-    let places = c.name_all.new.places in
-    let seekers = c.in_ok-seekers.seekers.items in
-    let count = c.len-count.result in
-    let marked = with_items_is c.in_ok-marked.marked places (omega (arith, c.name_all.auto, c.deref_mut.ensures.len)) in
-    let all : take count places ≡ places = take_all count places (omega (arith, c.name_all.auto, c.deref_mut.ensures.len, c.in_ok-marked.ensures.len)) in
-    subst (λ xs. AreQuietBut (take count xs) seekers) (sym marked)
-    (subst (λ xs. AreQuietBut xs seekers) (sym all)
-    (AreQuietBut-all places seekers
-    (λ k h. c.name_all.ensures.all k
-    (omega (
-      arith,
-      h,
-      c.in_ok-seekers.ensures.count,
-      c.in_ok-seekers.seekers.ok,
-      c.len-count.ensures,
-      c.name_all.auto,
-      c.deref_mut.ensures.len,
-      c.in_ok-marked.ensures.len,
-    )))))
-
-pub invariant_of-result-clause-marked_rising : goal.invariant_of-result-clause-marked_rising
-invariant_of-result-clause-marked_rising c =
-    let places = c.name_all.new.places in
-    let count = c.len-count.result in
-    let n = length (templates_of c.in_ok-chosen.chosen) in
-    let marked = with_items_is c.in_ok-marked.marked places (omega (arith, c.name_all.auto, c.deref_mut.ensures.len)) in
-    let size : length places ≡ n = omega (arith, c.name_all.auto, c.deref_mut.ensures.len, c.in_ok-marked.ensures.len, c.len-count.ensures) in
-    let all : take count places ≡ places = take_all count places (omega (arith, c.name_all.auto, c.deref_mut.ensures.len, c.in_ok-marked.ensures.len)) in
-    subst (λ xs. IsRising (take count xs) n) (sym marked) (subst (λ xs. IsRising xs n) (sym all) (subst (IsRising places) size c.name_all.ensures.rising))
+pub returns-clause-stands : goal.returns-clause-stands
+returns-clause-stands c =
+    let made = c.in_ok-seekers in
+    record {
+      each = record { seekers = made.ensures.stand };
+      live = found-live made.seekers made.ensures.direction (λ k. []) (λ k. []) (λ k. refl) made.ensures.know;
+    }

@@ -1,87 +1,14 @@
-use Rattle.std.proofs.Common.{◌≡◌, ◌<◌, ℕ, [], length, take, sym, ◌∙◌, subst, arith}
-use Rattle.std.specs.Vec.{with_items}
-use Rattle.std.specs.List.{Contains}
-use Rattle.std.proofs.lemmas.List.{take_all, with_items_is}
-use Rattle.lic_keys.specs.Rising.{IsRising}
-use Rattle.lic_keys.proofs.RisingLemmas.{IsRising-nil}
-use Rattle.lic_auto.specs.Choices.{templates_of}
-use Rattle.lic_auto.specs.Seeking.{AllSeek, AreQuietBut, BeginsAnew, HaveMirrors}
-use Rattle.lic_auto.proofs.TurnedSeekers.{HaveMirrors-changed, AllSeek-anew, AreQuietBut-all}
-use Rattle.lic_auto.proofs.Living.{none_live}
+use Rattle.std.proofs.Common.{◌≡◌, [], refl, ap, ◌∙◌}
+use Rattle.lic_auto.specs.declared.chosen.Chosen.{Chosen}
+use Rattle.lic_auto.specs.declared.direction.Direction.TheVariants.{Backward}
+use Rattle.lic_auto.proofs.Living.{found-live}
 use Rattle.lic_auto.proofs.back.Back.reset.Goals as goal
-
-pub begin_anew-requires : goal.begin_anew-requires
-begin_anew-requires c =
-    let self = c.args.self.now in
-    let places = c.name_all.new.places in
-    let marked : c.deref.result.now ≡ places =
-    c.deref.ensures.value ∙ with_items_is self.marked places
-    (omega (arith, c.name_all.auto, c.deref_mut.ensures.len)) in
-    let size : length places ≡ length c.deref_mut-2.result.now =
-    omega (
-      arith,
-      c.name_all.auto,
-      c.deref_mut.ensures.len,
-      c.deref_mut-2.ensures.len,
-      self.marked_room,
-      self.count,
-    ) in
-    subst (λ xs. IsRising xs (length c.deref_mut-2.result.now)) (sym marked) (subst (IsRising places) size c.name_all.ensures.rising)
-
-pub invariant_of-self : goal.invariant_of-self
-invariant_of-self c =
-    let self = c.args.self.now in
-    let set = templates_of self.chosen in
-    let places = c.name_all.new.places in
-    let marked = with_items_is self.marked places (omega (arith, c.name_all.auto, c.deref_mut.ensures.len)) in
-    let items = with_items_is self.seekers c.begin_anew.new.seekers (omega (arith, c.begin_anew.auto, c.deref_mut-2.ensures.len)) in
-    let before : HaveMirrors set c.deref_mut-2.result.now = subst (HaveMirrors set) (sym c.deref_mut-2.ensures.value) self.mirrors in
-    let size : length places ≡ length set = omega (arith, c.name_all.auto, c.deref_mut.ensures.len, self.marked_room) in
-    let all : take c.len-self.result places ≡ places =
-    take_all c.len-self.result places
-    (omega (arith, c.len-self.ensures, c.name_all.auto, c.deref_mut.ensures.len)) in
-    let seekers : length c.begin_anew.new.seekers ≡ length set = omega (arith, c.begin_anew.auto, c.deref_mut-2.ensures.len, self.count) in
-    record {
-      backward = self.backward;
-      count = self.count;
-      mirrors = subst (HaveMirrors set) (sym items) (HaveMirrors-changed set _ _ BeginsAnew _ c.begin_anew.ensures before);
-      marked_room = self.marked_room;
-      marked_within = omega (arith, c.len-self.ensures);
-      marked_rising = subst (λ xs. IsRising (take c.len-self.result xs) (length set)) (sym marked)
-          (subst (λ xs. IsRising xs (length set)) (sym all) (subst (IsRising places) size c.name_all.ensures.rising));
-      quiet = subst (λ xs. AreQuietBut (take c.len-self.result xs) (with_items self.seekers c.begin_anew.new.seekers).items) (sym marked)
-          (subst (λ xs. AreQuietBut xs (with_items self.seekers c.begin_anew.new.seekers).items) (sym all)
-          (subst (AreQuietBut places) (sym items)
-          (AreQuietBut-all places c.begin_anew.new.seekers (λ k h. c.name_all.ensures.all k (omega (arith, h, seekers, size))))));
-      entered_room = self.entered_room;
-      turns_room = self.turns_room;
-      live_room = self.live_room;
-      live_within = omega arith;
-      live_rising = IsRising-nil (length self.chosen.set.now);
-    }
 
 pub returns-clause-stands : goal.returns-clause-stands
 returns-clause-stands c =
-    let self = c.args.self.now in
-    let set = templates_of self.chosen in
-    let places = c.name_all.new.places in
-    let items = with_items_is self.seekers c.begin_anew.new.seekers (omega (arith, c.begin_anew.auto, c.deref_mut-2.ensures.len)) in
-    let before : HaveMirrors set c.deref_mut-2.result.now = subst (HaveMirrors set) (sym c.deref_mut-2.ensures.value) self.mirrors in
-    let marked : c.deref.result.now ≡ places =
-    c.deref.ensures.value ∙ with_items_is self.marked places
-    (omega (arith, c.name_all.auto, c.deref_mut.ensures.len)) in
-    let size : length places ≡ length c.deref_mut-2.result.now =
-    omega (
-      arith,
-      c.name_all.auto,
-      c.deref_mut.ensures.len,
-      c.deref_mut-2.ensures.len,
-      self.marked_room,
-      self.count,
-    ) in
-    let all : (k : ℕ) → k < length c.deref_mut-2.result.now → Contains c.deref.result.now k =
-    λ k h. subst (λ xs. Contains xs k) (sym marked) (c.name_all.ensures.all k (omega (arith, h, size))) in
+    let seekers = c.reset.new.self in
+    let backward : seekers.chosen.direction ≡ Backward = ap (λ (chosen : Chosen). chosen.direction) c.reset.ensures.chosen ∙ c.args.self.now.backward in
     record {
-      each = record { seekers = subst (λ xs. AllSeek set xs []) (sym items) (AllSeek-anew set _ _ _ all c.begin_anew.ensures before) };
-      live = λ k. none_live self.chosen.numbers.items self.chosen.set.now k;
+      each = record { seekers = c.reset.ensures.stand };
+      live = found-live seekers backward (λ k. []) (λ k. []) (λ k. refl) c.reset.ensures.know;
     }

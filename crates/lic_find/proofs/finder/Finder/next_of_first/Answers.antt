@@ -92,7 +92,9 @@ invariant_of-self-in-loop-triple c =
       order = let order = f.order in omega arith;
       counted = AreCounted-push f.set.now tokens f.began f.noting (steps_of f.run) f.first f.end f.counted token
           (steps_of c.push.new.self) f.order room c.push.ensures.never_fall
-          (subst (λ text. steps_of c.push.new.self ≤ steps_of f.run + 2 * letters_in (chars text)) text c.push.ensures.most)
+          (let most : steps_of c.push.new.self ≤ steps_of f.run + letters_in (chars (get_or tokens f.end token).text) =
+          subst (λ text. steps_of c.push.new.self ≤ steps_of f.run + letters_in (chars text)) text c.push.ensures.most in
+          omega arith)
           (subst (λ text. steps_of c.push.new.self < 2 ^ 64 - 1 → steps_of f.run + letters_in (chars text) ≤ steps_of c.push.new.self) text
           (c.push.ensures.least (sym c.dead.ensures.value ∙ c.if-dead.false)));
     }
@@ -104,8 +106,8 @@ loop-triple-preserved c =
     let inv = c.loop-triple.invariant in
     let token : TokenValue = record { text = c.token.result.text.now; span = c.token.result.span } in
     let room : f.end < length tokens = omega arith in
-    let most : steps_of c.push.new.self ≤ steps_of f.run + 2 * letters_in (chars (get_or tokens f.end token).text) =
-    subst (λ text. steps_of c.push.new.self ≤ steps_of f.run + 2 * letters_in (chars text)) (c.token.ensures.text token) c.push.ensures.most in
+    let most : steps_of c.push.new.self ≤ steps_of f.run + letters_in (chars (get_or tokens f.end token).text) =
+    subst (λ text. steps_of c.push.new.self ≤ steps_of f.run + letters_in (chars text)) (c.token.ensures.text token) c.push.ensures.most in
     let left = letters_of-drop tokens f.end token room in
     let before = inv.most in
     let fall = inv.never_fall in

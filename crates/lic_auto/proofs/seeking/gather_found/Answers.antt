@@ -7,11 +7,11 @@ use Rattle.lic_auto.specs.Picked.{picked}
 use Rattle.lic_auto.specs.Seeking.{IsFoundAt}
 use Rattle.lic_auto.proofs.PickedLemmas.{length-picked, some_at}
 use Rattle.lic_auto.proofs.Gathered.{AreGathered, Gathered-skip, Gathered-add}
-use Rattle.lic_auto.proofs.seeking.gather_live.Goals as goal
-use Rattle.lic_auto.proofs.seeking.gather_live.Goals.{then-accepts, else-accepts}
+use Rattle.lic_auto.proofs.seeking.gather_found.Goals as goal
+use Rattle.lic_auto.proofs.seeking.gather_found.Goals.{then-accepts, else-accepts}
 
-pub bounds-live-count : goal.bounds-live-count
-bounds-live-count c =
+pub bounds-found-count : goal.bounds-found-count
+bounds-found-count c =
     omega (
       arith,
       c.loop-place.invariant.few,
@@ -43,7 +43,7 @@ loop-place-preserved c =
     let seekers = c.args.seekers.now in
     let places = c.args.places.now in
     let i = c.loop-place.place-index in
-    let live = c.loop-place.live in
+    let found = c.loop-place.found in
     let count = c.loop-place.count in
     let size : length (picked set numbers) ≡ length numbers = length-picked set numbers chosen.rising.below in
     let within : i < length places = c.loop-place-test.true in
@@ -55,7 +55,7 @@ loop-place-preserved c =
     ∙ ap Some (sym c.index-seekers-place.is) in
     let more = take_more places i 0 within in
     let gathered = c.loop-place.invariant.gathered in
-    let few : length places ≤ length live =
+    let few : length places ≤ length found =
     omega (
       arith,
       length-rising places _ c.requires.rising,
@@ -65,27 +65,27 @@ loop-place-preserved c =
     ) in
     elim c.if-accepts.branch [
       | then-accepts w ↦
-          let room : count < length live = omega (arith, c.loop-place.invariant.few, few, within) in
-          let front : take c.if-accepts.count c.if-accepts.live ≡ take count live ++ get_or numbers place 0 ∷ [] =
-          rw (w.live-is, w.count-is) (take_more_set live count w.number.result room ∙ ap (λ x. take count live ++ x ∷ []) w.number.ensures) in
+          let room : count < length found = omega (arith, c.loop-place.invariant.few, few, within) in
+          let front : take c.if-accepts.count c.if-accepts.found ≡ take count found ++ get_or numbers place 0 ∷ [] =
+          rw (w.found-is, w.count-is) (take_more_set found count w.number.result room ∙ ap (λ x. take count found ++ x ∷ []) w.number.ensures) in
           let (known, there) = some_at (picked set numbers) place (omega (arith, size, inside)) in
           record {
             few = omega (arith, w.count-is, c.loop-place.invariant.few);
-            room = ap length w.live-is ∙ length-set live count w.number.result ∙ c.loop-place.invariant.room;
-            gathered = subst (λ seen. AreGathered set numbers seekers seen (take c.if-accepts.count c.if-accepts.live)) (sym more)
-                (subst (AreGathered set numbers seekers (take i places ++ place ∷ [])) (sym front)
-                (Gathered-add set numbers chosen.rising seekers (take i places)
-                (take count live) place s here c.accepts.result c.accepts.ensures gathered w.if-accepts.true inside
+            room = ap length w.found-is ∙ length-set found count w.number.result ∙ c.loop-place.invariant.room;
+            gathered = subst (λ seen. AreGathered chosen.direction set numbers seekers seen (take c.if-accepts.count c.if-accepts.found)) (sym more)
+                (subst (AreGathered chosen.direction set numbers seekers (take i places ++ place ∷ [])) (sym front)
+                (Gathered-add chosen.direction set numbers chosen.rising seekers (take i places)
+                (take count found) place s here c.accepts.result c.accepts.ensures gathered w.if-accepts.true inside
                 (λ k h. less_before places _ c.requires.rising i k within h) known there));
           }
       | else-accepts w ↦
           record {
             few = omega (arith, w.count-is, c.loop-place.invariant.few);
-            room = ap length w.live-is ∙ c.loop-place.invariant.room;
-            gathered = subst (λ seen. AreGathered set numbers seekers seen (take c.if-accepts.count c.if-accepts.live)) (sym more)
-                (rw (w.live-is, w.count-is)
-                (Gathered-skip set numbers chosen.rising seekers (take i places)
-                (take count live) place s here c.accepts.result c.accepts.ensures gathered w.if-accepts.false));
+            room = ap length w.found-is ∙ c.loop-place.invariant.room;
+            gathered = subst (λ seen. AreGathered chosen.direction set numbers seekers seen (take c.if-accepts.count c.if-accepts.found)) (sym more)
+                (rw (w.found-is, w.count-is)
+                (Gathered-skip chosen.direction set numbers chosen.rising seekers (take i places)
+                (take count found) place s here c.accepts.result c.accepts.ensures gathered w.if-accepts.false));
           }
     ]
 
@@ -96,5 +96,5 @@ pub returns-clause-exactly : goal.returns-clause-exactly
 returns-clause-exactly c = λ lists stand n.
     let places = c.args.places.now in
     let done : take c.loop-place.place-index places ≡ places = take_all c.loop-place.place-index places (omega (arith, c.loop-place-test.false)) in
-    subst (λ seen. Contains (take c.loop-place.count c.loop-place.live) n ↔ IsFoundAt c.args.chosen.now seen lists n) done
+    subst (λ seen. Contains (take c.loop-place.count c.loop-place.found) n ↔ IsFoundAt c.args.chosen.now seen lists n) done
     (c.loop-place.invariant.gathered.exactly lists stand n)

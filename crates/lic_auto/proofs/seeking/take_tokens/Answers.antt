@@ -7,10 +7,10 @@ use Rattle.lic_marks.specs.Seeks.{tree_of}
 use Rattle.lic_keys.specs.Rising.{IsRising}
 use Rattle.lic_keys.proofs.RisingLemmas.{fresh_before, less_before, IsRising-push, IsRising-more}
 use Rattle.lic_auto.specs.Changes.{AreKeptOf}
-use Rattle.lic_auto.specs.Seeking.{AreTurned, IsQuiet, TakesTurned}
+use Rattle.lic_auto.specs.Seeking.{HaveMoved, IsQuiet, TakesEntered}
 use Rattle.lic_auto.proofs.Changing.{Changed-more, Kept-kept, Kept-dropped}
-use Rattle.lic_auto.proofs.seeking.take_turned.Goals as goal
-use Rattle.lic_auto.proofs.seeking.take_turned.Goals.{then-not-is_dead, else-not-is_dead}
+use Rattle.lic_auto.proofs.seeking.take_tokens.Goals as goal
+use Rattle.lic_auto.proofs.seeking.take_tokens.Goals.{then-not-is_dead, else-not-is_dead}
 
 pub loop-place-preserved : goal.loop-place-preserved
 loop-place-preserved c =
@@ -26,14 +26,14 @@ loop-place-preserved c =
     let fresh : ¬ (Contains (take i places) n) = fresh_before places _ c.requires.rising i inside in
     let more : take (i + 1) places ≡ take i places ++ n ∷ [] = take_more places i 0 inside in
     let a = get_or seekers n c.index-seekers-place.result in
-    let b = c.push_known.new.self in
+    let b = c.push.new.seeker in
     let here : slice_get seekers n ≡ Some a = slice_get-get_or seekers n c.index-seekers-place.result within in
     let size : length (set seekers n b) ≡ length seekers = length-set seekers n b in
-    let changes = TakesTurned c.args.entered.now (chars c.args.token.now) in
-    let taken : AreTurned changes (take (i + 1) places) c.args.seekers.now (set seekers n b) =
-    subst (λ s. AreTurned changes s c.args.seekers.now (set seekers n b)) (sym more)
-    (Changed-more tree_of changes (take i places) n c.args.seekers.now seekers a b invariant.taken fresh here c.push_known.ensures.tree
-    (λ e ts stands rest. c.push_known.ensures.stands e ts stands (λ out. rest (c.has-may_begin.ensures out)))) in
+    let changes = TakesEntered c.args.direction c.args.entered.now (chars c.args.token.now) in
+    let taken : HaveMoved changes (take (i + 1) places) c.args.seekers.now (set seekers n b) =
+    subst (λ s. HaveMoved changes s c.args.seekers.now (set seekers n b)) (sym more)
+    (Changed-more tree_of changes (take i places) n c.args.seekers.now seekers a b invariant.taken fresh here c.push.ensures.tree
+    (λ e ts stands rest. c.push.ensures.stands e ts stands (λ out. rest (c.has-may_begin.ensures out)))) in
     elim c.if-not-is_dead.branch [
       | then-not-is_dead w ↦
           let room : count < length kept = omega (arith, invariant.few, invariant.room, c.requires.room, inside) in
@@ -74,7 +74,7 @@ pub returns-clause-taken : goal.returns-clause-taken
 returns-clause-taken c =
     let places = c.args.places.now in
     let done : take c.loop-place.place-index places ≡ places = take_all c.loop-place.place-index places (omega (arith, c.loop-place-test.false)) in
-    subst (λ seen. AreTurned (TakesTurned c.args.entered.now
+    subst (λ seen. HaveMoved (TakesEntered c.args.direction c.args.entered.now
     (chars c.args.token.now)) seen c.args.seekers.now c.loop-place.seekers) done c.loop-place.invariant.taken
 
 pub returns-clause-kept : goal.returns-clause-kept

@@ -1,0 +1,10 @@
+use Rattle.std.specs.Str.{chars}
+use Rattle.lic_marks.proofs.seek.Seeker.push.Goals as goal
+
+pub returns-then-not-passes-clause-stands : goal.returns-then-not-passes-clause-stands
+returns-then-not-passes-clause-stands c = λ e ts s none.
+    c.take.ensures.stands e ts (c.passes.ensures.none e ts s c.if-not-passes.true) none
+
+pub returns-else-not-passes-clause-stands : goal.returns-else-not-passes-clause-stands
+returns-else-not-passes-clause-stands c = λ e ts s none.
+    c.passes.ensures.stands e ts (chars c.args.token.now) s c.if-not-passes.false c.requires.known none
