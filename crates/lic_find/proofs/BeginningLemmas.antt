@@ -6,9 +6,9 @@ use Rattle.lic_auto.specs.Runs.{StandsAmong, numbers_of, set_of, steps_of}
 use Rattle.lic_auto.specs.declared.run.Run.{Run}
 use Rattle.lic_find.specs.Bounds.{letters_of}
 use Rattle.lic_find.specs.Counts.{AreCounted}
-use Rattle.lic_find.specs.Firsts.{NotedFirst, AreFirstsFrom, noted_with}
+use Rattle.lic_find.specs.Firsts.{NotedFirst, AreFirstsFrom, firsts_in, least_first, noted_with}
 use Rattle.lic_find.specs.Listing.{matches_behind}
-use Rattle.lic_find.specs.Matches.{AreMatches}
+use Rattle.lic_find.specs.Matches.{AreMatches, IsMatch}
 use Rattle.lic_find.specs.Walks.{BeginsAt, HasCome}
 use Rattle.lic_find.specs.declared.triple.Triple.{Triple}
 use Rattle.lic_find.proofs.StepLemmas.{AreCounted-begin, AreCounted-none}
@@ -24,6 +24,13 @@ abbrev pub HasBegun : List NotedFirst → List NotedFirst → Run → Run → Op
 HasBegun starts left run new None = (starts ≡ []) × (left ≡ starts) × (new ≡ run)
 HasBegun starts left run new (Some first) =
     (noted : NotedFirst) × (starts ≡ noted ∷ left) × (noted.first ≡ first) × StandsAmong new (noted_with (numbers_of run) noted.numbers) []
+
+-- the least of the first tokens beyond one
+least_behind : (set : List Known) (tokens : List TokenValue) (kept : List ℕ) (noted : NotedFirst) (left : List NotedFirst)
+    → AreFirstsFrom set tokens kept (noted.first + 1) left → (t : Triple) → IsMatch set tokens t → noted.first + 1 ≤ t.first
+    → least_first left (length tokens) ≤ t.first
+least_behind set tokens kept noted [] none t m late = absurd (none t m late)
+least_behind set tokens kept noted (next ∷ more) (is, others) t m late = is.passed t m late
 
 module _ (set : List Known) (tokens : List TokenValue) (place : Option Triple) (from : ℕ) (run new : Run) (alike : numbers_of new ≡ numbers_of run)
     (starts left : List NotedFirst) (firsts : AreFirstsFrom set tokens (numbers_of run) from starts) where
@@ -43,21 +50,33 @@ module _ (set : List Known) (tokens : List TokenValue) (place : Option Triple) (
       (subst (AreFirstsFrom set tokens (numbers_of new) from) is firsts_of_new)
       (subst (λ ns. StandsAmong new (noted_with ns noted.numbers) []) (sym alike) stands))
 
+  -- no match begins between the first token at which a run was begun and the least that is left
+  pub least_left_behind : (r : Option ℕ) → HasBegun starts left run new r → (t : Triple) → IsMatch set tokens t
+      → unwrap_or r (length tokens) + 1 ≤ t.first → least_first left (length tokens) ≤ t.first
+  least_left_behind None begun t m late =
+      let order : t.first ≤ t.last = m.order in
+      let within : t.last < length tokens = m.within in
+      absurd (omega arith)
+  least_left_behind (Some first) (noted, is, here, stands) t m late =
+      least_behind set tokens (numbers_of run) noted left (subst (AreFirstsFrom set tokens (numbers_of run) from) is firsts).1 t m (omega arith)
+
   pub AreCounted-begun : (listed : (after : Option Triple)
       → AreMatches set tokens after (matches_behind set tokens after)) (noting : ℕ)
       → noting ≤ 2 * letters_of tokens →
       (place ≡ None → noting < 2 ^ 64 - 1 → letters_of tokens ≤ noting) → (place ≡ None → from ≡ 0)
       → from ≤ length tokens → steps_of run ≡ 0 → steps_of new ≤ steps_of run + 2 →
       (r : Option ℕ) → HasBegun starts left run new r
-      → AreCounted set tokens place noting (steps_of new) (unwrap_or r (length tokens))
-      (unwrap_or r (length tokens))
+      → AreCounted set tokens place noting (steps_of new + 0) (unwrap_or r (length tokens))
+      (unwrap_or r (length tokens)) (firsts_in left)
   AreCounted-begun listed noting most least whole within fresh few None (empty, same, still) =
-      AreCounted-none set tokens listed place noting most least from (steps_of new) whole within (ap steps_of still ∙ fresh)
-      (subst (AreFirstsFrom set tokens (numbers_of run) from) empty firsts)
+      subst (λ l. AreCounted set tokens place noting (steps_of new + 0) (length tokens) (length tokens) (firsts_in l)) (sym (same ∙ empty))
+      (AreCounted-none set tokens listed place noting most least (numbers_of run) from (steps_of new + 0) whole within
+      (let none : steps_of new ≡ 0 = ap steps_of still ∙ fresh in omega arith)
+      (subst (AreFirstsFrom set tokens (numbers_of run) from) empty firsts))
   AreCounted-begun listed noting most least whole within fresh few (Some first) (noted, is, here, stands) =
-      subst (λ n. AreCounted set tokens place noting (steps_of new) n n) here
-      (AreCounted-begin set tokens listed place noting most least (numbers_of run) from (steps_of new) noted whole within (omega arith)
-      (subst (AreFirstsFrom set tokens (numbers_of run) from) is firsts).0)
+      subst (λ n. AreCounted set tokens place noting (steps_of new + 0) n n (firsts_in left)) here
+      (AreCounted-begin set tokens listed place noting most least (numbers_of run) from (steps_of new + 0) whole within noted left (omega arith)
+      (subst (AreFirstsFrom set tokens (numbers_of run) from) is firsts))
 
 pub HasBegun-told : (starts left : List NotedFirst) (run new : Run) (r : Option ℕ) →
     IfSome r (λ first. (noted : NotedFirst) × (starts ≡ noted ∷ left) × (noted.first ≡ first)

@@ -5,12 +5,12 @@ use Rattle.std.proofs.lemmas.Bool.{false≢true, cases_lt, cond-true, cond-false
 use Rattle.lic_norm.specs.Tokens.{TokenValue}
 use Rattle.lic_auto.specs.Sets.{Known}
 use Rattle.lic_find.specs.Bounds.{letters_of, begins_one, firsts_from, firsts_of, longest_end, letters_of_longest}
-use Rattle.lic_find.specs.Firsts.{NotedFirst, IsFirstFrom, NoneBeginFrom}
+use Rattle.lic_find.specs.Firsts.{NotedFirst, AreFirstsFrom, IsFirstFrom, NoneBeginFrom, firsts_in}
 use Rattle.lic_find.specs.Listing.{triple_at, matches_of, matches_behind, is_behind}
 use Rattle.lic_find.specs.Matches.{AreMatches, IsMatch}
 use Rattle.lic_find.specs.Walks.{AllEndBy}
 use Rattle.lic_find.specs.declared.triple.Triple.{Triple}
-use Rattle.lic_find.proofs.LetterLemmas.{letters_of-longer}
+use Rattle.lic_find.proofs.LetterLemmas.{letters_of-longer, letters_of-range_le}
 use Rattle.lic_find.proofs.Triples.{Contains-nil, Contains-head, Contains-tail, Contains-cons_cases}
 
 -- numbers from one on, of which only some pass
@@ -97,14 +97,14 @@ module _ (set : List Known) (tokens : List TokenValue) (listed : (after : Option
   begins_not first none = begins_one-false (matches_of set tokens) first (λ t there here. none t (match_in t there) here)
 
   -- from here on no match begins
-  pub firsts_from-none : (from : ℕ) → NoneBeginFrom set tokens from → firsts_from set tokens from ≡ []
+  firsts_from-none : (from : ℕ) → NoneBeginFrom set tokens from → firsts_from set tokens from ≡ []
   unfolding firsts_from
   firsts_from-none from none =
       filter_range-none (begins_one (matches_of set tokens)) from (length tokens - from)
       (λ i low high. begins_not i (λ t m here. none t m (omega arith)))
 
   -- from here on the first is this one
-  pub firsts_from-next : (kept : List ℕ) (from : ℕ) (noted : NotedFirst) → IsFirstFrom set tokens kept from noted →
+  firsts_from-next : (kept : List ℕ) (from : ℕ) (noted : NotedFirst) → IsFirstFrom set tokens kept from noted →
       firsts_from set tokens from ≡ noted.first ∷ firsts_from set tokens (noted.first + 1)
   unfolding firsts_from
   firsts_from-next kept from noted is =
@@ -116,6 +116,13 @@ module _ (set : List Known) (tokens : List TokenValue) (listed : (after : Option
       (λ i low' high. begins_not i (λ t n here. let late : noted.first ≤ t.first = is.passed t n (omega arith) in omega arith))
       low (omega arith) (begins (triple_at noted.first last template) m)
 
+  -- the noted first tokens from here on are all of them
+  pub firsts_from-noted : (kept : List ℕ) (from : ℕ) (noted : List NotedFirst) → AreFirstsFrom set tokens kept from noted
+      → firsts_from set tokens from ≡ firsts_in noted
+  firsts_from-noted kept from [] none = firsts_from-none from none
+  firsts_from-noted kept from (one ∷ more) (is, behind) =
+      firsts_from-next kept from one is ∙ ap (λ firsts. one.first ∷ firsts) (firsts_from-noted kept (one.first + 1) more behind)
+
   -- the longest match ends where all matches have ended
   pub letters_of_longest-ended : (first end : ℕ) → first ≤ end → AllEndBy set tokens first end
       → letters_of_longest set tokens first ≤ letters_of (slice_range tokens first end)
@@ -123,6 +130,11 @@ module _ (set : List Known) (tokens : List TokenValue) (listed : (after : Option
   letters_of_longest-ended first end order ended =
       letters_of-longer tokens first (longest_end (matches_of set tokens) first) end (longest_end-least (matches_of set tokens) first)
       (longest_end-most (matches_of set tokens) first end order (λ t there here. ended t (match_in t there) here))
+
+-- the longest match has no more letters than the text
+pub letters_of_longest-within : (set : List Known) (tokens : List TokenValue) (first : ℕ) → letters_of_longest set tokens first ≤ letters_of tokens
+unfolding letters_of_longest
+letters_of_longest-within set tokens first = letters_of-range_le tokens first (longest_end (matches_of set tokens) first)
 
 -- fewer begin from a later token on
 length-filter_range : (p : ℕ → Bool) (k a n : ℕ) → length (filter p (range_with_len (a + k) n)) ≤ length (filter p (range_with_len a (k + n)))

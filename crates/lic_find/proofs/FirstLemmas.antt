@@ -174,6 +174,6 @@ module _ (set : List Known) (tokens : List TokenValue) where
       -- where some template is live, the token is noted
       pub IsFirstFrom-live : (k : ℕ) → Contains live k → IsFirstFrom set tokens kept first (noted_at first (few_of live))
       IsFirstFrom-live k there =
-          cond_both (nat_le (length live) 4) live [] (λ numbers. IsFirstFrom set tokens kept first (noted_at first numbers))
+          cond_both (nat_le (length live) 8) live [] (λ numbers. IsFirstFrom set tokens kept first (noted_at first numbers))
           (λ few. noted_live live (λ t m here. with_numbers live t.template (live_of_match t m here)) (λ j inside. inside) rising k there)
           (λ many. noted_live [] (λ t m here. kept_match kept others t m) (λ j (i, within, is). absurd (omega arith)) no_numbers k there)

@@ -1,5 +1,5 @@
 -- The letters of tokens, counted.
-use Rattle.std.proofs.Common.{◌≡◌, ℕ, ◌+◌, ◌<◌, ◌≤◌, List, [], ◌∷◌, ◌++◌, length, get_or, take, drop, refl, sym, ap, ◌∙◌, arith, add-one}
+use Rattle.std.proofs.Common.{◌≡◌, ℕ, ◌+◌, ◌-◌, ◌<◌, ◌≤◌, List, [], ◌∷◌, ◌++◌, length, get_or, take, drop, refl, sym, ap, ◌∙◌, arith, add-one}
 use Rattle.std.specs.List.{slice_range}
 use Rattle.std.specs.Str.{chars}
 use Rattle.std.proofs.Math.Seq.{drop-cons}
@@ -52,6 +52,14 @@ module _ (tokens : List TokenValue) where
   letters_of-drop_le b =
       let whole : letters_of tokens ≡ letters_of (take b tokens) + letters_of (drop b tokens) =
       ap letters_of (sym (take-append-drop b tokens)) ∙ letters_of-append (take b tokens) (drop b tokens) in
+      omega arith
+
+  pub letters_of-range_le : (a b : ℕ) → letters_of (slice_range tokens a b) ≤ letters_of tokens
+  letters_of-range_le a b =
+      let behind : letters_of (drop a tokens) ≤ letters_of tokens = letters_of-drop_le a in
+      let whole : letters_of (drop a tokens) ≡ letters_of (take (b - a) (drop a tokens)) + letters_of (drop (b - a) (drop a tokens)) =
+      ap letters_of (sym (take-append-drop (b - a) (drop a tokens)))
+      ∙ letters_of-append (take (b - a) (drop a tokens)) (drop (b - a) (drop a tokens)) in
       omega arith
 
   pub letters_of-longer : (a b e : ℕ) → a ≤ b → b ≤ e → letters_of (slice_range tokens a b) ≤ letters_of (slice_range tokens a e)

@@ -12,3 +12,7 @@ pub mod Asking
 pub mod Walking
 pub mod BeginningLemmas
 pub mod GivingLemmas
+pub mod EndLemmas
+pub mod LastLemmas
+pub mod KnownLemmas
+pub mod Passing

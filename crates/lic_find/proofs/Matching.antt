@@ -16,7 +16,7 @@ pub AreMatches-unique : (set : List Known) (tokens : List TokenValue) (after : O
 AreMatches-unique set tokens after xs ys m n =
     same_from_members xs ys m.ascending n.ascending (λ t h. (n.exact t).1 ((m.exact t).0 h)) (λ t h. (m.exact t).1 ((n.exact t).0 h))
 
-IsAfter-trans : (place : Option Triple) (s t : Triple) → IsAfter place s → Precedes s t → IsAfter place t
+pub IsAfter-trans : (place : Option Triple) (s t : Triple) → IsAfter place s → Precedes s t → IsAfter place t
 IsAfter-trans None s t h k = tt
 IsAfter-trans (Some place) s t h k = Precedes-trans place s t h k
 

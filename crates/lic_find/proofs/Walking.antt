@@ -12,11 +12,12 @@ use Rattle.lic_auto.specs.Sets.{Known, words_of}
 use Rattle.lic_auto.specs.Picked.{IsLeastOf}
 use Rattle.lic_auto.specs.Runs.{StandsAmong, numbers_of, set_of}
 use Rattle.lic_auto.specs.declared.run.Run.{Run}
-use Rattle.lic_find.specs.Firsts.{NotedFirst, AreFirstsFrom, NoneBeginFrom, noted_with}
+use Rattle.lic_find.specs.Firsts.{NotedFirst, AreFirstsFrom, IsFirstFrom, noted_with}
 use Rattle.lic_find.specs.Listing.{triple_at}
 use Rattle.lic_find.specs.Matches.{IsMatch, IsAfter, letters_between}
-use Rattle.lic_find.specs.Walks.{letters_up_to, AllEndBy, HasCome, IsNext, NoneBegins, NoneHasRange, BeginsAt}
+use Rattle.lic_find.specs.Walks.{letters_up_to, AllEndBy, AreLeft, HasCome, IsNext, NoneBegins, NoneHasRange, BeginsAt}
 use Rattle.lic_find.specs.declared.triple.Triple.{Triple}
+use Rattle.lic_find.proofs.Matching.{IsAfter-trans}
 use Rattle.lic_find.proofs.Triples.{same_parts}
 use Rattle.lic_find.proofs.Ranges.{letters_up_to-none, letters_up_to-more, letters_up_to-split}
 
@@ -42,6 +43,49 @@ module _ (set : List Known) (tokens : List TokenValue) where
       let within : t.last < length tokens = m.within in
       omega arith
 
+  -- it is the first from itself on
+  pub IsFirstFrom-itself : (kept : List ℕ) (from : ℕ) (one : NotedFirst) → IsFirstFrom set tokens kept from one → IsFirstFrom set tokens kept one.first one
+  IsFirstFrom-itself kept from one is = record {
+    low = omega arith;
+    begins = is.begins;
+    passed = λ t m late. late;
+    all = is.all;
+    only = is.only;
+    rising = is.rising;
+    within = is.within;
+  }
+
+  -- where all matches that begin beyond a token are behind the place
+  pub AreLeft-beyond : (kept : List ℕ) (place : Option Triple) (first : ℕ) (noted : List NotedFirst) →
+      ((t : Triple) → IsMatch set tokens t → first < t.first → IsAfter place t) → AreFirstsFrom set tokens kept (first + 1) noted →
+      AreLeft set tokens kept place first noted
+  AreLeft-beyond kept place first [] ahead none = λ t m after later. none t m (omega arith)
+  AreLeft-beyond kept place first (next ∷ more) ahead (is, behind) =
+      let low : first + 1 ≤ next.first = is.low in (
+        record {
+          later = omega arith;
+          comes = let (last, template, m) = is.begins in (last, template, m, ahead (triple_at next.first last template) m (omega arith));
+          passed = λ t m after later. is.passed t m (omega arith);
+          ahead = λ t m later. ahead t m (omega arith);
+        },
+        (IsFirstFrom-itself kept (first + 1) next is, behind),
+      )
+
+  -- behind a match that begins at this token
+  AreLeft-found : (kept : List ℕ) (place : Option Triple) (first : ℕ) (noted : List NotedFirst) (t : Triple) → t.first ≡ first → IsAfter place t →
+      AreLeft set tokens kept place first noted → AreLeft set tokens kept (Some t) first noted
+  AreLeft-found kept place first [] t begin behind left = λ s m after later. left s m (IsAfter-trans place t s behind after) later
+  AreLeft-found kept place first (next ∷ more) t begin behind (left, firsts) =
+      let later : first < next.first = left.later in (
+        record {
+          later = later;
+          comes = let (last, template, m, after) = left.comes in (last, template, m, inl (omega arith));
+          passed = λ s m after beyond. left.passed s m (IsAfter-trans place t s behind after) beyond;
+          ahead = λ s m beyond. inl (omega arith);
+        },
+        firsts,
+      )
+
   -- at the first of the noted first tokens
   module _ (place : Option Triple) (begin from : ℕ) (begins : BeginsAt place begin) (low : from ≤ begin)
       (high : from < length tokens → begin ≤ from) (run : Run) (templates : set_of run ≡ set) where
@@ -63,8 +107,7 @@ module _ (set : List Known) (tokens : List TokenValue) where
               let late : begin ≤ t.first = after_begins place begin t begins after in
               let order : t.first ≤ t.last = n.order in
               (is.passed t n (omega arith), λ same. omega arith);
-          ahead = λ t n later. begins_after place begin t begins (omega arith);
-          firsts = behind;
+          left = AreLeft-beyond (numbers_of run) place noted.first more (λ t n later. begins_after place begin t begins (omega arith)) behind;
         }
 
     -- where no match begins
@@ -80,8 +123,7 @@ module _ (set : List Known) (tokens : List TokenValue) where
       reached = λ t m after.
           let late : begin ≤ t.first = after_begins place begin t begins after in
           absurd (none t m (omega arith));
-      ahead = λ t m later. let within : t.first < length tokens = first_within t m in absurd (omega arith);
-      firsts = λ t m later. let within : t.first < length tokens = first_within t m in omega arith;
+      left = λ t m after later. let within : t.first < length tokens = first_within t m in omega arith;
     }
 
   module _ (place : Option Triple) (run : Run) (noted : List NotedFirst) (first end : ℕ) (come : HasCome set tokens place run noted first end) where
@@ -102,13 +144,12 @@ module _ (set : List Known) (tokens : List TokenValue) where
           reached = λ t m after.
               let (low, long) = come.reached t m after in
               (low, λ here. let enough : end ≤ t.last + 1 = long here in let other : t.last + 1 ≡ end → ⊥ = none t m after here in omega arith);
-          ahead = come.ahead;
-          firsts = subst (λ ns. AreFirstsFrom set tokens ns (first + 1) noted) (sym alike) come.firsts;
+          left = subst (λ ns. AreLeft set tokens ns place first noted) (sym alike) come.left;
         }
 
     -- behind the match that was found
-    pub HasCome-found : (t : Triple) → t.first ≡ first → t.last + 1 ≡ end → HasCome set tokens (Some t) run noted first end
-    HasCome-found t begin last = record {
+    pub HasCome-found : (t : Triple) → t.first ≡ first → t.last + 1 ≡ end → IsAfter place t → HasCome set tokens (Some t) run noted first end
+    HasCome-found t begin last behind = record {
       order = come.order;
       within = come.within;
       templates = come.templates;
@@ -116,8 +157,7 @@ module _ (set : List Known) (tokens : List TokenValue) where
       stands = come.stands;
       all = come.all;
       reached = λ s m after. (omega (arith, after), λ here. omega (arith, after));
-      ahead = λ s m later. inl (omega arith);
-      firsts = come.firsts;
+      left = AreLeft-found (numbers_of run) place first noted t begin behind come.left;
     }
 
     -- every match that begins here has ended where the text ends
@@ -150,44 +190,41 @@ module _ (set : List Known) (tokens : List TokenValue) where
     none_behind none empty t m after =
         let low : first ≤ t.first = (come.reached t m after).0 in
         let other : t.first ≡ first → ⊥ = none t m after in
-        let behind : NoneBeginFrom set tokens (first + 1) = subst (AreFirstsFrom set tokens (numbers_of run) (first + 1)) empty come.firsts in
-        behind t m (omega arith)
+        let behind : AreLeft set tokens (numbers_of run) place first [] = subst (AreLeft set tokens (numbers_of run) place first) empty come.left in
+        behind t m after (omega arith)
 
     module _ (next : NotedFirst) (more : List NotedFirst) (is : noted ≡ next ∷ more) where
-      pub next_first : AreFirstsFrom set tokens (numbers_of run) (first + 1) (next ∷ more)
-      next_first = subst (AreFirstsFrom set tokens (numbers_of run) (first + 1)) is come.firsts
+      pub next_first : AreLeft set tokens (numbers_of run) place first (next ∷ more)
+      next_first = subst (AreLeft set tokens (numbers_of run) place first) is come.left
 
       -- the next first token
       pub HasCome-next_first : (new : Run) → NoneBegins set tokens place first → set_of new ≡ set_of run → numbers_of new ≡ numbers_of run →
           StandsAmong new (noted_with (numbers_of run) next.numbers) [] → HasCome set tokens place new more next.first next.first
       HasCome-next_first new none same alike stands =
-          let (one, behind) = next_first in
-          let (last, template, m) = one.begins in
+          let (one, (begins, behind)) = next_first in
+          let (last, template, m, after) = one.comes in
           let within : next.first < length tokens = first_within (triple_at next.first last template) m in
-          let later : first + 1 ≤ next.first = one.low in
           record {
             order = omega arith;
             within = omega arith;
             templates = same ∙ come.templates;
             numbers = noted_with (numbers_of run) next.numbers;
             stands = subst (StandsAmong new (noted_with (numbers_of run) next.numbers)) (sym (letters_up_to-none tokens next.first)) stands;
-            all = one.all;
+            all = begins.all;
             reached = λ t n after.
                 let low : first ≤ t.first = (come.reached t n after).0 in
                 let other : t.first ≡ first → ⊥ = none t n after in
                 let order : t.first ≤ t.last = n.order in
-                (one.passed t n (omega arith), λ here. omega arith);
-            ahead = λ t n beyond. come.ahead t n (omega arith);
-            firsts = subst (λ ns. AreFirstsFrom set tokens ns (next.first + 1) more) (sym alike) behind;
+                (one.passed t n after (omega arith), λ here. omega arith);
+            left = subst (λ ns. AreLeft set tokens ns place next.first more) (sym alike)
+                (AreLeft-beyond (numbers_of run) place next.first more one.ahead behind);
           }
 
       -- some match behind the place begins with it
       pub some_begins : NoneBegins set tokens place next.first → ⊥
       some_begins none =
-          let one = next_first.0 in
-          let (last, template, m) = one.begins in
-          let later : first + 1 ≤ next.first = one.low in
-          none (triple_at next.first last template) m (come.ahead (triple_at next.first last template) m (omega arith)) refl
+          let (last, template, m, after) = next_first.0.comes in
+          none (triple_at next.first last template) m after refl
 
     pub NoneHasRange-empty : end ≡ 0 → NoneHasRange set tokens place first end
     NoneHasRange-empty empty t m after here last = omega arith

@@ -1,5 +1,5 @@
 -- Tokens with which matches begin.
-use Rattle.std.specs.Prelude.{◌≡◌, ℕ, ◌+◌, ◌≤◌, List, [], ◌∷◌, length, Contains}
+use Rattle.std.specs.Prelude.{◌≡◌, ℕ, ◌+◌, ◌≤◌, List, [], ◌∷◌, length, map, Contains}
 use Rattle.lic_norm.specs.Tokens.{TokenValue}
 use Rattle.lic_keys.specs.Rising.{IsRising}
 use Rattle.lic_auto.specs.Sets.{Known}
@@ -15,6 +15,15 @@ pub record NotedFirst : Type 0 where
 -- a first token with these numbers
 abbrev pub noted_at : ℕ → List ℕ → NotedFirst
 noted_at first numbers = record { first = first; numbers = numbers }
+
+-- the tokens alone
+abbrev pub firsts_in : List NotedFirst → List ℕ
+firsts_in noted = map (λ (one : NotedFirst). one.first) noted
+
+-- the least of them, which rise, or the end of the text where there is none
+abbrev pub least_first : List NotedFirst → ℕ → ℕ
+least_first [] end = end
+least_first (noted ∷ more) end = noted.first
 
 -- the templates that a first token stands for: those of its numbers, or without numbers all that were kept
 abbrev pub noted_with : List ℕ → List ℕ → List ℕ

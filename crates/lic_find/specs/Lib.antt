@@ -3,6 +3,9 @@ pub mod Listing
 pub mod Bounds
 pub mod Firsts
 pub mod Starts
+pub mod Rises
+pub mod Latest
+pub mod Knowing
 pub mod Walks
 pub mod Counts
 pub mod Rest

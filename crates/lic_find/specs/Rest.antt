@@ -31,9 +31,10 @@ place_of f = option_or f.given f.began
 abbrev pub rest_of : Finder → List Triple
 rest_of f = matches_behind f.set.now f.text.now.tokens (place_of f)
 
--- the steps of the walk that noted first tokens and those of its run, together at most the greatest `u64`
+-- the steps of the walks that noted first tokens and ends, those of its run, and what is counted for first tokens whose matches were
+-- known, together at most the greatest `u64`
 abbrev pub steps_taken : Finder → ℕ
-steps_taken f = min (f.noting + steps_of f.run) (2 ^ 64 - 1)
+steps_taken f = min (f.noting + steps_of f.run + f.passed) (2 ^ 64 - 1)
 
 -- a finder of these templates and tokens that has given nothing yet
 pub record IsBegun (f : Finder) (set : List Known) (tokens : List TokenValue) (place : Option Triple) : Type 0 where
@@ -49,4 +50,15 @@ pub record IsOnSameWalk (f g : Finder) : Type 0 where
   pub began : g.began ≡ f.began
   pub starts : g.starts ≡ f.starts
   pub noting : g.noting ≡ f.noting
+  pub passed : g.passed ≡ f.passed
   pub first : g.first ≡ f.first
+
+-- of the same templates and tokens, begun at the same place, with the same run at the same range
+pub record IsWithSameRun (f g : Finder) : Type 0 where
+  pub set : g.set ≡ f.set
+  pub text : g.text ≡ f.text
+  pub began : g.began ≡ f.began
+  pub noting : g.noting ≡ f.noting
+  pub run : g.run ≡ f.run
+  pub first : g.first ≡ f.first
+  pub end : g.end ≡ f.end

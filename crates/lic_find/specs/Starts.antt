@@ -15,6 +15,6 @@ noted_in (entry ∷ more) numbers =
 unfoldable pub starts_in : Starts → List NotedFirst
 starts_in starts = noted_in (reverse starts.entries.items) starts.numbers.items
 
--- at most four numbers, or none
+-- at most eight numbers, or none
 abbrev pub few_of : List ℕ → List ℕ
-few_of numbers = if nat_le (length numbers) 4 then numbers else []
+few_of numbers = if nat_le (length numbers) 8 then numbers else []

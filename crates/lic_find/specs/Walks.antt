@@ -1,5 +1,5 @@
 -- How far a walk over a text has come.
-use Rattle.std.specs.Prelude.{◌≡◌, ℕ, ◌+◌, ◌<◌, ◌≤◌, List, length, map, Option, Some, None, Contains}
+use Rattle.std.specs.Prelude.{◌≡◌, ℕ, ◌+◌, ◌<◌, ◌≤◌, List, [], ◌∷◌, length, map, Option, Some, None, Contains}
 use Rattle.std.specs.List.{slice_range}
 use Rattle.std.specs.Str.{chars}
 use Rattle.lic_norm.specs.Tokens.{TokenValue}
@@ -7,6 +7,7 @@ use Rattle.lic_auto.specs.Sets.{Known}
 use Rattle.lic_auto.specs.Runs.{StandsAmong, numbers_of, set_of}
 use Rattle.lic_auto.specs.declared.run.Run.{Run}
 use Rattle.lic_find.specs.Firsts.{NotedFirst, AreFirstsFrom}
+use Rattle.lic_find.specs.Listing.{triple_at}
 use Rattle.lic_find.specs.Matches.{IsMatch, IsAfter, Precedes}
 use Rattle.lic_find.specs.declared.triple.Triple.{Triple}
 
@@ -19,9 +20,23 @@ abbrev pub BeginsAt : Option Triple → ℕ → Type 0
 BeginsAt None first = first ≡ 0
 BeginsAt (Some place) first = first ≡ place.first
 
+-- The noted first token that a walk from `first` comes to next: some match behind the place begins with it, and none between the two.
+-- Every match that begins beyond it is behind the place.
+pub record IsNextNoted (set : List Known) (tokens : List TokenValue) (place : Option Triple) (first next : ℕ) : Type 0 where
+  pub later : first < next
+  pub comes : (last template : ℕ) × IsMatch set tokens (triple_at next last template) × IsAfter place (triple_at next last template)
+  pub passed : (t : Triple) → IsMatch set tokens t → IsAfter place t → first < t.first → next ≤ t.first
+  pub ahead : (t : Triple) → IsMatch set tokens t → next < t.first → IsAfter place t
+
+-- the noted first tokens are those beyond `first` with which matches behind the place begin
+abbrev pub AreLeft : List Known → List TokenValue → List ℕ → Option Triple → ℕ → List NotedFirst → Type 0
+AreLeft set tokens kept place first [] = (t : Triple) → IsMatch set tokens t → IsAfter place t → ¬ (first < t.first)
+AreLeft set tokens kept place first (next ∷ more) =
+    IsNextNoted set tokens place first next.first × AreFirstsFrom set tokens kept next.first (next ∷ more)
+
 -- The run stands for the tokens from `first` up to `end`, among all templates of matches that begin with `first`. No match behind the
--- place begins before `first`, or there and with its last token before the last of these. Every match that begins later is behind the
--- place, and the tokens with which such matches begin are noted.
+-- place begins before `first`, or there and with its last token before the last of these. The tokens beyond `first` with which matches
+-- behind the place begin are noted.
 pub record HasCome (set : List Known) (tokens : List TokenValue) (place : Option Triple) (run : Run)
     (noted : List NotedFirst)
     (first end : ℕ) : Type 0 where
@@ -33,8 +48,7 @@ pub record HasCome (set : List Known) (tokens : List TokenValue) (place : Option
   pub all : (t : Triple) → IsMatch set tokens t → t.first ≡ first → Contains numbers t.template
   pub reached : (t : Triple) → IsMatch set tokens t → IsAfter place t
       → (first ≤ t.first) × (t.first ≡ first → end ≤ t.last + 1)
-  pub ahead : (t : Triple) → IsMatch set tokens t → first < t.first → IsAfter place t
-  pub firsts : AreFirstsFrom set tokens (numbers_of run) (first + 1) noted
+  pub left : AreLeft set tokens (numbers_of run) place first noted
 
 -- the first of the matches behind a place
 pub record IsNext (set : List Known) (tokens : List TokenValue) (place : Option Triple) (t : Triple) : Type 0 where

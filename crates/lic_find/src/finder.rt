@@ -1,4 +1,4 @@
-//! The finder: one match after another, by a run from each token with which matches begin.
+//! The finder: one match after another, known by their last ends, or found by a run from a token with which matches begin.
 
 ghost use Rattle.std.specs.Prelude.{◌≡◌, ℕ, ◌+◌, ◌-◌, ◌*◌, ◌^◌, ◌<◌, ◌≤◌, ◌↔◌, ◌∷◌, [], List, IfOk, IfSome, IfNone, Some, None, Contains, length, drop};
 ghost use Rattle.std.specs.Iterator.{item_count};
@@ -7,13 +7,17 @@ ghost use Rattle.lic_keys.specs.Rising.{IsRising};
 ghost use Rattle.lic_auto.specs.Runs.{StandsAmong, set_of, numbers_of, steps_of};
 ghost use Rattle.lic_find.specs.Bounds.{letters_of, walk_over, firsts_of};
 ghost use Rattle.lic_find.specs.Counts.{AreCounted};
-ghost use Rattle.lic_find.specs.Firsts.{NotedFirst, noted_with};
+ghost use Rattle.lic_find.specs.Firsts.{NotedFirst, firsts_in, least_first, noted_with};
+ghost use Rattle.lic_find.specs.Latest.{AreLatestEnds};
 ghost use Rattle.lic_find.specs.Listing.{triple_at};
 ghost use Rattle.lic_find.specs.Matches.{AreMatches, IsAfter};
 ghost use Rattle.lic_find.specs.Starts.{starts_in};
 ghost use Rattle.lic_find.specs.Walks.{AllEndBy, BeginsAt, HasCome, IsNextOfRange, NoneBegins};
 
+use crate::ending::latest_ends;
 use crate::kept::kept_templates;
+use crate::knowing::known_next;
+use crate::latest::Latest;
 use crate::laws::matches_are_listed;
 use crate::noting::first_tokens;
 use crate::starts::Starts;
@@ -28,8 +32,9 @@ use std::cmp::Ordering;
 /// in the order of triples.
 ///
 /// It keeps no list of them. A walk from the end of the text, over the templates alone whose key stands in it, notes the tokens with
-/// which matches begin. Then a run goes on from each of these tokens, until no template can describe a range that goes on. Giving
-/// matches takes no memory.
+/// which matches begin, and a walk towards the end notes where the matches of each template end last. Where these ends leave one for
+/// each template that was noted at a first token, its matches are known; from any other a run goes on, until no template can describe
+/// a range that goes on. Giving matches takes no memory.
 #[derive(Debug, Drop)]
 pub struct Finder<'a> {
     set: &'a Set,
@@ -37,8 +42,12 @@ pub struct Finder<'a> {
     run: Run<'a>,
     /// The noted first tokens that it has not come to.
     starts: Starts,
-    /// The steps of the walk that noted them.
+    /// Where the matches that begin with them end last, of each kept template.
+    latest: Latest,
+    /// The steps of the walks that noted first tokens and ends.
     noting: u64,
+    /// The steps that were counted for first tokens whose matches were known.
+    passed: u64,
     /// Where it began: behind a triple, or with the first match.
     began: Option<Triple>,
     /// The last triple that it gave.
@@ -50,11 +59,14 @@ pub struct Finder<'a> {
     ghost come: { ∥ HasCome set.now text.now.tokens (option_or given began) run
         (starts_in starts) first end ∥₁ },
     ghost order: { first ≤ end },
-    ghost counted: { AreCounted set.now text.now.tokens began noting (steps_of run) first end },
+    ghost known: { AreLatestEnds set.now text.now.tokens (first + 1)
+        (length text.now.tokens) latest },
+    ghost counted: { AreCounted set.now text.now.tokens began noting (steps_of run + passed)
+        first end (firsts_in (starts_in starts)) },
 }
 
 impl<'a> Finder<'a> {
-    ghost use Rattle.lic_find.specs.Rest.{IsBegun, IsOnSameWalk, place_of, rest_of, set_in, steps_taken, tokens_in};
+    ghost use Rattle.lic_find.specs.Rest.{IsBegun, IsOnSameWalk, IsWithSameRun, place_of, rest_of, set_in, steps_taken, tokens_in};
 
     /// All matches. Fails if memory runs out.
     pub fn new(alloc: Global, set: &'a Set, text: &'a Text) -> Result<Finder<'a>, AllocError>
@@ -104,16 +116,21 @@ impl<'a> Finder<'a> {
         matches_are_listed();
         let kept = kept_templates(alloc, set, text)?;
         let behind = Vec::from_slice(alloc, &kept)?;
+        let again = Vec::from_slice(alloc, &kept)?;
         let from = first_token(place).min(text.len());
-        let (mut starts, noting) = first_tokens(alloc, set, text, behind, from)?;
+        let (mut starts, back) = first_tokens(alloc, set, text, behind, from)?;
         let mut run = Run::over(alloc, set, kept)?;
         let first = begin_next(&mut run, &mut starts).unwrap_or(text.len());
+        let next = least_left(&starts, text.len());
+        let (latest, forth) = latest_ends(alloc, set, text, again, next)?;
         Ok(Finder {
             set,
             text,
             run,
             starts,
-            noting,
+            latest,
+            noting: back.saturating_add(forth),
+            passed: 0,
             began: place,
             given: None,
             first,
@@ -128,7 +145,9 @@ impl<'a> Finder<'a> {
             ≤ 2 * (letters_of (tokens_in self.now) + 1) *
             (1 + length (firsts_of (set_in self.now) (tokens_in self.now))) }
     {
-        self.noting.saturating_add(self.run.steps())
+        self.noting
+            .saturating_add(self.run.steps())
+            .saturating_add(self.passed)
     }
 
     // The least number with which the range up to this last token comes behind the place.
@@ -194,6 +213,38 @@ impl<'a> Finder<'a> {
             self.end += 1;
         }
     }
+
+    // The next match, where those are known that begin with the least noted first token. With the last of them this token is passed,
+    // and as many steps are counted as noted it.
+    fn next_known(&mut self) -> Option<Triple>
+        requires none { NoneBegins self.old.set.now self.old.text.now.tokens
+            (place_of self.old) self.old.first }
+        requires ended { AllEndBy self.old.set.now self.old.text.now.tokens
+            self.old.first self.old.end }
+        ensures some { IfSome result (λ triple. rest_of self.old ≡ triple ∷ rest_of self.new) }
+        ensures none { IfNone result
+            (NoneBegins self.new.set.now self.new.text.now.tokens
+            (place_of self.new) self.new.first) }
+        ensures ended { IfNone result
+            (AllEndBy self.new.set.now self.new.text.now.tokens self.new.first self.new.end) }
+        ensures rest { IfNone result (rest_of self.new ≡ rest_of self.old) }
+        ensures passed { IfNone result (self.new.passed ≡ self.old.passed) }
+        ensures given { self.new.given ≡ option_or result self.old.given }
+        ensures same { IsWithSameRun self.old self.new }
+        ensures never_fall { self.old.passed ≤ self.new.passed }
+        ensures most { self.new.passed ≤ self.old.passed + self.old.noting }
+    {
+        let noted = self.starts.least()?;
+        let place = self.given.or(self.began);
+        let (triple, more) = known_next(&self.latest, noted.first, noted.numbers, place)?;
+        matches_are_listed();
+        self.given = Some(triple);
+        if !more {
+            self.starts.remove_least();
+            self.passed = self.passed.saturating_add(self.noting);
+        }
+        Some(triple)
+    }
 }
 
 // The first token with which a range behind a place can begin.
@@ -201,6 +252,16 @@ fn first_token(place: Option<Triple>) -> usize
     ensures { BeginsAt place result }
 {
     place.map_or(0, |triple| triple.first)
+}
+
+// The least noted first token that is left, or the end of the text where none is.
+fn least_left(starts: &Starts, end: usize) -> usize
+    ensures { result ≡ least_first (starts_in starts.now) end }
+{
+    match starts.least() {
+        Some(noted) => noted.first,
+        None => end,
+    }
 }
 
 // Takes the least noted first token that is left, and begins a run with it over the templates that it stands for.
@@ -243,6 +304,9 @@ impl Iterator for Finder<'_> {
 
     fn next(&mut self) -> Option<Triple> {
         if let Some(triple) = self.next_of_first() {
+            return Some(triple);
+        }
+        if let Some(triple) = self.next_known() {
             return Some(triple);
         }
         matches_are_listed();

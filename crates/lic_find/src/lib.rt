@@ -2,8 +2,11 @@
 #![tactic(auto)]
 
 pub mod ask;
+mod ending;
 pub mod finder;
 pub mod kept;
+mod knowing;
+mod latest;
 pub mod laws;
 pub mod matches;
 mod noting;

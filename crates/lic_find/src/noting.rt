@@ -1,6 +1,6 @@
 //! Seeding: the walk from the end of a text that notes the first tokens of matches, from which a finder's walks begin.
 
-ghost use Rattle.std.specs.Prelude.{◌<◌, ◌≤◌, ◌-◌, ◌*◌, ◌^◌, IfOk, length, drop};
+ghost use Rattle.std.specs.Prelude.{◌<◌, ◌≤◌, ◌-◌, ◌^◌, IfOk, length, drop};
 ghost use Rattle.lic_keys.specs.Looks.{OthersDescribeNoRange};
 ghost use Rattle.lic_keys.specs.Rising.{IsRising};
 ghost use Rattle.lic_auto.specs.Compiled.{parts_of};
@@ -31,7 +31,7 @@ pub fn first_tokens(
         (all_letters text.now.tokens)
         → IfOk result (λ found.
         AreFirstsFrom set.now text.now.tokens kept.items from (starts_in found.0)) }
-    ensures most { IfOk result (λ found. found.1 ≤ 2 * letters_of text.now.tokens) }
+    ensures most { IfOk result (λ found. found.1 ≤ letters_of text.now.tokens) }
     ensures least { IfOk result (λ found. found.1 < 2 ^ 64 - 1
         → letters_of (drop from text.now.tokens) ≤ found.1) }
 {

@@ -14,14 +14,14 @@ pub struct Entry {
 }
 
 /// A first token of matches, with the numbers of the templates that describe a range from there, or with none where there are
-/// more than four.
+/// more than eight.
 #[derive(Clone, Copy, Debug)]
 pub struct Noted<'a> {
     pub first: usize,
     pub numbers: &'a [usize],
 }
 
-/// First tokens of matches. Each takes the room of two numbers and of at most four numbers of templates.
+/// First tokens of matches. Each takes the room of two numbers and of at most eight numbers of templates.
 #[derive(Debug, Drop)]
 pub struct Starts {
     // in falling order, as they are found
@@ -49,7 +49,7 @@ impl Starts {
         ensures { OnOk result (starts_in self.new
             ≡ noted_at first (few_of numbers.now) ∷ starts_in self.old) }
     {
-        let few = if numbers.len() <= 4 { numbers } else { &[] };
+        let few = if numbers.len() <= 8 { numbers } else { &[] };
         self.numbers.extend_from_slice(few)?;
         self.entries.push(Entry {
             first,

@@ -1,4 +1,4 @@
-use Rattle.std.proofs.Common.{◌≡◌, ◌-◌, ◌*◌, ◌^◌, ◌<◌, ◌≤◌, drop}
+use Rattle.std.proofs.Common.{◌≡◌, ◌-◌, ◌^◌, ◌<◌, ◌≤◌, drop}
 use Rattle.lic_keys.specs.Looks.{OthersDescribeNoRange}
 use Rattle.lic_auto.specs.Backs.{StandsBehind, set_behind, numbers_behind, steps_behind}
 use Rattle.lic_auto.specs.Compiled.{parts_of}
@@ -16,6 +16,6 @@ invariant-loop-first l = record {
   stands : StandsBehind l.back (all_letters (drop l.first l.text.tokens));
   firsts : OthersDescribeNoRange (parts_of l.set) l.fn.kept.items (all_letters l.text.tokens)
       → AreFirstsFrom l.set l.text.tokens l.fn.kept.items l.first (starts_in l.starts);
-  most : steps_behind l.back ≤ 2 * letters_of (drop l.first l.text.tokens);
+  most : steps_behind l.back ≤ letters_of (drop l.first l.text.tokens);
   least : steps_behind l.back < 2 ^ 64 - 1 → letters_of (drop l.first l.text.tokens) ≤ steps_behind l.back;
 }

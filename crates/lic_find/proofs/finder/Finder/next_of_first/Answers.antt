@@ -1,4 +1,4 @@
-use Rattle.std.proofs.Common.{◌+◌, ◌*◌, ◌^◌, ◌-◌, ◌<◌, ◌≤◌, ◌∷◌, ◌++◌, [], length, get_or, Some, sym, ◌∙◌, subst, arith}
+use Rattle.std.proofs.Common.{◌+◌, ◌<◌, ◌≤◌, ◌∷◌, ◌++◌, [], length, get_or, Some, sym, ◌∙◌, subst, arith}
 use Rattle.std.proofs.Math.Bridge.{le_prop}
 use Rattle.std.proofs.Math.Logic.{∥∥₁_elim, ∥∥₁_map}
 use Rattle.std.proofs.lemmas.Grind.{not_there}
@@ -6,6 +6,7 @@ use Rattle.std.specs.Str.{chars}
 use Rattle.lic_norm.specs.Tokens.{TokenValue}
 use Rattle.lic_words.specs.Letters.{letters_in}
 use Rattle.lic_auto.specs.Runs.{StandsAmong, steps_of}
+use Rattle.lic_find.specs.Firsts.{firsts_in}
 use Rattle.lic_find.specs.Listing.{matches_behind}
 use Rattle.lic_find.specs.Rest.{place_of}
 use Rattle.lic_find.specs.Starts.{starts_in}
@@ -23,8 +24,9 @@ invariant_of-self c =
     record {
       come = ∥∥₁_map f.come (λ come.
           let next = c.in-Some.ensures come in
-          HasCome-found f.set.now f.text.now.tokens (place_of f) f.run (starts_in f.starts) f.first f.end come c.in-Some.triple next.0 next.1);
+          HasCome-found f.set.now f.text.now.tokens (place_of f) f.run (starts_in f.starts) f.first f.end come c.in-Some.triple next.0 next.1 next.2.after);
       order = f.order;
+      known = f.known;
       counted = f.counted;
     }
 
@@ -90,13 +92,17 @@ invariant_of-self-in-loop-triple c =
           (subst (λ text. StandsAmong c.push.new.self come.numbers (letters_up_to tokens f.first f.end ++ chars text ∷ [])) text
           (c.push.ensures.among come.numbers (letters_up_to tokens f.first f.end) come.stands)));
       order = let order = f.order in omega arith;
-      counted = AreCounted-push f.set.now tokens f.began f.noting (steps_of f.run) f.first f.end f.counted token
-          (steps_of c.push.new.self) f.order room c.push.ensures.never_fall
+      known = f.known;
+      counted = AreCounted-push f.set.now tokens f.began f.noting (steps_of f.run + f.passed) f.first f.end (firsts_in (starts_in f.starts)) f.counted token
+          (steps_of c.push.new.self + f.passed) f.order room (let grows = c.push.ensures.never_fall in omega arith)
           (let most : steps_of c.push.new.self ≤ steps_of f.run + letters_in (chars (get_or tokens f.end token).text) =
           subst (λ text. steps_of c.push.new.self ≤ steps_of f.run + letters_in (chars text)) text c.push.ensures.most in
           omega arith)
-          (subst (λ text. steps_of c.push.new.self < 2 ^ 64 - 1 → steps_of f.run + letters_in (chars text) ≤ steps_of c.push.new.self) text
-          (c.push.ensures.least (sym c.dead.ensures.value ∙ c.if-dead.false)));
+          (λ bounded.
+          let least : steps_of f.run + letters_in (chars (get_or tokens f.end token).text) ≤ steps_of c.push.new.self =
+          subst (λ text. steps_of f.run + letters_in (chars text) ≤ steps_of c.push.new.self) text
+          (c.push.ensures.least (sym c.dead.ensures.value ∙ c.if-dead.false) (omega arith)) in
+          omega arith);
     }
 
 pub loop-triple-preserved : goal.loop-triple-preserved
@@ -119,9 +125,9 @@ loop-triple-preserved c =
         set = inv.same.set;
         text = inv.same.text;
         began = inv.same.began;
-        starts =
-            inv.same.starts;
+        starts = inv.same.starts;
         noting = inv.same.noting;
+        passed = inv.same.passed;
         first = inv.same.first;
       };
       never_fall = omega arith;

@@ -5,24 +5,24 @@ use Rattle.lic_find.specs.Starts.{starts_in, noted_in, few_of}
 use Rattle.lic_find.specs.declared.starts.Entry.{Entry}
 use Rattle.lic_find.proofs.StartLemmas.{noted_in-more}
 use Rattle.lic_find.proofs.starts.Starts.add.Goals as goal
-use Rattle.lic_find.proofs.starts.Starts.add.Goals.{then-numbers-le4, else-numbers-le4}
+use Rattle.lic_find.proofs.starts.Starts.add.Goals.{then-numbers-le8, else-numbers-le8}
 
-few : (numbers : List ℕ) → length numbers ≤ 4 → numbers ≡ few_of numbers
-few numbers h = sym (cond-true (nat_le (length numbers) 4) numbers [] (le-leb (length numbers) 4 h))
+few : (numbers : List ℕ) → length numbers ≤ 8 → numbers ≡ few_of numbers
+few numbers h = sym (cond-true (nat_le (length numbers) 8) numbers [] (le-leb (length numbers) 8 h))
 
-many : (numbers : List ℕ) → 4 < length numbers → [] ≡ few_of numbers
-many numbers h = sym (cond-false (nat_le (length numbers) 4) numbers [] (lt-leb (length numbers) 4 h))
+many : (numbers : List ℕ) → 8 < length numbers → [] ≡ few_of numbers
+many numbers h = sym (cond-false (nat_le (length numbers) 8) numbers [] (lt-leb (length numbers) 8 h))
 
 pub returns : goal.returns
 unfolding starts_in
 returns c =
     let numbers = c.args.numbers.now in
-    let kept = c.if-numbers-le4.few.now in
+    let kept = c.if-numbers-le8.few.now in
     let entries = c.args.self.now.entries.items in
     let is : kept ≡ few_of numbers =
-    elim c.if-numbers-le4.branch [
-      | then-numbers-le4 w ↦ ap (λ b. b.now) w.few-is ∙ few numbers w.if-numbers-le4.true
-      | else-numbers-le4 w ↦ ap (λ b. b.now) w.few-is ∙ many numbers w.if-numbers-le4.false
+    elim c.if-numbers-le8.branch [
+      | then-numbers-le8 w ↦ ap (λ b. b.now) w.few-is ∙ few numbers w.if-numbers-le8.true
+      | else-numbers-le8 w ↦ ap (λ b. b.now) w.few-is ∙ many numbers w.if-numbers-le8.false
     ] in
     let one : Entry = record { first = c.args.first; count = length kept } in
     ap (λ l. noted_in (reverse l) c.extend_from_slice.new.self.items) c.in_ok-push.ensures.items
