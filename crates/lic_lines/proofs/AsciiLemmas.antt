@@ -1,5 +1,5 @@
 -- Lines of ASCII: their source characters, and the tokens of a row of bytes of one kind in front of one.
-use Rattle.std.proofs.Common.{◌≡◌, ◌≢◌, ℕ, All, zero, suc, ◌+◌, ◌-◌, ◌<◌, ◌≤◌, Bool, true, false, cond, List, [], ◌∷◌, ◌++◌, length, take, drop, map, get_or, refl, sym, ap, ap₂, ◌∙◌, add-one, drop-cons, arith}
+use Rattle.std.proofs.Common.{◌≡◌, ◌≢◌, ℕ, All, zero, suc, ◌+◌, ◌-◌, ◌<◌, ◌≤◌, Bool, true, false, cond, List, [], ◌∷◌, ◌++◌, length, take, drop, map, get_or, refl, sym, ap, ap₂, subst, ◌∙◌, add-one, drop-cons, arith}
 use Rattle.std.specs.Prelude.{IsAscii, encode_utf8_all}
 use Rattle.std.specs.Char.{len_utf8, to_ascii_lowercase}
 use Rattle.std.proofs.lemmas.Str.{len_utf8_ascii, encode_ascii, IsAscii-take}
@@ -122,11 +122,16 @@ pub some_count : (k : Kind) (text : List ℕ) (n : ℕ) → 0 < length text → 
 some_count k text zero some is stop = absurd (stop some is)
 some_count k text (suc n) some is stop = omega arith
 
--- the characters of marks are marks
-pub marks_placed : (at : ℕ) (bs : List ℕ) → IsAscii bs → All (λ b. kind_of b ≡ kind.Mark) bs → All (λ s. kind_of s.char ≡ kind.Mark) (placed at bs)
-marks_placed at bs ascii marks = λ i d lt.
-    let inside : i < length bs = omega (arith, length-placed at bs) in
-    ap (λ (s : SourceChar). kind_of s.char) (get_or-placed at bs i d ascii inside) ∙ marks i 0 inside
+-- the characters of a row of marks are marks
+pub marks_placed : (at : ℕ) (text : List ℕ) (n : ℕ) → IsAscii text → n ≤ length text → ((i : ℕ) → i < n → kind_of (get_or text i 0) ≡ kind.Mark)
+    → All (λ s. kind_of s.char ≡ kind.Mark) (placed at (take n text))
+marks_placed at text n ascii within marks =
+    let S = placed at text in
+    let many : length S ≡ length text = length-placed at text in
+    subst (All (λ s. kind_of s.char ≡ kind.Mark)) (take-placed n at text)
+    (λ i d lt.
+    let inside : i < n = omega (arith, length-take-le n S (omega arith)) in
+    ap (λ (s : SourceChar). kind_of s.char) (get_or-take n S i d inside ∙ get_or-placed at text i d ascii (omega arith)) ∙ marks i inside)
 
 -- a row of marks
 pub ascii_marks : (rules : LineRules) (after_blank : Bool) (at : ℕ) (text : List ℕ) (n : ℕ) → IsAscii text → n ≤ length text

@@ -1,14 +1,12 @@
 //! What is left of a line of ASCII, and the first tokens of its rest, straight from its bytes.
-ghost use Rattle.std.specs.Prelude.{◌≡◌, ◌+◌, ◌++◌, ◌<◌, ◌≤◌, ◌^◌, true, length, map, drop, All, IfOk, OnOk, IsAscii};
+ghost use Rattle.std.specs.Prelude.{◌≡◌, ◌+◌, ◌++◌, ◌<◌, ◌≤◌, ◌^◌, true, length, map, drop, slice_index, IfOk, OnOk, IsAscii};
 ghost use Rattle.std.specs.Char.{to_ascii_lowercase};
 ghost use Rattle.lic_kind.specs.Kinds.{kind_of};
-ghost use Rattle.lic_lines.specs.LineRules.{rules_of};
-ghost use Rattle.lic_lines.specs.Lines.{cell_of, cut_of, whole_line};
-ghost use Rattle.lic_lines.specs.Runs.{runs_joined};
+ghost use Rattle.lic_lines.specs.LineRules.{LineRules, rules_of};
+ghost use Rattle.lic_lines.specs.Lines.{cut_of, whole_line};
 ghost use Rattle.lic_lines.specs.Sources.{placed};
-ghost use Rattle.lic_lines.specs.Texts.{groups};
 ghost use Rattle.lic_lines.specs.AsciiFronts.{ascii_tokens};
-ghost use Rattle.lic_lines.specs.Tokens.{both_words, blank_behind, line_tokens, single_signs, tokens_after, tokens_from, tokens_in};
+ghost use Rattle.lic_lines.specs.Tokens.{line_tokens, single_signs, tokens_after, tokens_in};
 
 use crate::ascii_cut::quick_cut;
 use crate::ascii_front::kind_count;
@@ -70,36 +68,74 @@ fn cut_of_line(
     cut_line(alloc, rules, WHOLE_LINE, characters)
 }
 
-/// Adds the tokens of a row of marks that begins at this byte, where a blank stands before it or does not, and says
-/// whether one stands behind its last token. The room may hold anything.
+/// Adds the token of the word in front of a text, of which the small letters are given too.
+#[inline(always)]
+fn push_word(
+    alloc: Global,
+    after_blank: bool,
+    at: u32,
+    text: &[u8],
+    lowered: &str,
+    out: &mut Vec<FirstToken>,
+) -> Result<FrontPart, AllocError>
+    requires some { 0 < length text.now }
+    requires ascii { IsAscii text.now }
+    requires fits { at + length text.now < 2 ^ 32 }
+    requires lowered { lowered.now ≡ map to_ascii_lowercase text.now }
+    requires word { kind_of (slice_index text.now 0) ≡ Kind.Word }
+    ensures some { IfOk result (λ row. 0 < row.length) }
+    ensures within { IfOk result (λ row. row.length ≤ length text.now) }
+    ensures tokens { IfOk result (λ row. (rules : LineRules) → tokens_in out.new.items
+        ++ tokens_after rules row.blank_behind
+        (placed (at + row.length) (drop row.length text.now))
+        ≡ tokens_in out.old.items ++ tokens_after rules after_blank (placed at text.now)) }
+{
+    let length = kind_count(Kind::Word, text);
+    words_are_folded();
+    let token = FirstToken {
+        text: SmallString::from_str(alloc, &lowered[..length])?,
+        start: at,
+        end: at + length as u32,
+        after_blank,
+    };
+    out.push(token)?;
+    Ok(FrontPart {
+        length,
+        blank_behind: false,
+    })
+}
+
+/// Adds the tokens of the row of marks in front of a text. The room may hold anything.
 fn push_row_of_marks(
     alloc: Global,
     rules: &Rules,
     after_blank: bool,
     at: u32,
-    row: &[u8],
+    text: &[u8],
     room: &mut Room,
     out: &mut Vec<FirstToken>,
-) -> Result<bool, AllocError>
-    requires ascii { IsAscii row.now }
-    requires fits { at + length row.now < 2 ^ 32 }
-    requires marks { All (λ b. kind_of b ≡ Kind.Mark) row.now }
-    ensures tokens { OnOk result
-        (tokens_in out.new.items
+) -> Result<FrontPart, AllocError>
+    requires some { 0 < length text.now }
+    requires ascii { IsAscii text.now }
+    requires fits { at + length text.now < 2 ^ 32 }
+    requires mark { kind_of (slice_index text.now 0) ≡ Kind.Mark }
+    ensures some { IfOk result (λ row. 0 < row.length) }
+    ensures within { IfOk result (λ row. row.length ≤ length text.now) }
+    ensures tokens { IfOk result (λ row. tokens_in out.new.items
+        ++ tokens_after (rules_of rules.now) row.blank_behind
+        (placed (at + row.length) (drop row.length text.now))
         ≡ tokens_in out.old.items
-        ++ tokens_from after_blank
-        (groups both_words (runs_joined (rules_of rules.now)
-        (map cell_of (placed at row.now))))) }
-    ensures blank { IfOk result (λ blank. blank
-        ≡ blank_behind after_blank
-        (groups both_words (runs_joined (rules_of rules.now)
-        (map cell_of (placed at row.now))))) }
+        ++ tokens_after (rules_of rules.now) after_blank (placed at text.now)) }
 {
+    let length = ascii_mark_count(text);
     let mut marks = replace(&mut room.marks, Vec::new(alloc));
-    place(&mut marks, at, row)?;
+    place(&mut marks, at, &text[..length])?;
     let blank_behind = push_marks(alloc, rules, after_blank, &marks, room, out)?;
     room.marks = marks;
-    Ok(blank_behind)
+    Ok(FrontPart {
+        length,
+        blank_behind,
+    })
 }
 
 /// Adds the tokens of the longest row of bytes of one kind in front of a text, of which the small letters are
@@ -132,30 +168,8 @@ fn push_front(
             length: 1,
             blank_behind: true,
         }),
-        Kind::Word => {
-            let length = kind_count(Kind::Word, text);
-            words_are_folded();
-            let token = FirstToken {
-                text: SmallString::from_str(alloc, &lowered[..length])?,
-                start: at,
-                end: at + length as u32,
-                after_blank,
-            };
-            out.push(token)?;
-            Ok(FrontPart {
-                length,
-                blank_behind: false,
-            })
-        }
-        Kind::Mark => {
-            let length = ascii_mark_count(text);
-            let row = &text[..length];
-            let blank_behind = push_row_of_marks(alloc, rules, after_blank, at, row, room, out)?;
-            Ok(FrontPart {
-                length,
-                blank_behind,
-            })
-        }
+        Kind::Word => push_word(alloc, after_blank, at, text, lowered, out),
+        Kind::Mark => push_row_of_marks(alloc, rules, after_blank, at, text, room, out),
     }
 }
 
@@ -189,10 +203,9 @@ fn push_rows(
         ++ ascii_tokens (rules_of rules.now) part.blank_behind (at + part.length)
         (drop part.length text.now)) }
 {
-    let first = push_front(alloc, rules, after_blank, at, text, lowered, room, out)?;
-    let mut blank_behind = first.blank_behind;
-    let mut length = first.length;
-    while length < text.len() && !signs_end(out, blank_behind) {
+    let mut blank_behind = after_blank;
+    let mut length = 0;
+    while length < text.len() {
         let start = at + length as u32;
         let row = push_front(
             alloc,
@@ -206,6 +219,9 @@ fn push_rows(
         )?;
         blank_behind = row.blank_behind;
         length += row.length;
+        if signs_end(out, blank_behind) {
+            break;
+        }
     }
     Ok(FrontPart {
         length,

@@ -13,7 +13,7 @@ use lic_kind::Rules;
 use std::alloc::{AllocError, Global};
 
 /// How many characters of a line are its lead, its item and its tail.
-#[derive(Clone, Copy, Debug, PartialEq, Eq)]
+#[derive(Clone, Copy)]
 pub struct LineCut {
     pub lead: usize,
     pub item: usize,

@@ -11,7 +11,7 @@ use lic_kind::{Rules, is_dash, is_quote};
 use std::alloc::{AllocError, Global};
 
 /// Which neighbours belong to one group.
-#[derive(Clone, Copy, Debug, PartialEq, Eq)]
+#[derive(Clone, Copy)]
 pub enum Grouping {
     /// The same mark.
     SameMark,

@@ -140,13 +140,15 @@ fn push_rows(
         ++ single_signs (tokens_after (rules_of rules.now) part.blank_behind
         (drop part.length text.now))) }
 {
-    let first = push_front(alloc, rules, after_blank, text, room, out)?;
-    let mut blank_behind = first.blank_behind;
-    let mut length = first.length;
-    while length < text.len() && !signs_end(out, blank_behind) {
+    let mut blank_behind = after_blank;
+    let mut length = 0;
+    while length < text.len() {
         let row = push_front(alloc, rules, blank_behind, &text[length..], room, out)?;
         blank_behind = row.blank_behind;
         length += row.length;
+        if signs_end(out, blank_behind) {
+            break;
+        }
     }
     Ok(FrontPart {
         length,

@@ -6,7 +6,7 @@ ghost use Rattle.lic_lines.specs.Walks.{walked};
 use crate::source::SourceChar;
 
 /// The side of a line that a way begins at.
-#[derive(Clone, Copy, Debug, PartialEq, Eq)]
+#[derive(Clone, Copy)]
 pub enum Side {
     Front,
     End,

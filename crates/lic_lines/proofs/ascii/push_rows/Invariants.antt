@@ -1,4 +1,4 @@
-use Rattle.std.proofs.Common.{◌≡◌, ◌+◌, ◌-◌, ◌<◌, ◌≤◌, ◌++◌, length, drop}
+use Rattle.std.proofs.Common.{◌≡◌, ◌+◌, ◌-◌, ◌≤◌, ◌++◌, length, drop}
 use Rattle.lic_lines.specs.LineRules.{rules_of}
 use Rattle.lic_lines.specs.Sources.{placed}
 use Rattle.lic_lines.specs.Tokens.{tokens_after, tokens_in}
@@ -7,7 +7,6 @@ use Rattle.lic_lines.proofs.ascii.push_rows.Given as goal
 -- the tokens so far, and those of what is left
 abbrev pub invariant-loop-length : goal.invariant-loop-length
 invariant-loop-length l = record {
-  some : 0 < l.length;
   within : l.length ≤ length l.text;
   told : tokens_in l.out.items ++ tokens_after (rules_of l.rules) l.blank_behind
       (placed (l.at + l.length) (drop l.length l.text))

@@ -1,9 +1,33 @@
-use Rattle.std.proofs.Common.{◌∙◌, ◌++◌, ap, sym}
-use Rattle.std.proofs.lemmas.List.{append-nil, drop_all}
-use Rattle.lic_lines.specs.LineRules.{rules_of}
-use Rattle.lic_lines.specs.Tokens.{single_signs, tokens_after, tokens_in}
+use Rattle.std.proofs.Common.{◌≡◌, ◌∙◌, ℕ, ◌+◌, ◌-◌, Bool, List, ◌++◌, length, take, drop, ap, sym, subst, arith}
+use Rattle.std.proofs.lemmas.List.{append-nil, drop_all, drop-drop, length-drop, take_rest}
+use Rattle.lic_lines.specs.LineRules.{LineRules, rules_of}
+use Rattle.lic_lines.specs.Sources.{SourceChar}
+use Rattle.lic_lines.specs.Tokens.{Token, single_signs, tokens_after, tokens_in}
 use Rattle.lic_lines.proofs.TokenLemmas.{no_tokens_after}
 use Rattle.lic_lines.proofs.text.push_rows.Goals as goal
+
+-- one row more: its tokens, and those of what is left behind it
+row_more : (rules : LineRules) (text : List SourceChar) (n m : ℕ) (before behind : Bool) (old new whole : List Token)
+    → new ++ tokens_after rules behind (drop m (take (length text - n) (drop n text)))
+    ≡ old ++ tokens_after rules before (take (length text - n) (drop n text))
+    → old ++ tokens_after rules before (drop n text) ≡ whole
+    → new ++ tokens_after rules behind (drop (n + m) text) ≡ whole
+row_more rules text n m before behind old new whole row told =
+    ap (λ l. new ++ tokens_after rules behind l) (sym (drop-drop m n text))
+    ∙ subst (λ l. new ++ tokens_after rules behind (drop m l) ≡ old ++ tokens_after rules before l) (take_rest text n) row
+    ∙ told
+
+pub loop-length-preserved : goal.loop-length-preserved
+loop-length-preserved c =
+    let text = c.args.text.now in
+    let n = c.loop-length.length in
+    let row = c.in_ok-row.row in
+    record {
+      within = omega (arith, c.in_ok-row.ensures.within, ap length (take_rest text n), length-drop n text);
+      told =
+          row_more (rules_of c.args.rules.now) text n row.length c.loop-length.blank_behind row.blank_behind (tokens_in c.loop-length.out.items)
+          (tokens_in c.push_front.new.out.items) _ c.in_ok-row.ensures.tokens c.loop-length.invariant.told;
+    }
 
 pub returns-after-loop-length-clause-apart : goal.returns-after-loop-length-clause-apart
 returns-after-loop-length-clause-apart c =
