@@ -1,8 +1,5 @@
 -- The tokens of a phrase.
-use Rattle.std.proofs.Common.{◌≡◌, ℕ, true, false, cond, List, [], ◌∷◌, None, refl, ap, ◌∙◌, ◌++◌, ◌-◌, length, take, drop, map, filter, not, append-nil, take_all, arith}
-use Rattle.std.proofs.lemmas.List.{map-append}
-use Rattle.std.proofs.lemmas.List.Elements.{filter-append}
-use Rattle.lic_kind.specs.Kinds.{is_dropped}
+use Rattle.std.proofs.Common.{◌≡◌, ℕ, false, List, [], ◌∷◌, None, refl, ap, ◌∙◌, ◌-◌, length, take, drop, map, append-nil, take_all, arith}
 use Rattle.lic_lines.specs.declared.source.SourceChar.{SourceChar}
 use Rattle.lic_lines.specs.declared.line_part.LinePart.{LinePart}
 use Rattle.lic_lines.specs.LineRules.{LineRules}

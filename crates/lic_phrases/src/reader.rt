@@ -4,16 +4,18 @@ ghost use Rattle.std.specs.Str.{chars};
 ghost use Rattle.lic_phrases.specs.Keys.{HaveNoBlank, texts_in};
 ghost use Rattle.lic_phrases.specs.Spelling.{spelled};
 ghost use Rattle.lic_phrases.specs.TokenTexts.{IsTokenText};
-ghost use Rattle.lic_phrases.specs.WordLists.{fault_of, phrase_texts, phrases_of_line, split_phrases};
+ghost use Rattle.lic_phrases.specs.WordLists.{fault_of, first_fault, out_of_memory, phrase_lines, phrase_texts, phrases_of_line, split_phrases};
 ghost use Rattle.lic_phrases.specs.Listed.{
   AreListed,
   HasFault,
   HasNoFault,
   ReadsLine,
   ReadsPhrase,
+  phrases_in,
 };
+ghost use Rattle.lic_phrases.specs.WordReading.{HasRead};
 
-use crate::fault::WordsCause;
+use crate::fault::{WordsCause, WordsFault};
 use crate::joining::join_line;
 use crate::phrase::{ListedPhrase, is_skipped, key, listed};
 use indexmap::IndexSet;
@@ -98,6 +100,30 @@ impl Reader {
         self.count += 1;
         let number = self.number_of(alloc, phrase)?;
         Ok(number)
+    }
+
+    /// Reads the lines of a list, before which nothing was read.
+    pub(crate) fn read_lines(&mut self, alloc: Global, text: &str) -> Result<(), WordsFault>
+        requires listed { AreListed self.old.keys.keys self.old.phrases.items self.old.heads.items }
+        requires phrases { self.old.phrases.items ≡ [] }
+        requires heads { self.old.heads.items ≡ [] }
+        requires count { self.old.count ≡ 0 }
+        ensures listed { OnOk result (AreListed self.new.keys.keys self.new.phrases.items
+            self.new.heads.items) }
+        ensures read { OnOk result (HasRead [] (phrase_lines text.now) []
+            (phrases_in self.new.phrases.items) self.new.heads.items []) }
+        ensures sound { OnOk result (first_fault text.now ≡ None) }
+        ensures refused { IfErr result (λ fault. (first_fault text.now ≡ Some fault)
+            ⊎ (fault ≡ out_of_memory)) }
+    {
+        let mut number: usize = 0;
+        for line in text.split('\n') {
+            number += 1;
+            if let Err(cause) = self.read_line(alloc, line) {
+                return Err(cause.at(number));
+            }
+        }
+        Ok(())
     }
 
     /// Reads a line, whose phrases become one class.

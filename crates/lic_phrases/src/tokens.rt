@@ -1,12 +1,13 @@
 //! The tokens of a phrase.
-ghost use Rattle.std.specs.Prelude.{◌≡◌, [], IfOk, map};
+ghost use Rattle.std.specs.Prelude.{◌≡◌, [], IfOk, OnOk, length, map};
 ghost use Rattle.std.specs.Str.{chars};
-ghost use Rattle.lic_lines.specs.LineRules.{profile};
+ghost use Rattle.lic_lines.specs.LineRules.{profile, rules_of};
 ghost use Rattle.lic_lines.specs.Lines.{cell_of};
 ghost use Rattle.lic_lines.specs.Sources.{unplaced, without_dropped};
 ghost use Rattle.lic_lines.specs.Tokens.{tokens_in, tokens_of_cells};
 ghost use Rattle.lic_phrases.specs.Keys.{texts_in};
-ghost use Rattle.lic_phrases.specs.Rewriting.{rewritten};
+ghost use Rattle.lic_phrases.specs.Rewriting.{SpannedText, rewritten};
+ghost use Rattle.lic_phrases.specs.Settling.{Settles};
 ghost use Rattle.lic_phrases.specs.Waiting.{spanned_in, AreKnown};
 ghost use Rattle.lic_phrases.specs.WordLists.{phrase_texts};
 
@@ -21,9 +22,23 @@ use std::alloc::{AllocError, Global};
 pub(crate) fn phrase_tokens(alloc: Global, phrase: &str) -> Result<Vec<String>, AllocError>
     ensures { IfOk result (λ texts. texts_in texts.items ≡ phrase_texts (chars phrase.now)) }
 {
+    let phrases = Phrases::new(alloc);
+    rewritten_texts(alloc, &phrases, phrase)
+}
+
+/// The texts of a phrase's tokens, as other phrases rewrite them.
+fn rewritten_texts(
+    alloc: Global,
+    phrases: &Phrases,
+    phrase: &str,
+) -> Result<Vec<String>, AllocError>
+    ensures { IfOk result (λ texts. texts_in texts.items ≡ map (λ (t : SpannedText). t.text)
+        (rewritten phrases.now.phrases (tokens_of_cells profile
+        (map cell_of (without_dropped (unplaced (chars phrase.now))))))) }
+{
     let tokens = first_tokens(alloc, phrase)?;
-    let settled = rewritten(alloc, tokens)?;
-    texts_of(alloc, &settled)
+    let settled = rewritten(alloc, phrases, tokens)?;
+    texts_of(alloc, phrases, &settled)
 }
 
 /// The tokens of a phrase, with each copyright sign by itself.
@@ -31,8 +46,22 @@ fn first_tokens(alloc: Global, phrase: &str) -> Result<Vec<FirstToken>, AllocErr
     ensures { IfOk result (λ tokens. tokens_in tokens.items
         ≡ tokens_of_cells profile (map cell_of (without_dropped (unplaced (chars phrase.now))))) }
 {
-    let characters = unplaced(alloc, phrase)?;
     let rules = Rules::profile(alloc);
+    let mut room = Room::new(alloc);
+    tokens_inside(alloc, &rules, phrase, &mut room)
+}
+
+/// The tokens of a text inside of a line, with each copyright sign by itself. The room may hold anything.
+fn tokens_inside(
+    alloc: Global,
+    rules: &Rules,
+    text: &str,
+    room: &mut Room,
+) -> Result<Vec<FirstToken>, AllocError>
+    ensures { IfOk result (λ tokens. tokens_in tokens.items ≡ tokens_of_cells (rules_of rules.now)
+        (map cell_of (without_dropped (unplaced (chars text.now))))) }
+{
+    let characters = unplaced(alloc, text)?;
     // Without a front and an end of a line the line rules take nothing.
     let inside = LinePart {
         has_front: false,
@@ -40,34 +69,57 @@ fn first_tokens(alloc: Global, phrase: &str) -> Result<Vec<FirstToken>, AllocErr
         behind: None,
     };
     let mut tokens = Vec::new(alloc);
-    let mut room = Room::new(alloc);
-    push_tokens_of_line(alloc, &rules, inside, &characters, &mut room, &mut tokens)?;
+    push_tokens_of_line(alloc, rules, inside, &characters, room, &mut tokens)?;
     Ok(tokens)
 }
 
-/// The tokens as they are rewritten where there are no phrases.
-fn rewritten(alloc: Global, tokens: Vec<FirstToken>) -> Result<Vec<FinalToken>, AllocError>
-    ensures rewritten { IfOk result (λ settled. map (spanned_in []) settled.items
-        ≡ rewritten [] (tokens_in tokens.items)) }
-    ensures known { IfOk result (λ settled. AreKnown 0 settled.items) }
+/// Takes all tokens of a text.
+fn take_tokens(
+    phrases: &Phrases,
+    tokens: Vec<FirstToken>,
+    rewriter: &mut Rewriter,
+    settled: &mut Vec<FinalToken>,
+) -> Result<(), AllocError>
+    requires settles { Settles phrases.now.phrases []
+        (map (spanned_in phrases.now.spellings) settled.old.items) rewriter.old }
+    requires known { AreKnown (length phrases.now.spellings) settled.old.items }
+    ensures settles { OnOk result (Settles phrases.now.phrases (tokens_in tokens.items)
+        (map (spanned_in phrases.now.spellings) settled.new.items) rewriter.new) }
+    ensures known { OnOk result (AreKnown (length phrases.now.spellings) settled.new.items) }
 {
-    let phrases = Phrases::new(alloc);
+    for token in tokens {
+        rewriter.push(phrases, token, settled)?;
+    }
+    Ok(())
+}
+
+/// The tokens as they are rewritten.
+fn rewritten(
+    alloc: Global,
+    phrases: &Phrases,
+    tokens: Vec<FirstToken>,
+) -> Result<Vec<FinalToken>, AllocError>
+    ensures rewritten { IfOk result (λ settled. map (spanned_in phrases.now.spellings) settled.items
+        ≡ rewritten phrases.now.phrases (tokens_in tokens.items)) }
+    ensures known { IfOk result (λ settled. AreKnown (length phrases.now.spellings) settled.items) }
+{
     let mut rewriter = Rewriter::new(alloc);
     let mut settled = Vec::new(alloc);
-    for token in tokens {
-        rewriter.push(&phrases, token, &mut settled)?;
-    }
-    rewriter.finish(&phrases, &mut settled)?;
+    take_tokens(phrases, tokens, &mut rewriter, &mut settled)?;
+    rewriter.finish(phrases, &mut settled)?;
     Ok(settled)
 }
 
-/// The texts of these tokens, of which none stands for a class.
-fn texts_of(alloc: Global, tokens: &[FinalToken]) -> Result<Vec<String>, AllocError>
-    requires { AreKnown 0 tokens.now }
+/// The texts of these tokens.
+fn texts_of(
+    alloc: Global,
+    phrases: &Phrases,
+    tokens: &[FinalToken],
+) -> Result<Vec<String>, AllocError>
+    requires { AreKnown (length phrases.now.spellings) tokens.now }
     ensures { IfOk result (λ texts. texts_in texts.items
-        ≡ map (λ t. (spanned_in [] t).text) tokens.now) }
+        ≡ map (λ t. (spanned_in phrases.now.spellings t).text) tokens.now) }
 {
-    let phrases = Phrases::new(alloc);
     let mut texts = Vec::new(alloc);
     for token in tokens {
         texts.push(String::from_str(alloc, phrases.text_of(token))?)?;

@@ -1,6 +1,8 @@
 //! Equivalent words.
-ghost use Rattle.std.specs.Prelude.{◌≡◌, ◌⊎◌, [], None, Some, IfOk, IfErr, OnOk};
+ghost use Rattle.std.specs.Prelude.{◌≡◌, ◌⊎◌, ◌<◌, ◌≤◌, ◌∷◌, ◌++◌, [], None, Some, IfOk, IfErr, OnOk, length, slice_index, slice_index_or, string_bytes};
+ghost use Rattle.lic_phrases.specs.Keys.{texts_in};
 ghost use Rattle.lic_phrases.specs.Listed.{HaveHeads, phrases_in, spellings_in, with_heads};
+ghost use Rattle.lic_phrases.specs.PhraseLists.{with_added};
 ghost use Rattle.lic_phrases.specs.TokenTexts.{HaveTokenTexts, IsTokenText};
 ghost use Rattle.lic_phrases.specs.WordLists.{AreWords, first_fault, out_of_memory, phrase_lines};
 
@@ -29,6 +31,31 @@ impl Model for Words {
     ghost invariant = { λ words. HaveTokenTexts words.phrases.phrases };
 }
 
+/// Adds a phrase to the class of its head, and a class with its own spelling.
+fn add_listed(
+    alloc: Global,
+    phrases: &mut Phrases,
+    phrase: ListedPhrase,
+    heads: &[usize],
+) -> Result<(), AllocError>
+    requires some { 0 < length phrase.texts.items }
+    requires few { length phrase.texts.items ≤ 8 }
+    requires within { length phrases.old.spellings < length heads.now }
+    requires low { slice_index heads.now (length phrases.old.spellings) ≤ length phrases.old.spellings }
+    ensures classes { OnOk result (phrases.new.spellings
+        ≡ phrases.old.spellings ++ string_bytes phrase.spelling ∷ []) }
+    ensures words { OnOk result (phrases.new.phrases ≡ with_added phrases.old.phrases (record {
+      texts = texts_in phrase.texts.items;
+      spelling = slice_index_or (phrases.old.spellings ++ string_bytes phrase.spelling ∷ [])
+          (slice_index heads.now (length phrases.old.spellings)) [];
+    })) }
+{
+    let ListedPhrase { texts, spelling } = phrase;
+    let number = phrases.add_class(spelling)?;
+    phrases.add(alloc, &texts, heads[number])?;
+    Ok(())
+}
+
 /// The phrases, each in the class of its head. Every phrase has a class with its own spelling; one
 /// that heads no phrase leaves its class empty.
 fn with_heads(
@@ -42,9 +69,7 @@ fn with_heads(
 {
     let mut phrases = Phrases::new(alloc);
     for phrase in listed {
-        let ListedPhrase { texts, spelling } = phrase;
-        let number = phrases.add_class(spelling)?;
-        phrases.add(alloc, &texts, heads[number])?;
+        add_listed(alloc, &mut phrases, phrase, heads)?;
     }
     Ok(phrases)
 }
@@ -74,13 +99,7 @@ impl Words {
             ⊎ (fault ≡ out_of_memory)) }
     {
         let mut reader = Reader::new(alloc);
-        let mut number: usize = 0;
-        for line in text.split('\n') {
-            number += 1;
-            if let Err(cause) = reader.read_line(alloc, line) {
-                return Err(cause.at(number));
-            }
-        }
+        reader.read_lines(alloc, text)?;
         let phrases = with_heads(alloc, reader.phrases, &reader.heads)?;
         Ok(Words { phrases })
     }

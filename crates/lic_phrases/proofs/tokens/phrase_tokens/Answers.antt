@@ -1,5 +1,5 @@
--- The texts of the rewritten tokens.
-use Rattle.std.proofs.Common.{◌≡◌, ◌∙◌, [], map, ap, subst}
+-- No phrase rewrites them.
+use Rattle.std.proofs.Common.{◌≡◌, ◌∙◌, map, ap, subst}
 use Rattle.std.specs.Prelude.{IfOk}
 use Rattle.std.specs.Str.{chars}
 use Rattle.lic_lines.specs.LineRules.{profile}
@@ -7,18 +7,14 @@ use Rattle.lic_lines.specs.Lines.{cell_of}
 use Rattle.lic_lines.specs.Sources.{unplaced, without_dropped}
 use Rattle.lic_lines.specs.Tokens.{tokens_of_cells}
 use Rattle.lic_phrases.specs.Keys.{texts_in}
+use Rattle.lic_phrases.specs.PhraseLists.{PhraseList}
 use Rattle.lic_phrases.specs.Rewriting.{SpannedText, rewritten}
-use Rattle.lic_phrases.specs.Waiting.{spanned_in}
-use Rattle.lic_phrases.specs.WordLists.{phrase_texts}
-use Rattle.lic_phrases.proofs.PhraseTokens.{texts_of-rewritten, texts_of-settled}
+use Rattle.lic_phrases.proofs.PhraseTokens.{texts_of-rewritten}
 use Rattle.lic_phrases.proofs.tokens.phrase_tokens.Goals as goal
 
 pub returns : goal.returns
 returns c =
     let first = tokens_of_cells profile (map cell_of (without_dropped (unplaced (chars c.args.phrase.now)))) in
-    let same : map (λ t. (spanned_in [] t).text) c.deref.result.now ≡ phrase_texts (chars c.args.phrase.now) =
-    ap (map (λ t. (spanned_in [] t).text)) c.deref.ensures.value
-    ∙ texts_of-settled [] c.in_ok-settled.settled.items
-    ∙ ap (map (λ (t : SpannedText). t.text)) (c.in_ok-settled.ensures.rewritten ∙ ap (rewritten []) c.in_ok-tokens.ensures)
-    ∙ texts_of-rewritten first in
-    subst (λ l. IfOk c.texts_of.result (λ texts. texts_in texts.items ≡ l)) same c.texts_of.ensures
+    subst (λ l. IfOk c.rewritten_texts.result (λ texts. texts_in texts.items ≡ l))
+    (ap (λ (q : PhraseList). map (λ (t : SpannedText). t.text) (rewritten q.phrases first)) c.new-phrases.ensures ∙ texts_of-rewritten first)
+    c.rewritten_texts.ensures
