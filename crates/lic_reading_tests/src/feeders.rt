@@ -119,6 +119,42 @@ fn pieces_are_read_as_the_whole(rt: HostRuntime) -> Result<(), Fail> {
     Ok(())
 }
 
+/// What the whole is read as, with the same words.
+fn read_whole(alloc: Global, input: &[u8]) -> Result<String, Fail> {
+    let words = Words::read(alloc, "sub-license,sub license\n")?;
+    let rules = Rules::profile(alloc);
+    let text = Text::read(alloc, input.to_vec(alloc)?, &words, &rules);
+    Ok(shown(alloc, &text)?)
+}
+
+/// An input of 24 bytes that are drawn from a few, and the state that follows.
+fn drawn(alloc: Global, mut state: u64) -> Result<(Vec<u8>, u64), Fail> {
+    let signs = b"ab (c)=-\n\n#*/.\xC2\xA9\xE2\x80\x9C\xFF\xF0\xEF\xBF\xBD";
+    let mut input = Vec::new(alloc);
+    for _ in 0..24u32 {
+        state = state
+            .wrapping_mul(6364136223846793005)
+            .wrapping_add(1442695040888963407);
+        let place = (state >> 33) as usize % signs.len();
+        input.push(signs[place])?;
+    }
+    Ok((input, state))
+}
+
+#[test]
+fn random_pieces_are_read_as_the_whole(rt: HostRuntime) -> Result<(), Fail> {
+    let mut state = 1u64;
+    for _ in 0..4000u32 {
+        let (input, next) = drawn(rt.alloc(), state)?;
+        state = next;
+        let (first, rest) = input.split_at(((state >> 40) as usize % 24).min(input.len()));
+        let told = told(rt.alloc(), first, rest, (state >> 50) as usize % 7 + 1)?;
+        let whole = read_whole(rt.alloc(), &input)?;
+        assert_eq!(rt; told.2.as_str(), whole.as_str(), "{input:?}");
+    }
+    Ok(())
+}
+
 #[test]
 fn tokens_are_ready_as_lines_come(rt: HostRuntime) -> Result<(), Fail> {
     let all =
