@@ -116,9 +116,9 @@ impl<'a> Finder<'a> {
         matches_are_listed();
         let kept = kept_templates(alloc, set, text)?;
         let behind = Vec::from_slice(alloc, &kept)?;
-        let again = Vec::from_slice(alloc, &kept)?;
         let from = first_token(place).min(text.len());
         let (mut starts, back) = first_tokens(alloc, set, text, behind, from)?;
+        let again = starts.noted_among(alloc, &kept)?;
         let mut run = Run::over(alloc, set, kept)?;
         let first = begin_next(&mut run, &mut starts).unwrap_or(text.len());
         let next = least_left(&starts, text.len());

@@ -1,6 +1,7 @@
 //! The first tokens of matches, noted before a walk begins with any of them.
 
-ghost use Rattle.std.specs.Prelude.{◌≡◌, ◌<◌, ◌≤◌, ◌+◌, ◌-◌, ◌*◌, ◌^◌, ◌∷◌, [], List, IfOk, IfSome, IfNone, OnOk, length, drop, sum_by};
+ghost use Rattle.std.specs.Prelude.{◌≡◌, ◌<◌, ◌≤◌, ◌+◌, ◌-◌, ◌*◌, ◌^◌, ◌∷◌, [], ℕ, List, IfOk, IfSome, IfNone, OnOk, length, drop, sum_by};
+ghost use Rattle.lic_keys.specs.Rising.{IsRising};
 ghost use Rattle.lic_find.specs.Firsts.{noted_at};
 ghost use Rattle.lic_find.specs.declared.starts.Entry.{Entry};
 
@@ -56,6 +57,21 @@ impl Starts {
             count: few.len(),
         })?;
         Ok(())
+    }
+
+    /// Of some numbers in rising order those that a first token is noted with.
+    pub fn noted_among(&self, alloc: Global, kept: &[usize]) -> Result<Vec<usize>, AllocError>
+        ensures { IfOk result (λ few. (n : ℕ) → IsRising kept.now n → IsRising few.items n) }
+    {
+        let mut noted = Vec::from_slice(alloc, &self.numbers)?;
+        noted.sort_unstable();
+        let mut few = Vec::new(alloc);
+        for number in kept {
+            if noted.binary_search(number).is_ok() {
+                few.push(*number)?;
+            }
+        }
+        Ok(few)
     }
 
     /// The least first token that is left.
