@@ -98,7 +98,7 @@ def main():
     expect("their steps are told in", places(code, r"\bback\.steps\(\)"), ["noting.rt"])
     expect("walks towards the end are made in", places(code, r"\bEnds\s*::\s*(?:over|new)\b"), ["ending.rt"])
     expect("their steps are told in", places(code, r"\bends\.steps\(\)"), ["ending.rt"])
-    noting = places(code, r"\bnoting:\s*back\.saturating_add\(forth\)")
+    noting = places(code, r"\blet noting = back\.saturating_add\(forth\)")
     expect("the steps of both are added in", noting, ["finder.rt"])
     steps = "".join(body_of(code.get("finder.rt", ""), "pub fn steps").split())
     expect("Finder::steps is", steps, "{self.noting.saturating_add(self.run.steps()).saturating_add(self.passed)}")

@@ -123,13 +123,14 @@ impl<'a> Finder<'a> {
         let first = begin_next(&mut run, &mut starts).unwrap_or(text.len());
         let next = least_left(&starts, text.len());
         let (latest, forth) = latest_ends(alloc, set, text, again, next)?;
+        let noting = back.saturating_add(forth);
         Ok(Finder {
             set,
             text,
             run,
             starts,
             latest,
-            noting: back.saturating_add(forth),
+            noting,
             passed: 0,
             began: place,
             given: None,

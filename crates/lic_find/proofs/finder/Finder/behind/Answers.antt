@@ -68,8 +68,8 @@ invariant_of-result c =
     let high : from < length tokens → begin ≤ from = λ h. omega (arith, c.min-from.ensures, c.len.ensures) in
     let within : from ≤ length tokens = omega (arith, c.min-from.ensures, c.len.ensures) in
     let whole : c.args.place ≡ None → from ≡ 0 = λ all. let zero : begin ≡ 0 = begins_whole c.args.place begin c.first_token.ensures all in omega arith in
-    let noting = c.saturating_add.result in
-    let added = c.saturating_add.ensures in
+    let noting = c.saturating_add-noting.result in
+    let added = c.saturating_add-noting.ensures in
     let far : c.in_ok-starts.back ≤ letters_of tokens = c.in_ok-starts.ensures.most in
     let near : c.in_ok-latest.forth ≤ letters_of tokens = c.in_ok-latest.ensures.most in
     let first : c.unwrap_or-first.result ≡ unwrap_or r (length tokens) = c.unwrap_or-first.ensures ∙ ap (unwrap_or r) c.len-2.ensures in
