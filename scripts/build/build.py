@@ -6,11 +6,8 @@ import os
 import shutil
 import sys
 import tempfile
-import time
 
-sys.path.insert(0, os.path.join(os.path.dirname(os.path.realpath(__file__)), "..", "crates"))
-from listed import from_the_ground, read_crates
-from proving import copy_crates, minutes, prove, say
+from proving import Proving, copy_crates, minutes, run_gate, say
 
 PROGRAM = "licscan"
 
@@ -32,24 +29,30 @@ def is_current(top):
     return os.access(program, os.X_OK) and os.path.getmtime(program) >= newest_source(f"{top}/crates")
 
 
-def build(top):
-    """Proves all, builds the program, and returns the exit status."""
-    start = time.monotonic()
-    names = from_the_ground(read_crates(top), [PROGRAM])
-    to = f"{top}/crates/{PROGRAM}/out"
-    say(f"proving {len(names)} crates and building the program: some 40 minutes on four cores, and none for a crate that was proved before")
+def built(top, names, to):
+    """Has the proved program built, takes it over, and says whether it is there."""
     with tempfile.TemporaryDirectory(prefix="licscan-build-") as room:
         copy_crates(top, names, room)
-        status = prove(room, len(names), f"{to}/build.log", start)
-        built = f"{room}/crates/{PROGRAM}/out/{PROGRAM}"
-        if status or not os.access(built, os.X_OK):
-            say(f"the program could not be proved and built (log: crates/{PROGRAM}/out/build.log)")
-            return 2
+        status, _ = run_gate(room, 0)
+        program = f"{room}/crates/{PROGRAM}/out/{PROGRAM}"
+        if status or not os.access(program, os.X_OK):
+            return False
         # renamed, so that no other run meets half of it
-        shutil.copyfile(built, f"{to}/{PROGRAM}.new")
+        shutil.copyfile(program, f"{to}/{PROGRAM}.new")
     os.chmod(f"{to}/{PROGRAM}.new", 0o755)
     os.replace(f"{to}/{PROGRAM}.new", f"{to}/{PROGRAM}")
-    say(f"proved and built in {minutes(start)}")
+    return True
+
+
+def build(top):
+    """Proves all, builds the program, and returns the exit status."""
+    to = f"{top}/crates/{PROGRAM}/out"
+    proving = Proving(top, [PROGRAM], f"{to}/build.log")
+    say(f"proving {len(proving.all)} crates and building the program: some 40 minutes on four cores, and none for a crate that was proved before")
+    if not proving.run() or not built(top, proving.all, to):
+        say(f"the program could not be proved and built (log: crates/{PROGRAM}/out/build.log)")
+        return 2
+    say(f"proved and built in {minutes(proving.start)}")
     return 0
 
 

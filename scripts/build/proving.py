@@ -1,18 +1,23 @@
-"""Proves crates of this repository by the gate's command, `rt ci`, on a copy of them without must-fail edits.
+"""Proves crates of this repository by the gate's command, `rt ci`, on copies of them without must-fail edits.
 
-Crates are proved side by side, and one that no other waits beside is proved on all cores. What was proved is kept by rt for each later run
-over the same files, so it is proved once, whether by the first command or by the gate."""
+The longest chain of crates that stand on each other decides how long all take. So its crates are proved in turn, each on all cores, and the
+others beside them on what the chain leaves. What was proved is kept by rt for each later run over the same files, so it is proved once, whether
+by the first command or by the gate."""
 import os
 import re
 import shutil
 import subprocess
 import sys
+import tempfile
+import threading
 import time
+
+sys.path.insert(0, os.path.join(os.path.dirname(os.path.realpath(__file__)), "..", "crates"))
+from listed import from_the_ground, read_crates
 
 # what a proof reads of a crate, and what rt runs a program on
 PARTS = ("src", "specs", "proofs", "stdin", "stdout", "args", "status", "data")
-PROVED = re.compile(r"rt: (\w+) (?:proved$|is kept: )")
-FUNCTIONS = re.compile(r"logic=proved functions=(\d+)")
+FUNCTIONS = re.compile(rb"logic=proved functions=(\d+)")
 
 
 def say(text):
@@ -38,23 +43,83 @@ def copy_crates(top, names, to):
                 shutil.copyfile(path, copy)
 
 
-def prove(folder, count, log, start, when_proved=lambda name: None):
-    """Runs the gate's command there, says which crate is proved when, and returns its status. What it says goes to a file."""
+def run_gate(folder, nice):
+    """Runs the gate's command there, and returns its status and what it says."""
     # a fixed number of jobs would be one for each crate
     environment = {name: value for name, value in os.environ.items() if name != "RT_JOBS"}
-    proved, functions = 0, 0
-    with open(log, "wb") as file:
-        gate = subprocess.Popen(
-            ["rt", "ci"], cwd=folder, env=environment, stdin=subprocess.DEVNULL, stdout=subprocess.PIPE, stderr=subprocess.STDOUT
-        )
-        for line in gate.stdout:
-            file.write(line)
-            file.flush()
-            text = line.decode("utf-8", "replace").rstrip("\n")
-            if found := FUNCTIONS.search(text):
-                functions += int(found[1])
-            if found := PROVED.match(text):
-                proved += 1
-                say(f"{proved} of {count} crates proved ({found[1]}; {functions} functions so far; {minutes(start)})")
-                when_proved(found[1])
-        return gate.wait()
+    done = subprocess.run(
+        ["nice", "-n", str(nice), "rt", "ci"], cwd=folder, env=environment, stdin=subprocess.DEVNULL, stdout=subprocess.PIPE, stderr=subprocess.STDOUT, check=False
+    )
+    return done.returncode, done.stdout
+
+
+def lines_of(top, name):
+    """How many lines are read to prove a crate."""
+    count = 0
+    for part in ("src", "specs", "proofs"):
+        for at, _, files in os.walk(f"{top}/crates/{name}/{part}"):
+            for file in files:
+                with open(f"{at}/{file}", "rb") as it:
+                    count += it.read().count(b"\n")
+    return count
+
+
+def longest_chain(top, crates, names):
+    """The crates of the chain with the most lines, the lowest first."""
+    best = {}
+    for name in from_the_ground(crates, names):
+        below = max((best[it] for it in crates[name]), default=(0, []))
+        best[name] = below[0] + lines_of(top, name), [*below[1], name]
+    return max(best[name] for name in names)[1]
+
+
+class Proving:
+    """Proves the crates of these names and those below them. `when_proved` is called with each crate's name."""
+
+    def __init__(self, top, names, log, when_proved=lambda name: None):
+        self.top, self.log, self.when_proved, self.start = top, log, when_proved, time.monotonic()
+        self.crates = read_crates(top)
+        self.all = from_the_ground(self.crates, names)
+        chain = longest_chain(top, self.crates, names)
+        self.left = {0: chain, 10: [name for name in self.all if name not in chain]}
+        self.proved, self.functions, self.has_failed, self.change = set(), 0, False, threading.Condition()
+
+    def take(self, nice):
+        """The next crate of these whose libraries are proved, or None where none is left."""
+        with self.change:
+            while self.left[nice] and not self.has_failed:
+                for name in self.left[nice]:
+                    if self.proved.issuperset(self.crates[name]):
+                        self.left[nice].remove(name)
+                        return name
+                self.change.wait()
+            return None
+
+    def prove(self, name, nice):
+        with tempfile.TemporaryDirectory(prefix="licscan-proof-") as room:
+            copy_crates(self.top, from_the_ground(self.crates, [name]), room)
+            status, said = run_gate(room, nice)
+        with self.change:
+            with open(self.log, "ab") as file:
+                file.write(said)
+            self.has_failed |= status != 0
+            self.proved.add(name)
+            self.functions += int((FUNCTIONS.findall(said) or [0])[-1])
+            if not self.has_failed:
+                say(f"{len(self.proved)} of {len(self.all)} crates proved ({name}; {self.functions} functions so far; {minutes(self.start)})")
+            self.change.notify_all()
+        if not status:
+            self.when_proved(name)
+
+    def work(self, nice):
+        while name := self.take(nice):
+            self.prove(name, nice)
+
+    def run(self):
+        """Proves all, and says whether all are proved."""
+        open(self.log, "wb").close()
+        beside = threading.Thread(target=self.work, args=(10,))
+        beside.start()
+        self.work(0)
+        beside.join()
+        return not self.has_failed

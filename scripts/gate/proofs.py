@@ -12,12 +12,11 @@ import subprocess
 import sys
 import tempfile
 import threading
-import time
 
 TOP = os.path.dirname(os.path.dirname(os.path.dirname(os.path.realpath(__file__))))
 sys.path[:0] = [f"{TOP}/scripts/crates", f"{TOP}/scripts/build"]
 from listed import from_the_ground, read_crates
-from proving import copy_crates, minutes, prove, say
+from proving import Proving, copy_crates, minutes, say
 
 # a trial of edits takes up to two of these
 MEMORY_OF_A_CHECK = 3_000_000_000
@@ -54,25 +53,22 @@ def work(names, start):
 
 
 def main():
-    start = time.monotonic()
-    crates = list(read_crates(TOP))
     names = queue.Queue()
-    threads = [threading.Thread(target=work, args=(names, start)) for _ in range(workers())]
-    for thread in threads:
-        thread.start()
     with tempfile.TemporaryDirectory(prefix="licscan-proofs-") as room:
-        copy_crates(TOP, crates, room)
-        log = f"{room}/proofs.log"
-        status = prove(room, len(crates), log, start, names.put)
-        if status:
-            with open(log, "rb") as file:
+        proving = Proving(TOP, list(read_crates(TOP)), f"{room}/proofs.log", names.put)
+        threads = [threading.Thread(target=work, args=(names, proving.start)) for _ in range(workers())]
+        for thread in threads:
+            thread.start()
+        is_proved = proving.run()
+        if not is_proved:
+            with open(proving.log, "rb") as file:
                 sys.stdout.buffer.write(file.read())
-    say(f"the proofs took {minutes(start)}")
+    say(f"the proofs took {minutes(proving.start)}")
     for _ in threads:
         names.put(None)
     for thread in threads:
         thread.join()
-    return status
+    return 0 if is_proved else 1
 
 
 if __name__ == "__main__":
