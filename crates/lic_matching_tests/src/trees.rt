@@ -15,7 +15,9 @@ fn tree_of(alloc: Global, pattern: &str) -> Result<Node, Fail> {
 
 /// What it weighs.
 fn weight_of(alloc: Global, pattern: &str) -> Result<usize, Fail> {
-    Ok(tree_of(alloc, pattern)?.weight())
+    let ere = lic_ere::read(alloc, pattern)?;
+    let tree = compile_pattern(alloc, &ere)?;
+    Ok(tree.weight())
 }
 
 /// Whether a pattern has no tree, since it would weigh more than a number can be.
