@@ -6,13 +6,13 @@ use Rattle.lic_words.specs.Words.{Word, blank, blanks}
 use Rattle.lic_words.specs.Letters.{is_word}
 use Rattle.lic_words.specs.Expressions.{Expression}
 use Rattle.lic_words.specs.Describing.{IsDescribed}
-use Rattle.lic_words.specs.Spelling.{Gap, free, gap_of, gapped, gapped_from, last_letter, last_of}
+use Rattle.lic_words.specs.Spelling.{Gap, free, gap_of, gapped, gapped_from, row_of, last_letter, last_of}
 use Rattle.lic_words.proofs.Rows.{gapped_from-blank, gapped_from-letter, last_letter-blank, last_letter-letter, last_of-snoc}
 use Rattle.lic_words.proofs.Spellings.{gap-behind_blank}
 use Rattle.lic_marks.specs.Cores.{Core, HasWordsOf, WordsOf}
 use Rattle.lic_marks.specs.Standing.{After, AfterAny, each_with}
-use Rattle.lic_marks.specs.Seeks.{DescribesEnd, NoneBegins, GoOnAsEnds}
-use Rattle.lic_marks.proofs.TokenRows.{gapped-snoc}
+use Rattle.lic_marks.specs.Seeks.{DescribesEnd, NoneBegins, NoneGoesOn, GoOnAsEnds}
+use Rattle.lic_marks.proofs.TokenRows.{gapped-append, gapped-snoc}
 use Rattle.lic_marks.proofs.Standing.{After-spells, spells-After}
 use Rattle.lic_marks.proofs.Lists.{each_with-append, After-append, append-After, After-map, After-some, After-pair, AfterAny-append, append-AfterAny}
 
@@ -113,6 +113,18 @@ module _ (e : Expression) (r : Core) (last : ℕ) (lists : List (List (Gap × �
       let some = After-spells (gapped (drop n ts)) (WordsOf r) word ((words word).1 described.2) described.3 in
       let whole : drop n ts ≡ drop n ts ++ [] = sym (append-nil (drop n ts)) in
       (some.0, (ends.complete n [] (inside_of n described.0) (subst (IsDescribed e) whole described) (blanks some.0) some.1).1)
+
+  -- where nothing goes on behind the lists, no described list goes on from an end
+  pub none_goes_on : HasWordsOf r e → ((v : Word) → AfterAny (WordsOf r) lists v → ⊥) → NoneGoesOn e ts
+  none_goes_on words dead = λ n more inside described.
+      let word : Word = described.1 in
+      let here : List (Gap × ℕ) = gapped (drop n ts) in
+      let rest : List (Gap × ℕ) = gapped_from (last_of blank (drop n ts)) false (row_of more) in
+      let end = After-spells (gapped (drop n ts ++ more)) (WordsOf r) word ((words word).1 described.2) described.3 in
+      let whole : After (WordsOf r) (here ++ rest) (blanks end.0) =
+      subst (λ (x : List (Gap × ℕ)). After (WordsOf r) x (blanks end.0)) (gapped-append (drop n ts) more) end.1 in
+      let some = After-some rest (After (WordsOf r) here) (blanks end.0) (After-append here rest (WordsOf r) (blanks end.0) whole) in
+      dead some.0 (ends.complete n more inside described some.0 some.1).1
 
   -- ---- one token more
 

@@ -22,6 +22,10 @@ DescribesEnd e ts = (n : ℕ) × IsDescribed e (drop n ts)
 abbrev pub NoneBegins : Expression → List ℕ → Type 0
 NoneBegins e token = (more : List (List ℕ)) → IsDescribed e (token ∷ more) → ⊥
 
+-- no described list goes on from an end of this one
+abbrev pub NoneGoesOn : Expression → List (List ℕ) → Type 0
+NoneGoesOn e ts = (n : ℕ) (more : List (List ℕ)) → n < length ts → IsDescribed e (drop n ts ++ more) → ⊥
+
 -- the tree that a seeker is over
 abbrev pub tree_of : Seeker → Node
 tree_of s = s.tree.now

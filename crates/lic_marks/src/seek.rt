@@ -55,7 +55,7 @@ pub struct Seeker<'a> {
 }
 
 impl<'a> Seeker<'a> {
-    ghost use Rattle.lic_marks.specs.Seeks.{DescribesEnd, NoneBegins, Seeks, tree_of};
+    ghost use Rattle.lic_marks.specs.Seeks.{DescribesEnd, NoneBegins, NoneGoesOn, Seeks, tree_of};
 
     /// A run that stands for the empty list. It is dead.
     ///
@@ -330,8 +330,8 @@ impl<'a> Seeker<'a> {
         }
     }
 
-    /// True where no position is marked: then it stands as it is for the list with one token more that no described list
-    /// begins with. It looks at a few flags.
+    /// True where no position is marked: then no described list goes on from an end of the list, and it stands as it is for the
+    /// list with one token more that no described list begins with. It looks at a few flags.
     #[inline]
     pub fn is_dead(&self) -> bool
         ensures none { (e : Expression) (ts : List (List ℕ)) → Seeks self.now e ts → IsTrue result
@@ -339,6 +339,8 @@ impl<'a> Seeker<'a> {
         ensures skips { (e : Expression) (ts : List (List ℕ)) (token : List ℕ)
             → Seeks self.now e ts → IsTrue result
             → NoneBegins e token → Seeks self.now e (ts ++ token ∷ []) }
+        ensures ends { (e : Expression) (ts : List (List ℕ)) → Seeks self.now e ts → IsTrue result
+            → NoneGoesOn e ts }
     {
         match self.lone {
             Some(_) => false,

@@ -2,7 +2,7 @@ use Rattle.std.proofs.Common.{subst}
 use Rattle.lic_marks.specs.Nodes.{core_of}
 use Rattle.lic_marks.specs.Seeks.{StandsFor}
 use Rattle.lic_marks.specs.States.{HasTakenAny}
-use Rattle.lic_marks.proofs.Seeking.{answer_complete, skipped}
+use Rattle.lic_marks.proofs.Seeking.{answer_complete, none_goes_on, skipped}
 use Rattle.lic_marks.proofs.seek.Seeker.is_dead.Goals as goal
 
 pub returns-in-None-clause-none : goal.returns-in-None-clause-none
@@ -24,3 +24,10 @@ returns-in-None-clause-skips c = λ e ts token s h none.
       taken = s.taken;
       ends = skipped e _ _ s.lists ts s.ends token (λ v follows. c.is_dead.ensures r h v (taken.leads.now.complete v follows)) none;
     }
+
+pub returns-in-None-clause-ends : goal.returns-in-None-clause-ends
+returns-in-None-clause-ends c = λ e ts s h.
+    let self = c.args.self.now in
+    let r = core_of self.tree.now in
+    let taken : HasTakenAny r self.state s.lists = subst (λ l. StandsFor r l self.state s.lists) c.in-None.is s.taken in
+    none_goes_on e _ _ s.lists ts s.ends s.words (λ v follows. c.is_dead.ensures r h v (taken.leads.now.complete v follows))
