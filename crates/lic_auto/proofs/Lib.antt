@@ -33,5 +33,6 @@ pub mod Living
 pub mod Ending
 pub mod Joined
 pub mod Gathered
+pub mod Begun
 pub mod OneTurned
 pub mod LiveNumbers

@@ -2,14 +2,14 @@
 use Rattle.std.proofs.Common.{◌≡◌, ℕ, ◌↔◌, List, [], ◌∷◌, ◌++◌, sym, ap, ◌∙◌, subst}
 use Rattle.std.specs.List.{Contains}
 use Rattle.lic_words.specs.Mirrors.{mirrored, turned}
-use Rattle.lic_marks.specs.Seeks.{DescribesEnd}
+use Rattle.lic_marks.specs.Seeks.{DescribesEnd, NoneGoesOn}
 use Rattle.lic_auto.specs.Sets.{words_of}
-use Rattle.lic_auto.specs.Backs.{IsLive}
+use Rattle.lic_auto.specs.Backs.{IsLive, NoneReaches}
 use Rattle.lic_auto.specs.Directions.{ordered, read}
-use Rattle.lic_auto.specs.Found.{AreChangedListsAt, KnowFound, found_by}
+use Rattle.lic_auto.specs.Found.{AreChangedListsAt, KnowFound, NoneOfGoesOn, found_by}
 use Rattle.lic_auto.specs.declared.direction.Direction.TheVariants.{Backward}
 use Rattle.lic_auto.specs.declared.seekers.Seekers.{Seekers}
-use Rattle.lic_auto.proofs.TurnedEnds.{beginning-from_end, end-from_beginning, turned-cons}
+use Rattle.lic_auto.proofs.TurnedEnds.{beginning-from_end, end-from_beginning, none_reaches, turned-cons}
 
 module _ (s : Seekers) (backward : s.chosen.direction ≡ Backward) where
   -- what they have found is live
@@ -27,6 +27,11 @@ module _ (s : Seekers) (backward : s.chosen.direction ≡ Backward) where
         subst (DescribesEnd (mirrored (words_of known))) (sym (same k)) (end-from_beginning (words_of known) (others k) n described) in
         (know k).1 (among, (known, here, subst (λ d. DescribesEnd (read d (words_of known)) (lists k)) (sym backward) ends)),
   )
+
+  -- where none goes on from an end, none reaches into the list
+  pub goes_on-reaches : (ts : List (List ℕ)) (k : ℕ) → NoneOfGoesOn s (λ n. turned ts) k → NoneReaches s.chosen.set.now ts k
+  goes_on-reaches ts k none = λ known here.
+      none_reaches (words_of known) ts (subst (λ d. NoneGoesOn (read d (words_of known)) (turned ts)) backward (none known here))
 
   -- a token that they take stands in front
   pub front-taken : (token : List ℕ) (ts : List (List ℕ)) → turned ts ++ ordered s.chosen.direction token ∷ [] ≡ turned (token ∷ ts)

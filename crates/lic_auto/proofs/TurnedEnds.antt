@@ -11,7 +11,7 @@ use Rattle.lic_words.specs.Mirrors.{mirrored, turned}
 use Rattle.lic_words.proofs.Turned.{IsDescribed-turned, turned-IsDescribed}
 use Rattle.lic_marks.specs.Deciding.{is_described}
 use Rattle.lic_marks.proofs.Deciding.{is_described_sound, is_described_complete}
-use Rattle.lic_marks.specs.Seeks.{DescribesEnd}
+use Rattle.lic_marks.specs.Seeks.{DescribesEnd, NoneGoesOn}
 
 turned-append : (xs ys : List (List ℕ)) → turned (xs ++ ys) ≡ turned ys ++ turned xs
 turned-append xs ys = ap reverse (map-append reverse xs ys) ∙ reverse-append (map reverse xs) (map reverse ys)
@@ -50,6 +50,14 @@ module _ (e : Expression) (ts : List (List ℕ)) where
       (length ts - n, subst (IsDescribed (mirrored e)) (turned-take n ts (omega arith)) (IsDescribed-turned e (take n ts) described)))
       (λ (outside : length ts ≤ n). (zero, IsDescribed-turned e ts (subst (IsDescribed e) (take_all n ts outside) described)))
       (cases_lt n (length ts))
+
+  -- where no list goes on from an end of what is read, none goes from tokens in front into the list
+  pub none_reaches : NoneGoesOn (mirrored e) (turned ts) → (front : List (List ℕ)) (n : ℕ) → 0 < n → n ≤ length ts → ¬ (IsDescribed e (front ++ take n ts))
+  none_reaches none front n some within described =
+      let same : turned (front ++ take n ts) ≡ drop (length ts - n) (turned ts) ++ turned front =
+      turned-append front (take n ts) ∙ ap (λ xs. xs ++ turned front) (turned-take n ts within) in
+      none (length ts - n) (turned front) (omega (arith, some, within, length-turned ts))
+      (subst (IsDescribed (mirrored e)) same (IsDescribed-turned e (front ++ take n ts) described))
 
 -- whether some end is described
 pub decide_end : (e : Expression) (ts : List (List ℕ)) → DescribesEnd e ts ⊎ ¬ (DescribesEnd e ts)

@@ -1,10 +1,10 @@
 -- For which lists of tokens a backward machine over templates of a set stands, and what it has counted.
-use Rattle.std.specs.Prelude.{◌≡◌, ◌↔◌, ℕ, List, take, Some, Contains}
+use Rattle.std.specs.Prelude.{◌≡◌, ◌↔◌, ◌<◌, ◌≤◌, ◌++◌, ℕ, List, length, take, Some, Contains}
 use Rattle.std.specs.List.{slice_get}
 use Rattle.lic_words.specs.Describing.{IsDescribed}
 use Rattle.lic_words.specs.Mirrors.{turned}
 use Rattle.lic_auto.specs.Sets.{Known, words_of}
-use Rattle.lic_auto.specs.Found.{StandForEach, found_by}
+use Rattle.lic_auto.specs.Found.{StandForEach, begun_by, found_by}
 use Rattle.lic_auto.specs.declared.back.Back.{Back}
 pub use Rattle.lic_auto.specs.Found.{AreChangedListsAt}
 
@@ -24,9 +24,18 @@ steps_behind back = back.steps
 abbrev pub live_behind : Back → List ℕ
 live_behind back = found_by back.seekers
 
+-- the numbers of the templates that began with the last token: nothing of them was on its way before it
+abbrev pub begun_behind : Back → List ℕ
+begun_behind back = begun_by back.seekers
+
 -- the template of this number describes some beginning of the tokens
 abbrev pub IsLive : List Known → List (List ℕ) → ℕ → Type 0
 IsLive set ts k = (known : Known) × (slice_get set k ≡ Some known) × (n : ℕ) × IsDescribed (words_of known) (take n ts)
+
+-- no list that the template of this number describes goes from tokens in front into these
+abbrev pub NoneReaches : List Known → List (List ℕ) → ℕ → Type 0
+NoneReaches set ts k = (known : Known) → slice_get set k ≡ Some known → (front : List (List ℕ)) (n : ℕ) → 0 < n → n ≤ length ts
+    → ¬ (IsDescribed (words_of known) (front ++ take n ts))
 
 -- For each template, by its number, a list of tokens that the machine stands for there: its seeker stands for the list from its end.
 pub record StandsForEach (back : Back) (lists : ℕ → List (List ℕ)) : Type 0 where

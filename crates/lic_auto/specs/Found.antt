@@ -1,7 +1,7 @@
 -- For which lists of tokens seekers of chosen templates stand, and which templates they have found.
 use Rattle.std.specs.Prelude.{◌≡◌, ◌≢◌, ◌↔◌, ℕ, List, take, slice_index, Some, Contains}
 use Rattle.std.specs.List.{slice_get}
-use Rattle.lic_marks.specs.Seeks.{DescribesEnd}
+use Rattle.lic_marks.specs.Seeks.{DescribesEnd, NoneGoesOn}
 use Rattle.lic_auto.specs.Sets.{Known, words_of}
 use Rattle.lic_auto.specs.Choices.{templates_of}
 use Rattle.lic_auto.specs.Directions.{read}
@@ -27,6 +27,20 @@ IsFound direction set ts n = (known : Known) × (slice_get set n ≡ Some known)
 abbrev pub KnowFound : Seekers → (ℕ → List (List ℕ)) → Type 0
 KnowFound s lists = (n : ℕ) → Contains (found_by s) n
     ↔ (Contains s.chosen.numbers.items n × IsFound s.chosen.direction s.chosen.set.now (lists n) n)
+
+-- the numbers of the templates that were entered at the last token, and of which nothing was on its way before it
+abbrev pub begun_by : Seekers → List ℕ
+begun_by s = take s.begun_count s.begun.items
+
+-- no list that the template of this number describes, as it is read, goes on from an end of its list
+abbrev pub NoneOfGoesOn : Seekers → (ℕ → List (List ℕ)) → ℕ → Type 0
+NoneOfGoesOn s lists n = (known : Known) → slice_get s.chosen.set.now n ≡ Some known
+    → NoneGoesOn (read s.chosen.direction (words_of known)) (lists n)
+
+-- of each of them no described list goes on from an end of its list
+abbrev pub KnowBegun : Seekers → (ℕ → List (List ℕ)) → Type 0
+KnowBegun s lists = (n : ℕ) (known : Known) → Contains (begun_by s) n → slice_get s.chosen.set.now n ≡ Some known
+    → NoneGoesOn (read s.chosen.direction (words_of known)) (lists n)
 
 -- The template of this number has this list now, and the others have theirs.
 pub record AreChangedListsAt (number : ℕ) (ts : List (List ℕ)) (lists changed : ℕ → List (List ℕ)) : Type 0 where

@@ -4,7 +4,7 @@ use Rattle.std.specs.List.{slice_get}
 use Rattle.lic_words.specs.Expressions.{Expression}
 use Rattle.lic_marks.specs.Cores.{HasWordsOf}
 use Rattle.lic_marks.specs.Nodes.{core_of}
-use Rattle.lic_marks.specs.Seeks.{DescribesEnd, NoneBegins, Seeks, tree_of}
+use Rattle.lic_marks.specs.Seeks.{DescribesEnd, NoneBegins, NoneGoesOn, Seeks, tree_of}
 use Rattle.lic_marks.specs.declared.seek.Seeker.{Seeker}
 use Rattle.lic_auto.specs.Sets.{Known, words_of}
 use Rattle.lic_auto.specs.Choices.{templates_of}
@@ -49,15 +49,22 @@ TakesAlone direction may_begin token k old new = (e : Expression) (ts : List (Li
     → (may_begin ≡ false → NoneBegins e (ordered direction token))
     → Seeks new e (ts ++ ordered direction token ∷ [])
 
--- no end of what the seeker stands for is described, and it stands as it is for one token more with which nothing begins
+-- no end of what the seeker stands for is described, no described list goes on from one, and it stands as it is for one token more
+-- with which nothing begins
 pub record IsQuiet (s : Seeker) : Type 0 where
   pub none : (e : Expression) (ts : List (List ℕ)) → Seeks s e ts → ¬ (DescribesEnd e ts)
   pub skips : (e : Expression) (ts : List (List ℕ)) (token : List ℕ) → Seeks s e ts → NoneBegins e token
       → ∥ Seeks s e (ts ++ token ∷ []) ∥₁
+  pub goes_on : (e : Expression) (ts : List (List ℕ)) → Seeks s e ts → NoneGoesOn e ts
 
 -- all seekers are quiet, but perhaps those at these places
 abbrev pub AreQuietBut : List ℕ → List Seeker → Type 0
 AreQuietBut places seekers = (k : ℕ) (s : Seeker) → ¬ (Contains places k) → slice_get seekers k ≡ Some s → IsQuiet s
+
+-- the template of this number is at one of the entered places, and not at one of those that were marked
+abbrev pub IsBegunAt : Chosen → List ℕ → List ℕ → ℕ → Type 0
+IsBegunAt chosen entered marked n =
+    (place : ℕ) × Contains entered place × ¬ (Contains marked place) × (slice_index chosen.numbers.items place ≡ n)
 
 -- the template of this number, at one of these places, describes some end of the tokens of its place, as they are read
 abbrev pub IsFoundAt : Chosen → List ℕ → (ℕ → List (List ℕ)) → ℕ → Type 0

@@ -26,7 +26,7 @@ pub struct Back<'s> {
 }
 
 impl<'s> Back<'s> {
-    ghost use Rattle.lic_auto.specs.Backs.{AreChangedListsAt, KnowsLive, StandsBehind, StandsForEach, set_behind, numbers_behind, live_behind, steps_behind, IsLive};
+    ghost use Rattle.lic_auto.specs.Backs.{AreChangedListsAt, KnowsLive, NoneReaches, StandsBehind, StandsForEach, set_behind, numbers_behind, begun_behind, live_behind, steps_behind, IsLive};
 
     /// A machine over all templates, which stands for the empty list.
     pub fn new(alloc: Global, set: &'s Set) -> Result<Back<'s>, AllocError>
@@ -63,7 +63,8 @@ impl<'s> Back<'s> {
     }
 
     /// For every list that the machine stood for, it now stands for that list with the token in front of it; and where it
-    /// stood for a list of its own for each template, for each of these with the token in front.
+    /// stood for a list of its own for each template, for each of these with the token in front. No match of a template that
+    /// began with the token goes from tokens in front into that list.
     ///
     /// A step is one letter, with the gap before it, that all live templates take together; their count stays at the greatest
     /// `u64`.
@@ -74,6 +75,8 @@ impl<'s> Back<'s> {
         ensures each { (lists : ℕ → List (List ℕ)) → StandsForEach self.old lists
             → StandsForEach self.new (λ k. chars text.now ∷ lists k)
             × KnowsLive self.new (λ k. chars text.now ∷ lists k) }
+        ensures begun { (ts : List (List ℕ)) → StandsBehind self.old ts → (k : ℕ)
+            → Contains (begun_behind self.new) k → NoneReaches (set_behind self.new) ts k }
         ensures set { set_behind self.new ≡ set_behind self.old }
         ensures numbers { numbers_behind self.new ≡ numbers_behind self.old }
         ensures least { steps_behind self.new < 2 ^ 64 - 1
@@ -92,6 +95,7 @@ impl<'s> Back<'s> {
         ensures stands { (lists changed : ℕ → List (List ℕ)) → StandsForEach self.old lists
             → AreChangedListsAt number [] lists changed → StandsForEach self.new changed }
         ensures live { live_behind self.new ≡ live_behind self.old }
+        ensures begun { begun_behind self.new ≡ begun_behind self.old }
         ensures set { set_behind self.new ≡ set_behind self.old }
         ensures numbers { numbers_behind self.new ≡ numbers_behind self.old }
         ensures steps { steps_behind self.new ≡ steps_behind self.old }
@@ -108,6 +112,7 @@ impl<'s> Back<'s> {
             → AreChangedListsAt number (chars text.now ∷ lists number) lists changed
             → StandsForEach self.new changed }
         ensures live { live_behind self.new ≡ live_behind self.old }
+        ensures begun { begun_behind self.new ≡ begun_behind self.old }
         ensures set { set_behind self.new ≡ set_behind self.old }
         ensures numbers { numbers_behind self.new ≡ numbers_behind self.old }
         ensures least { steps_behind self.new < 2 ^ 64 - 1
@@ -137,6 +142,27 @@ impl<'s> Back<'s> {
             ↔ (Contains (numbers_behind self.now) k × IsLive (set_behind self.now) ts k) }
     {
         self.seekers.found_numbers()
+    }
+
+    /// The numbers of the templates that began with the last token that all took: they were entered there, and nothing of them
+    /// was on its way before. In rising order. A match of one of these that begins with that token, or in front of it, ends with it
+    /// at the latest: the tokens behind it need not be looked at.
+    pub fn begun_numbers(&self) -> &[usize]
+        ensures value { result.now ≡ begun_behind self.now }
+        ensures rising { IsRising result.now (length (set_behind self.now)) }
+        ensures within { (k : ℕ) → Contains result.now k → Contains (numbers_behind self.now) k }
+    {
+        self.seekers.begun_numbers()
+    }
+
+    /// Whether nothing of one of its templates is on its way: then no match of it goes from tokens in front into those that the
+    /// machine stands for.
+    pub fn is_quiet(&self, number: usize) -> bool
+        requires { Contains (numbers_behind self.now) number }
+        ensures { (ts : List (List ℕ)) → StandsBehind self.now ts → IsTrue result
+            → NoneReaches (set_behind self.now) ts number }
+    {
+        self.seekers.is_quiet(number)
     }
 
     /// The steps that were counted, at most the greatest `u64`.

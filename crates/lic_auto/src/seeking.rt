@@ -1,6 +1,6 @@
 //! Seekers, one for each template, over a list of tokens that is read in one direction.
 
-ghost use Rattle.std.specs.Prelude.{◌≡◌, ℕ, ◌<◌, ◌≤◌, ◌↔◌, ◌∷◌, ◌++◌, List, [], IfOk, IfSome, false, length, take, vec_len, Contains};
+ghost use Rattle.std.specs.Prelude.{◌≡◌, ℕ, ◌<◌, ◌≤◌, ◌↔◌, ◌∷◌, ◌++◌, List, [], IfOk, IfSome, IsTrue, false, length, take, vec_len, Contains};
 ghost use Rattle.std.specs.Str.{chars};
 ghost use Rattle.lic_words.specs.Letters.{letters_in};
 ghost use Rattle.lic_words.specs.Expressions.{Expression};
@@ -10,7 +10,7 @@ ghost use Rattle.lic_keys.specs.Rising.{IsRising};
 ghost use Rattle.lic_auto.specs.Choices.{templates_of};
 ghost use Rattle.lic_auto.specs.Changes.{AreKeptOf};
 ghost use Rattle.lic_auto.specs.Directions.{ordered};
-ghost use Rattle.lic_auto.specs.Seeking.{AllSeek, BeginsAnew, HaveMoved, HaveWords, IsFoundAt, IsQuiet, SeekEach, TakesAlone, TakesEntered};
+ghost use Rattle.lic_auto.specs.Seeking.{AllSeek, BeginsAnew, HaveMoved, HaveWords, IsBegunAt, IsFoundAt, IsQuiet, SeekEach, TakesAlone, TakesEntered};
 
 use crate::chosen::Chosen;
 use crate::direction::{Direction, looked_at};
@@ -133,15 +133,44 @@ fn push(
     }
 }
 
-// Whether a list of rising numbers may have this one.
+// Whether a list of rising numbers has this one.
 fn has(numbers: &[usize], number: usize) -> bool
     requires { (bound : ℕ) × IsRising numbers.now bound }
-    ensures { result ≡ false → (Contains numbers.now number → ⊥) }
+    ensures there { IsTrue result → Contains numbers.now number }
+    ensures gone { result ≡ false → (Contains numbers.now number → ⊥) }
 {
     match numbers.binary_search(&number) {
         Ok(_) => true,
         Err(_) => false,
     }
+}
+
+/// Of the templates at the entered places, puts the numbers of those whose places are not among the marked ones to the front, in
+/// rising order, and gives how many they are.
+pub fn gather_begun(
+    chosen: &Chosen<'_>,
+    entered: &[usize],
+    marked: &[usize],
+    begun: &mut [usize],
+) -> usize
+    requires entered { IsRising entered.now (length (templates_of chosen.now)) }
+    requires marked { (bound : ℕ) × IsRising marked.now bound }
+    requires room { length begun.old ≡ length (templates_of chosen.now) }
+    ensures room { length begun.new ≡ length begun.old }
+    ensures count { result ≤ length begun.new }
+    ensures rising { IsRising (take result begun.new) (length chosen.now.set.now) }
+    ensures exactly { (n : ℕ) → Contains (take result begun.new) n
+        ↔ IsBegunAt chosen.now entered.now marked.now n }
+{
+    let mut count = 0;
+    for place in entered {
+        let begins = !has(marked, *place);
+        if begins {
+            begun[count] = chosen.number(*place);
+            count += 1;
+        }
+    }
+    count
 }
 
 /// Of the templates at these places, puts the numbers of those that describe some end of the tokens to the front, in rising

@@ -33,7 +33,7 @@ loop-place-preserved c =
     let taken : HaveMoved changes (take (i + 1) places) c.args.seekers.now (set seekers n b) =
     subst (λ s. HaveMoved changes s c.args.seekers.now (set seekers n b)) (sym more)
     (Changed-more tree_of changes (take i places) n c.args.seekers.now seekers a b invariant.taken fresh here c.push.ensures.tree
-    (λ e ts stands rest. c.push.ensures.stands e ts stands (λ out. rest (c.has-may_begin.ensures out)))) in
+    (λ e ts stands rest. c.push.ensures.stands e ts stands (λ out. rest (c.has-may_begin.ensures.gone out)))) in
     elim c.if-not-is_dead.branch [
       | then-not-is_dead w ↦
           let room : count < length kept = omega (arith, invariant.few, invariant.room, c.requires.room, inside) in
@@ -57,6 +57,7 @@ loop-place-preserved c =
           let quiet : IsQuiet b = record {
             none = λ e ts s. c.is_dead.ensures.none e ts s dead;
             skips = λ e ts token s none. ∣ c.is_dead.ensures.skips e ts token s dead none ∣₁;
+            goes_on = λ e ts s. c.is_dead.ensures.ends e ts s dead;
           } in
           record {
             few = omega (arith, w.count-is, invariant.few);

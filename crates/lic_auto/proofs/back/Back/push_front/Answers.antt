@@ -4,7 +4,7 @@ use Rattle.lic_auto.specs.Directions.{ordered}
 use Rattle.lic_auto.specs.declared.chosen.Chosen.{Chosen}
 use Rattle.lic_auto.specs.declared.direction.Direction.TheVariants.{Backward}
 use Rattle.lic_auto.proofs.Finding.{StandForEach-same}
-use Rattle.lic_auto.proofs.Living.{found-live, front-taken}
+use Rattle.lic_auto.proofs.Living.{found-live, front-taken, goes_on-reaches}
 use Rattle.lic_auto.proofs.back.Back.push_front.Goals as goal
 
 pub returns-clause-each : goal.returns-clause-each
@@ -22,3 +22,9 @@ returns-clause-each c = λ lists s.
 
 pub returns-clause-stands : goal.returns-clause-stands
 returns-clause-stands c = λ ts s. let (each, live) = returns-clause-each c (λ k. ts) s.each in record { each = each; live = live }
+
+pub returns-clause-begun : goal.returns-clause-begun
+returns-clause-begun c = λ ts s k among.
+    let seekers = c.take.new.self in
+    let backward : seekers.chosen.direction ≡ Backward = ap (λ (chosen : Chosen). chosen.direction) c.take.ensures.chosen ∙ c.args.self.now.backward in
+    goes_on-reaches seekers backward ts k (λ known here. c.take.ensures.begun (λ n. turned ts) s.each.seekers k known among here)

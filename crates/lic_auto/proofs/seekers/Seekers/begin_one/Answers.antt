@@ -57,6 +57,10 @@ invariant_of-self c =
       found_room = self.found_room;
       found_within = self.found_within;
       found_rising = self.found_rising;
+      begun_room = self.begun_room;
+      begun_within = self.begun_within;
+      begun_rising = self.begun_rising;
+      begun_chosen = self.begun_chosen;
     }
 
 pub returns-clause-stand : goal.returns-clause-stand

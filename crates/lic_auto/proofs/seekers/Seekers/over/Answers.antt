@@ -29,6 +29,9 @@ invariant_of-result-clause-quiet c =
       c.in_ok-marked.ensures.len,
     )))))
 
+pub invariant_of-result-clause-begun_chosen : goal.invariant_of-result-clause-begun_chosen
+invariant_of-result-clause-begun_chosen c = λ n (i, inside, is). absurd (omega (arith, inside))
+
 pub returns-clause-know : goal.returns-clause-know
 returns-clause-know c = λ n.
     let chosen = c.in_ok-chosen.chosen in

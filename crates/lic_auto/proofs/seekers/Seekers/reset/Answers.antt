@@ -58,6 +58,10 @@ invariant_of-self c =
       found_room = self.found_room;
       found_within = omega arith;
       found_rising = IsRising-nil (length self.chosen.set.now);
+      begun_room = self.begun_room;
+      begun_within = omega arith;
+      begun_rising = IsRising-nil (length self.chosen.set.now);
+      begun_chosen = λ n (i, inside, is). absurd (omega (arith, inside));
     }
 
 pub returns-clause-stand : goal.returns-clause-stand
