@@ -12,7 +12,7 @@ use crate::chosen::Chosen;
 use crate::direction::Direction;
 use crate::joining::{add_number, join_rising};
 use crate::seeking::{
-    begin_anew, gather_begun, gather_found, name_all, seekers_of, take_alone, take_tokens,
+    begin_anew, gather_begun, gather_found, name_all, name_living, seekers_of, take_alone, take_tokens,
 };
 use crate::set::Set;
 use lic_marks::seek::Seeker;
@@ -77,17 +77,17 @@ impl<'s> Seekers<'s> {
         let chosen = Chosen::new(alloc, set, numbers, direction)?;
         let count = chosen.len();
         let mut marked = vec![in alloc; 0usize; count]?;
-        name_all(&mut marked);
         let entered = vec![in alloc; 0usize; count]?;
         let turns = vec![in alloc; 0usize; count]?;
         let found = vec![in alloc; 0usize; count]?;
         let begun = vec![in alloc; 0usize; count]?;
         let each = seekers_of(alloc, &chosen)?;
+        let marked_count = name_living(&each, &mut marked);
         Ok(Seekers {
             chosen,
             each,
             marked,
-            marked_count: count,
+            marked_count,
             entered,
             turns,
             found,

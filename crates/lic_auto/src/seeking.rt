@@ -10,7 +10,7 @@ ghost use Rattle.lic_keys.specs.Rising.{IsRising};
 ghost use Rattle.lic_auto.specs.Choices.{templates_of};
 ghost use Rattle.lic_auto.specs.Changes.{AreKeptOf};
 ghost use Rattle.lic_auto.specs.Directions.{ordered};
-ghost use Rattle.lic_auto.specs.Seeking.{AllSeek, BeginsAnew, HaveMoved, HaveWords, IsBegunAt, IsFoundAt, IsQuiet, SeekEach, TakesAlone, TakesEntered};
+ghost use Rattle.lic_auto.specs.Seeking.{AllSeek, AreQuietBut, BeginsAnew, HaveMoved, HaveWords, IsBegunAt, IsFoundAt, IsQuiet, SeekEach, TakesAlone, TakesEntered};
 
 use crate::chosen::Chosen;
 use crate::direction::{Direction, looked_at};
@@ -43,6 +43,24 @@ pub fn name_all(places: &mut [usize])
     for place in 0..places.len() {
         places[place] = place;
     }
+}
+
+/// Writes the places of the seekers that are not dead, in rising order, and gives how many they are.
+pub fn name_living(seekers: &[Seeker<'_>], places: &mut [usize]) -> usize
+    requires { length places.old ≡ length seekers.now }
+    ensures room { length places.new ≡ length places.old }
+    ensures count { result ≤ length places.new }
+    ensures rising { IsRising (take result places.new) (length seekers.now) }
+    ensures quiet { AreQuietBut (take result places.new) seekers.now }
+{
+    let mut count = 0;
+    for place in 0..seekers.len() {
+        if !seekers[place].is_dead() {
+            places[count] = place;
+            count += 1;
+        }
+    }
+    count
 }
 
 /// Those at these places begin anew.
