@@ -1,5 +1,5 @@
 -- The templates that begin with a token: they were entered there, and nothing of them was on its way before it.
-use Rattle.std.proofs.Common.{◌≡◌, ℕ, ◌<◌, ◌↔◌, List, [], ◌∷◌, ◌++◌, length, get_or, Some, sym, ap, ◌∙◌, subst, arith}
+use Rattle.std.proofs.Common.{◌≡◌, ℕ, ◌<◌, ◌↔◌, List, [], ◌∷◌, ◌++◌, length, get_or, Some, ap, ◌∙◌, subst, arith}
 use Rattle.std.specs.List.{slice_get, Contains}
 use Rattle.std.proofs.Math.Logic.{⊎_elim, ∥∥₁_elim}
 use mathlib.Core.HLevel.{⊥_prop}
