@@ -7,8 +7,8 @@ It reads the code of lic_find (crates/lic_find/src: no proofs, no clauses, no co
 - the code imports lic_auto and lic_norm alone, and other libraries of its line are there for definitions;
 - it asks no template for its identifier, its text or its parts: only what a run says of a list of tokens makes a match;
 - the finder does not ask `is_match`;
-- one run is made, for both constructors of the finder, one for `is_match`, one walk from the end of a text, and one towards its end;
-- `Finder::steps` adds the steps of the walks that note, those of the run, and what is counted for first tokens that are known.
+- one run is made, for both constructors of the finder, one for `is_match`, and one walk from the end of a text, of two machines, whose steps are added;
+- `Finder::steps` adds the steps of the walk that notes, those of the run, and what is counted for first tokens that are known.
 """
 import os
 import re
@@ -94,12 +94,9 @@ def main():
     finder = {name: text for name, text in code.items() if name != "matches.rt"}
     expect("calls of is_match by the finder", places(finder, r"\bis_match\b"), [])
     expect("runs are made in", places(code, r"\bRun\s*::\s*(?:over|new)\b"), ["finder.rt", "matches.rt"])
-    expect("walks from the end are made in", places(code, r"\bBack\s*::\s*(?:over|new)\b"), ["noting.rt"])
-    expect("their steps are told in", places(code, r"\bback\.steps\(\)"), ["noting.rt"])
-    expect("walks towards the end are made in", places(code, r"\bEnds\s*::\s*(?:over|new)\b"), ["ending.rt"])
-    expect("their steps are told in", places(code, r"\bends\.steps\(\)"), ["ending.rt"])
-    noting = places(code, r"\blet noting = back\.saturating_add\(forth\)")
-    expect("the steps of both are added in", noting, ["finder.rt"])
+    expect("machines from the end are made in", places(code, r"\bBack\s*::\s*(?:over|new)\b"), ["walk.rt", "walk.rt"])
+    expect("the steps of both are added in", places(code, r"\bself\.back\.steps\(\)\.saturating_add\(self\.inner\.steps\(\)\)"), ["walk.rt"])
+    expect("they are walked in", places(code, r"\bWalk\s*::\s*over\b"), ["noting.rt"])
     steps = "".join(body_of(code.get("finder.rt", ""), "pub fn steps").split())
     expect("Finder::steps is", steps, "{self.noting.saturating_add(self.run.steps()).saturating_add(self.passed)}")
     for fault in faults:

@@ -6,9 +6,9 @@ use Rattle.lic_auto.specs.Runs.{StandsAmong, numbers_of, set_of, steps_of}
 use Rattle.lic_auto.specs.declared.run.Run.{Run}
 use Rattle.lic_find.specs.Bounds.{letters_of}
 use Rattle.lic_find.specs.Counts.{AreCounted}
-use Rattle.lic_find.specs.Firsts.{NotedFirst, AreFirstsFrom, firsts_in, least_first, noted_with}
+use Rattle.lic_find.specs.Firsts.{NotedFirst, AreFirstsFrom, firsts_in, noted_with}
 use Rattle.lic_find.specs.Listing.{matches_behind}
-use Rattle.lic_find.specs.Matches.{AreMatches, IsMatch}
+use Rattle.lic_find.specs.Matches.{AreMatches}
 use Rattle.lic_find.specs.Walks.{BeginsAt, HasCome}
 use Rattle.lic_find.specs.declared.triple.Triple.{Triple}
 use Rattle.lic_find.proofs.StepLemmas.{AreCounted-begin, AreCounted-none}
@@ -24,13 +24,6 @@ abbrev pub HasBegun : List NotedFirst → List NotedFirst → Run → Run → Op
 HasBegun starts left run new None = (starts ≡ []) × (left ≡ starts) × (new ≡ run)
 HasBegun starts left run new (Some first) =
     (noted : NotedFirst) × (starts ≡ noted ∷ left) × (noted.first ≡ first) × StandsAmong new (noted_with (numbers_of run) noted.numbers) []
-
--- the least of the first tokens beyond one
-least_behind : (set : List Known) (tokens : List TokenValue) (kept : List ℕ) (noted : NotedFirst) (left : List NotedFirst)
-    → AreFirstsFrom set tokens kept (noted.first + 1) left → (t : Triple) → IsMatch set tokens t → noted.first + 1 ≤ t.first
-    → least_first left (length tokens) ≤ t.first
-least_behind set tokens kept noted [] none t m late = absurd (none t m late)
-least_behind set tokens kept noted (next ∷ more) (is, others) t m late = is.passed t m late
 
 module _ (set : List Known) (tokens : List TokenValue) (place : Option Triple) (from : ℕ) (run new : Run) (alike : numbers_of new ≡ numbers_of run)
     (starts left : List NotedFirst) (firsts : AreFirstsFrom set tokens (numbers_of run) from starts) where
@@ -49,16 +42,6 @@ module _ (set : List Known) (tokens : List TokenValue) (place : Option Triple) (
       (HasCome-begin set tokens place begin from begins low high new templates noted left
       (subst (AreFirstsFrom set tokens (numbers_of new) from) is firsts_of_new)
       (subst (λ ns. StandsAmong new (noted_with ns noted.numbers) []) (sym alike) stands))
-
-  -- no match begins between the first token at which a run was begun and the least that is left
-  pub least_left_behind : (r : Option ℕ) → HasBegun starts left run new r → (t : Triple) → IsMatch set tokens t
-      → unwrap_or r (length tokens) + 1 ≤ t.first → least_first left (length tokens) ≤ t.first
-  least_left_behind None begun t m late =
-      let order : t.first ≤ t.last = m.order in
-      let within : t.last < length tokens = m.within in
-      absurd (omega arith)
-  least_left_behind (Some first) (noted, is, here, stands) t m late =
-      least_behind set tokens (numbers_of run) noted left (subst (AreFirstsFrom set tokens (numbers_of run) from) is firsts).1 t m (omega arith)
 
   pub AreCounted-begun : (listed : (after : Option Triple)
       → AreMatches set tokens after (matches_behind set tokens after)) (noting : ℕ)

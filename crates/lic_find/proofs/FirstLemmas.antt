@@ -1,12 +1,12 @@
 -- Tokens with which matches begin, found from the end of a text.
-use Rattle.std.proofs.Common.{◌≡◌, ℕ, zero, suc, ◌+◌, ◌-◌, ◌<◌, ◌≤◌, ◌↔◌, List, [], ◌∷◌, ◌++◌, length, map, take, drop, get_or, nat_le, Some, refl, sym, ap, ◌∙◌, subst, ⊎_elim, arith, length-drop}
+use Rattle.std.proofs.Common.{◌≡◌, ℕ, zero, suc, ◌+◌, ◌-◌, ◌<◌, ◌≤◌, ◌↔◌, List, [], ◌∷◌, ◌++◌, length, map, take, drop, get_or, Option, Some, refl, sym, inl, inr, ap, ◌∙◌, subst, ⊎_elim, arith, length-drop}
 use Rattle.std.specs.List.{slice_get, Contains}
 use Rattle.std.specs.Option.{option_map}
 use Rattle.std.specs.Str.{chars}
 use Rattle.std.proofs.Math.Seq.{drop-cons}
-use Rattle.std.proofs.lemmas.Bool.{cases_lt, cond_both}
+use Rattle.std.proofs.lemmas.Bool.{cases_lt}
 use Rattle.std.proofs.lemmas.List.{take-map, take_all, length-map}
-use Rattle.std.proofs.lemmas.Option.{slice_get-map}
+use Rattle.std.proofs.lemmas.Option.{slice_get-map, slice_get_within}
 use Rattle.lic_norm.specs.Tokens.{TokenValue}
 use Rattle.lic_words.specs.Describing.{IsDescribed}
 use Rattle.lic_keys.specs.Looks.{OthersDescribeNoRange}
@@ -18,7 +18,8 @@ use Rattle.lic_auto.proofs.PickedLemmas.{contains_or_not}
 use Rattle.lic_find.specs.Firsts.{NotedFirst, noted_at, noted_with, IsFirstFrom, AreFirstsFrom, NoneBeginFrom}
 use Rattle.lic_find.specs.Listing.{triple_at}
 use Rattle.lic_find.specs.Matches.{IsMatch, all_letters}
-use Rattle.lic_find.specs.Starts.{few_of}
+use Rattle.lic_find.specs.Limits.{AreLasts}
+use Rattle.lic_find.specs.Starts.{IsNotedWith}
 use Rattle.lic_find.specs.Walks.{letters_up_to}
 use Rattle.lic_find.specs.declared.triple.Triple.{Triple}
 use Rattle.lic_find.proofs.Ranges.{letters_up_to-all, letters_up_to-split}
@@ -32,7 +33,7 @@ all_letters-drop tokens first end d inside next =
 
 module _ (set : List Known) (tokens : List TokenValue) where
   -- the letters of so many tokens from this one on
-  letters_of_some : (first n : ℕ) → letters_up_to tokens first (first + n) ≡ take n (all_letters (drop first tokens))
+  pub letters_of_some : (first n : ℕ) → letters_up_to tokens first (first + n) ≡ take n (all_letters (drop first tokens))
   letters_of_some first n =
       let count : (first + n) - first ≡ n = omega arith in
       ap (λ m. map (λ t. chars t.text) (take m (drop first tokens))) count ∙ sym (take-map (λ t. chars t.text) n (drop first tokens))
@@ -129,6 +130,7 @@ module _ (set : List Known) (tokens : List TokenValue) where
         only = is.only;
         rising = is.rising;
         within = is.within;
+        ends = is.ends;
       },
       behind,
     )
@@ -150,20 +152,6 @@ module _ (set : List Known) (tokens : List TokenValue) where
           empty : Contains [] t.template → ⊥
           empty (i, within, is) = omega arith
 
-      -- numbers that stand for these templates, of which each is live
-      noted_live : (numbers : List ℕ) → ((t : Triple) → IsMatch set tokens t → t.first ≡ first → Contains (noted_with kept numbers) t.template) →
-          ((k : ℕ) → Contains numbers k → Contains live k) → IsRising numbers (length set) → (k : ℕ) → Contains live k
-          → IsFirstFrom set tokens kept first (noted_at first numbers)
-      noted_live numbers all some order k there = record {
-        low = omega arith;
-        begins = let (last, m) = match_of_live k there in (last, k, m);
-        passed = λ t m late. late;
-        all = all;
-        only = λ j inside. match_of_live j (some j inside);
-        rising = order;
-        within = λ j inside. ((exactly j).0 (some j inside)).0;
-      }
-
       with_numbers : (numbers : List ℕ) (k : ℕ) → Contains numbers k → Contains (noted_with kept numbers) k
       with_numbers [] k (i, within, is) = absurd (omega arith)
       with_numbers (n ∷ numbers) k there = there
@@ -171,9 +159,39 @@ module _ (set : List Known) (tokens : List TokenValue) where
       no_numbers : IsRising [] (length set)
       no_numbers = record { order = λ i h. absurd (omega arith); below = λ i h. absurd (omega arith) }
 
-      -- where some template is live, the token is noted
-      pub IsFirstFrom-live : (k : ℕ) → Contains live k → IsFirstFrom set tokens kept first (noted_at first (few_of live))
-      IsFirstFrom-live k there =
-          cond_both (nat_le (length live) 8) live [] (λ numbers. IsFirstFrom set tokens kept first (noted_at first numbers))
-          (λ few. noted_live live (λ t m here. with_numbers live t.template (live_of_match t m here)) (λ j inside. inside) rising k there)
-          (λ many. noted_live [] (λ t m here. kept_match kept others t m) (λ j (i, within, is). absurd (omega arith)) no_numbers k there)
+      no_place : (i k : ℕ) → slice_get [] i ≡ Some k → ⊥
+      no_place i k is = let within = slice_get_within [] i k is in omega (arith, within)
+
+      module _ (lasts : List (Option ℕ)) (are : AreLasts set tokens first live lasts) (k : ℕ) (there : Contains live k) where
+        -- with all that are live
+        with_live : IsFirstFrom set tokens kept first (noted_at first live lasts)
+        with_live = record {
+          low = omega arith;
+          begins = let (last, m) = match_of_live k there in (last, k, m);
+          passed = λ t m late. late;
+          all = λ t m here. with_numbers live t.template (live_of_match t m here);
+          only = λ j inside. match_of_live j inside;
+          rising = rising;
+          within = λ j inside. ((exactly j).0 inside).0;
+          ends = λ t i last m here number is. are.each i t.template last number is t m here refl;
+        }
+
+        -- with none
+        with_none : IsFirstFrom set tokens kept first (noted_at first [] [])
+        with_none = record {
+          low = omega arith;
+          begins = let (last, m) = match_of_live k there in (last, k, m);
+          passed = λ t m late. late;
+          all = λ t m here. kept_match kept others t m;
+          only = λ j (i, within, is). absurd (omega arith);
+          rising = no_numbers;
+          within = λ j (i, within, is). absurd (omega arith);
+          ends = λ t i last m here number is. absurd (no_place i t.template number);
+        }
+
+        -- where some template is live, the token is noted
+        pub IsFirstFrom-live : (one : NotedFirst) → IsNotedWith first live lasts one → (one.first ≡ first) × IsFirstFrom set tokens kept first one
+        IsFirstFrom-live one (inl is) =
+            subst (λ (n : NotedFirst). (n.first ≡ first) × IsFirstFrom set tokens kept first n) (sym is) (refl, with_live)
+        IsFirstFrom-live one (inr is) =
+            subst (λ (n : NotedFirst). (n.first ≡ first) × IsFirstFrom set tokens kept first n) (sym is) (refl, with_none)

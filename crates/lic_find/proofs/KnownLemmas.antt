@@ -1,67 +1,60 @@
--- Triples that are known by the ends that are noted, and the least of them behind a place.
-use Rattle.std.proofs.Common.{◌≡◌, ℕ, zero, suc, ◌+◌, ◌-◌, ◌⊎◌, Bool, true, false, List, [], ◌∷◌, ◌++◌, Option, Some, None, IfSome, refl, sym, ap, ◌∙◌, subst, inl, inr, ⊎_elim, arith}
-use Rattle.std.specs.List.{slice_get, Contains}
-use Rattle.std.proofs.lemmas.Bool.{cases_order, false≢true}
-use Rattle.std.proofs.lemmas.List.Elements.{Contains-append_left, Contains-append_right, Contains-append_cases}
-use Rattle.std.proofs.lemmas.Option.{get_or_from_slice_get, same_Some, slice_get_within}
+-- Triples that are known by the last tokens that are noted, and the least of them behind a place.
+use Rattle.std.proofs.Common.{◌≡◌, ℕ, zero, suc, ◌+◌, ◌<◌, ◌≤◌, ◌⊎◌, Bool, true, false, List, [], ◌∷◌, length, take, Option, Some, None, IfSome, refl, sym, ap, ◌∙◌, subst, inl, inr, ⊎_elim, arith}
+use Rattle.std.specs.List.{slice_get}
+use Rattle.std.proofs.lemmas.Bool.{cases_lt, false≢true}
+use Rattle.std.proofs.lemmas.List.{length-take-le}
+use Rattle.std.proofs.lemmas.Option.{same_Some, slice_get_within}
 use Rattle.lic_find.specs.Knowing.{IsKnown, IsLeastBehind, IsLeastOrNone, IsNextKnown, IsWithOneMore}
-use Rattle.lic_find.specs.Latest.{EndsAlone}
 use Rattle.lic_find.specs.Listing.{triple_at}
 use Rattle.lic_find.specs.Matches.{IsAfter, Precedes}
-use Rattle.lic_find.specs.declared.latest.Latest.{Latest}
-use Rattle.lic_find.specs.declared.latest.LastEnds.{LastEnds}
 use Rattle.lic_find.specs.declared.triple.Triple.{Triple}
 use Rattle.lic_find.proofs.Matching.{IsAfter-trans}
-use Rattle.lic_find.proofs.Triples.{Contains-head, Precedes-both, Precedes-itself, Precedes-trans, same_parts}
+use Rattle.lic_find.proofs.Triples.{Precedes-both, Precedes-itself, Precedes-trans, same_parts}
 
-module _ (latest : Latest) where
-  -- a template has one place
-  one_place : (i j k : ℕ) → slice_get latest.numbers.items i ≡ Some k → slice_get latest.numbers.items j ≡ Some k → i ≡ j
-  one_place i j k here there =
-      let low = get_or_from_slice_get latest.numbers.items i k 0 here in
-      let high = get_or_from_slice_get latest.numbers.items j k 0 there in
-      elim (cases_order i j) [
-        | inl same ↦ same
-        | inr (inl less) ↦ absurd (omega (arith, low, high, latest.rising i j less (slice_get_within latest.numbers.items j k there)))
-        | inr (inr more) ↦ absurd (omega (arith, low, high, latest.rising j i more (slice_get_within latest.numbers.items i k here)))
-      ]
+slice_get-take : {A : Type 0} → (xs : List A) (n i : ℕ) → i < n → slice_get (take n xs) i ≡ slice_get xs i
+slice_get-take xs zero i h = absurd (omega (arith, h))
+slice_get-take [] (suc n) i h = refl
+slice_get-take (x ∷ xs) (suc n) zero h = refl
+slice_get-take (x ∷ xs) (suc n) (suc i) h = slice_get-take xs n i (omega (arith, h))
 
-  -- and one end alone behind a first token
-  one_end : (k first e d : ℕ) → EndsAlone latest k first e → EndsAlone latest k first d → e ≡ d
-  one_end k first e d a b =
-      let place : a.place ≡ b.place = one_place a.place b.place k a.number b.number in
-      let same : a.ends ≡ b.ends = same_Some a.ends b.ends (sym a.noted ∙ ap (slice_get latest.ends.items) place ∙ b.noted) in
-      sym a.last ∙ ap (λ (ends : LastEnds). ends.last) same ∙ b.last
+-- a place in the front of a list, and in the list
+taken : (xs : List ℕ) (n i k : ℕ) → n ≤ length xs → slice_get (take n xs) i ≡ Some k → (i < n) × (slice_get xs i ≡ Some k)
+taken xs n i k room is =
+    let within : i < length (take n xs) = slice_get_within (take n xs) i k is in
+    let size : length (take n xs) ≡ n = length-take-le n xs room in
+    (omega arith, sym (slice_get-take xs n i (omega arith)) ∙ is)
 
+module _ (first : ℕ) (numbers : List ℕ) (lasts : List (Option ℕ)) (n k last : ℕ) (within : n < length numbers)
+    (number : slice_get numbers n ≡ Some k) (known : slice_get lasts n ≡ Some (Some last)) where
   -- one number more
-  module _ (first : ℕ) (xs : List ℕ) (k end : ℕ) (alone : EndsAlone latest k first end) where
-    pub known_cases : (s : Triple) → IsKnown latest first (xs ++ k ∷ []) s → IsKnown latest first xs s ⊎ (triple_at first (end - 1) k ≡ s)
-    known_cases s (begin, inside, its) = here (Contains-append_cases xs (k ∷ []) s.template inside)
-      where
-        here : Contains xs s.template ⊎ Contains (k ∷ []) s.template → IsKnown latest first xs s ⊎ (triple_at first (end - 1) k ≡ s)
-        here (inl old) = inl (begin, old, its)
-        here (inr (zero, within, is)) =
-            let same : s.last + 1 ≡ end = one_end k first (s.last + 1) end (subst (λ j. EndsAlone latest j first (s.last + 1)) (sym is) its) alone in
-            inr (same_parts s (triple_at first (end - 1) k) begin (omega arith) (sym is))
-        here (inr (suc i, within, is)) = absurd (omega arith)
+  pub known_cases : (s : Triple) → IsKnown first (take (n + 1) numbers) lasts s → IsKnown first (take n numbers) lasts s ⊎ (triple_at first last k ≡ s)
+  known_cases s (begin, (i, there, its)) =
+      let (inside, here) = taken numbers (n + 1) i s.template (omega arith) there in
+      ⊎_elim
+      (λ (less : i < n). inl (begin, (i, slice_get-take numbers n i less ∙ here, its)))
+      (λ (more : n ≤ i).
+      let same : i ≡ n = omega arith in
+      let template : k ≡ s.template = same_Some k s.template (sym number ∙ ap (slice_get numbers) (sym same) ∙ here) in
+      let end : last ≡ s.last = same_Some last s.last (same_Some (Some last) (Some s.last) (sym known ∙ ap (slice_get lasts) (sym same) ∙ its)) in
+      inr (same_parts s (triple_at first last k) begin (sym end) (sym template)))
+      (cases_lt i n)
 
-    pub known_more : (s : Triple) → IsKnown latest first xs s → IsKnown latest first (xs ++ k ∷ []) s
-    known_more s (begin, inside, its) = (begin, Contains-append_left xs (k ∷ []) s.template inside, its)
+  pub known_more : (s : Triple) → IsKnown first (take n numbers) lasts s → IsKnown first (take (n + 1) numbers) lasts s
+  known_more s (begin, (i, there, its)) =
+      let (inside, here) = taken numbers n i s.template (omega arith) there in
+      (begin, (i, slice_get-take numbers (n + 1) i (omega arith) ∙ here, its))
 
-    pub all_more : ((j : ℕ) → Contains xs j → (e : ℕ) × EndsAlone latest j first e)
-        → (j : ℕ) → Contains (xs ++ k ∷ []) j → (e : ℕ) × EndsAlone latest j first e
-    all_more all j inside = here (Contains-append_cases xs (k ∷ []) j inside)
-      where
-        here : Contains xs j ⊎ Contains (k ∷ []) j → (e : ℕ) × EndsAlone latest j first e
-        here (inl old) = all j old
-        here (inr (zero, within, is)) = (end, subst (λ n. EndsAlone latest n first end) is alone)
-        here (inr (suc i, within, is)) = absurd (omega arith)
+  pub all_more : ((i j : ℕ) → slice_get (take n numbers) i ≡ Some j → (last : ℕ) × (slice_get lasts i ≡ Some (Some last)))
+      → (i j : ℕ) → slice_get (take (n + 1) numbers) i ≡ Some j → (last : ℕ) × (slice_get lasts i ≡ Some (Some last))
+  all_more all i j is =
+      let (inside, here) = taken numbers (n + 1) i j (omega arith) is in
+      ⊎_elim
+      (λ (less : i < n). all i j (slice_get-take numbers n i less ∙ here))
+      (λ (more : n ≤ i). let same : i ≡ n = omega arith in (last, ap (slice_get lasts) same ∙ known))
+      (cases_lt i n)
 
-    pub known_one : IsKnown latest first (xs ++ k ∷ []) (triple_at first (end - 1) k)
-    known_one =
-        let some = alone.behind in
-        let whole : end ≡ end - 1 + 1 = omega arith in
-        (refl, Contains-append_right xs (k ∷ []) k (Contains-head k []), subst (EndsAlone latest k first) whole alone)
+  pub known_one : IsKnown first (take (n + 1) numbers) lasts (triple_at first last k)
+  known_one = (refl, (n, slice_get-take numbers (n + 1) n (omega arith) ∙ number, known))
 
 -- one triple more
 module _ (P Q : Triple → Type 0) (place : Option Triple) (one : Triple) (cases : (s : Triple) → Q s → P s ⊎ (one ≡ s)) (more : (s : Triple) → P s → Q s) where
@@ -141,8 +134,9 @@ module _ (P Q : Triple → Type 0) (place : Option Triple) (one : Triple) (cases
     least-more (Some next) found l (inr (inr (less, is, some))) = same_found found next.0 true is some (least-greater next.0 next.1 l less)
 
 -- at the end of the numbers
-pub IfSome-known : (latest : Latest) (first : ℕ) (numbers : List ℕ) (place : Option Triple) (r : Option (Triple × Bool))
-    → ((j : ℕ) → Contains numbers j → (e : ℕ) × EndsAlone latest j first e) → IsLeastOrNone (IsKnown latest first numbers) place r
-    → IfSome r (λ found. IsNextKnown latest first numbers place found)
-IfSome-known latest first numbers place None all none = tt
-IfSome-known latest first numbers place (Some found) all least = record { all = all; least = least }
+pub IfSome-known : (first : ℕ) (numbers : List ℕ) (lasts : List (Option ℕ)) (place : Option Triple) (r : Option (Triple × Bool))
+    → ((i j : ℕ) → slice_get numbers i ≡ Some j → (last : ℕ) × (slice_get lasts i ≡ Some (Some last)))
+    → IsLeastOrNone (IsKnown first numbers lasts) place r
+    → IfSome r (λ found. IsNextKnown first numbers lasts place found)
+IfSome-known first numbers lasts place None all none = tt
+IfSome-known first numbers lasts place (Some found) all least = record { all = all; least = least }

@@ -12,7 +12,6 @@ pub mod Asking
 pub mod Walking
 pub mod BeginningLemmas
 pub mod GivingLemmas
-pub mod EndLemmas
-pub mod LastLemmas
+pub mod LimitLemmas
 pub mod KnownLemmas
 pub mod Passing

@@ -1,18 +1,17 @@
 -- Where the matches of a first token are known, the next of them is given without a walk.
-use Rattle.std.proofs.Common.{◌≡◌, ℕ, ◌+◌, ◌<◌, ◌≤◌, Bool, true, false, List, [], ◌∷◌, length, Option, Some, refl, sym, ◌∙◌, subst, inl, ⊎_elim, arith}
-use Rattle.std.specs.List.{Contains}
+use Rattle.std.proofs.Common.{◌≡◌, ℕ, ◌+◌, ◌<◌, ◌≤◌, Bool, true, false, List, [], ◌∷◌, Option, Some, refl, sym, ap, ◌∙◌, subst, inl, ⊎_elim, arith}
+use Rattle.std.specs.List.{slice_get, Contains}
 use Rattle.std.proofs.lemmas.Bool.{cases_lt}
+use Rattle.std.proofs.lemmas.Option.{get_or_from_slice_get, slice_get-get_or, slice_get_within}
 use Rattle.lic_norm.specs.Tokens.{TokenValue}
 use Rattle.lic_auto.specs.Sets.{Known}
 use Rattle.lic_auto.specs.Runs.{numbers_of}
 use Rattle.lic_auto.specs.declared.run.Run.{Run}
 use Rattle.lic_find.specs.Firsts.{NotedFirst, AreFirstsFrom, IsFirstFrom, noted_with}
 use Rattle.lic_find.specs.Knowing.{IsKnown, IsNextKnown}
-use Rattle.lic_find.specs.Latest.{AreLatestEnds, EndsAlone}
 use Rattle.lic_find.specs.Listing.{triple_at}
 use Rattle.lic_find.specs.Matches.{IsMatch, IsAfter, Precedes}
 use Rattle.lic_find.specs.Walks.{AreLeft, HasCome, IsNext, NoneBegins}
-use Rattle.lic_find.specs.declared.latest.Latest.{Latest}
 use Rattle.lic_find.specs.declared.triple.Triple.{Triple}
 use Rattle.lic_find.proofs.Triples.{Contains-nil, same_parts}
 use Rattle.lic_find.proofs.Walking.{IsFirstFrom-itself, next_first}
@@ -22,37 +21,35 @@ only_numbers : (kept numbers : List ℕ) (k j : ℕ) → Contains numbers k → 
 only_numbers kept [] k j some inside = absurd (Contains-nil k some)
 only_numbers kept (n ∷ numbers) k j some inside = inside
 
-module _ (set : List Known) (tokens : List TokenValue) (kept : List ℕ) (latest : Latest) (next : NotedFirst)
-    (is : IsFirstFrom set tokens kept next.first next) (first : ℕ) (later : first < next.first)
-    (noted : AreLatestEnds set tokens (first + 1) (length tokens) latest) (place : Option Triple) (found : Triple × Bool)
-    (known : IsNextKnown latest next.first next.numbers place found) where
-  -- a match ends where its template ends alone
-  its_end : (s : Triple) → IsMatch set tokens s → s.first ≡ next.first → (end : ℕ) → EndsAlone latest s.template next.first end → s.last + 1 ≡ end
-  its_end s m here end alone =
-      let order : s.first ≤ s.last = m.order in
-      let within : s.last < length tokens = m.within in
-      let low : alone.ends.earlier ≤ next.first = alone.earlier in
-      let its = noted alone.place alone.ends s alone.number alone.noted m (omega arith) (omega arith) in
-      its.1 (omega arith) ∙ alone.last
+-- a number of a list has a place there
+place_in : (xs : List ℕ) (k : ℕ) → Contains xs k → (i : ℕ) × (slice_get xs i ≡ Some k)
+place_in xs k (i, within, is) = (i, slice_get-get_or xs i k within ∙ ap Some is)
 
-  known_match : (s : Triple) → IsMatch set tokens s → s.first ≡ next.first → IsKnown latest next.first next.numbers s
+at_place : (xs : List ℕ) (i k : ℕ) → slice_get xs i ≡ Some k → Contains xs k
+at_place xs i k is = (i, slice_get_within xs i k is, get_or_from_slice_get xs i k k is)
+
+module _ (set : List Known) (tokens : List TokenValue) (kept : List ℕ) (next : NotedFirst)
+    (is : IsFirstFrom set tokens kept next.first next) (first : ℕ) (later : first < next.first) (place : Option Triple) (found : Triple × Bool)
+    (known : IsNextKnown next.first next.numbers next.lasts place found) where
+  -- a match ends with the last token that is noted
+  known_match : (s : Triple) → IsMatch set tokens s → s.first ≡ next.first → IsKnown next.first next.numbers next.lasts s
   known_match s m here =
-      let inside : Contains next.numbers s.template =
-      only_numbers kept next.numbers found.0.template s.template known.least.inside.1 (is.all s m here) in
-      let (end, alone) = known.all s.template inside in
-      (here, inside, subst (EndsAlone latest s.template next.first) (sym (its_end s m here end alone)) alone)
+      let (there, at, its) = known.least.inside.1 in
+      let (i, number) = place_in next.numbers s.template
+      (only_numbers kept next.numbers found.0.template s.template (at_place next.numbers there found.0.template at) (is.all s m here)) in
+      let (last, noted) = known.all i s.template number in
+      (here, (i, number, noted ∙ ap (λ n. Some (Some n)) (sym (is.ends s i last m here number noted))))
 
-  match_at : (s : Triple) → IsKnown latest next.first next.numbers s → IsMatch set tokens (triple_at next.first s.last s.template)
-  match_at s (here, inside, alone) =
-      let (last, m) = is.only s.template inside in
-      let ends : last + 1 ≡ s.last + 1 = its_end (triple_at next.first last s.template) m refl (s.last + 1) alone in
-      let same : last ≡ s.last = omega arith in
+  match_at : (s : Triple) → IsKnown next.first next.numbers next.lasts s → IsMatch set tokens (triple_at next.first s.last s.template)
+  match_at s (here, (i, number, noted)) =
+      let (last, m) = is.only s.template (at_place next.numbers i s.template number) in
+      let same : last ≡ s.last = is.ends (triple_at next.first last s.template) i s.last m refl number noted in
       subst (λ n. IsMatch set tokens (triple_at next.first n s.template)) same m
 
-  its_triple : (s : Triple) → IsKnown latest next.first next.numbers s → triple_at next.first s.last s.template ≡ s
-  its_triple s (here, inside, alone) = same_parts s (triple_at next.first s.last s.template) here refl refl
+  its_triple : (s : Triple) → IsKnown next.first next.numbers next.lasts s → triple_at next.first s.last s.template ≡ s
+  its_triple s (here, noted) = same_parts s (triple_at next.first s.last s.template) here refl refl
 
-  match_known : (s : Triple) → IsKnown latest next.first next.numbers s → IsMatch set tokens s
+  match_known : (s : Triple) → IsKnown next.first next.numbers next.lasts s → IsMatch set tokens s
   match_known s k = subst (IsMatch set tokens) (its_triple s k) (match_at s k)
 
   begins_here : found.0.first ≡ next.first
@@ -128,15 +125,14 @@ module _ (set : List Known) (tokens : List TokenValue) (kept : List ℕ) (latest
 -- where the walk that has ended is known to have come
 module _ (set : List Known) (tokens : List TokenValue) (place : Option Triple) (run : Run) (noted : List NotedFirst) (first end : ℕ)
     (come : HasCome set tokens place run noted first end) (next : NotedFirst) (more : List NotedFirst) (is : noted ≡ next ∷ more)
-    (latest : Latest) (ends : AreLatestEnds set tokens (first + 1) (length tokens) latest)
-    (found : Triple × Bool) (known : IsNextKnown latest next.first next.numbers place found) where
+    (found : Triple × Bool) (known : IsNextKnown next.first next.numbers next.lasts place found) where
   left : AreLeft set tokens (numbers_of run) place first (next ∷ more)
   left = next_first set tokens place run noted first end come next more is
 
   pub IsNext-given : NoneBegins set tokens place first → IsNext set tokens place found.0
   IsNext-given none =
       let (one, (begins, behind)) = left in
-      IsNext-known set tokens (numbers_of run) latest next begins first one.later ends place found known (λ s m after.
+      IsNext-known set tokens (numbers_of run) next begins first one.later place found known (λ s m after.
       let low : first ≤ s.first = (come.reached s m after).0 in
       let other : s.first ≡ first → ⊥ = none s m after in
       one.passed s m after (omega arith))
@@ -144,12 +140,12 @@ module _ (set : List Known) (tokens : List TokenValue) (place : Option Triple) (
   pub HasCome-others : found.1 ≡ true → HasCome set tokens (Some found.0) run noted first end
   HasCome-others others =
       let (one, (begins, behind)) = left in
-      HasCome-known set tokens (numbers_of run) latest next begins first one.later ends place found known run noted noted end come
+      HasCome-known set tokens (numbers_of run) next begins first one.later place found known run noted noted end come
       (subst (AreLeft set tokens (numbers_of run) (Some found.0) first) (sym is)
-      (AreLeft-others set tokens (numbers_of run) latest next begins first one.later ends place found known more behind others))
+      (AreLeft-others set tokens (numbers_of run) next begins first one.later place found known more behind others))
 
   pub HasCome-passed : found.1 ≡ false → HasCome set tokens (Some found.0) run more first end
   HasCome-passed none =
       let (one, (begins, behind)) = left in
-      HasCome-known set tokens (numbers_of run) latest next begins first one.later ends place found known run noted more end come
-      (AreLeft-passed set tokens (numbers_of run) latest next begins first one.later ends place found known more behind none)
+      HasCome-known set tokens (numbers_of run) next begins first one.later place found known run noted more end come
+      (AreLeft-passed set tokens (numbers_of run) next begins first one.later place found known more behind none)

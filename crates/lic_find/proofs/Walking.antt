@@ -53,6 +53,7 @@ module _ (set : List Known) (tokens : List TokenValue) where
     only = is.only;
     rising = is.rising;
     within = is.within;
+    ends = is.ends;
   }
 
   -- where all matches that begin beyond a token are behind the place

@@ -5,7 +5,7 @@ use Rattle.lic_auto.specs.Sets.{Known}
 use Rattle.lic_find.specs.Bounds.{letters_of, walk_over, firsts_of, letters_of_longest, letters_of_matches}
 use Rattle.lic_find.specs.declared.triple.Triple.{Triple}
 
--- The steps of the walks that noted first tokens and ends, and those of the walks from first tokens up to `first` and its `end`, with
+-- The steps of the walk that noted first tokens, and those of the walks from first tokens up to `first` and its `end`, with
 -- what is counted for first tokens whose matches were known: with the first tokens that are left they fit into what is allowed. Below the
 -- greatest number each letter of the longest matches was counted, where the search began with the first match.
 pub record AreCounted (set : List Known) (tokens : List TokenValue) (began : Option Triple)

@@ -1,14 +1,13 @@
 -- Matches that are known without a walk.
-use Rattle.std.specs.Prelude.{◌≡◌, ℕ, ◌+◌, ◌⊎◌, List, Bool, true, false, Option, Some, None, Contains}
-use Rattle.lic_find.specs.Latest.{EndsAlone}
+use Rattle.std.specs.Prelude.{◌≡◌, ℕ, ◌⊎◌, List, Bool, true, false, Option, Some, None}
+use Rattle.std.specs.List.{slice_get}
 use Rattle.lic_find.specs.Matches.{IsAfter, Precedes}
-use Rattle.lic_find.specs.declared.latest.Latest.{Latest}
 use Rattle.lic_find.specs.declared.triple.Triple.{Triple}
 
--- it begins with this token, and of the ends of its template its own alone lies behind it
-abbrev pub IsKnown : Latest → ℕ → List ℕ → Triple → Type 0
-IsKnown latest first numbers t =
-    (t.first ≡ first) × Contains numbers t.template × EndsAlone latest t.template first (t.last + 1)
+-- it begins with this token, and its last token is the one that is noted for its template
+abbrev pub IsKnown : ℕ → List ℕ → List (Option ℕ) → Triple → Type 0
+IsKnown first numbers lasts t =
+    (t.first ≡ first) × ((i : ℕ) × (slice_get numbers i ≡ Some t.template) × (slice_get lasts i ≡ Some (Some t.last)))
 
 -- the least of some triples behind a place, and whether another comes behind it
 pub record IsLeastBehind (among : Triple → Type 0) (place : Option Triple) (t : Triple) (more : Bool) : Type 0 where
@@ -24,10 +23,10 @@ IsLeastOrNone among place None = (s : Triple) → among s → ¬ (IsAfter place 
 IsLeastOrNone among place (Some found) = IsLeastBehind among place found.0 found.1
 
 -- The matches that begin with this token are known: the least of them behind a place.
-pub record IsNextKnown (latest : Latest) (first : ℕ) (numbers : List ℕ) (place : Option Triple)
+pub record IsNextKnown (first : ℕ) (numbers : List ℕ) (lasts : List (Option ℕ)) (place : Option Triple)
     (found : Triple × Bool) : Type 0 where
-  pub all : (k : ℕ) → Contains numbers k → (end : ℕ) × EndsAlone latest k first end
-  pub least : IsLeastBehind (IsKnown latest first numbers) place found.0 found.1
+  pub all : (i k : ℕ) → slice_get numbers i ≡ Some k → (last : ℕ) × (slice_get lasts i ≡ Some (Some last))
+  pub least : IsLeastBehind (IsKnown first numbers lasts) place found.0 found.1
 
 -- the least with one triple more, and whether another comes behind it
 abbrev pub IsWithOneMore : Option (Triple × Bool) → Triple → Triple × Bool → Type 0

@@ -4,9 +4,9 @@ pub mod Bounds
 pub mod Firsts
 pub mod Starts
 pub mod Rises
-pub mod Latest
 pub mod Knowing
 pub mod Walks
+pub mod Limits
 pub mod Counts
 pub mod Rest
 pub mod Giving

@@ -31,7 +31,7 @@ place_of f = option_or f.given f.began
 abbrev pub rest_of : Finder → List Triple
 rest_of f = matches_behind f.set.now f.text.now.tokens (place_of f)
 
--- the steps of the walks that noted first tokens and ends, those of its run, and what is counted for first tokens whose matches were
+-- the steps of the walk that noted first tokens, those of its run, and what is counted for first tokens whose matches were
 -- known, together at most the greatest `u64`
 abbrev pub steps_taken : Finder → ℕ
 steps_taken f = min (f.noting + steps_of f.run + f.passed) (2 ^ 64 - 1)

@@ -1,4 +1,4 @@
-//! The finder: one match after another, known by their last ends, or found by a run from a token with which matches begin.
+//! The finder: one match after another, known by their last tokens, or found by a run from a token with which matches begin.
 
 ghost use Rattle.std.specs.Prelude.{◌≡◌, ℕ, ◌+◌, ◌-◌, ◌*◌, ◌^◌, ◌<◌, ◌≤◌, ◌↔◌, ◌∷◌, [], List, IfOk, IfSome, IfNone, Some, None, Contains, length, drop};
 ghost use Rattle.std.specs.Iterator.{item_count};
@@ -7,17 +7,14 @@ ghost use Rattle.lic_keys.specs.Rising.{IsRising};
 ghost use Rattle.lic_auto.specs.Runs.{StandsAmong, set_of, numbers_of, steps_of};
 ghost use Rattle.lic_find.specs.Bounds.{letters_of, walk_over, firsts_of};
 ghost use Rattle.lic_find.specs.Counts.{AreCounted};
-ghost use Rattle.lic_find.specs.Firsts.{NotedFirst, firsts_in, least_first, noted_with};
-ghost use Rattle.lic_find.specs.Latest.{AreLatestEnds};
+ghost use Rattle.lic_find.specs.Firsts.{NotedFirst, firsts_in, noted_with};
 ghost use Rattle.lic_find.specs.Listing.{triple_at};
 ghost use Rattle.lic_find.specs.Matches.{AreMatches, IsAfter};
 ghost use Rattle.lic_find.specs.Starts.{starts_in};
 ghost use Rattle.lic_find.specs.Walks.{AllEndBy, BeginsAt, HasCome, IsNextOfRange, NoneBegins};
 
-use crate::ending::latest_ends;
 use crate::kept::kept_templates;
 use crate::knowing::known_next;
-use crate::latest::Latest;
 use crate::laws::matches_are_listed;
 use crate::noting::first_tokens;
 use crate::starts::Starts;
@@ -32,9 +29,9 @@ use std::cmp::Ordering;
 /// in the order of triples.
 ///
 /// It keeps no list of them. A walk from the end of the text, over the templates alone whose key stands in it, notes the tokens with
-/// which matches begin, and a walk towards the end notes where the matches of each template end last. Where these ends leave one for
-/// each template that was noted at a first token, its matches are known; from any other a run goes on, until no template can describe
-/// a range that goes on. Giving matches takes no memory.
+/// which matches begin, and for each template the last token of these, where that is one alone. Where it is known for all templates
+/// that were noted at a first token, its matches are given so; from any other a run goes on, until no template can describe a range
+/// that goes on. Giving matches takes no memory.
 #[derive(Debug, Drop)]
 pub struct Finder<'a> {
     set: &'a Set,
@@ -42,9 +39,7 @@ pub struct Finder<'a> {
     run: Run<'a>,
     /// The noted first tokens that it has not come to.
     starts: Starts,
-    /// Where the matches that begin with them end last, of each kept template.
-    latest: Latest,
-    /// The steps of the walks that noted first tokens and ends.
+    /// The steps of the walk that noted first tokens.
     noting: u64,
     /// The steps that were counted for first tokens whose matches were known.
     passed: u64,
@@ -59,8 +54,6 @@ pub struct Finder<'a> {
     ghost come: { ∥ HasCome set.now text.now.tokens (option_or given began) run
         (starts_in starts) first end ∥₁ },
     ghost order: { first ≤ end },
-    ghost known: { AreLatestEnds set.now text.now.tokens (first + 1)
-        (length text.now.tokens) latest },
     ghost counted: { AreCounted set.now text.now.tokens began noting (steps_of run + passed)
         first end (firsts_in (starts_in starts)) },
 }
@@ -117,19 +110,14 @@ impl<'a> Finder<'a> {
         let kept = kept_templates(alloc, set, text)?;
         let behind = Vec::from_slice(alloc, &kept)?;
         let from = first_token(place).min(text.len());
-        let (mut starts, back) = first_tokens(alloc, set, text, behind, from)?;
-        let again = starts.noted_among(alloc, &kept)?;
+        let (mut starts, noting) = first_tokens(alloc, set, text, behind, from)?;
         let mut run = Run::over(alloc, set, kept)?;
         let first = begin_next(&mut run, &mut starts).unwrap_or(text.len());
-        let next = least_left(&starts, text.len());
-        let (latest, forth) = latest_ends(alloc, set, text, again, next)?;
-        let noting = back.saturating_add(forth);
         Ok(Finder {
             set,
             text,
             run,
             starts,
-            latest,
             noting,
             passed: 0,
             began: place,
@@ -237,7 +225,7 @@ impl<'a> Finder<'a> {
     {
         let noted = self.starts.least()?;
         let place = self.given.or(self.began);
-        let (triple, more) = known_next(&self.latest, noted.first, noted.numbers, place)?;
+        let (triple, more) = known_next(noted, place)?;
         matches_are_listed();
         self.given = Some(triple);
         if !more {
@@ -253,16 +241,6 @@ fn first_token(place: Option<Triple>) -> usize
     ensures { BeginsAt place result }
 {
     place.map_or(0, |triple| triple.first)
-}
-
-// The least noted first token that is left, or the end of the text where none is.
-fn least_left(starts: &Starts, end: usize) -> usize
-    ensures { result ≡ least_first (starts_in starts.now) end }
-{
-    match starts.least() {
-        Some(noted) => noted.first,
-        None => end,
-    }
 }
 
 // Takes the least noted first token that is left, and begins a run with it over the templates that it stands for.

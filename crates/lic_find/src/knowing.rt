@@ -1,31 +1,28 @@
-//! Matches that are known without a walk: where the ends that are noted leave one for each template of a first token.
+//! Matches that are known without a walk: where a last token is noted for each template of a first token.
 
-ghost use Rattle.std.specs.Prelude.{◌≡◌, ◌↔◌, ℕ, IfSome, IsTrue};
+ghost use Rattle.std.specs.Prelude.{◌≡◌, ◌↔◌, IfSome, IsTrue, length};
 ghost use Rattle.std.specs.declared.cmp.Ordering.TheVariants.{Less, Equal, Greater};
 ghost use Rattle.lic_find.specs.Knowing.{IsNextKnown, IsWithOneMore};
 ghost use Rattle.lic_find.specs.Matches.{IsAfter, Precedes};
 
-use crate::latest::Latest;
+use crate::starts::Noted;
 use crate::triple::Triple;
 use std::cmp::Ordering;
 
-/// Of the matches of some templates that begin with a token the least behind a place, and whether another comes behind it. None where
-/// they are not known, or none is behind the place.
-pub fn known_next(
-    latest: &Latest,
-    first: usize,
-    numbers: &[usize],
-    place: Option<Triple>,
-) -> Option<(Triple, bool)>
-    ensures { IfSome result (λ found. IsNextKnown latest.now first numbers.now place found) }
+/// Of the matches of the noted templates that begin with a noted first token the least behind a place, and whether another comes
+/// behind it. None where they are not known, or none is behind the place.
+pub fn known_next(noted: Noted<'_>, place: Option<Triple>) -> Option<(Triple, bool)>
+    requires { length noted.lasts.now ≡ length noted.numbers.now }
+    ensures { IfSome result (λ found.
+        IsNextKnown noted.entry.first noted.entry.numbers.now noted.entry.lasts.now place found) }
 {
     let mut next = None;
-    for number in numbers {
-        let end = latest.end_of(*number, first)?;
+    for i in 0..noted.numbers.len() {
+        let last = noted.lasts[i]?;
         let triple = Triple {
-            first,
-            last: end - 1,
-            template: *number,
+            first: noted.first,
+            last,
+            template: noted.numbers[i],
         };
         if comes_behind(place, triple) {
             next = Some(with_one_more(next, triple));

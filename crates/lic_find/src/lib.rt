@@ -2,13 +2,13 @@
 #![tactic(auto)]
 
 pub mod ask;
-mod ending;
 pub mod finder;
 pub mod kept;
 mod knowing;
-mod latest;
 pub mod laws;
+mod limits;
 pub mod matches;
 mod noting;
 mod starts;
 pub mod triple;
+mod walk;

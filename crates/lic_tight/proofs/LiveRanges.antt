@@ -13,37 +13,11 @@ use Rattle.lic_auto.specs.Backs.{IsLive}
 use Rattle.lic_auto.specs.Sets.{Known, words_of}
 use Rattle.lic_find.specs.Matches.{letters_between}
 use Rattle.lic_find.specs.Walks.{letters_up_to}
-use Rattle.lic_find.proofs.Ranges.{letters_up_to-none, letters_up_to-more, letters_up_to-split}
+use Rattle.lic_find.proofs.Ranges.{letters_up_to-none, letters_up_to-split, letters_up_to-one, letters_up_to-length, letters_up_to-take}
 use Rattle.lic_tight.specs.Searches.{BeginsBefore}
 use Rattle.lic_tight.specs.Steps.{letters_from}
 
 module _ (tokens : List TokenValue) where
-  pub letters_up_to-one : (first : ℕ) (d : TokenValue) → first < length tokens
-      → letters_up_to tokens first (first + 1) ≡ chars (get_or tokens first d).text ∷ []
-  letters_up_to-one first d within =
-      letters_up_to-more tokens first first d (omega arith) within ∙ ap (λ ts. ts ++ chars (get_or tokens first d).text ∷ []) (letters_up_to-none tokens first)
-
-  -- one more token in front
-  pub letters_up_to-front : (first end : ℕ) (d : TokenValue) → first < end → end ≤ length tokens →
-      letters_up_to tokens first end ≡ chars (get_or tokens first d).text ∷ letters_up_to tokens (first + 1) end
-  letters_up_to-front first end d less within =
-      letters_up_to-split tokens first (first + 1) end (omega arith) (omega arith)
-      ∙ ap (λ ts. ts ++ letters_up_to tokens (first + 1) end) (letters_up_to-one first d (omega arith))
-
-  letters_up_to-length : (first end : ℕ) → first ≤ end → end ≤ length tokens → length (letters_up_to tokens first end) ≡ end - first
-  letters_up_to-length first end order within =
-      length-map (slice_range tokens first end) (λ t. chars t.text)
-      ∙ omega (arith, length-take (end - first) (drop first tokens), length-drop first tokens)
-
-  -- so many of them
-  letters_up_to-take : (n first end : ℕ) → first + n ≤ end → end ≤ length tokens
-      → take n (letters_up_to tokens first end) ≡ letters_up_to tokens first (first + n)
-  letters_up_to-take n first end order within =
-      let count : length (letters_up_to tokens first (first + n)) ≡ n = omega (arith, letters_up_to-length first (first + n) (omega arith) (omega arith)) in
-      ap (take n) (letters_up_to-split tokens first (first + n) end (omega arith) order)
-      ∙ ap (λ m. take m (letters_up_to tokens first (first + n) ++ letters_up_to tokens (first + n) end)) (sym count)
-      ∙ take-append_seam (letters_up_to tokens first (first + n)) (letters_up_to tokens (first + n) end)
-
   -- ---- letters
 
   pub letters_from-split : (first between end : ℕ) → first ≤ between → between ≤ end

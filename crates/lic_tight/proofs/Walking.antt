@@ -11,9 +11,9 @@ use Rattle.lic_find.specs.Listing.{triple_at}
 use Rattle.lic_find.specs.Matches.{IsMatch, letters_between}
 use Rattle.lic_find.specs.Walks.{letters_up_to}
 use Rattle.lic_find.proofs.Asking.{IsMatch-answer}
-use Rattle.lic_find.proofs.Ranges.{letters_up_to-more}
+use Rattle.lic_find.proofs.Ranges.{letters_up_to-front, letters_up_to-more}
 use Rattle.lic_tight.specs.Steps.{letters_from}
-use Rattle.lic_tight.proofs.LiveRanges.{letters_up_to-front, letters_from-front, letters_from-more}
+use Rattle.lic_tight.proofs.LiveRanges.{letters_from-front, letters_from-more}
 
 -- one more token in front, before the one with this number, or behind
 module _ (tokens : List TokenValue) (text : List ℕ) (d : TokenValue) where

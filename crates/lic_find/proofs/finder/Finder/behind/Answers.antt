@@ -5,12 +5,11 @@ use Rattle.lic_auto.specs.Compiled.{parts_of}
 use Rattle.lic_auto.specs.Runs.{numbers_of, steps_of}
 use Rattle.lic_find.specs.Bounds.{letters_of}
 use Rattle.lic_find.specs.Counts.{AreCounted}
-use Rattle.lic_find.specs.Firsts.{AreFirstsFrom, firsts_in, least_first}
+use Rattle.lic_find.specs.Firsts.{AreFirstsFrom, firsts_in}
 use Rattle.lic_find.specs.Matches.{all_letters}
 use Rattle.lic_find.specs.Starts.{starts_in}
 use Rattle.lic_find.specs.Walks.{HasCome}
-use Rattle.lic_find.proofs.EndLemmas.{AreLatestEnds-later}
-use Rattle.lic_find.proofs.BeginningLemmas.{HasBegun, HasBegun-told, HasCome-begun, AreCounted-begun, begins_whole, least_left_behind, IfNone-map}
+use Rattle.lic_find.proofs.BeginningLemmas.{HasBegun, HasBegun-told, HasCome-begun, AreCounted-begun, begins_whole, IfNone-map}
 use Rattle.lic_find.proofs.finder.Finder.behind.Goals as goal
 
 pub begin_next-requires-clause-rising : goal.begin_next-requires-clause-rising
@@ -68,30 +67,16 @@ invariant_of-result c =
     let high : from < length tokens → begin ≤ from = λ h. omega (arith, c.min-from.ensures, c.len.ensures) in
     let within : from ≤ length tokens = omega (arith, c.min-from.ensures, c.len.ensures) in
     let whole : c.args.place ≡ None → from ≡ 0 = λ all. let zero : begin ≡ 0 = begins_whole c.args.place begin c.first_token.ensures all in omega arith in
-    let noting = c.saturating_add-noting.result in
-    let added = c.saturating_add-noting.ensures in
-    let far : c.in_ok-starts.back ≤ letters_of tokens = c.in_ok-starts.ensures.most in
-    let near : c.in_ok-latest.forth ≤ letters_of tokens = c.in_ok-latest.ensures.most in
+    let noting = c.in_ok-starts.noting in
     let first : c.unwrap_or-first.result ≡ unwrap_or r (length tokens) = c.unwrap_or-first.ensures ∙ ap (unwrap_or r) c.len-2.ensures in
     record {
       come = ∣ subst (λ n. HasCome set tokens c.args.place new left n n) (sym first)
           (HasCome-begun set tokens c.args.place from run new c.begin_next.ensures.numbers starts left firsts begin c.first_token.ensures low high
           (c.begin_next.ensures.set ∙ c.in_ok-run.ensures.set) c.in_ok-run.ensures.stands r begun) ∣₁;
       order = omega arith;
-      known = AreLatestEnds-later set tokens c.least_left-next.result (c.unwrap_or-first.result + 1) (length tokens) c.in_ok-latest.latest
-          (λ t m late.
-          let order : unwrap_or r (length tokens) + 1 ≤ t.first = omega arith in
-          let behind = least_left_behind set tokens c.args.place from run new c.begin_next.ensures.numbers starts left firsts r begun t m order in
-          let next : c.least_left-next.result ≡ least_first left (length tokens) =
-          c.least_left-next.ensures ∙ ap (least_first left) c.len-3.ensures in
-          omega arith)
-          c.in_ok-latest.ensures.ends;
       counted = subst (λ n. AreCounted set tokens c.args.place noting (steps_of new + 0) n n (firsts_in left)) (sym first)
           (AreCounted-begun set tokens c.args.place from run new c.begin_next.ensures.numbers starts left firsts (λ after. c.matches_are_listed.ensures set tokens after)
-          noting (omega arith)
-          (λ all bounded.
-          let walked : letters_of (drop from tokens) ≤ c.in_ok-starts.back = c.in_ok-starts.ensures.least (omega arith) in
-          let all_of : letters_of tokens ≤ c.in_ok-starts.back = subst (λ n. letters_of (drop n tokens) ≤ c.in_ok-starts.back) (whole all) walked in
-          omega arith)
+          noting c.in_ok-starts.ensures.most
+          (λ all bounded. subst (λ n. letters_of (drop n tokens) ≤ noting) (whole all) (c.in_ok-starts.ensures.least bounded))
           whole within c.in_ok-run.ensures.steps c.begin_next.ensures.steps.1 r begun);
     }

@@ -14,26 +14,25 @@ use Rattle.lic_find.proofs.Passing.{HasCome-others, HasCome-passed, IsNext-given
 use Rattle.lic_find.proofs.StepLemmas.{AreCounted-known}
 use Rattle.lic_find.proofs.finder.Finder.next_known.Goals as goal
 
-pub invariant_of-self-then-not-more : goal.invariant_of-self-then-not-more
-invariant_of-self-then-not-more c =
+pub invariant_of-self : goal.invariant_of-self
+invariant_of-self c =
     let f = c.args.self.now in
     let set = f.set.now in
     let tokens = f.text.now.tokens in
-    let next : NotedFirst = noted_at c.in_ok-noted.noted.first c.in_ok-noted.noted.numbers.now in
+    let next : NotedFirst = noted_at c.in_ok-noted.noted.first c.in_ok-noted.noted.numbers.now c.in_ok-noted.noted.lasts.now in
     let more : List NotedFirst = drop 1 (starts_in f.starts) in
     let is : starts_in f.starts ≡ next ∷ more = c.in_ok-noted.ensures.some in
     let found : Triple × Bool = (c.in_ok-triple.triple, c.in_ok-triple.more) in
-    let known : IsNextKnown f.latest next.first next.numbers (place_of f) found =
-    subst (λ p. IsNextKnown f.latest next.first next.numbers p found) c.or-place.ensures c.in_ok-triple.ensures in
+    let known : IsNextKnown next.first next.numbers next.lasts (place_of f) found =
+    subst (λ p. IsNextKnown next.first next.numbers next.lasts p found) c.or-place.ensures c.in_ok-triple.ensures in
     let passed = c.saturating_add-self.result in
     let sum = c.saturating_add-self.ensures in
     record {
       come = ∥∥₁_map f.come (λ come.
           subst (λ l. HasCome set tokens (Some found.0) f.run l f.first f.end) (sym c.remove_least.ensures)
-          (HasCome-passed set tokens (place_of f) f.run (starts_in f.starts) f.first f.end come next more is f.latest f.known found known
+          (HasCome-passed set tokens (place_of f) f.run (starts_in f.starts) f.first f.end come next more is found known
           c.if-not-more.true));
       order = f.order;
-      known = f.known;
       counted = subst (λ l. AreCounted set tokens f.began f.noting (steps_of f.run + passed) f.first f.end (firsts_in l)) (sym c.remove_least.ensures)
           (AreCounted-known set tokens f.began f.noting (steps_of f.run + f.passed) f.first f.end next.first (firsts_in more)
           (subst (λ l. AreCounted set tokens f.began f.noting (steps_of f.run + f.passed) f.first f.end (firsts_in l)) is f.counted)
@@ -45,18 +44,17 @@ invariant_of-self-else-not-more c =
     let f = c.args.self.now in
     let set = f.set.now in
     let tokens = f.text.now.tokens in
-    let next : NotedFirst = noted_at c.in_ok-noted.noted.first c.in_ok-noted.noted.numbers.now in
+    let next : NotedFirst = noted_at c.in_ok-noted.noted.first c.in_ok-noted.noted.numbers.now c.in_ok-noted.noted.lasts.now in
     let more : List NotedFirst = drop 1 (starts_in f.starts) in
     let is : starts_in f.starts ≡ next ∷ more = c.in_ok-noted.ensures.some in
     let found : Triple × Bool = (c.in_ok-triple.triple, c.in_ok-triple.more) in
-    let known : IsNextKnown f.latest next.first next.numbers (place_of f) found =
-    subst (λ p. IsNextKnown f.latest next.first next.numbers p found) c.or-place.ensures c.in_ok-triple.ensures in
+    let known : IsNextKnown next.first next.numbers next.lasts (place_of f) found =
+    subst (λ p. IsNextKnown next.first next.numbers next.lasts p found) c.or-place.ensures c.in_ok-triple.ensures in
     record {
       come = ∥∥₁_map f.come (λ come.
-          HasCome-others set tokens (place_of f) f.run (starts_in f.starts) f.first f.end come next more is f.latest f.known found known
+          HasCome-others set tokens (place_of f) f.run (starts_in f.starts) f.first f.end come next more is found known
           c.if-not-more.false);
       order = f.order;
-      known = f.known;
       counted = f.counted;
     }
 
@@ -65,27 +63,27 @@ returns-then-not-more-clause-some c =
     let f = c.args.self.now in
     let set = f.set.now in
     let tokens = f.text.now.tokens in
-    let next : NotedFirst = noted_at c.in_ok-noted.noted.first c.in_ok-noted.noted.numbers.now in
+    let next : NotedFirst = noted_at c.in_ok-noted.noted.first c.in_ok-noted.noted.numbers.now c.in_ok-noted.noted.lasts.now in
     let more : List NotedFirst = drop 1 (starts_in f.starts) in
     let is : starts_in f.starts ≡ next ∷ more = c.in_ok-noted.ensures.some in
     let found : Triple × Bool = (c.in_ok-triple.triple, c.in_ok-triple.more) in
-    let known : IsNextKnown f.latest next.first next.numbers (place_of f) found =
-    subst (λ p. IsNextKnown f.latest next.first next.numbers p found) c.or-place.ensures c.in_ok-triple.ensures in
+    let known : IsNextKnown next.first next.numbers next.lasts (place_of f) found =
+    subst (λ p. IsNextKnown next.first next.numbers next.lasts p found) c.or-place.ensures c.in_ok-triple.ensures in
     same_list (matches_behind set tokens (place_of f)) (found.0 ∷ matches_behind set tokens (Some found.0))
     (∥∥₁_map f.come (λ come. matches_behind-next set tokens (λ after. c.matches_are_listed.ensures set tokens after) (place_of f) found.0
-    (IsNext-given set tokens (place_of f) f.run (starts_in f.starts) f.first f.end come next more is f.latest f.known found known c.requires.none)))
+    (IsNext-given set tokens (place_of f) f.run (starts_in f.starts) f.first f.end come next more is found known c.requires.none)))
 
 pub returns-else-not-more-clause-some : goal.returns-else-not-more-clause-some
 returns-else-not-more-clause-some c =
     let f = c.args.self.now in
     let set = f.set.now in
     let tokens = f.text.now.tokens in
-    let next : NotedFirst = noted_at c.in_ok-noted.noted.first c.in_ok-noted.noted.numbers.now in
+    let next : NotedFirst = noted_at c.in_ok-noted.noted.first c.in_ok-noted.noted.numbers.now c.in_ok-noted.noted.lasts.now in
     let more : List NotedFirst = drop 1 (starts_in f.starts) in
     let is : starts_in f.starts ≡ next ∷ more = c.in_ok-noted.ensures.some in
     let found : Triple × Bool = (c.in_ok-triple.triple, c.in_ok-triple.more) in
-    let known : IsNextKnown f.latest next.first next.numbers (place_of f) found =
-    subst (λ p. IsNextKnown f.latest next.first next.numbers p found) c.or-place.ensures c.in_ok-triple.ensures in
+    let known : IsNextKnown next.first next.numbers next.lasts (place_of f) found =
+    subst (λ p. IsNextKnown next.first next.numbers next.lasts p found) c.or-place.ensures c.in_ok-triple.ensures in
     same_list (matches_behind set tokens (place_of f)) (found.0 ∷ matches_behind set tokens (Some found.0))
     (∥∥₁_map f.come (λ come. matches_behind-next set tokens (λ after. c.matches_are_listed.ensures set tokens after) (place_of f) found.0
-    (IsNext-given set tokens (place_of f) f.run (starts_in f.starts) f.first f.end come next more is f.latest f.known found known c.requires.none)))
+    (IsNext-given set tokens (place_of f) f.run (starts_in f.starts) f.first f.end come next more is found known c.requires.none)))

@@ -26,7 +26,6 @@ invariant_of-self c =
           let next = c.in-Some.ensures come in
           HasCome-found f.set.now f.text.now.tokens (place_of f) f.run (starts_in f.starts) f.first f.end come c.in-Some.triple next.0 next.1 next.2.after);
       order = f.order;
-      known = f.known;
       counted = f.counted;
     }
 
@@ -92,7 +91,6 @@ invariant_of-self-in-loop-triple c =
           (subst (λ text. StandsAmong c.push.new.self come.numbers (letters_up_to tokens f.first f.end ++ chars text ∷ [])) text
           (c.push.ensures.among come.numbers (letters_up_to tokens f.first f.end) come.stands)));
       order = let order = f.order in omega arith;
-      known = f.known;
       counted = AreCounted-push f.set.now tokens f.began f.noting (steps_of f.run + f.passed) f.first f.end (firsts_in (starts_in f.starts)) f.counted token
           (steps_of c.push.new.self + f.passed) f.order room (let grows = c.push.ensures.never_fall in omega arith)
           (let most : steps_of c.push.new.self ≤ steps_of f.run + letters_in (chars (get_or tokens f.end token).text) =

@@ -11,7 +11,6 @@ use Rattle.lic_find.specs.Firsts.{firsts_in}
 use Rattle.lic_find.specs.Rest.{place_of, rest_of}
 use Rattle.lic_find.specs.Starts.{starts_in}
 use Rattle.lic_find.specs.Walks.{HasCome, NoneBegins}
-use Rattle.lic_find.proofs.EndLemmas.{AreLatestEnds-later}
 use Rattle.lic_find.proofs.GivingLemmas.{YieldsFirst-given, IfNone-never, capped-le, capped-most, capped-below}
 use Rattle.lic_find.proofs.Matching.{matches_behind-none, same_list}
 use Rattle.lic_find.proofs.StepLemmas.{AreCounted-next, walked-all}
@@ -93,13 +92,6 @@ invariant_of-self-2 c =
           (HasCome-next_first set tokens (place_of f) f.run (starts_in f.starts) f.first f.end come noted left is new known.none
           c.begin_next.ensures.set c.begin_next.ensures.numbers stands));
       order = omega arith;
-      known =
-          let later : f.first ≤ c.in_ok-first.first =
-          ∥∥₁_elim f.come le_prop (λ come.
-          let (one, firsts) = next_first set tokens (place_of f) f.run (starts_in f.starts) f.first f.end come noted left is in
-          let beyond = one.later in
-          omega arith) in
-          AreLatestEnds-later set tokens (f.first + 1) (c.in_ok-first.first + 1) (length tokens) f.latest (λ t m late. omega arith) f.known;
       counted = subst (λ n. AreCounted set tokens f.began f.noting (steps_of new + f.passed) n n (firsts_in left)) here
           (AreCounted-next set tokens f.began f.noting (steps_of f.run + f.passed) f.first f.end (λ after. c.matches_are_listed.ensures set tokens after)
           f.order known.ended noted.first (firsts_in left)

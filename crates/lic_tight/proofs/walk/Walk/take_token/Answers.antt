@@ -8,10 +8,11 @@ use Rattle.lic_words.specs.Letters.{letters_in}
 use Rattle.lic_auto.specs.Backs.{KnowsLive, StandsForEach, set_behind, numbers_behind, live_behind}
 use Rattle.lic_auto.proofs.LiveNumbers.{live_behind-rising}
 use Rattle.lic_find.specs.Walks.{letters_up_to}
+use Rattle.lic_find.proofs.Ranges.{letters_up_to-front}
 use Rattle.lic_tight.specs.Steps.{letters_from}
 use Rattle.lic_tight.specs.Walked.{AreFoundFrom, HasCome, set_walked, numbers_walked, found_walked}
 use Rattle.lic_tight.proofs.Coming.{found_next, fresh_behind, left_at, left_live, none_left}
-use Rattle.lic_tight.proofs.LiveRanges.{letters_up_to-front, letters_from-front}
+use Rattle.lic_tight.proofs.LiveRanges.{letters_from-front}
 use Rattle.lic_tight.proofs.walk.Walk.take_token.Goals as goal
 
 pub loop-i-init : goal.loop-i-init

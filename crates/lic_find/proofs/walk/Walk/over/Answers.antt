@@ -1,0 +1,33 @@
+use Rattle.std.proofs.Common.{◌≡◌, ℕ, [], length, drop, sym, ap, ◌∙◌, subst, arith}
+use Rattle.std.proofs.Math.Path.{fun_ext}
+use Rattle.std.proofs.Math.Seq.{drop-length}
+use Rattle.lic_keys.specs.Rising.{IsRising}
+use Rattle.lic_keys.proofs.RisingLemmas.{rises}
+use Rattle.lic_auto.specs.Backs.{StandsBehind, StandsForEach}
+use Rattle.lic_find.specs.Matches.{all_letters}
+use Rattle.lic_find.proofs.Ranges.{letters_up_to-none}
+use Rattle.lic_find.proofs.walk.Walk.over.Goals as goal
+
+pub of-requires : goal.of-requires
+of-requires c = λ i j less within.
+    let same = c.in_ok-numbers.ensures.items ∙ c.deref-2.ensures.value in
+    let rising : IsRising c.in_ok-numbers.numbers.items (length c.args.set.now) =
+    subst (λ ns. IsRising ns (length c.args.set.now)) (sym same) c.requires in
+    rises c.in_ok-numbers.numbers.items (length c.args.set.now) rising i j less within
+
+pub returns-clause-walked : goal.returns-clause-walked
+returns-clause-walked c = λ tokens count.
+    let back = c.in_ok-back.back in
+    let inner = c.in_ok-inner.inner in
+    let n = c.args.count in
+    let nothing : drop n tokens ≡ [] = ap (λ m. drop m tokens) (sym count) ∙ drop-length tokens in
+    record {
+      same = c.in_ok-inner.ensures.set ∙ sym c.in_ok-back.ensures.set;
+      limit = λ k. n;
+      limits = c.in_ok-limits.ensures.limits;
+      low = λ k. omega arith;
+      high = λ k. omega (arith, count);
+      stands = subst (λ ts. StandsBehind back (all_letters ts)) (sym nothing) c.in_ok-back.ensures.stands;
+      inner = subst (StandsForEach inner) (fun_ext (λ (k : ℕ). sym (letters_up_to-none tokens n))) c.in_ok-inner.ensures.stands.each;
+      limited = λ t m early. let order = m.order in let within = m.within in omega (arith, count);
+    }
