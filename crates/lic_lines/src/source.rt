@@ -23,6 +23,7 @@ pub fn unplaced(alloc: Global, text: &str) -> Result<Vec<SourceChar>, AllocError
         ≡ without_dropped (unplaced (chars text.now))) }
 {
     let mut characters = Vec::new(alloc);
+    characters.reserve(text.len())?;
     for char in text.chars() {
         if !is_dropped(char) {
             characters.push(SourceChar {
