@@ -1,5 +1,5 @@
 //! Tokens as they are kept.
-ghost use Rattle.std.specs.Prelude.{◌≡◌, ◌<◌, ◌++◌, ◌∷◌, [], length, map, slice_index_or, OnOk};
+ghost use Rattle.std.specs.Prelude.{◌≡◌, ◌<◌, ◌++◌, ◌∷◌, [], length, map, slice_index_or, IfOk, OnOk};
 ghost use Rattle.lic_phrases.specs.Waiting.{AreKnown, spanned_in};
 
 use crate::token::{Span, Token};
@@ -55,6 +55,21 @@ impl TokenList {
             rows: Vec::new(alloc),
             written: HashMap::new(alloc),
         }
+    }
+
+    /// No tokens yet, with room for so many, whose texts have so many bytes.
+    pub(crate) fn with_room(
+        alloc: Global,
+        tokens: usize,
+        bytes: usize,
+    ) -> Result<TokenList, AllocError>
+        ensures { IfOk result (λ list. list ≡ []) }
+    {
+        Ok(TokenList {
+            texts: String::with_capacity(alloc, bytes)?,
+            rows: Vec::with_capacity(alloc, tokens)?,
+            written: HashMap::new(alloc),
+        })
     }
 
     /// How many tokens there are.
