@@ -9,7 +9,7 @@ use Rattle.lic_kind.specs.Kinds.{Entry, one, range, is_entry, is_listed, dropped
 -- ---- a test that fails on a whole table
 
 -- p fails at so many characters from the first on
-abbrev fails_from : (ℕ → Bool) → ℕ → ℕ → Bool
+abbrev pub fails_from : (ℕ → Bool) → ℕ → ℕ → Bool
 fails_from p first zero = true
 fails_from p first (suc n) = not (p first) && fails_from p (suc first) n
 
@@ -197,9 +197,9 @@ is_mark_kind-true Dropped e = cc
 is_mark_kind-true Mark e = refl
 is_mark_kind-true Word e = cc
 
--- a test that passes at each of the 128 characters
-ascii_each : (p : ℕ → Bool) (c : ℕ) → fails_from (λ d. not (p d)) 0 128 ≡ true → c < 128 → p c ≡ true
-ascii_each p c each ascii = passes (p c) (fails_from-within (λ d. not (p d)) 0 128 c each (omega arith) (omega arith))
+-- a test that passes at each of so many characters from the first on
+pub each_below : (n : ℕ) (p : ℕ → Bool) (c : ℕ) → fails_from (λ d. not (p d)) 0 n ≡ true → c < n → p c ≡ true
+each_below n p c each below = passes (p c) (fails_from-within (λ d. not (p d)) 0 n c each (omega arith) (omega arith))
   where
     passes : (b : Bool) → not b ≡ false → b ≡ true
     passes true e = refl
@@ -214,27 +214,11 @@ unfolding kind_of
 kind_of-alphanumeric c ascii is =
     is_word_kind-true (kind_of c)
     (implied (is_ascii_alphanumeric c) _
-    (ascii_each (λ d. not (is_ascii_alphanumeric d) || is_word_kind (kind_of d)) c refl ascii) is)
+    (each_below 128 (λ d. not (is_ascii_alphanumeric d) || is_word_kind (kind_of d)) c refl ascii) is)
 
 pub kind_of-punctuation : (c : ℕ) → c < 128 → is_ascii_punctuation c ≡ true → kind_of c ≡ Mark
 unfolding kind_of
 kind_of-punctuation c ascii is =
     is_mark_kind-true (kind_of c)
     (implied (is_ascii_punctuation c) _
-    (ascii_each (λ d. not (is_ascii_punctuation d) || is_mark_kind (kind_of d)) c refl ascii) is)
-
-pub kind_of-ascii_other : (c : ℕ) → c < 128 → is_ascii_punctuation c ≡ false → is_whitespace c ≡ false → kind_of c ≡ Word
-unfolding kind_of
-kind_of-ascii_other c ascii no_mark dark =
-    is_word_kind-true (kind_of c)
-    (neither (is_ascii_punctuation c) (is_whitespace c) (is_word_kind (kind_of c))
-    (ascii_each (λ d. is_ascii_punctuation d || is_whitespace d
-    || is_word_kind (kind_of d)) c refl ascii) no_mark dark)
-  where
-    neither : (a b w : Bool) → (a || b || w) ≡ true → a ≡ false → b ≡ false → w ≡ true
-    neither false false w e ha hb = e
-    neither true b w e ha hb = cc
-    neither false true w e ha hb = cc
-
--- the kinds of the characters of ASCII
-pub ruleset ascii_kinds = (kind_of-alphanumeric, kind_of-punctuation, kind_of-white, kind_of-ascii_other)
+    (each_below 128 (λ d. not (is_ascii_punctuation d) || is_mark_kind (kind_of d)) c refl ascii) is)

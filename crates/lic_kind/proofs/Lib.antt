@@ -1,5 +1,6 @@
 pub mod FoldingLemmas
 pub mod KindLemmas
+pub mod LatinKinds
 pub mod LetterLemmas
 pub mod WordFoldings
 pub mod TextsLemmas

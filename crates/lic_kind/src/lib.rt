@@ -4,7 +4,7 @@
 ghost use Rattle.std.specs.Prelude.{◌≡◌};
 ghost use Rattle.lic_kind.specs.Kinds.{kind_of, is_word_kind};
 
-mod ascii;
+mod latin;
 pub mod laws;
 mod letters;
 mod openers;
@@ -17,7 +17,7 @@ pub mod rules_fault;
 mod tables;
 pub mod texts;
 
-use ascii::ascii_kind;
+use latin::latin_kind;
 pub use letters::spell;
 pub use rule_kind::RuleKind;
 pub use rules::Rules;
@@ -43,8 +43,8 @@ pub enum Kind {
 pub fn kind_of(c: char) -> Kind
     ensures { result ≡ kind_of c }
 {
-    if c.is_ascii() {
-        ascii_kind(c)
+    if c <= '\u{FF}' {
+        latin_kind(c)
     } else {
         other_kind(c)
     }

@@ -46,10 +46,6 @@ lowered_parenthesis c h =
     (λ high. ⊎_elim (λ above. omega (arith, known.2 above)) (λ letter. let more = known.0 (omega arith, omega arith) in absurd (omega arith)) (cases_lt 90 c))
     (cases_lt c 65)
 
-pub small_letter : (c : ℕ) → 97 ≤ c → c ≤ 122 → kind_of c ≡ kind.Word
-small_letter c low high = kind_of-alphanumeric c (omega arith)
-    (or_right (is_in_range 48 57 c || is_in_range 65 90 c) (is_in_range 97 122 c) (in_range 97 122 c low high))
-
 -- a mark is no letter
 lowered_mark : (c : ℕ) → c < 128 → kind_of c ≡ kind.Mark → to_ascii_lowercase c ≡ c
 lowered_mark c small mark =

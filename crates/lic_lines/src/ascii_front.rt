@@ -30,33 +30,6 @@ pub(crate) fn kind_count(kind: Kind, text: &[u8]) -> usize
     count
 }
 
-/// Whether a byte of ASCII is a letter of words. Most are small letters, so these come first.
-#[inline(always)]
-#[tactic(auto, using(crate::proofs::AsciiFronts::small_letter))]
-fn is_word(byte: u8) -> bool
-    ensures yes { IsTrue result → kind_of byte ≡ Kind.Word }
-    ensures no { result ≡ false → kind_of byte ≢ Kind.Word }
-{
-    match byte {
-        b'a'..=b'z' => true,
-        _ => kind_of(byte as char) == Kind::Word,
-    }
-}
-
-/// How many bytes in front of a text are letters of words.
-#[inline(always)]
-fn word_count(text: &[u8]) -> usize
-    ensures within { result ≤ length text.now }
-    ensures all { (i : ℕ) → i < result → kind_of (slice_index text.now i) ≡ Kind.Word }
-    ensures stop { result < length text.now → kind_of (slice_index text.now result) ≢ Kind.Word }
-{
-    let mut count = 0;
-    while count < text.len() && is_word(text[count]) {
-        count += 1;
-    }
-    count
-}
-
 /// Whether a mark stands for itself, and begins no copyright sign.
 #[inline(always)]
 fn is_itself(mark: u8) -> bool
@@ -96,7 +69,7 @@ pub fn front_of_ascii(text: &[u8]) -> AsciiFront
 {
     match kind_of(text[0] as char) {
         Kind::Blank | Kind::Dropped => AsciiFront::Blank,
-        Kind::Word => AsciiFront::Token(word_count(text)),
+        Kind::Word => AsciiFront::Token(kind_count(Kind::Word, text)),
         Kind::Mark => {
             if is_plain_mark(text) {
                 AsciiFront::Token(1)

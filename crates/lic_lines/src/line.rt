@@ -64,7 +64,7 @@ pub fn cells_of_line(
 {
     let cut = cut_line(alloc, rules, part, line)?;
     let left = &line[cut.lead + cut.item..line.len() - cut.tail];
-    let mut cells = Vec::new(alloc);
+    let mut cells = Vec::with_capacity(alloc, left.len() + 3)?;
     push_blank_for(&mut cells, cut.lead)?;
     push_blank_for(&mut cells, cut.item)?;
     push_cells(&mut cells, left)?;

@@ -158,8 +158,10 @@ impl Runs {
         ensures { IfOk result (λ joined. joined.now ≡ runs_joined (rules_of rules.now) cells.now) }
     {
         self.joined.clear();
+        self.joined.reserve(cells.len())?;
         if rules.separators() {
             self.parted.clear();
+            self.parted.reserve(cells.len())?;
             push_without_separators(&mut self.parted, cells)?;
             push_with_joined(&mut self.joined, &self.parted)?;
         } else {

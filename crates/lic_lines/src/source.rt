@@ -1,6 +1,7 @@
 //! Source characters.
-ghost use Rattle.std.specs.Prelude.{◌≡◌, IfOk};
+ghost use Rattle.std.specs.Prelude.{◌≡◌, not, IfOk};
 ghost use Rattle.std.specs.Str.{chars};
+ghost use Rattle.lic_kind.specs.Kinds.{is_dropped};
 ghost use Rattle.lic_lines.specs.Sources.{unplaced, without_dropped};
 
 use lic_kind::is_dropped;
@@ -16,6 +17,13 @@ pub struct SourceChar {
     pub end: u32,
 }
 
+/// Whether a character is not dropped, as none of ASCII is.
+fn is_kept(c: char) -> bool
+    ensures { result ≡ not (is_dropped c) }
+{
+    c.is_ascii() || !is_dropped(c)
+}
+
 /// The characters of a text that is no source, where only letters count: without the dropped ones, each placed at
 /// byte 0. The error is that memory ran out.
 pub fn unplaced(alloc: Global, text: &str) -> Result<Vec<SourceChar>, AllocError>
@@ -23,8 +31,9 @@ pub fn unplaced(alloc: Global, text: &str) -> Result<Vec<SourceChar>, AllocError
         ≡ without_dropped (unplaced (chars text.now))) }
 {
     let mut characters = Vec::new(alloc);
+    characters.reserve(text.len())?;
     for char in text.chars() {
-        if !is_dropped(char) {
+        if is_kept(char) {
             characters.push(SourceChar {
                 char,
                 start: 0,

@@ -1,5 +1,5 @@
 -- A template without rules is one text.
-use Rattle.std.proofs.Common.{◌≡◌, ℕ, ◌+◌, ◌<◌, Bool, true, false, not, ◌==◌, ◌||◌, List, [], ◌∷◌, ◌++◌, None, Result, Ok, Err, refl, sym, ap, ◌∙◌, subst, arith, append_assoc, append-nil, length-append, get_or, ne_eqb, eq-eqb, lit<}
+use Rattle.std.proofs.Common.{◌≡◌, ◌≢◌, ℕ, zero, suc, ◌+◌, ◌<◌, ◌≤◌, Bool, true, false, not, ◌==◌, ◌||◌, List, [], ◌∷◌, ◌++◌, None, Result, Ok, Err, refl, sym, ap, ap₂, ◌∙◌, subst, arith, take, drop, append_assoc, append-nil, length-append, get_or, ne_eqb, eq-eqb, lit<}
 use Rattle.std.specs.Prelude.{if◌then◌else◌, length, nat_lt}
 use Rattle.std.specs.Option.{option_map}
 use Rattle.std.specs.List.{list_any}
@@ -20,7 +20,7 @@ use Rattle.lic_markup.specs.Signs.{less}
 use Rattle.lic_markup.specs.Texts.{text_of}
 use Rattle.lic_markup.specs.Faults.{fault_at}
 use Rattle.lic_markup.specs.Rules.{tag_at}
-use Rattle.lic_markup.specs.Elements.{text, elements}
+use Rattle.lic_markup.specs.Elements.{Element, text, elements}
 use Rattle.lic_markup.specs.Lines.{ends_line}
 use Rattle.lic_markup.specs.Parts.{Node, Reading, letters, row, row_has_token, row_weight}
 use Rattle.lic_markup.specs.Reading.{max_length, max_weight, meet, new_level, read_elements, read_on, reading, whole, with_letters}
@@ -47,6 +47,31 @@ one_piece piece place (c ∷ cs) none =
     (ap (option_map (with_rest rest)) (no_tag x rest two.0)) refl)
     ∙ one_piece (piece ++ x ∷ []) (place + len_utf8 c) cs two.1
     ∙ ap (λ l. text l ∷ []) (append_assoc piece (x ∷ []) rest)
+
+-- so many characters in front of which none is a `<`
+plain_front : (piece rest : List Located) (n : ℕ) → n ≤ length rest → ((i : ℕ) (d : Located) → i < n → (get_or rest i d).1 ≢ less)
+    → elements (piece ++ take n rest) 0 (drop n rest) ≡ elements piece 0 rest
+plain_front piece rest zero within plain = ap (λ p. elements p 0 rest) (append-nil piece)
+plain_front piece [] (suc n) within plain = absurd (omega arith)
+plain_front piece (x ∷ xs) (suc n) within plain =
+    let first : (x.1 == less) ≡ false = ne_eqb x.1 less (plain 0 x (omega arith)) in
+    ap (λ (p : List Located). elements p 0 (drop n xs)) (sym (append_assoc piece (x ∷ []) (take n xs)))
+    ∙ plain_front (piece ++ x ∷ []) xs n (omega arith) (λ i d lt. plain (suc i) d (omega arith))
+    ∙ cut_plain [] (elements piece 0 (x ∷ xs)) piece (piece ++ x ∷ []) x xs (x ∷ xs) refl refl
+    (ap (option_map (with_rest xs)) (no_tag x xs first)) refl
+
+-- a character at which no rule begins, and those behind it of which none is a `<`
+pub cut_plain_row : (found total : List Element) (piece pushed : List Located) (x : Located) (after rest left : List Located) (n : ℕ)
+    → rest ≡ x ∷ after → pushed ≡ piece ++ take (suc n) rest → left ≡ drop (suc n) rest → n ≤ length after
+    → ((i : ℕ) (d : Located) → i < n → (get_or after i d).1 ≢ less) → option_map (with_rest after) (tag_at x after) ≡ None
+    → found ++ elements piece 0 rest ≡ total → found ++ elements pushed 0 left ≡ total
+cut_plain_row found total piece pushed x after rest left n is more behind within plain none so_far =
+    let row : pushed ≡ (piece ++ x ∷ []) ++ take n after =
+    more ∙ ap (λ (l : List Located). piece ++ take (suc n) l) is ∙ sym (append_assoc piece (x ∷ []) (take n after)) in
+    let last : left ≡ drop n after = behind ∙ ap (drop (suc n)) is in
+    ap₂ (λ (p l : List Located). found ++ elements p 0 l) row last
+    ∙ ap (λ es. found ++ es) (plain_front (piece ++ x ∷ []) after n within plain)
+    ∙ cut_plain found total piece (piece ++ x ∷ []) x after rest is refl none so_far
 
 -- none of these bytes is a `<`
 abbrev HasNoMark : List ℕ → Type 0

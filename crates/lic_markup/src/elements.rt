@@ -1,7 +1,7 @@
 //! A template cut into pieces of plain text and rules.
-ghost use Rattle.std.specs.Prelude.{◌≡◌, ◌++◌, ◌∷◌, IfOk, OnOk, [], map, Some, None};
+ghost use Rattle.std.specs.Prelude.{◌≡◌, ◌≢◌, ◌<◌, ◌≤◌, ◌++◌, ◌∷◌, ℕ, IfOk, OnOk, [], length, map, slice_index_or, Some, None};
 ghost use Rattle.std.specs.Option.{option_map};
-ghost use Rattle.lic_ere.specs.Located.{located};
+ghost use Rattle.lic_ere.specs.Located.{Located, located};
 ghost use Rattle.lic_markup.specs.Elements.{elements, element_read, behind_rule};
 ghost use Rattle.lic_markup.specs.Rules.{rule_at};
 ghost use Rattle.lic_markup.specs.Faults.{IsLasting};
@@ -61,6 +61,18 @@ fn push_rule<'a>(
     }
 }
 
+/// How many characters in front begin no rule, since they are no `<`.
+fn plain_length(rest: &[(usize, char)]) -> usize
+    ensures within { result ≤ length rest.now }
+    ensures plain { (i : ℕ) (d : Located) → i < result → (slice_index_or rest.now i d).1 ≢ 0x3C }
+{
+    let mut count = 0;
+    while count < rest.len() && rest[count].1 != '<' {
+        count += 1;
+    }
+    count
+}
+
 /// Cuts characters into pieces and rules in turn, up to the first rule that cannot be read.
 fn cut(alloc: Global, all: &[(usize, char)]) -> Result<Vec<Element>, AllocError>
     ensures { IfOk result (λ found. map element_of found.items ≡ elements [] 0 all.now) }
@@ -70,8 +82,9 @@ fn cut(alloc: Global, all: &[(usize, char)]) -> Result<Vec<Element>, AllocError>
     let mut rest = all;
     while let Some((first, after)) = rest.split_first() {
         let Some((tag, behind)) = read_tag(alloc, *first, after)? else {
-            piece.push(*first)?;
-            rest = after;
+            let count = 1 + plain_length(after);
+            piece.extend_from_slice(&rest[..count])?;
+            rest = &rest[count..];
             continue;
         };
         found.push(Element::Text(mem::replace(&mut piece, Vec::new(alloc))))?;

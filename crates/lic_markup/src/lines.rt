@@ -21,13 +21,17 @@ fn is_space(character: char) -> bool
 pub fn at_line_start(so_far: bool, piece: &[(usize, char)]) -> bool
     ensures { result ≡ lines.at_line_start so_far piece.now }
 {
-    let mut at_start = so_far;
-    let mut rest = piece;
-    while let Some((first, after)) = rest.split_first() {
-        at_start = first.1 == '\n' || (at_start && is_space(first.1));
-        rest = after;
+    let mut front = piece;
+    while let Some((last, before)) = front.split_last() {
+        if last.1 == '\n' {
+            return true;
+        }
+        if !is_space(last.1) {
+            return false;
+        }
+        front = before;
     }
-    at_start
+    so_far
 }
 
 /// Whether only white space stands from the beginning of a piece to the end of the line, where `behind` says so of what

@@ -75,7 +75,7 @@ pub fn trim_end(text: &[(usize, char)]) -> &[(usize, char)]
 pub fn text_of(alloc: Global, characters: &[(usize, char)]) -> Result<String, AllocError>
     ensures { IfOk result (λ text. string_bytes text ≡ text_of characters.now) }
 {
-    let mut text = String::new(alloc);
+    let mut text = String::with_capacity(alloc, characters.len())?;
     let mut rest = characters;
     while let Some((first, after)) = rest.split_first() {
         text.push(first.1)?;
@@ -88,7 +88,7 @@ pub fn text_of(alloc: Global, characters: &[(usize, char)]) -> Result<String, Al
 pub fn unescaped(alloc: Global, characters: &[(usize, char)]) -> Result<String, AllocError>
     ensures { IfOk result (λ text. string_bytes text ≡ text_of (unescaped characters.now)) }
 {
-    let mut text = String::new(alloc);
+    let mut text = String::with_capacity(alloc, characters.len())?;
     let mut rest = characters;
     while let Some((first, after)) = rest.split_first() {
         if !(first.1 == '\\' && begins_with(after, ';')) {

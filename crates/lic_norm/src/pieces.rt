@@ -167,6 +167,9 @@ impl Left {
     }
 }
 
+/// So many bytes of a text are read for each token at least, mostly.
+const BYTES_A_TOKEN: usize = 5;
+
 /// What the lines of a piece leave, one line after another.
 fn left_of(
     alloc: Global,
@@ -182,7 +185,7 @@ fn left_of(
 {
     let mut left = Left {
         edges: Edges::none(),
-        tokens: Vec::new(alloc),
+        tokens: Vec::with_capacity(alloc, text.len() / BYTES_A_TOKEN)?,
     };
     let mut room = Room::new(alloc);
     let mut has_front = at_line_start;
@@ -204,7 +207,7 @@ fn with_edges(alloc: Global, edges: Edges, letters: &str) -> Result<String, Allo
     ensures { (cells : List Cell) → HasEdges edges cells
         → IfOk result (λ edged. string_bytes edged ≡ with_edges cells letters.now) }
 {
-    let mut edged = String::new(alloc);
+    let mut edged = String::with_capacity(alloc, letters.len() + 2)?;
     if edges.begins_in_blank {
         edged.push(' ')?;
     }
@@ -236,9 +239,9 @@ pub fn piece(
         ≡ piece_of (rules_of rules.now) words.now at_line_start before text.now) }
 {
     let Left { edges, tokens } = left_of(alloc, rules, text, at_line_start, before)?;
-    let mut rewriting = Rewriting::new(alloc, words.phrases());
+    let mut rewriting = Rewriting::with_room(alloc, words.phrases(), tokens.len(), text.len())?;
     rewriting.take(tokens)?;
     let tokens = rewriting.finish()?;
-    let letters = spelled(alloc, &tokens)?;
+    let letters = spelled(alloc, &tokens, text.len())?;
     with_edges(alloc, edges, letters.as_str())
 }

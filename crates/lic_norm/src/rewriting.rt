@@ -51,6 +51,24 @@ impl<'w> Rewriting<'w> {
         }
     }
 
+    /// Nothing is taken yet; there is room for so many tokens, whose texts have so many bytes.
+    pub(crate) fn with_room(
+        alloc: Global,
+        phrases: &'w Phrases,
+        tokens: usize,
+        bytes: usize,
+    ) -> Result<Rewriting<'w>, AllocError>
+        ensures taken { IfOk result (λ r. HasTaken r []) }
+        ensures phrases { IfOk result (λ r. r.phrases.now ≡ phrases.now) }
+    {
+        Ok(Rewriting {
+            phrases,
+            rewriter: Rewriter::new(alloc),
+            tokens: TokenList::with_room(alloc, tokens, bytes)?,
+            settled: Vec::new(alloc),
+        })
+    }
+
     /// Takes the next token, which need not pass, and lists those that are settled then.
     #[inline(never)]
     fn push(&mut self, token: FirstToken) -> Result<(), AllocError>

@@ -18,11 +18,11 @@ fn is_parted_at(tokens: &TokenList, place: usize) -> bool
 }
 
 /// The texts of tokens as one text: one blank between two letters of kind Word that belong to
-/// different tokens, and none elsewhere (SPDX 2.3 Annex B; this project's profile).
-pub(crate) fn spelled(alloc: Global, tokens: &TokenList) -> Result<String, AllocError>
+/// different tokens, and none elsewhere (SPDX 2.3 Annex B; this project's profile). Room for so many bytes is taken at once.
+pub(crate) fn spelled(alloc: Global, tokens: &TokenList, room: usize) -> Result<String, AllocError>
     ensures { IfOk result (λ s. string_bytes s ≡ spelled (map (λ t. t.text) tokens.now)) }
 {
-    let mut spelling = String::new(alloc);
+    let mut spelling = String::with_capacity(alloc, room)?;
     for place in 0..tokens.len() {
         if is_parted_at(tokens, place) {
             spelling.push(' ')?;

@@ -1,5 +1,5 @@
 //! Tokens as they are kept.
-ghost use Rattle.std.specs.Prelude.{◌≡◌, ◌<◌, ◌++◌, ◌∷◌, [], length, map, slice_index_or, OnOk};
+ghost use Rattle.std.specs.Prelude.{◌≡◌, ◌<◌, ◌++◌, ◌∷◌, [], length, map, slice_index_or, IfOk, OnOk};
 ghost use Rattle.lic_phrases.specs.Waiting.{AreKnown, spanned_in};
 
 use crate::token::{Span, Token};
@@ -8,11 +8,15 @@ use std::alloc::{AllocError, Global};
 use std::collections::HashMap;
 use std::marker::Model;
 
+/// How many bytes the texts may have. Those of the longest input have less than a tenth of that: its letters take
+/// at most five times its bytes, and the texts of classes stand there once.
+const MAX_TEXTS: usize = 0xFFFF_FFFF;
+
 /// A token as it is kept: where its text lies among the texts, and its bytes of the source.
 #[derive(Clone, Copy, Debug)]
 struct Row {
-    text_start: usize,
-    text_end: usize,
+    text_start: u32,
+    text_end: u32,
     start: u32,
     end: u32,
 }
@@ -53,6 +57,21 @@ impl TokenList {
         }
     }
 
+    /// No tokens yet, with room for so many, whose texts have so many bytes.
+    pub(crate) fn with_room(
+        alloc: Global,
+        tokens: usize,
+        bytes: usize,
+    ) -> Result<TokenList, AllocError>
+        ensures { IfOk result (λ list. list ≡ []) }
+    {
+        Ok(TokenList {
+            texts: String::with_capacity(alloc, bytes)?,
+            rows: Vec::with_capacity(alloc, tokens)?,
+            written: HashMap::new(alloc),
+        })
+    }
+
     /// How many tokens there are.
     pub(crate) fn len(&self) -> usize
         ensures { result ≡ length self.now }
@@ -72,9 +91,12 @@ impl TokenList {
         let text_start = self.texts.len();
         self.texts.push_str(text)?;
         let text_end = self.texts.len();
+        if text_end > MAX_TEXTS {
+            return Err(AllocError);
+        }
         self.rows.push(Row {
-            text_start,
-            text_end,
+            text_start: text_start as u32,
+            text_end: text_end as u32,
             start,
             end,
         })?;
@@ -143,7 +165,7 @@ impl TokenList {
     {
         let row = self.rows[i];
         Token {
-            text: &self.texts.as_str()[row.text_start..row.text_end],
+            text: &self.texts.as_str()[row.text_start as usize..row.text_end as usize],
             span: Span {
                 start: row.start as usize,
                 end: row.end as usize,

@@ -17,11 +17,11 @@ returns-in-Blank c =
 pub returns-in-Word : goal.returns-in-Word
 returns-in-Word c =
     let text = c.args.text.now in
-    let row = c.word_count.ensures in
-    let some = some_count kind.Word text c.word_count.result c.requires.some (sym c.kind_of.ensures ∙ c.in-Word.is) row.stop in (
+    let row = c.kind_count.ensures in
+    let some = some_count kind.Word text c.kind_count.result c.requires.some (sym c.kind_of.ensures ∙ c.in-Word.is) row.stop in (
       some,
       row.within,
-      λ rules after_blank at. front_word rules after_blank at text c.word_count.result c.requires.ascii some row.within row.all row.stop,
+      λ rules after_blank at. front_word rules after_blank at text c.kind_count.result c.requires.ascii some row.within row.all row.stop,
     )
 
 pub returns-then-is_plain_mark : goal.returns-then-is_plain_mark

@@ -1,13 +1,18 @@
-use Rattle.std.proofs.Common.{sym, ap, ◌∙◌}
+use Rattle.std.proofs.Common.{◌≡◌, Bool, true, false, not, refl, sym, ap, ◌∙◌}
+use Rattle.lic_kind.specs.Kinds.{is_dropped}
 use Rattle.std.proofs.lemmas.Iterator.{YieldsList-from_chars}
 use Rattle.std.proofs.lemmas.Iterator.Consumers.{YieldsList-end}
 use Rattle.lic_lines.specs.Sources.{unplaced, without_dropped}
 use Rattle.lic_lines.proofs.SourceLemmas.{one_dropped, map-itself}
 use Rattle.lic_lines.proofs.source.unplaced.Goals as goal
 
+drops : (b : Bool) → not b ≡ false → b ≡ true
+drops true h = refl
+drops false h = cc
+
 pub loop-char-preserved : goal.loop-char-preserved
 loop-char-preserved c =
-    c.loop-char.invariant ∙ sym (one_dropped c.loop-char.yielded c.in-Some.char (sym c.is_dropped.ensures ∙ c.if-not-is_dropped.false))
+    c.loop-char.invariant ∙ sym (one_dropped c.loop-char.yielded c.in-Some.char (drops (is_dropped c.in-Some.char) (sym c.is_kept.ensures ∙ c.if-is_kept.false)))
 
 pub returns : goal.returns
 returns c =

@@ -2,8 +2,9 @@ use Rattle.std.proofs.Common.{◌≡◌, length}
 use Rattle.lic_markup.specs.Lines.{at_line_start}
 use Rattle.lic_markup.proofs.lines.at_line_start.Given as goal
 
-abbrev pub invariant-loop-first : goal.invariant-loop-first
-invariant-loop-first l = at_line_start l.at_start l.rest ≡ at_line_start l.so_far l.piece
+-- only white space stands behind the front, and no line ends there
+abbrev pub invariant-loop-last : goal.invariant-loop-last
+invariant-loop-last l = at_line_start l.so_far l.front ≡ at_line_start l.so_far l.piece
 
-abbrev pub decreases-loop-first : goal.decreases-loop-first
-decreases-loop-first l = length l.rest
+abbrev pub decreases-loop-last : goal.decreases-loop-last
+decreases-loop-last l = length l.front

@@ -16,7 +16,7 @@ use Rattle.lic_norm.proofs.pieces.left_of.Goals as goal
 pub loop-at-init : goal.loop-at-init
 loop-at-init c = record {
   edges = ([], c.none.ensures, refl);
-  tokens = ap (λ l. tokens_in l ++ piece_tokens (rules_of c.args.rules.now) c.args.at_line_start c.args.before c.args.text.now) c.new.ensures.items;
+  tokens = ap (λ l. tokens_in l ++ piece_tokens (rules_of c.args.rules.now) c.args.at_line_start c.args.before c.args.text.now) c.in_ok-with_capacity.ensures.items;
   boundary = IsCharBoundary-start c.args.text.now c.utf8.text;
 }
 

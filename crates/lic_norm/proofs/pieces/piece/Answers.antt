@@ -15,9 +15,9 @@ returns c =
     let words = c.args.words.now in
     let rules = rules_of c.args.rules.now in
     let first = piece_tokens rules c.args.at_line_start c.args.before c.args.text.now in
-    let listed = c.in_ok-tokens.ensures _ (c.in_ok-take.ensures.taken [] c.new-rewriting.ensures.taken) in
+    let listed = c.in_ok-tokens.ensures _ (c.in_ok-take.ensures.taken [] c.in_ok-rewriting.ensures.taken) in
     let list : c.take.new.self.phrases.now.phrases ≡ words =
-    ap (λ l. l.phrases) (c.in_ok-take.ensures.phrases ∙ c.new-rewriting.ensures.phrases) ∙ c.phrases.ensures in
+    ap (λ l. l.phrases) (c.in_ok-take.ensures.phrases ∙ c.in_ok-rewriting.ensures.phrases) ∙ c.phrases.ensures in
     let taken : tokens_in c.in_ok-edges.field-0.tokens.items ≡ first = c.in_ok-edges.ensures.tokens in
     let letters = c.as_str.ensures.value ∙ c.in_ok-letters.ensures
     ∙ ap (λ ts. spelled (texts_of ts)) (listed ∙ ap₂ (λ w ts. map reported (rewritten w ts)) list taken)
