@@ -14,6 +14,7 @@ pub mod Accepting
 pub mod TurnedEnds
 pub mod FirstLemmas
 pub mod Gathering
+pub mod SieveLemmas
 pub mod IndexLemmas
 pub mod WordSets
 pub mod Rows

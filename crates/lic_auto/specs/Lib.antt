@@ -5,6 +5,7 @@ pub mod Heads
 pub mod Beginnings
 pub mod Fronts
 pub mod Firsts
+pub mod Sieves
 pub mod Indexes
 pub mod Picked
 pub mod Compiled

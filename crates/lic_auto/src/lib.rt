@@ -15,4 +15,5 @@ pub mod run;
 mod seekers;
 mod seeking;
 pub mod set;
+mod sieve;
 mod walk;
