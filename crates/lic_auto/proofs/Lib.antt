@@ -8,6 +8,7 @@ pub mod Changing
 pub mod Heads
 mod HeadExamples
 pub mod HeadTexts
+pub mod OneWords
 pub mod Beginning
 pub mod Walking
 pub mod Accepting
