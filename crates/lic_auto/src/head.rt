@@ -13,6 +13,7 @@ use crate::direction::Direction;
 use lic_kind::is_word;
 
 /// The head of the text of a token.
+#[inline(never)]
 fn head_of(token: &str) -> &str
     requires { IsTokenText token.now }
     ensures { chars result.now ≡ head_of (chars token.now) }
@@ -28,6 +29,7 @@ fn head_of(token: &str) -> &str
 }
 
 /// The tail of the text of a token: the letters of words at its end, or else the last letter alone.
+#[inline(never)]
 fn tail_of(token: &str) -> &str
     requires { IsTokenText token.now }
     ensures { reverse (chars result.now) ≡ head_of (reverse (chars token.now)) }
