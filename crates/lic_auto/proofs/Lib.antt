@@ -8,12 +8,14 @@ pub mod Changing
 pub mod Heads
 mod HeadExamples
 pub mod HeadTexts
+pub mod OneWords
 pub mod Beginning
 pub mod Walking
 pub mod Accepting
 pub mod TurnedEnds
 pub mod FirstLemmas
 pub mod Gathering
+pub mod SieveLemmas
 pub mod IndexLemmas
 pub mod WordSets
 pub mod Rows
@@ -30,7 +32,6 @@ pub mod PickedLemmas
 pub mod MovedSeekers
 pub mod Finding
 pub mod Living
-pub mod Ending
 pub mod Joined
 pub mod Gathered
 pub mod Begun

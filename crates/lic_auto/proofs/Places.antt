@@ -1,4 +1,5 @@
 -- The places of numbers in a list that rises.
+use Rattle.std.specs.Prelude.{◌↔◌}
 use Rattle.std.proofs.Common.{◌≡◌, ℕ, zero, suc, ◌+◌, ◌-◌, ◌<◌, ◌≤◌, List, length, get_or, Result, Ok, Err, sym, ap, ◌∙◌, subst, arith}
 use Rattle.std.specs.List.{Contains}
 use Rattle.std.specs.List.Sorted.{IsBinarySearchResult}
@@ -54,6 +55,25 @@ search_finds xs n up x (Err i) h =
     λ (j, inside, is).
     let value : get_or xs j 0 ≡ x = get_or_default xs j 0 x inside ∙ is in
     ⊎_elim (λ (before : j < i). omega (arith, below j before, value)) (λ (late : i ≤ j). omega (arith, above j late inside, value)) (cases_lt j i)
+
+-- all numbers in front of the place are less, and none from there on
+abbrev BeginsAt : List ℕ → ℕ → ℕ → Type 0
+BeginsAt xs x place = (k : ℕ) → k < length xs → (place ≤ k) ↔ (x ≤ get_or xs k 0)
+
+-- where a search for a number ends, those that are not less begin
+pub search_splits : (xs : List ℕ) (n : ℕ) → IsRising xs n → (x : ℕ) (r : Result ℕ ℕ) → IsBinarySearchResult (λ y. nat_cmp y x) xs r →
+    MatchResult r (BeginsAt xs x) (BeginsAt xs x)
+search_splits xs n up x (Ok i) h = λ k inside.
+    let (within, is) = searched xs x (Ok i) h (non_decreasing xs n up) in (
+      λ late. let more = non_decreasing xs n up i k late inside in omega (arith, more, is),
+      λ great.
+          ⊎_elim (λ (before : k < i). omega (arith, rises xs n up k i before within, is, great)) (λ (late : i ≤ k). late) (cases_lt k i),
+    )
+search_splits xs n up x (Err i) h = λ k inside.
+    let (room, below, above) = searched xs x (Err i) h (non_decreasing xs n up) in (
+      λ late. let more = above k late inside in omega (arith, more),
+      λ great. ⊎_elim (λ (before : k < i). omega (arith, below k before, great)) (λ (late : i ≤ k). late) (cases_lt k i),
+    )
 
 module _ (all numbers : List ℕ) (n m : ℕ) (up : IsRising all n) (order : IsRising numbers m) where
   module _ (within : (k : ℕ) → Contains numbers k → Contains all k) where

@@ -5,6 +5,7 @@ pub mod Heads
 pub mod Beginnings
 pub mod Fronts
 pub mod Firsts
+pub mod Sieves
 pub mod Indexes
 pub mod Picked
 pub mod Compiled
@@ -16,5 +17,4 @@ pub mod Walks
 pub mod Seeking
 pub mod Found
 pub mod Backs
-pub mod Ends
 pub mod Runs

@@ -91,12 +91,23 @@ impl<'s> Chosen<'s> {
             ((i : ℕ) → i < length self.now.numbers.items
             → slice_index self.now.numbers.items i < from) }
     {
-        for (place, number) in self.numbers.iter().enumerate() {
-            if *number >= from {
-                return Some(place);
-            }
+        let place = self.count_below(from);
+        if place < self.numbers.len() {
+            Some(place)
+        } else {
+            None
         }
-        None
+    }
+
+    // How many of the numbers are below this one: all in front of that place, and none from there on.
+    fn count_below(&self, number: usize) -> usize
+        ensures { (i : ℕ) → i < length self.now.numbers.items
+            → result ≤ i ↔ (number ≤ slice_index self.now.numbers.items i) }
+    {
+        match self.numbers.binary_search(&number) {
+            Ok(place) => place,
+            Err(place) => place,
+        }
     }
 
     /// Writes the places of these numbers, one for each.

@@ -1,7 +1,8 @@
 //! Heads, by which templates are looked up: the letters of words in front, or else the first letter alone.
 
-ghost use Rattle.std.specs.Prelude.{◌≡◌, ◌≢◌, ◌∷◌, ◌++◌, ℕ, List, [], IfSome, IfNone, reverse, take};
+ghost use Rattle.std.specs.Prelude.{◌≡◌, ◌≢◌, ◌<◌, ◌∷◌, ◌++◌, ℕ, List, [], IfSome, IfNone, IsTrue, length, reverse, slice_index, take};
 ghost use Rattle.std.specs.Str.{chars, encode_utf8_all};
+ghost use Rattle.lic_words.specs.Letters.{is_word};
 ghost use Rattle.lic_words.specs.Words.{blank};
 ghost use Rattle.lic_phrases.specs.TokenTexts.{IsTokenText};
 ghost use Rattle.lic_auto.specs.Directions.{ordered};
@@ -12,6 +13,7 @@ use crate::direction::Direction;
 use lic_kind::is_word;
 
 /// The head of the text of a token.
+#[inline(never)]
 fn head_of(token: &str) -> &str
     requires { IsTokenText token.now }
     ensures { chars result.now ≡ head_of (chars token.now) }
@@ -27,6 +29,7 @@ fn head_of(token: &str) -> &str
 }
 
 /// The tail of the text of a token: the letters of words at its end, or else the last letter alone.
+#[inline(never)]
 fn tail_of(token: &str) -> &str
     requires { IsTokenText token.now }
     ensures { reverse (chars result.now) ≡ head_of (reverse (chars token.now)) }
@@ -59,13 +62,40 @@ pub fn read_head(token: &str, direction: Direction) -> &str
     requires { IsTokenText token.now }
     ensures { ordered direction (chars result.now) ≡ head_of (ordered direction (chars token.now)) }
 {
+    if is_one_word(token) {
+        return token;
+    }
     match direction {
         Direction::Forward => head_of(token),
         Direction::Backward => tail_of(token),
     }
 }
 
+// Whether all letters of the text are of ASCII and letters of words, as those of most tokens: then the whole text is its head.
+#[inline]
+fn is_one_word(text: &str) -> bool
+    ensures { IsTrue result → (k : ℕ) → k < length (chars text.now)
+        → IsTrue (is_word (slice_index (chars text.now) k)) }
+{
+    let bytes = text.as_bytes();
+    for byte in bytes {
+        if !is_word_byte(*byte) {
+            return false;
+        }
+    }
+    true
+}
+
+// Whether the byte is a letter of ASCII, and one of words.
+#[inline]
+fn is_word_byte(byte: u8) -> bool
+    ensures { IsTrue result → (byte < 128) × IsTrue (is_word byte) }
+{
+    byte.is_ascii() && is_word(char::from(byte))
+}
+
 /// The first letter of a text as it is read in a direction: its first, or its last. An empty text has none.
+#[inline]
 pub fn read_letter(text: &str, direction: Direction) -> &str
     ensures { result.now ≡ letter_of direction text.now }
 {
@@ -75,6 +105,7 @@ pub fn read_letter(text: &str, direction: Direction) -> &str
     }
 }
 
+#[inline]
 fn front_letter(text: &str) -> &str
     ensures { result.now ≡ encode_utf8_all (take 1 (chars text.now)) }
 {
@@ -85,6 +116,7 @@ fn front_letter(text: &str) -> &str
     }
 }
 
+#[inline]
 fn back_letter(text: &str) -> &str
     ensures { result.now ≡ encode_utf8_all (take 1 (reverse (chars text.now))) }
 {

@@ -1,18 +1,16 @@
 //! A literal-prefix index: which templates a text can enter, by the head of its first token.
 
-ghost use Rattle.std.specs.Prelude.{◌≡◌, ◌<◌, ◌≤◌, ◌-◌, ◌+◌, ◌↔◌, ◌∷◌, ℕ, IfOk, OnOk, IsTrue, false, true, length, map, slice_index_or, vec_len, List, None, Some, Contains, string_bytes, []};
-ghost use Rattle.std.specs.Char.{is_ascii};
+ghost use Rattle.std.specs.Prelude.{◌≡◌, ◌<◌, ◌≤◌, ◌-◌, ◌+◌, ◌↔◌, ℕ, IfOk, OnOk, IsTrue, true, length, map, slice_index_or, vec_len, List, Some, Contains, string_bytes, []};
 ghost use Rattle.std.specs.HashMap.{get_by_text};
 ghost use Rattle.std.specs.List.{slice_get};
-ghost use Rattle.std.specs.Str.{chars};
-ghost use Rattle.lic_marks.specs.Memories.{has};
 ghost use Rattle.lic_auto.specs.Heads.{letter_of};
 ghost use Rattle.lic_auto.specs.Listing.{Grows, GrowsIf};
+ghost use Rattle.lic_auto.specs.Sieves.{may_have};
 
 use crate::direction::Direction;
 use crate::first::Firsts;
 use crate::head::read_letter;
-use lic_marks::letter_set::LetterSet;
+use crate::sieve::Sieve;
 use lic_marks::node::Node;
 use std::alloc::{AllocError, Global};
 use std::collections::HashMap;
@@ -29,8 +27,8 @@ pub struct Index {
     lists: Vec<Vec<usize>>,
     // the first letter of the head of each list, as it is read
     letters: Vec<String>,
-    // those of these letters that are of ASCII
-    known: LetterSet,
+    // the texts that have a place
+    sieve: Sieve,
     // the list of each head that has no place, and whose first letter has none
     others: Vec<usize>,
     ghost in_range: { (text : List ℕ) (place : ℕ) → get_by_text places text ≡ Some place
@@ -38,9 +36,8 @@ pub struct Index {
     ghost lettered: { vec_len lists ≤ vec_len letters },
     ghost letter: { (text : List ℕ) (place : ℕ) → get_by_text places text ≡ Some place
         → slice_index_or (map string_bytes letters.items) place [] ≡ letter_of direction text },
-    ghost covered: { (text : List ℕ) (place c : ℕ) (rest : List ℕ)
-        → get_by_text places text ≡ Some place → chars (letter_of direction text) ≡ c ∷ rest
-        → is_ascii c ≡ true → has known c ≡ true },
+    ghost covered: { (text : List ℕ) (place : ℕ) → get_by_text places text ≡ Some place
+        → may_have sieve text ≡ true },
 }
 
 impl Index {
@@ -64,7 +61,7 @@ impl Index {
             places: HashMap::new(alloc),
             lists: Vec::new(alloc),
             letters: Vec::new(alloc),
-            known: LetterSet::none(),
+            sieve: Sieve::none(),
             others: Vec::new(alloc),
         };
         for (number, tree) in trees.iter().enumerate() {
@@ -89,27 +86,21 @@ impl Index {
     fn place_for(&self, head: &str) -> Option<usize>
         ensures { result ≡ place_for self.now head.now }
     {
-        let letter = read_letter(head, self.direction);
-        if !self.may_list(letter) {
-            return None;
+        if let Some(place) = self.find(head) {
+            return Some(place);
         }
-        if let Some(place) = self.places.get(head) {
-            return Some(*place);
-        }
-        self.places.get(letter).copied()
+        self.find(read_letter(head, self.direction))
     }
 
-    // Whether a head may have a list whose first letter, as it is read, this is: a look that spares most tokens the map.
+    // The place of a text. A look at its ends spares most texts that have none the map.
     #[inline]
-    fn may_list(&self, letter: &str) -> bool
-        ensures { result ≡ false → (text : List ℕ)
-            → letter_of self.now.direction text ≡ letter.now
-            → get_by_text self.now.places text ≡ None }
+    fn find(&self, text: &str) -> Option<usize>
+        ensures { result ≡ get_by_text self.now.places text.now }
     {
-        match letter.chars().next() {
-            Some(first) => !first.is_ascii() | self.known.has(first),
-            None => true,
+        if !self.sieve.may_have(text) {
+            return None;
         }
+        self.places.get(text).copied()
     }
 
     // Adds a number that is greater than all: to the lists of these heads and of those that begin with these letters, or to all
@@ -202,22 +193,11 @@ impl Index {
         let letter = String::from_str(alloc, read_letter(head, self.direction))?;
         let list = Vec::from_slice(alloc, self.entered_by(head))?;
         let place = self.lists.len();
-        know(&mut self.known, letter.as_str());
+        self.sieve.add(head);
         put_at(&mut self.letters, place, letter)?;
         self.lists.push(list)?;
         self.places.insert(key, place)?;
         Ok(place)
-    }
-}
-
-// Adds the first letter of a text to those that are known, if it is of ASCII.
-fn know(known: &mut LetterSet, text: &str)
-    ensures kept { (c : ℕ) → has known.old c ≡ true → has known.new c ≡ true }
-    ensures first { (c : ℕ) (rest : List ℕ) → chars text.now ≡ c ∷ rest
-        → is_ascii c ≡ true → has known.new c ≡ true }
-{
-    if let Some(first) = text.chars().next() {
-        known.add(first);
     }
 }
 

@@ -12,7 +12,8 @@ use crate::chosen::Chosen;
 use crate::direction::Direction;
 use crate::joining::{add_number, join_rising};
 use crate::seeking::{
-    begin_anew, gather_begun, gather_found, name_all, name_living, seekers_of, take_alone, take_tokens,
+    begin_anew, gather_begun, gather_found, name_all, name_living, seekers_of, take_alone,
+    take_tokens,
 };
 use crate::set::Set;
 use lic_marks::seek::Seeker;

@@ -13,6 +13,7 @@ pub mod Counted
 pub mod Children
 pub mod LetterSets
 pub mod Joining
+pub mod PlainBytes
 pub mod Steady
 pub mod StateLemmas
 pub mod Lists

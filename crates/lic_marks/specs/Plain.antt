@@ -1,5 +1,5 @@
 -- Tokens of plain letters, as they are read from one of their ends.
-use Rattle.std.specs.Prelude.{◌≡◌, ℕ, true, ◌&&◌, List, [], ◌∷◌}
+use Rattle.std.specs.Prelude.{◌≡◌, ◌<◌, ℕ, Bool, true, false, ◌&&◌, List, [], ◌∷◌, reverse}
 use Rattle.lic_words.specs.Words.{blank}
 use Rattle.lic_words.specs.Letters.{is_word}
 use Rattle.lic_words.specs.Spelling.{Gap, no_gap, gap_of, gapped_from, last_letter}
@@ -12,6 +12,16 @@ use Rattle.lic_marks.specs.declared.plain.Plain.{Plain}
 abbrev pub ComeJoined : LetterSet → List (Gap × ℕ) → Type 0
 ComeJoined set [] = Unit {0}
 ComeJoined set (p ∷ rest) = (p.0 ≡ no_gap) × ((p.1 ≡ blank) → ⊥) × (has set p.1 ≡ true) × ComeJoined set rest
+
+-- a row as it is read: from its end, or from its beginning
+abbrev pub in_order : Bool → List ℕ → List ℕ
+in_order true row = reverse row
+in_order false row = row
+
+-- the byte is one of ASCII and no blank, and the letter is this byte, which comes at once
+pub record IsJoined (byte : ℕ) (letter : Gap × ℕ) : Type 0 where
+  pub ascii : byte < 128
+  pub is : letter ≡ (no_gap, byte)
 
 -- the letters behind the first, each with the gap before it
 abbrev pub others_in : Plain → List (Gap × ℕ)

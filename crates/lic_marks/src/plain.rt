@@ -1,6 +1,6 @@
 //! Tokens of plain letters, read once for all that take them.
 
-ghost use Rattle.std.specs.Prelude.{◌≡◌, ◌≢◌, ◌&&◌, ◌∷◌, ◌++◌, [], true, IfSome, IsTrue, map, reverse};
+ghost use Rattle.std.specs.Prelude.{◌≡◌, ◌≢◌, ◌<◌, ◌&&◌, ◌∷◌, ◌++◌, [], true, IfSome, IsTrue, length, map, reverse, slice_index};
 ghost use Rattle.std.specs.Str.{chars};
 ghost use Rattle.lic_words.specs.Letters.{is_word};
 ghost use Rattle.lic_words.specs.Reading.{gapped_letter};
@@ -32,10 +32,80 @@ pub struct Plain {
 }
 
 impl Plain {
-    ghost use Rattle.lic_marks.specs.Plain.{ComeJoined, IsPlain, others_in};
+    ghost use Rattle.lic_marks.specs.Plain.{ComeJoined, IsJoined, IsPlain, in_order, others_in};
 
     /// The token read from its beginning, if it is plain.
     pub fn of(token: &str) -> Option<Plain>
+        ensures { IfSome result (λ plain. IsPlain plain (chars token.now)) }
+    {
+        match Plain::of_bytes(token.as_bytes(), false) {
+            Some(plain) => Some(plain),
+            None => Plain::of_letters(token),
+        }
+    }
+
+    /// The token read from its end, if it is plain.
+    pub fn turned(token: &str) -> Option<Plain>
+        ensures { IfSome result (λ plain. IsPlain plain (reverse (chars token.now))) }
+    {
+        match Plain::of_bytes(token.as_bytes(), true) {
+            Some(plain) => Some(plain),
+            None => Plain::of_turned_letters(token),
+        }
+    }
+
+    // A token whose bytes are its letters, all of ASCII and none a blank, read from its beginning or from its end.
+    #[inline(always)]
+    fn of_bytes(bytes: &[u8], is_turned: bool) -> Option<Plain>
+        ensures { IfSome result (λ plain. IsPlain plain (in_order is_turned (chars bytes.now))) }
+    {
+        if bytes.is_empty() {
+            return None;
+        }
+        let head = Plain::byte_at(bytes, 0, is_turned);
+        let first = Plain::joined_letter(head)?;
+        let mut plain = Plain::begin(first);
+        for place in 1..bytes.len() {
+            let byte = Plain::byte_at(bytes, place, is_turned);
+            let letter = Plain::joined_letter(byte)?;
+            if !plain.push(letter) {
+                return None;
+            }
+        }
+        Some(plain)
+    }
+
+    // The byte at a place, counted from the end or from the beginning.
+    #[inline]
+    fn byte_at(bytes: &[u8], place: usize, is_turned: bool) -> u8
+        requires { place < length bytes.now }
+        ensures { result ≡ slice_index (in_order is_turned bytes.now) place }
+    {
+        if is_turned {
+            bytes[bytes.len() - 1 - place]
+        } else {
+            bytes[place]
+        }
+    }
+
+    // The letter that a byte is by itself, if it is one of ASCII and no blank, where no gap stands before it.
+    #[inline]
+    fn joined_letter(byte: u8) -> Option<Letter>
+        ensures { IfSome result (λ letter. IsJoined byte (gapped_letter letter)) }
+    {
+        if !byte.is_ascii() | (byte == b' ') {
+            return None;
+        }
+        Some(Letter {
+            letter: char::from(byte),
+            is_apart: false,
+            // asked of letters behind a gap alone
+            are_words: false,
+        })
+    }
+
+    // Any token, read from its beginning.
+    fn of_letters(token: &str) -> Option<Plain>
         ensures { IfSome result (λ plain. IsPlain plain (chars token.now)) }
     {
         let mut letters = Letters::new(token, ' ', true);
@@ -50,8 +120,8 @@ impl Plain {
         Some(plain)
     }
 
-    /// The token read from its end, if it is plain.
-    pub fn turned(token: &str) -> Option<Plain>
+    // Any token, read from its end.
+    fn of_turned_letters(token: &str) -> Option<Plain>
         ensures { IfSome result (λ plain. IsPlain plain (reverse (chars token.now))) }
     {
         let mut letters = TurnedLetters::new(token, ' ', true);
@@ -67,9 +137,11 @@ impl Plain {
     }
 
     // The first letter alone.
+    #[inline]
     fn begin(first: Letter) -> Plain
         ensures first { result.first ≡ first.letter }
         ensures others { others_in result ≡ [] }
+        ensures last { result.last ≡ first.letter }
     {
         let letter = first.letter;
         Plain {
@@ -88,6 +160,7 @@ impl Plain {
             → others_in self.new ≡ others_in self.old ++ gapped_letter letter ∷ [] }
         ensures joined { IsTrue result → ComeJoined self.old.others (others_in self.old)
             → ComeJoined self.new.others (others_in self.new) }
+        ensures last { self.new.last ≡ self.old.last }
     {
         if letter.is_apart | !letter.letter.is_ascii() {
             return false;
@@ -97,6 +170,20 @@ impl Plain {
         }
         self.others.add(letter.letter);
         true
+    }
+
+    // Adds a letter behind the others as `add` does, and notes that it is the last.
+    #[inline]
+    fn push(&mut self, letter: Letter) -> bool
+        ensures first { self.new.first ≡ self.old.first }
+        ensures others { IsTrue result
+            → others_in self.new ≡ others_in self.old ++ gapped_letter letter ∷ [] }
+        ensures joined { IsTrue result → ComeJoined self.old.others (others_in self.old)
+            → ComeJoined self.new.others (others_in self.new) }
+        ensures last { IsTrue result → self.new.last ≡ letter.letter }
+    {
+        self.last = letter.letter;
+        self.add(letter)
     }
 
     /// The first letter behind the letter `last` and a gap.

@@ -1,13 +1,13 @@
 use Rattle.std.proofs.Common.{◌≡◌, ◌+◌, [], ◌<◌, ℕ, true, List, length, map, get_or, None, Some, vec_len, string_bytes, rules, sym, ap, ◌∙◌, subst, arith}
 use Rattle.std.specs.HashMap.{get_by_text, Updates}
 use Rattle.std.specs.Map.{lookup, update}
-use Rattle.std.specs.Str.{bytes_eq, IsUtf8, chars}
+use Rattle.std.specs.Str.{bytes_eq, IsUtf8}
 use Rattle.std.specs.String.{string_eq}
 use Rattle.std.proofs.lemmas.Map.Text.{hash_map_updates_text}
 use Rattle.std.proofs.Math.Logic.{⊎_elim}
-use Rattle.lic_marks.specs.Memories.{has}
 use Rattle.lic_auto.specs.Heads.{letter_of}
 use Rattle.lic_auto.specs.Indexes.{list_at, place_or, listed}
+use Rattle.lic_auto.specs.Sieves.{may_have}
 use Rattle.lic_auto.proofs.IndexLemmas.{by_result, in_range-more, letter-more, listed-more, listed_before}
 use Rattle.lic_auto.proofs.index.Index.place_of.Goals as goal
 
@@ -23,7 +23,7 @@ invariant_of-self c =
       letter = λ text place is.
           let less : place < c.len-place.result = omega (arith, old.in_range text place is, c.len-place.ensures) in
           c.put_at.ensures.kept place less ∙ old.letter text place is;
-      covered = λ text place x rest is begins ascii. c.know.ensures.kept x (old.covered text place x rest is begins ascii);
+      covered = λ text place is. c.add.ensures.kept text (old.covered text place is);
     }
 
 pub invariant_of-self-2 : goal.invariant_of-self-2
@@ -67,14 +67,13 @@ invariant_of-self-2 c =
           let was : get_by_text old.places text ≡ Some place = before unchanged text place is in
           kept place (within text place was) ∙ old.letter text place was)
           (by_result c.insert.result c.insert.ensures.updates c.insert.ensures.err);
-      covered = λ text place x rest is begins ascii.
-          let was : get_by_text old.places text ≡ Some place → has c.know.new.known x ≡ true =
-          λ there. c.know.ensures.kept x (old.covered text place x rest there begins ascii) in
+      covered = λ text place is.
+          let was : get_by_text old.places text ≡ Some place → may_have c.add.new.self text ≡ true =
+          λ there. c.add.ensures.kept text (old.covered text place there) in
           ⊎_elim
           (λ (updates : Updates string_eq old.places c.insert.new.self c.in_ok-key.key (Some c.len-place.result)).
           ⊎_elim
-          (λ (own : text ≡ head). c.know.ensures.first x rest
-          (ap chars (c.as_str.ensures.value ∙ c.in_ok-letter.ensures.ok ∙ c.read_letter.ensures ∙ ap (letter_of d) (sym c.in_ok-key.ensures.ok ∙ sym own)) ∙ begins) ascii)
+          (λ (own : text ≡ head). ap (may_have c.add.new.self) (own ∙ c.in_ok-key.ensures.ok) ∙ c.add.ensures.added)
           (λ (before : get_by_text old.places text ≡ Some place). was before)
           (listed_before (get_by_text old.places) (get_by_text c.insert.new.self) head n (after updates) text place is))
           (λ (unchanged : c.insert.new.self.entries ≡ old.places.entries). was (before unchanged text place is))

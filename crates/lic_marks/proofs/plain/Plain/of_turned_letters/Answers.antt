@@ -1,18 +1,18 @@
-use Rattle.std.proofs.Common.{◌≡◌, ℕ, List, [], ◌∷◌, ◌++◌, ◌&&◌, true, append_assoc, append-nil, refl, sym, ap, ◌∙◌, subst}
+use Rattle.std.proofs.Common.{◌≡◌, ℕ, List, [], ◌∷◌, ◌++◌, ◌&&◌, true, append_assoc, append-nil, reverse, refl, sym, ap, ◌∙◌, subst}
 use Rattle.std.specs.Str.{chars}
 use Rattle.lic_words.specs.Words.{blank}
 use Rattle.lic_words.specs.Letters.{is_word}
 use Rattle.lic_words.specs.Spelling.{Gap, gap_of, gapped_from}
-use Rattle.lic_words.specs.Reading.{gapped_letter, letters_left}
+use Rattle.lic_words.specs.Reading.{gapped_letter, turned_letters_left}
 use Rattle.lic_marks.specs.Plain.{ComeJoined, others_in}
 use Rattle.lic_marks.proofs.Seeking.{first_letter}
-use Rattle.lic_marks.proofs.plain.Plain.of.Goals as goal
+use Rattle.lic_marks.proofs.plain.Plain.of_turned_letters.Goals as goal
 
 pub loop-letter-init : goal.loop-letter-init
 loop-letter-init c =
     let none = c.begin-plain.ensures.others in record {
       first = refl;
-      letters = ap (λ x. x ++ letters_left c.next.new.self) (sym none);
+      letters = ap (λ x. x ++ turned_letters_left c.next.new.self) (sym none);
       joined = subst (ComeJoined c.begin-plain.result.others) (sym none) tt;
       last = refl;
     }
@@ -26,8 +26,8 @@ loop-letter-preserved c =
     let added = c.if-not-add.false in
     record {
       first = c.add.ensures.first ∙ inv.first;
-      letters = inv.letters ∙ ap (λ x. so_far ++ x) given.first ∙ sym (append_assoc so_far (one ∷ []) (letters_left c.next-in-loop-letter.new.self))
-          ∙ ap (λ x. x ++ letters_left c.next-in-loop-letter.new.self) (sym (c.add.ensures.others added));
+      letters = inv.letters ∙ ap (λ x. so_far ++ x) given.first ∙ sym (append_assoc so_far (one ∷ []) (turned_letters_left c.next-in-loop-letter.new.self))
+          ∙ ap (λ x. x ++ turned_letters_left c.next-in-loop-letter.new.self) (sym (c.add.ensures.others added));
       joined = c.add.ensures.joined added inv.joined;
       last = given.last ∙ inv.last;
     }
@@ -35,13 +35,13 @@ loop-letter-preserved c =
 pub returns : goal.returns
 returns c =
     let inv = c.loop-letter.invariant in
-    let cs : List ℕ = chars c.args.token.now in
+    let cs : List ℕ = reverse (chars c.args.token.now) in
     let given = c.in_ok-first.ensures.steps in
     let others : List (Gap × ℕ) = others_in c.loop-letter.plain in
-    let rest : List (Gap × ℕ) = letters_left c.next.new.self in
+    let rest : List (Gap × ℕ) = turned_letters_left c.next.new.self in
     let p : Gap × ℕ = gapped_letter c.in_ok-first.first in
     let split : gapped_from blank true cs ≡ p ∷ rest = sym c.new-letters.ensures.letters ∙ given.first in
-    let none : letters_left c.loop-letter.letters ≡ [] = c.in_default.ensures.steps.first.0 in
+    let none : turned_letters_left c.loop-letter.letters ≡ [] = c.in_default.ensures.steps.first.0 in
     let all : rest ≡ others = inv.letters ∙ ap (λ x. others ++ x) none ∙ append-nil others in
     let first : p.1 ≡ c.loop-letter.plain.first = sym (inv.first ∙ c.begin-plain.ensures.first) in
     let end = c.last_letter-plain.ensures c.in_default.ensures.steps.first.1 ∙ c.in_default.ensures.steps.last ∙ inv.last ∙ given.last ∙ c.new-letters.ensures.last in

@@ -1,7 +1,7 @@
 use Rattle.std.proofs.Common.{◌≡◌, ◌++◌, length}
 use Rattle.lic_words.specs.Reading.{letters_left, last_in}
 use Rattle.lic_marks.specs.Plain.{ComeJoined, others_in}
-use Rattle.lic_marks.proofs.plain.Plain.of.Given as goal
+use Rattle.lic_marks.proofs.plain.Plain.of_letters.Given as goal
 
 -- some letters more are there and have come at once, and the others are left
 abbrev pub invariant-loop-letter : goal.invariant-loop-letter
