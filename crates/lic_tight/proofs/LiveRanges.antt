@@ -33,7 +33,7 @@ module _ (tokens : List TokenValue) where
       → letters_from tokens first (first + 1) ≡ letters_in (chars (get_or tokens first d).text)
   letters_from-one first d within =
       let front : (n : ℕ) → 0 + n ≡ n = λ n. omega arith in
-      ap (sum_by letters_in) (letters_up_to-one first d within) ∙ front (letters_in (chars (get_or tokens first d).text))
+      ap (sum_by letters_in) (letters_up_to-one tokens first d within) ∙ front (letters_in (chars (get_or tokens first d).text))
 
   pub letters_from-front : (first end : ℕ) (d : TokenValue) → first < end → end ≤ length tokens →
       letters_from tokens first end ≡ letters_in (chars (get_or tokens first d).text) + letters_from tokens (first + 1) end
@@ -53,7 +53,7 @@ module _ (tokens : List TokenValue) where
     live_begins order (known, number, n, described) =
         ⊎_elim (λ (some : n < end - first). begins n (omega arith) described)
         (λ (all : end - first ≤ n).
-        let count = letters_up_to-length first end order within in
+        let count = letters_up_to-length tokens first end order within in
         let rest : first + (end - first) ≡ end = omega arith in
         let whole : take n (letters_up_to tokens first end) ≡ take (end - first) (letters_up_to tokens first end) =
         take_all n (letters_up_to tokens first end) (omega arith) ∙ sym (take_all (end - first) (letters_up_to tokens first end) (omega arith)) in
@@ -62,7 +62,7 @@ module _ (tokens : List TokenValue) where
       where
         begins : (m : ℕ) → first + m ≤ end → IsDescribed (words_of known) (take m (letters_up_to tokens first end)) → BeginsBefore set tokens k end first
         begins m room is =
-            let are = subst (IsDescribed (words_of known)) (letters_up_to-take m first end room within) is in
+            let are = subst (IsDescribed (words_of known)) (letters_up_to-take tokens m first end room within) is in
             let more : 0 < m =
             ⊎_elim (λ (h : 0 < m). h)
             (λ (none : m ≤ 0).
@@ -86,5 +86,5 @@ module _ (tokens : List TokenValue) where
         let order : first ≤ last = m.order in
         let count : first + (last + 1 - first) ≡ last + 1 = omega arith in
         let same : take (last + 1 - first) (letters_up_to tokens first end) ≡ letters_between tokens first last =
-        letters_up_to-take (last + 1 - first) first end (omega arith) within ∙ ap (letters_up_to tokens first) count in
+        letters_up_to-take tokens (last + 1 - first) first end (omega arith) within ∙ ap (letters_up_to tokens first) count in
         (m.known, m.number, last + 1 - first, subst (IsDescribed (words_of m.known)) (sym same) m.described)
