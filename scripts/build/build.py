@@ -48,7 +48,7 @@ def build(top):
     """Proves all, builds the program, and returns the exit status."""
     to = f"{top}/crates/{PROGRAM}/out"
     proving = Proving(top, [PROGRAM], f"{to}/build.log")
-    say(f"proving {len(proving.all)} crates and building the program: some 50 minutes on four cores, and none for a crate that was proved before")
+    say(f"proving {len(proving.all)} crates and building the program: less than half an hour on four cores, and no time for a crate that was proved before")
     if not proving.run() or not built(top, proving.all, to):
         say(f"the program could not be proved and built (log: crates/{PROGRAM}/out/build.log)")
         return 2
