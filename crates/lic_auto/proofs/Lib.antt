@@ -16,6 +16,7 @@ pub mod TurnedEnds
 pub mod FirstLemmas
 pub mod Gathering
 pub mod SieveLemmas
+mod Idle
 pub mod IndexLemmas
 pub mod WordSets
 pub mod Rows

@@ -50,12 +50,13 @@ TakesAlone direction may_begin token k old new = (e : Expression) (ts : List (Li
     → Seeks new e (ts ++ ordered direction token ∷ [])
 
 -- no end of what the seeker stands for is described, no described list goes on from one, and it stands as it is for one token more
--- with which nothing begins
+-- with which nothing begins, and for no token
 pub record IsQuiet (s : Seeker) : Type 0 where
   pub none : (e : Expression) (ts : List (List ℕ)) → Seeks s e ts → ¬ (DescribesEnd e ts)
   pub skips : (e : Expression) (ts : List (List ℕ)) (token : List ℕ) → Seeks s e ts → NoneBegins e token
       → ∥ Seeks s e (ts ++ token ∷ []) ∥₁
   pub goes_on : (e : Expression) (ts : List (List ℕ)) → Seeks s e ts → NoneGoesOn e ts
+  pub anew : (e : Expression) (ts : List (List ℕ)) → Seeks s e ts → ∥ Seeks s e [] ∥₁
 
 -- all seekers are quiet, but perhaps those at these places
 abbrev pub AreQuietBut : List ℕ → List Seeker → Type 0

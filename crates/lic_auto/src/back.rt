@@ -85,6 +85,9 @@ impl<'s> Back<'s> {
         ensures never_fall { steps_behind self.old ≤ steps_behind self.new }
     {
         self.steps = count_steps(self.steps, text);
+        if self.seekers.is_empty() {
+            return;
+        }
         self.seekers.take(text);
     }
 
@@ -163,6 +166,17 @@ impl<'s> Back<'s> {
             → NoneReaches (set_behind self.now) ts number }
     {
         self.seekers.is_quiet(number)
+    }
+
+    /// Whether nothing of any of its templates is on its way: then no match of these goes from tokens in front into those that the
+    /// machine stands for, and it stands for the empty list as well.
+    pub fn is_idle(&self) -> bool
+        ensures reaches { (ts : List (List ℕ)) → StandsBehind self.now ts → IsTrue result → (k : ℕ)
+            → Contains (numbers_behind self.now) k → NoneReaches (set_behind self.now) ts k }
+        ensures anew { (lists : ℕ → List (List ℕ)) → StandsForEach self.now lists → IsTrue result
+            → StandsForEach self.now (λ k. []) }
+    {
+        self.seekers.is_idle()
     }
 
     /// The steps that were counted, at most the greatest `u64`.

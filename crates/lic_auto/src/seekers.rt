@@ -195,6 +195,27 @@ impl<'s> Seekers<'s> {
         &self.begun[..self.begun_count]
     }
 
+    /// Whether there is no template: then they stand for any lists.
+    #[inline]
+    pub fn is_empty(&self) -> bool
+        ensures stand { IsTrue result → (lists : ℕ → List (List ℕ)) → StandForEach self.now lists }
+        ensures know { IsTrue result → (lists : ℕ → List (List ℕ)) → KnowFound self.now lists }
+        ensures begun { IsTrue result → (lists : ℕ → List (List ℕ)) → KnowBegun self.now lists }
+    {
+        self.each.is_empty()
+    }
+
+    /// Whether nothing of any template is on its way: then they stand for the empty list as well.
+    #[inline]
+    pub fn is_idle(&self) -> bool
+        ensures goes_on { (lists : ℕ → List (List ℕ)) → StandForEach self.now lists → IsTrue result → (n : ℕ)
+            → Contains self.now.chosen.numbers.items n → NoneOfGoesOn self.now lists n }
+        ensures anew { (lists : ℕ → List (List ℕ)) → StandForEach self.now lists → IsTrue result
+            → StandForEach self.now (λ k. []) }
+    {
+        self.marked_count == 0
+    }
+
     /// Whether nothing of the one of this number is on its way.
     pub fn is_quiet(&self, number: usize) -> bool
         requires { Contains self.now.chosen.numbers.items number }

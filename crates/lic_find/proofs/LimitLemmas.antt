@@ -1,5 +1,5 @@
 -- Limits of templates, and where their matches end.
-use Rattle.std.proofs.Common.{◌≡◌, ◌≢◌, ℕ, Err, zero, suc, ◌+◌, ◌-◌, ◌<◌, ◌≤◌, List, [], ◌∷◌, ◌++◌, length, get_or, cond, take, drop, Option, Some, None, IfSome, inl, inr, refl, sym, ap, ◌∙◌, subst, ⊎_elim, arith, length-append, length-drop}
+use Rattle.std.proofs.Common.{◌≡◌, ◌≢◌, ℕ, Bool, true, false, Err, zero, suc, ◌+◌, ◌-◌, ◌<◌, ◌≤◌, List, [], ◌∷◌, ◌++◌, length, get_or, cond, take, drop, Option, Some, None, IfSome, inl, inr, refl, sym, ap, ◌∙◌, subst, ⊎_elim, arith, length-append, length-drop}
 use Rattle.std.specs.List.{slice_get, AllClonesOf, Contains}
 use Rattle.std.specs.List.Sorted.{IsBinarySearchResult}
 use Rattle.std.specs.Ordering.{nat_cmp}
@@ -11,17 +11,17 @@ use Rattle.std.proofs.lemmas.List.Sorted.{searched}
 use Rattle.std.proofs.lemmas.Option.{get_or_from_slice_get, same_Some, slice_get-get_or, slice_get_within}
 use Rattle.lic_norm.specs.Tokens.{TokenValue}
 use Rattle.lic_words.specs.Describing.{IsDescribed}
-use Rattle.lic_auto.specs.Backs.{AreChangedListsAt, IsLive, NoneReaches, StandsBehind, StandsForEach, begun_behind, set_behind}
+use Rattle.lic_auto.specs.Backs.{AreChangedListsAt, IsLive, NoneReaches, StandsBehind, StandsForEach, begun_behind, numbers_behind, set_behind}
 use Rattle.lic_auto.specs.declared.back.Back.{Back}
 use Rattle.lic_auto.specs.Sets.{Known, words_of}
-use Rattle.lic_find.specs.Limits.{AreLasts, HasTaken, HasWalked, HaveLimits, IsLastOf, changed_at}
+use Rattle.lic_find.specs.Limits.{AreLasts, HasTaken, HasWalked, HaveLimits, IsGoing, IsLastOf, IsLimited, changed_at}
 use Rattle.lic_find.specs.Matches.{IsMatch, all_letters}
 use Rattle.lic_find.specs.Rises.{AllRise}
 use Rattle.lic_find.specs.Walks.{letters_up_to}
 use Rattle.lic_find.specs.declared.limits.Limits.{Limits}
 use Rattle.lic_find.specs.declared.triple.Triple.{Triple}
 use Rattle.lic_find.specs.declared.walk.Walk.{Walk}
-use Rattle.lic_find.proofs.FirstLemmas.{letters_of_some}
+use Rattle.lic_find.proofs.FirstLemmas.{all_letters-drop, letters_of_some}
 use Rattle.lic_find.proofs.Ranges.{letters_up_to-none, letters_up_to-split, letters_up_to-take}
 
 -- ---- limits
@@ -125,6 +125,46 @@ module _ (set : List Known) (tokens : List TokenValue) where
       (subst (IsDescribed (words_of m.known)) split m.described)))
       (cases_lt t.last (first + 1))
 
+  -- one that begins before a token ends before it, where its template reaches from there into no token from it on
+  pub ends_before : (first k : ℕ) → NoneReaches set (all_letters (drop first tokens)) k → (t : Triple) → IsMatch set tokens t
+      → t.template ≡ k → t.first < first → t.last < first
+  ends_before first k none t m is early =
+      let n : ℕ = first - 1 in
+      let next : first ≡ n + 1 = omega (arith, early) in
+      let near : t.last ≤ n = ends_here n k (subst (λ i. NoneReaches set (all_letters (drop i tokens)) k) next none) t m is (omega (arith, early)) in
+      omega (arith, near, next)
+
+-- ---- one token more
+
+-- a machine that took a token stands for the tokens from it on
+pub stands_more : (old new : Back) (tokens : List TokenValue) (first : ℕ) (token : TokenValue) → first < length tokens
+    → StandsBehind old (all_letters (drop (first + 1) tokens)) → (letters : List ℕ) → token.text ≡ (get_or tokens first token).text
+    → ((ts : List (List ℕ)) → StandsBehind old ts → StandsBehind new (letters ∷ ts)) → letters ≡ chars token.text
+    → StandsBehind new (all_letters (drop first tokens))
+stands_more old new tokens first token within stood letters text takes is =
+    subst (StandsBehind new) (sym (all_letters-drop tokens first (first + 1) token within refl))
+    (subst (λ text. StandsBehind new (chars text ∷ all_letters (drop (first + 1) tokens))) text
+    (subst (λ ls. StandsBehind new (ls ∷ all_letters (drop (first + 1) tokens))) is
+    (takes (all_letters (drop (first + 1) tokens)) stood)))
+
+-- ---- at rest
+
+-- where nothing of any template is on its way
+pub idle_apart : (tokens : List TokenValue) (first : ℕ) (back : Back) → StandsBehind back (all_letters (drop first tokens))
+    → ((ts : List (List ℕ)) → StandsBehind back ts → (k : ℕ) → Contains (numbers_behind back) k → NoneReaches (set_behind back) ts k)
+    → (t : Triple) → IsMatch (set_behind back) tokens t → Contains (numbers_behind back) t.template → t.first < first → t.last < first
+idle_apart tokens first back stands idle t m there early =
+    ends_before (set_behind back) tokens first t.template (idle (all_letters (drop first tokens)) stands t.template there) t m refl early
+
+-- the inner machine stands for some lists, at rest or not
+pub inner_stands : (tokens : List TokenValue) (first : ℕ) (walk : Walk) → HasWalked tokens first walk
+    → (lists : ℕ → List (List ℕ)) × StandsForEach walk.inner lists
+inner_stands tokens first walk had = by_rest walk.is_at_rest refl
+  where
+    by_rest : (b : Bool) → walk.is_at_rest ≡ b → (lists : ℕ → List (List ℕ)) × StandsForEach walk.inner lists
+    by_rest true is = ((λ k. []), (had.resting is).inner)
+    by_rest false is = ((λ k. letters_up_to tokens first ((had.going is).limit k)), (had.going is).inner)
+
 -- ---- last tokens
 
 slice_get-front : {A : Type 0} → (xs ys : List A) (i : ℕ) → i < length xs → slice_get (xs ++ ys) i ≡ slice_get xs i
@@ -173,12 +213,22 @@ last_told (Some last) set first k walk told tokens taken = told tokens taken
 
 -- ---- a template begins anew
 
+-- what holds of matches that begin with a token or before holds of those before it
+pub limited_before : (tokens : List TokenValue) (first : ℕ) (walk : Walk) → IsLimited tokens first (first + 1) walk → IsLimited tokens first first walk
+limited_before tokens first walk l = record {
+  limit = l.limit;
+  limits = l.limits;
+  low = l.low;
+  high = l.high;
+  inner = l.inner;
+  limited = λ t m there early. l.limited t m there (omega (arith, early));
+}
+
 module _ (tokens : List TokenValue) (first : ℕ) (old initial : Walk) (still : old.back ≡ initial.back) (k : ℕ)
-    (among : Contains (begun_behind initial.back) k) (taken : HasTaken tokens first initial) (had : HasWalked tokens first old)
+    (among : Contains (begun_behind initial.back) k) (taken : IsGoing tokens first initial) (had : IsLimited tokens first first old)
     (limits : Limits) (changes : (limit : ℕ → ℕ) → HaveLimits old.limits limit → HaveLimits limits (changed_at limit k first))
-    (inner : Back) (begins : (lists changed : ℕ → List (List ℕ)) → StandsForEach old.inner lists → AreChangedListsAt k [] lists changed → StandsForEach inner changed)
-    (same : set_behind inner ≡ set_behind old.inner) where
-  pub begun_anew : (new : Walk) → new.back ≡ old.back → new.inner ≡ inner → new.limits ≡ limits → HasWalked tokens first new
+    (inner : Back) (begins : (lists changed : ℕ → List (List ℕ)) → StandsForEach old.inner lists → AreChangedListsAt k [] lists changed → StandsForEach inner changed) where
+  pub begun_anew : (new : Walk) → new.back ≡ old.back → new.inner ≡ inner → new.limits ≡ limits → IsLimited tokens first first new
   begun_anew new back is are =
       let limit = changed_at had.limit k first in
       let here : first ≤ had.limit k = had.low k in
@@ -186,23 +236,23 @@ module _ (tokens : List TokenValue) (first : ℕ) (old initial : Walk) (still : 
       let stands : StandsForEach inner (λ j. letters_up_to tokens first (limit j)) =
       begins (λ j. letters_up_to tokens first (had.limit j)) (λ j. letters_up_to tokens first (limit j)) had.inner (changed_lists tokens first had.limit k) in
       record {
-        same = ap set_behind is ∙ same ∙ had.same ∙ ap set_behind (sym back);
         limit = limit;
         limits = subst (λ ls. HaveLimits ls limit) (sym are) (changes had.limit had.limits);
         low = changed_at-all (λ n. first ≤ n) had.limit k first (omega arith) had.low;
         high = changed_at-all (λ n. n ≤ length tokens) had.limit k first (omega arith) had.high;
-        stands = subst (λ b. StandsBehind b (all_letters (drop first tokens))) (sym back) had.stands;
         inner = subst (λ b. StandsForEach b (λ j. letters_up_to tokens first (limit j))) (sym is) stands;
-        limited = λ t m early.
+        limited = λ t m there early.
             let old_match : IsMatch (set_behind old.back) tokens t = subst (λ b. IsMatch (set_behind b) tokens t) back m in
+            let old_there : Contains (numbers_behind old.back) t.template = subst (λ b. Contains (numbers_behind b) t.template) back there in
             ⊎_elim
             (λ (its : t.template ≡ k).
             let near : t.last ≤ first =
-            taken.begun t (subst (λ b. IsMatch (set_behind b) tokens t) still old_match) early (subst (Contains (begun_behind initial.back)) (sym its) among) in
+            taken.begun t (subst (λ b. IsMatch (set_behind b) tokens t) still old_match) (omega (arith, early))
+            (subst (Contains (begun_behind initial.back)) (sym its) among) in
             let value : limit t.template ≡ first = ap limit its ∙ changed_at-one had.limit k first in
             omega arith)
             (λ (apart : t.template ≢ k).
-            let far : t.last ≤ had.limit t.template = had.limited t old_match early in
+            let far : t.last ≤ had.limit t.template = had.limited t old_match old_there early in
             let value : limit t.template ≡ had.limit t.template = changed_at-other had.limit k first t.template apart in
             omega arith)
             (cases_eq t.template k);

@@ -1,5 +1,5 @@
 -- Where matches end, as it is known on a walk towards the front of a text.
-use Rattle.std.specs.Prelude.{◌≡◌, ℕ, ◌+◌, ◌≤◌, ◌==◌, List, length, drop, Option, Some, Contains, if◌then◌else◌}
+use Rattle.std.specs.Prelude.{◌≡◌, ℕ, ◌+◌, ◌<◌, ◌≤◌, ◌==◌, List, [], IsTrue, false, length, drop, Option, Some, Contains, if◌then◌else◌}
 use Rattle.std.specs.List.{slice_get}
 use Rattle.lic_norm.specs.Tokens.{TokenValue}
 use Rattle.lic_auto.specs.Sets.{Known}
@@ -32,24 +32,44 @@ live_walked walk = live_behind walk.back
 abbrev pub steps_walked : Walk → ℕ
 steps_walked walk = steps_behind walk.back + steps_behind walk.inner
 
--- The walk has taken the tokens from the first one on, its inner machine each template up to its limit alone. No match ends beyond its
--- limit that begins with the first token or before.
-pub record HasWalked (tokens : List TokenValue) (first : ℕ) (walk : Walk) : Type 0 where
-  pub same : set_behind walk.inner ≡ set_behind walk.back
+-- At rest: no match that begins before this token reaches it, and the inner machine stands for no token.
+pub record IsAtRest (tokens : List TokenValue) (before : ℕ) (walk : Walk) : Type 0 where
+  pub inner : StandsForEach walk.inner (λ k. [])
+  pub apart : (t : Triple) → IsMatch (set_walked walk) tokens t → Contains (numbers_walked walk) t.template
+      → t.first < before → t.last < before
+
+-- Otherwise the inner machine has taken the tokens from the first one on, each template up to its limit alone. No match ends beyond its
+-- limit that begins before this token.
+pub record IsLimited (tokens : List TokenValue) (first before : ℕ) (walk : Walk) : Type 0 where
   pub limit : ℕ → ℕ
   pub limits : HaveLimits walk.limits limit
   pub low : (k : ℕ) → first ≤ limit k
   pub high : (k : ℕ) → limit k ≤ length tokens
-  pub stands : StandsBehind walk.back (all_letters (drop first tokens))
   pub inner : StandsForEach walk.inner (λ k. letters_up_to tokens first (limit k))
-  pub limited : (t : Triple) → IsMatch (set_walked walk) tokens t → t.first ≤ first → t.last ≤ limit t.template
+  pub limited : (t : Triple) → IsMatch (set_walked walk) tokens t → Contains (numbers_walked walk) t.template
+      → t.first < before → t.last ≤ limit t.template
 
--- It has just taken the first one: it is known of which templates matches begin there, and of which before their limits. No match of a
--- template that began with the token ends beyond it, unless it begins there.
-pub record HasTaken (tokens : List TokenValue) (first : ℕ) (walk : Walk) : Type 0 where
-  pub walked : HasWalked tokens first walk
-  pub live : KnowsLive walk.inner (λ k. letters_up_to tokens first (walked.limit k))
+-- The walk has taken the tokens from the first one on.
+pub record HasWalked (tokens : List TokenValue) (first : ℕ) (walk : Walk) : Type 0 where
+  pub same : set_behind walk.inner ≡ set_behind walk.back
+  pub stands : StandsBehind walk.back (all_letters (drop first tokens))
+  pub resting : IsTrue walk.is_at_rest → IsAtRest tokens first walk
+  pub going : walk.is_at_rest ≡ false → IsLimited tokens first first walk
+
+-- It has just taken the first one, not at rest: it is known of which templates matches begin there that end before their limits. No match
+-- of a template that began with the token ends beyond it, unless it begins there.
+pub record IsGoing (tokens : List TokenValue) (first : ℕ) (walk : Walk) : Type 0 where
+  pub limits : IsLimited tokens first (first + 1) walk
+  pub live : KnowsLive walk.inner (λ k. letters_up_to tokens first (limits.limit k))
   pub begun : (t : Triple) → IsMatch (set_walked walk) tokens t → t.first ≤ first → Contains (begun_behind walk.back) t.template → t.last ≤ first
+
+-- It has just taken the first one. Where it is at rest, no match goes from there, or from before, beyond it.
+pub record HasTaken (tokens : List TokenValue) (first : ℕ) (walk : Walk) : Type 0 where
+  pub within : first < length tokens
+  pub same : set_behind walk.inner ≡ set_behind walk.back
+  pub stands : StandsBehind walk.back (all_letters (drop first tokens))
+  pub resting : IsTrue walk.is_at_rest → IsAtRest tokens (first + 1) walk
+  pub going : walk.is_at_rest ≡ false → IsGoing tokens first walk
 
 -- all matches of a template that begin with the first token end with the last one
 abbrev pub IsLastOf : List Known → List TokenValue → ℕ → ℕ → ℕ → Type 0

@@ -41,6 +41,14 @@ impl Limits {
         self.lasts[place] = last;
     }
 
+    /// The same token for all of its templates.
+    pub fn change_all(&mut self, last: usize)
+        ensures numbers { self.new.numbers.items ≡ self.old.numbers.items }
+        ensures limits { HaveLimits self.new (λ k. last) }
+    {
+        self.lasts.fill(last);
+    }
+
     /// The token of one of its templates.
     pub fn last_of(&self, number: usize) -> usize
         requires { Contains self.now.numbers.items number }

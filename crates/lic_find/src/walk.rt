@@ -15,13 +15,17 @@ use std::alloc::{AllocError, Global};
 
 /// Templates of a set on their way over a text towards its front, each by two machines: one that is entered at every token, and
 /// one that is entered in front of a limit alone. Matches that the first sees and the other does not end at the limit or beyond it.
+///
+/// Where nothing was on its way in front of a token, the walk is at rest: matches that begin with it end with it, and the second machine
+/// takes no token.
 #[derive(Debug, Drop)]
 pub struct Walk<'s> {
     back: Back<'s>,
     // in front of the limits
     inner: Back<'s>,
-    // No match ends beyond its limit that begins where the walk has come, or in front of that.
+    // No match ends beyond its limit that begins where the walk has come, or in front of that, unless it is at rest.
     limits: Limits,
+    is_at_rest: bool,
     ghost alike: { numbers_behind inner ≡ numbers_behind back },
     ghost limited: { limits.numbers.items ≡ numbers_behind back },
 }
@@ -52,6 +56,7 @@ impl<'s> Walk<'s> {
             back,
             inner,
             limits,
+            is_at_rest: true,
         })
     }
 
@@ -71,6 +76,9 @@ impl<'s> Walk<'s> {
     {
         let token = text.token(first).text;
         self.back.push_front(token);
+        if self.is_at_rest {
+            return;
+        }
         self.inner.push_front(token);
     }
 
@@ -103,6 +111,9 @@ impl<'s> Walk<'s> {
         ensures { IfSome result (λ last. (tokens : List TokenValue) → HasTaken tokens first self.now
             → IsLastOf (set_walked self.now) tokens first number last) }
     {
+        if self.is_at_rest {
+            return Some(first);
+        }
         if has(self.back.begun_numbers(), number) {
             return Some(first);
         }
@@ -112,12 +123,41 @@ impl<'s> Walk<'s> {
         Some(self.limits.last_of(number))
     }
 
-    /// The templates that began with the token that was taken last begin anew in front of it.
+    /// In front of the token that was taken last, the templates begin anew that began with it; all of them where nothing is on its way.
     pub fn begin_anew(&mut self, first: usize)
         ensures walked { (tokens : List TokenValue) → HasTaken tokens first self.old
             → HasWalked tokens first self.new }
         ensures set { set_walked self.new ≡ set_walked self.old }
         ensures numbers { numbers_walked self.new ≡ numbers_walked self.old }
+        ensures back { self.new.back ≡ self.old.back }
+        ensures steps { steps_walked self.new ≡ steps_walked self.old }
+    {
+        if !self.is_at_rest {
+            self.begin_each_anew(first);
+            self.come_to_rest();
+            return;
+        }
+        if self.back.is_idle() {
+            return;
+        }
+        self.wake(first);
+    }
+
+    // At rest, something is on its way in front of this token: no match that begins in front of it ends beyond it.
+    fn wake(&mut self, first: usize)
+        ensures walked { (tokens : List TokenValue) → HasTaken tokens first self.old
+            → IsTrue self.old.is_at_rest → HasWalked tokens first self.new }
+        ensures back { self.new.back ≡ self.old.back }
+        ensures inner { self.new.inner ≡ self.old.inner }
+    {
+        self.limits.change_all(first);
+        self.is_at_rest = false;
+    }
+
+    // Where it is not at rest, each template that began with this token begins anew in front of it.
+    fn begin_each_anew(&mut self, first: usize)
+        ensures walked { (tokens : List TokenValue) → HasTaken tokens first self.old
+            → self.old.is_at_rest ≡ false → HasWalked tokens first self.new }
         ensures back { self.new.back ≡ self.old.back }
         ensures steps { steps_walked self.new ≡ steps_walked self.old }
     {
@@ -127,6 +167,18 @@ impl<'s> Walk<'s> {
                 self.limits.change(number, first);
                 self.inner.begin_one(number);
             }
+        }
+    }
+
+    // It is at rest where nothing is on its way.
+    fn come_to_rest(&mut self)
+        ensures walked { (tokens : List TokenValue) (first : ℕ) → HasWalked tokens first self.old
+            → HasWalked tokens first self.new }
+        ensures back { self.new.back ≡ self.old.back }
+        ensures inner { self.new.inner ≡ self.old.inner }
+    {
+        if self.back.is_idle() && self.inner.is_idle() {
+            self.is_at_rest = true;
         }
     }
 

@@ -249,6 +249,14 @@ any_last e r l m lists ts g none = record {
   complete = λ n more inside described v h. absurd (none v (g.complete n more inside described v h).1);
 }
 
+-- where nothing goes on behind the lists, they are as good as none
+pub nothing_left : (e : Expression) (r : Core) (l : ℕ) (lists : List (List (Gap × ℕ))) → ((v : Word) → AfterAny (WordsOf r) lists v → ⊥)
+    → GoOnAsEnds e r l lists []
+nothing_left e r l lists none = record {
+  sound = λ v h. absurd (none v h);
+  complete = λ n more inside described v h. absurd (omega (arith, inside));
+}
+
 -- the last letter is known, or nothing goes on
 pub known_last : (e : Expression) (r : Core) (l m : ℕ) (lists : List (List (Gap × ℕ))) (ts : List (List ℕ)) → GoOnAsEnds e r l lists ts →
     (m ≡ l) ⊎ ((v : Word) → AfterAny (WordsOf r) lists v → ⊥) → GoOnAsEnds e r m lists ts

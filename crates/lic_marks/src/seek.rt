@@ -331,7 +331,7 @@ impl<'a> Seeker<'a> {
     }
 
     /// True where no position is marked: then no described list goes on from an end of the list, and it stands as it is for the
-    /// list with one token more that no described list begins with. It looks at a few flags.
+    /// list with one token more that no described list begins with, and for the empty list. It looks at a few flags.
     #[inline]
     pub fn is_dead(&self) -> bool
         ensures none { (e : Expression) (ts : List (List ℕ)) → Seeks self.now e ts → IsTrue result
@@ -341,6 +341,8 @@ impl<'a> Seeker<'a> {
             → NoneBegins e token → Seeks self.now e (ts ++ token ∷ []) }
         ensures ends { (e : Expression) (ts : List (List ℕ)) → Seeks self.now e ts → IsTrue result
             → NoneGoesOn e ts }
+        ensures anew { (e : Expression) (ts : List (List ℕ)) → Seeks self.now e ts → IsTrue result
+            → Seeks self.now e [] }
     {
         match self.lone {
             Some(_) => false,

@@ -54,6 +54,7 @@ loop-place-preserved c =
                   none = λ e ts stands. c.is_dead.ensures.none e ts stands dead;
                   skips = λ e ts token stands none. ∣ c.is_dead.ensures.skips e ts token stands dead none ∣₁;
                   goes_on = λ e ts stands. c.is_dead.ensures.ends e ts stands dead;
+                  anew = λ e ts stands. ∣ c.is_dead.ensures.anew e ts stands dead ∣₁;
                 } in
                 subst IsQuiet (c.index-seekers-place.is ∙ it) quiet)
                 (λ (apart : k ≢ place).

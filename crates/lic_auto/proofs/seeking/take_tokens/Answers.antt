@@ -58,6 +58,7 @@ loop-place-preserved c =
             none = λ e ts s. c.is_dead.ensures.none e ts s dead;
             skips = λ e ts token s none. ∣ c.is_dead.ensures.skips e ts token s dead none ∣₁;
             goes_on = λ e ts s. c.is_dead.ensures.ends e ts s dead;
+            anew = λ e ts s. ∣ c.is_dead.ensures.anew e ts s dead ∣₁;
           } in
           record {
             few = omega (arith, w.count-is, invariant.few);

@@ -30,7 +30,7 @@ returns-then-is_empty c = λ tokens taken inside others behind.
     let rising : IsRising live (length set) = c.live_numbers-live.ensures.rising in
     let exactly : (k : ℕ) → Contains live k ↔ (Contains kept k × IsLive set (all_letters (drop first tokens)) k) =
     λ k. subst (λ ns. Contains ns k ↔ (Contains kept k × IsLive set (all_letters (drop first tokens)) k)) (sym c.live_numbers-live.ensures.value)
-    (taken.walked.stands.live k) in
+    (taken.stands.live k) in
     AreFirstsFrom-pass set tokens kept first (starts_in c.args.starts.now)
     (none_live set tokens kept first inside live rising exactly others (empty live (eqb-true (length live) 0 (sym c.is_empty.ensures ∙ c.if-is_empty.true)))) behind
 
@@ -57,7 +57,7 @@ returns c =
     tokens taken inside others behind.
     let exactly : (k : ℕ) → Contains live k ↔ (Contains kept k × IsLive set (all_letters (drop first tokens)) k) =
     λ k. subst (λ ns. Contains ns k ↔ (Contains kept k × IsLive set (all_letters (drop first tokens)) k)) (sym c.live_numbers-live.ensures.value)
-    (taken.walked.stands.live k) in
+    (taken.stands.live k) in
     let are : AreLasts set tokens first live lasts =
     subst (λ ns. AreLasts set tokens first ns lasts) (sym c.live_numbers-live.ensures.value) (c.in_ok-lasts.ensures tokens taken) in
     let with : IsNotedWith first live lasts one = subst (λ ls. IsNotedWith first live ls one) c.deref.ensures.value is in

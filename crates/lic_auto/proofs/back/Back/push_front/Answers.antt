@@ -1,4 +1,4 @@
-use Rattle.std.proofs.Common.{◌≡◌, ◌++◌, ◌∷◌, [], ℕ, ap, ◌∙◌, chars}
+use Rattle.std.proofs.Common.{◌≡◌, ◌++◌, ◌∷◌, [], ℕ, ap, ◌∙◌, refl, chars}
 use Rattle.lic_words.specs.Mirrors.{turned}
 use Rattle.lic_auto.specs.Directions.{ordered}
 use Rattle.lic_auto.specs.declared.chosen.Chosen.{Chosen}
@@ -28,3 +28,24 @@ returns-clause-begun c = λ ts s k among.
     let seekers = c.take.new.self in
     let backward : seekers.chosen.direction ≡ Backward = ap (λ (chosen : Chosen). chosen.direction) c.take.ensures.chosen ∙ c.args.self.now.backward in
     goes_on-reaches seekers backward ts k (λ known here. c.take.ensures.begun (λ n. turned ts) s.each.seekers k known among here)
+
+-- ---- without templates
+
+pub returns-then-is_empty-clause-each : goal.returns-then-is_empty-clause-each
+returns-then-is_empty-clause-each c = λ lists s.
+    let seekers = c.args.self.now.seekers in
+    let token = chars c.args.text.now in
+    let others = λ (k : ℕ). token ∷ lists k in
+    let none = c.if-is_empty.true in (
+      record { seekers = c.is_empty.ensures.stand none (λ k. turned (others k)) },
+      found-live seekers c.args.self.now.backward (λ k. turned (others k)) others (λ k. refl) (c.is_empty.ensures.know none (λ k. turned (others k))),
+    )
+
+pub returns-then-is_empty-clause-stands : goal.returns-then-is_empty-clause-stands
+returns-then-is_empty-clause-stands c = λ ts s.
+    let (each, live) = returns-then-is_empty-clause-each c (λ k. ts) s.each in record { each = each; live = live }
+
+pub returns-then-is_empty-clause-begun : goal.returns-then-is_empty-clause-begun
+returns-then-is_empty-clause-begun c = λ ts s k among.
+    let self = c.args.self.now in
+    goes_on-reaches self.seekers self.backward ts k (λ known here. c.is_empty.ensures.begun c.if-is_empty.true (λ n. turned ts) k known among here)

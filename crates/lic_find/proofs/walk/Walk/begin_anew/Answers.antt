@@ -1,61 +1,24 @@
-use Rattle.std.proofs.Common.{◌<◌, ℕ, length, get_or, refl, sym, ap, ◌∙◌, subst, arith}
-use Rattle.std.specs.List.{Contains}
-use Rattle.std.proofs.lemmas.List.Elements.{Contains-get_or}
-use Rattle.lic_auto.specs.Backs.{begun_behind}
-use Rattle.lic_find.specs.Limits.{HasWalked, steps_walked}
-use Rattle.lic_find.specs.declared.walk.Walk.{Walk}
-use Rattle.lic_find.proofs.LimitLemmas.{begun_anew}
+use Rattle.std.proofs.Common.{sym, ◌∙◌}
+use Rattle.std.proofs.lemmas.Bool.{false≢true}
+use Rattle.lic_find.proofs.LimitLemmas.{idle_apart}
 use Rattle.lic_find.proofs.walk.Walk.begin_anew.Goals as goal
-use Rattle.lic_find.proofs.walk.Walk.begin_anew.Goals.{then-not-is_quiet, else-not-is_quiet}
 
-pub loop-i-init : goal.loop-i-init
-loop-i-init c = record {
-  walked = λ tokens taken. taken.walked;
-  back = refl;
-  steps = refl;
-}
+pub returns-then-not-self-clause-walked : goal.returns-then-not-self-clause-walked
+returns-then-not-self-clause-walked c = λ tokens taken.
+    c.come_to_rest.ensures.walked tokens c.args.first (c.begin_each_anew.ensures.walked tokens taken c.if-not-self.true)
 
-pub change-requires : goal.change-requires
-change-requires c =
-    let begun = c.begun_numbers.result.now in
-    let i = c.loop-i.i in
-    let same = c.begun_numbers.ensures.value ∙ ap begun_behind c.loop-i.invariant.back ∙ sym c.begun_numbers-i-end.ensures.value in
-    let inside : i < length begun = omega (arith, c.loop-i-test.true, ap length same) in
-    subst (λ ns. Contains ns (get_or begun i 0)) (sym c.loop-i.self.limited) (c.begun_numbers.ensures.within (get_or begun i 0) (Contains-get_or begun i 0 inside))
+pub returns-then-is_idle-clause-walked : goal.returns-then-is_idle-clause-walked
+returns-then-is_idle-clause-walked c = λ tokens taken.
+    let walk = c.args.self.now in
+    record {
+      same = taken.same;
+      stands = taken.stands;
+      resting = λ rests. record {
+        inner = (taken.resting rests).inner;
+        apart = idle_apart tokens c.args.first walk.back taken.stands (λ ts stands k there. c.is_idle.ensures.reaches ts stands c.if-is_idle.true k there);
+      };
+      going = λ goes. absurd (false≢true (sym goes ∙ c.if-not-self.false));
+    }
 
-pub begin_one-requires : goal.begin_one-requires
-begin_one-requires c =
-    let begun = c.begun_numbers.result.now in
-    let i = c.loop-i.i in
-    let same = c.begun_numbers.ensures.value ∙ ap begun_behind c.loop-i.invariant.back ∙ sym c.begun_numbers-i-end.ensures.value in
-    let inside : i < length begun = omega (arith, c.loop-i-test.true, ap length same) in
-    subst (λ ns. Contains ns (get_or begun i 0)) (sym c.loop-i.self.alike) (c.begun_numbers.ensures.within (get_or begun i 0) (Contains-get_or begun i 0 inside))
-
-pub loop-i-preserved : goal.loop-i-preserved
-loop-i-preserved c =
-    let inv = c.loop-i.invariant in
-    let old = c.loop-i.self in
-    let first = c.args.first in
-    let begun = c.begun_numbers.result.now in
-    let i = c.loop-i.i in
-    let k : ℕ = get_or begun i 0 in
-    let same = c.begun_numbers.ensures.value ∙ ap begun_behind inv.back ∙ sym c.begun_numbers-i-end.ensures.value in
-    let inside : i < length begun = omega (arith, c.loop-i-test.true, ap length same) in
-    let among : Contains (begun_behind c.args.self.now.back) k =
-    subst (λ ns. Contains ns k) (c.begun_numbers.ensures.value ∙ ap begun_behind inv.back) (Contains-get_or begun i 0 inside) in
-    elim c.if-not-is_quiet.branch [
-      | then-not-is_quiet w ↦ record {
-        walked = λ tokens taken.
-            begun_anew tokens first old c.args.self.now inv.back k among taken (inv.walked tokens taken)
-            w.change.new.self w.change.ensures.limits w.begin_one.new.self w.begin_one.ensures.stands w.begin_one.ensures.set
-            c.if-not-is_quiet.self (ap (λ (walk : Walk). walk.back) w.self-is) (ap (λ (walk : Walk). walk.inner) w.self-is)
-            (ap (λ (walk : Walk). walk.limits) w.self-is);
-        back = ap (λ (walk : Walk). walk.back) w.self-is ∙ inv.back;
-        steps = ap steps_walked w.self-is ∙ omega (arith, w.begin_one.ensures.steps, inv.steps);
-      }
-      | else-not-is_quiet w ↦ record {
-        walked = λ tokens taken. subst (HasWalked tokens first) (sym w.self-is) (inv.walked tokens taken);
-        back = ap (λ (walk : Walk). walk.back) w.self-is ∙ inv.back;
-        steps = ap steps_walked w.self-is ∙ inv.steps;
-      }
-    ]
+pub returns-clause-walked : goal.returns-clause-walked
+returns-clause-walked c = λ tokens taken. c.wake.ensures.walked tokens taken c.if-not-self.false

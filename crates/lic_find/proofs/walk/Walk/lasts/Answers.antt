@@ -22,7 +22,7 @@ last_of-requires c =
     let k : ℕ = get_or live c.loop-number.number-index 0 in
     let inside : Contains (live_behind walk.back) k =
     subst (λ ns. Contains ns k) c.live_numbers-live.ensures.value (Contains-get_or live c.loop-number.number-index 0 c.loop-number-test.true) in
-    ((taken.walked.stands.live k).0 inside).0
+    ((taken.stands.live k).0 inside).0
 
 pub loop-number-preserved : goal.loop-number-preserved
 loop-number-preserved c = record {

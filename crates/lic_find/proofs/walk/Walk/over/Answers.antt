@@ -1,11 +1,10 @@
-use Rattle.std.proofs.Common.{◌≡◌, ℕ, [], length, drop, sym, ap, ◌∙◌, subst, arith}
-use Rattle.std.proofs.Math.Path.{fun_ext}
+use Rattle.std.proofs.Common.{◌≡◌, [], length, drop, sym, ap, ◌∙◌, subst, arith}
 use Rattle.std.proofs.Math.Seq.{drop-length}
+use Rattle.std.proofs.lemmas.Bool.{false≢true}
 use Rattle.lic_keys.specs.Rising.{IsRising}
 use Rattle.lic_keys.proofs.RisingLemmas.{rises}
-use Rattle.lic_auto.specs.Backs.{StandsBehind, StandsForEach}
+use Rattle.lic_auto.specs.Backs.{StandsBehind}
 use Rattle.lic_find.specs.Matches.{all_letters}
-use Rattle.lic_find.proofs.Ranges.{letters_up_to-none}
 use Rattle.lic_find.proofs.walk.Walk.over.Goals as goal
 
 pub of-requires : goal.of-requires
@@ -18,16 +17,14 @@ of-requires c = λ i j less within.
 pub returns-clause-walked : goal.returns-clause-walked
 returns-clause-walked c = λ tokens count.
     let back = c.in_ok-back.back in
-    let inner = c.in_ok-inner.inner in
     let n = c.args.count in
     let nothing : drop n tokens ≡ [] = ap (λ m. drop m tokens) (sym count) ∙ drop-length tokens in
     record {
       same = c.in_ok-inner.ensures.set ∙ sym c.in_ok-back.ensures.set;
-      limit = λ k. n;
-      limits = c.in_ok-limits.ensures.limits;
-      low = λ k. omega arith;
-      high = λ k. omega (arith, count);
       stands = subst (λ ts. StandsBehind back (all_letters ts)) (sym nothing) c.in_ok-back.ensures.stands;
-      inner = subst (StandsForEach inner) (fun_ext (λ (k : ℕ). sym (letters_up_to-none tokens n))) c.in_ok-inner.ensures.stands.each;
-      limited = λ t m early. let order = m.order in let within = m.within in omega (arith, count);
+      resting = λ rests. record {
+        inner = c.in_ok-inner.ensures.stands.each;
+        apart = λ t m there early. let within = m.within in omega (arith, count, within);
+      };
+      going = λ goes. absurd (false≢true (sym goes));
     }

@@ -2,7 +2,7 @@ use Rattle.std.proofs.Common.{subst}
 use Rattle.lic_marks.specs.Nodes.{core_of}
 use Rattle.lic_marks.specs.Seeks.{StandsFor}
 use Rattle.lic_marks.specs.States.{HasTakenAny}
-use Rattle.lic_marks.proofs.Seeking.{answer_complete, none_goes_on, skipped}
+use Rattle.lic_marks.proofs.Seeking.{answer_complete, none_goes_on, nothing_left, skipped}
 use Rattle.lic_marks.proofs.seek.Seeker.is_dead.Goals as goal
 
 pub returns-in-None-clause-none : goal.returns-in-None-clause-none
@@ -31,3 +31,15 @@ returns-in-None-clause-ends c = λ e ts s h.
     let r = core_of self.tree.now in
     let taken : HasTakenAny r self.state s.lists = subst (λ l. StandsFor r l self.state s.lists) c.in-None.is s.taken in
     none_goes_on e _ _ s.lists ts s.ends s.words (λ v follows. c.is_dead.ensures r h v (taken.leads.now.complete v follows))
+
+pub returns-in-None-clause-anew : goal.returns-in-None-clause-anew
+returns-in-None-clause-anew c = λ e ts s h.
+    let self = c.args.self.now in
+    let r = core_of self.tree.now in
+    let taken : HasTakenAny r self.state s.lists = subst (λ l. StandsFor r l self.state s.lists) c.in-None.is s.taken in
+    record {
+      words = s.words;
+      lists = s.lists;
+      taken = s.taken;
+      ends = nothing_left e _ _ s.lists (λ v follows. c.is_dead.ensures r h v (taken.leads.now.complete v follows));
+    }
