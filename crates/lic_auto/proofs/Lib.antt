@@ -16,6 +16,8 @@ pub mod TurnedEnds
 pub mod FirstLemmas
 pub mod Gathering
 pub mod SieveLemmas
+pub mod HeadFronts
+pub mod Naming
 pub mod IndexLemmas
 pub mod WordSets
 pub mod Rows
