@@ -1,10 +1,10 @@
 -- The text of a head, and of its first letter, by the bytes of the token with which they stand in front as it is read.
-use Rattle.std.proofs.Common.{◌≡◌, ◌≢◌, ℕ, ◌+◌, ◌<◌, ◌≤◌, Bool, true, false, ◌==◌, ◌&&◌, List, [], ◌∷◌, ◌++◌, length, reverse, take, append-nil, append_assoc, length-append, ne_eqb, refl, sym, ap, ◌∙◌, subst, arith}
+use Rattle.std.proofs.Common.{◌≡◌, ◌≢◌, ℕ, ◌<◌, Bool, true, false, ◌&&◌, List, [], ◌∷◌, ◌++◌, length, reverse, take, length-append, ne_eqb, refl, sym, ap, ◌∙◌, subst, arith}
 use Rattle.std.specs.Str.{chars, IsUtf8}
 use Rattle.std.proofs.Math.Utf8.{encode, encodes, scalar, scalars}
 use Rattle.std.proofs.lemmas.Bool.{and_parts}
 use Rattle.std.proofs.lemmas.List.{reverse-append, reverse-reverse}
-use Rattle.std.proofs.lemmas.Str.{chars-encodes, chars-nil, encodes-append, encodes-chars, length-encode, len_utf8_bounds, scalars-chars}
+use Rattle.std.proofs.lemmas.Str.{chars-encodes, chars-nil, encodes-chars, length-encode, len_utf8_bounds, scalars-chars}
 use Rattle.lic_words.specs.Letters.{is_word}
 use Rattle.lic_words.specs.Words.{Word, blank}
 use Rattle.lic_auto.specs.Directions.{ordered}

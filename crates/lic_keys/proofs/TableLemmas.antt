@@ -5,7 +5,7 @@ use Rattle.std.proofs.lemmas.Bool.{cases_eq, cases_lt}
 use Rattle.std.proofs.lemmas.List.{get_or-set_same, get_or-set_other, get_or_append_left, get_or_push, get_or_past, length_push}
 use Rattle.std.proofs.lemmas.List.Elements.{Contains-push, Contains-append_left, Contains-push_cases}
 use Rattle.std.proofs.Math.Logic.{⊎_elim}
-use Rattle.lic_keys.specs.Tables.{AddsFor, LeadsTo, list_place, lists_of, mark_place}
+use Rattle.lic_keys.specs.Tables.{AddsFor, list_place, lists_of, mark_place}
 use Rattle.lic_keys.specs.declared.table.Place.{Place}
 use Rattle.lic_keys.specs.declared.table.Table.{Table}
 

@@ -1,4 +1,4 @@
-use Rattle.std.proofs.Common.{◌≡◌, rules, sym, ap, ◌∙◌, subst}
+use Rattle.std.proofs.Common.{rules, sym, ◌∙◌, subst}
 use Rattle.std.proofs.lemmas.List.Elements.{filter_from_retain}
 use Rattle.memchr.specs.Find.{IsFirstByte, is_byte}
 use Rattle.lic_keys.proofs.ByteLemmas.{none_answered}

@@ -1,4 +1,4 @@
-use Rattle.std.proofs.Common.{◌≡◌, ◌*◌, ◌%◌, ◌^◌, ap}
+use Rattle.std.proofs.Common.{◌*◌, ◌%◌, ◌^◌, ap}
 use Rattle.lic_keys.specs.Hashes.{hash_of}
 use Rattle.lic_keys.proofs.table.hash.Goals as goal
 

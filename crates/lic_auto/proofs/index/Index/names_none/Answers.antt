@@ -1,4 +1,4 @@
-use Rattle.std.proofs.Common.{◌≡◌, length, vec_len, false, eqb-true, sym, ◌∙◌, arith}
+use Rattle.std.proofs.Common.{◌≡◌, vec_len, false, eqb-true, sym, ◌∙◌, arith}
 use Rattle.lic_auto.proofs.HeadTexts.{other_from_not}
 use Rattle.lic_auto.proofs.Naming.{listed-none}
 use Rattle.lic_auto.proofs.index.Index.names_none.Goals as goal

@@ -1,4 +1,4 @@
-use Rattle.std.proofs.Common.{◌≡◌, ◌+◌, [], ◌<◌, ℕ, true, List, length, map, get_or, None, Some, vec_len, string_bytes, rules, sym, ap, ◌∙◌, subst, arith}
+use Rattle.std.proofs.Common.{◌≡◌, ◌+◌, [], ◌<◌, ℕ, List, length, map, get_or, None, Some, vec_len, string_bytes, rules, sym, ap, ◌∙◌, subst, arith}
 use Rattle.std.specs.HashMap.{get_by_text, Updates}
 use Rattle.std.specs.Map.{lookup, update}
 use Rattle.std.specs.Str.{bytes_eq, IsUtf8}

@@ -1,4 +1,4 @@
-use Rattle.std.proofs.Common.{◌≡◌, ◌<◌, ◌^◌, ◌-◌, length, arith}
+use Rattle.std.proofs.Common.{◌<◌, ◌^◌, ◌-◌, length, arith}
 use Rattle.lic_auto.proofs.SieveLemmas.{each_set, flag-here, flag-kept}
 use Rattle.lic_auto.proofs.sieve.Sieve.add_each.Goals as goal
 

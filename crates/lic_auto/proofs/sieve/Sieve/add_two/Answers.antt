@@ -1,4 +1,4 @@
-use Rattle.std.proofs.Common.{◌≡◌, ℕ, ◌<◌, ◌*◌, ◌%◌, ◌^◌, length, get_or, arith, eqb-true}
+use Rattle.std.proofs.Common.{◌<◌, ◌*◌, ◌%◌, ◌^◌, length, get_or, arith, eqb-true}
 use Rattle.std.specs.Prelude.{bit_or}
 use Rattle.lic_auto.proofs.SieveLemmas.{flag-here, flag-kept, one_kept, one_set}
 use Rattle.lic_auto.proofs.sieve.Sieve.add_two.Goals as goal

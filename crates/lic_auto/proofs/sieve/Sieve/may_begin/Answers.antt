@@ -1,4 +1,4 @@
-use Rattle.std.proofs.Common.{◌≡◌, ◌+◌, ◌<◌, length, length-append, eqb-true, sym, ap, ◌∙◌, arith}
+use Rattle.std.proofs.Common.{◌≡◌, length, length-append, eqb-true, sym, ap, ◌∙◌, arith}
 use Rattle.lic_auto.specs.Directions.{ordered}
 use Rattle.lic_auto.proofs.Ordered.{length-ordered}
 use Rattle.lic_auto.proofs.SieveLemmas.{not_begun}

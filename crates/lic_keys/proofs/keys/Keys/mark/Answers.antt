@@ -1,11 +1,10 @@
-use Rattle.std.proofs.Common.{◌≡◌, ℕ, ◌+◌, ◌-◌, ◌<◌, ◌≤◌, length, List, Some, true, false, take, drop, sym, ap, ◌∙◌, subst, arith}
+use Rattle.std.proofs.Common.{◌≡◌, ◌+◌, ◌-◌, ◌<◌, length, Some, take, drop, sym, ap, ◌∙◌, subst, arith}
 use Rattle.std.specs.List.{slice_get, Contains}
 use Rattle.std.specs.Prelude.{encode_utf8_all}
 use Rattle.std.proofs.lemmas.Bool.{false≢true}
 use Rattle.std.proofs.lemmas.List.{length-map}
-use Rattle.lic_keys.specs.Listing.{StandsAt, plain_key, plain_keys}
-use Rattle.lic_keys.specs.Tables.{LeadsTo, gram_at, list_place, may_have, named, place_in}
-use Rattle.lic_keys.specs.declared.table.Place.{Place}
+use Rattle.lic_keys.specs.Listing.{plain_key, plain_keys}
+use Rattle.lic_keys.specs.Tables.{LeadsTo, gram_at, list_place, place_in}
 use Rattle.lic_keys.proofs.ByteLemmas.{text_lengths}
 use Rattle.lic_keys.proofs.WindowLemmas.{eight_from, gram_of_text}
 use Rattle.lic_keys.proofs.keys.Keys.mark.Goals as goal

@@ -1,6 +1,6 @@
-use Rattle.std.proofs.Common.{◌≡◌, ◌++◌, sym, ap, ◌∙◌, subst}
+use Rattle.std.proofs.Common.{◌++◌, sym, ap, ◌∙◌, subst}
 use Rattle.lic_keys.specs.Keys.{without_blanks}
-use Rattle.lic_keys.specs.Looks.{Finds, HoldsAll, keys_of}
+use Rattle.lic_keys.specs.Looks.{Finds, keys_of}
 use Rattle.lic_keys.proofs.KeyLemmas.{without_blanks-append}
 use Rattle.lic_keys.proofs.LookLemmas.{Finds-push}
 use Rattle.lic_keys.proofs.look.Look.push_bytes.Goals as goal
