@@ -17,6 +17,8 @@ pub mod FirstLemmas
 pub mod Gathering
 pub mod SieveLemmas
 mod Idle
+pub mod HeadFronts
+pub mod Naming
 pub mod IndexLemmas
 pub mod WordSets
 pub mod Rows

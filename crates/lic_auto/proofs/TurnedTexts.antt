@@ -15,7 +15,7 @@ scalars-all : (cs : List ℕ) → scalars cs ≡ list_all scalar cs
 scalars-all [] = refl
 scalars-all (c ∷ cs) = ap (λ b. scalar c && b) (scalars-all cs)
 
-scalars-reverse : (cs : List ℕ) → scalars cs ≡ true → scalars (reverse cs) ≡ true
+pub scalars-reverse : (cs : List ℕ) → scalars cs ≡ true → scalars (reverse cs) ≡ true
 scalars-reverse cs h = scalars-all (reverse cs) ∙ list_all-reverse scalar cs (sym (scalars-all cs) ∙ h)
 
 module _ (text : List ℕ) (utf8 : IsUtf8 text) where

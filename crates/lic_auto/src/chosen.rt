@@ -155,6 +155,9 @@ impl<'s> Chosen<'s> {
             → ¬ (IsDescribed (read self.now.direction (words_of known))
             (ordered self.now.direction (chars token.now) ∷ more)) }
     {
+        if self.index.names_none(token) {
+            return &[];
+        }
         self.index.entered_by(read_head(token, self.direction))
     }
 
@@ -172,6 +175,9 @@ impl<'s> Chosen<'s> {
             → ¬ (IsDescribed (read self.now.direction (words_of known))
             (ordered self.now.direction (chars token.now) ∷ more)) }
     {
+        if self.index.names_none(token) {
+            return 0;
+        }
         let head = read_head(token, self.direction);
         let places = self.index.entered_by(head);
         keep_beginning(&self.firsts, places, head, self.direction, entered)

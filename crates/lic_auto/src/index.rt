@@ -1,11 +1,13 @@
 //! A literal-prefix index: which templates a text can enter, by the head of its first token.
 
-ghost use Rattle.std.specs.Prelude.{◌≡◌, ◌<◌, ◌≤◌, ◌-◌, ◌+◌, ◌↔◌, ℕ, IfOk, OnOk, IsTrue, true, length, map, slice_index_or, vec_len, List, Some, Contains, string_bytes, []};
+ghost use Rattle.std.specs.Prelude.{◌≡◌, ◌<◌, ◌≤◌, ◌-◌, ◌+◌, ◌++◌, ◌↔◌, ℕ, IfOk, OnOk, IsTrue, true, length, map, slice_index_or, vec_len, List, Some, Contains, string_bytes, []};
 ghost use Rattle.std.specs.HashMap.{get_by_text};
 ghost use Rattle.std.specs.List.{slice_get};
+ghost use Rattle.std.specs.Str.{IsUtf8};
 ghost use Rattle.lic_auto.specs.Heads.{letter_of};
 ghost use Rattle.lic_auto.specs.Listing.{Grows, GrowsIf};
-ghost use Rattle.lic_auto.specs.Sieves.{may_have};
+ghost use Rattle.lic_auto.specs.Directions.{ordered};
+ghost use Rattle.lic_auto.specs.Sieves.{MayHave};
 
 use crate::direction::Direction;
 use crate::first::Firsts;
@@ -37,7 +39,7 @@ pub struct Index {
     ghost letter: { (text : List ℕ) (place : ℕ) → get_by_text places text ≡ Some place
         → slice_index_or (map string_bytes letters.items) place [] ≡ letter_of direction text },
     ghost covered: { (text : List ℕ) (place : ℕ) → get_by_text places text ≡ Some place
-        → may_have sieve text ≡ true },
+        → MayHave sieve (ordered direction text) },
 }
 
 impl Index {
@@ -82,6 +84,19 @@ impl Index {
         }
     }
 
+    /// True only where the list of each head with which the token begins as it is read, is empty. It reads two bytes of the token.
+    #[inline]
+    pub fn names_none(&self, token: &str) -> bool
+        ensures { IsTrue result → (head rest : List ℕ) → IsUtf8 head → 0 < length head
+            → ordered self.now.direction token.now ≡ ordered self.now.direction head ++ rest
+            → listed self.now head ≡ [] }
+    {
+        if !self.others.is_empty() {
+            return false;
+        }
+        !self.sieve.may_begin(token, self.direction)
+    }
+
     // The place of the list of a head, or else of its first letter.
     fn place_for(&self, head: &str) -> Option<usize>
         ensures { result ≡ place_for self.now head.now }
@@ -92,14 +107,11 @@ impl Index {
         self.find(read_letter(head, self.direction))
     }
 
-    // The place of a text. A look at its ends spares most texts that have none the map.
+    // The place of a text.
     #[inline]
     fn find(&self, text: &str) -> Option<usize>
         ensures { result ≡ get_by_text self.now.places text.now }
     {
-        if !self.sieve.may_have(text) {
-            return None;
-        }
         self.places.get(text).copied()
     }
 
@@ -193,7 +205,7 @@ impl Index {
         let letter = String::from_str(alloc, read_letter(head, self.direction))?;
         let list = Vec::from_slice(alloc, self.entered_by(head))?;
         let place = self.lists.len();
-        self.sieve.add(head);
+        self.sieve.add(head, self.direction);
         put_at(&mut self.letters, place, letter)?;
         self.lists.push(list)?;
         self.places.insert(key, place)?;

@@ -1,5 +1,5 @@
 -- Flags of templates, and the numbers of those that are set.
-use Rattle.std.proofs.Common.{◌≡◌, ℕ, zero, suc, ◌+◌, ◌<◌, Bool, true, false, List, [], ◌∷◌, ◌++◌, Option, None, Some, Vec, map, length, get_or, set, refl, sym, ◌∙◌, subst, arith}
+use Rattle.std.proofs.Common.{◌≡◌, ℕ, zero, suc, ◌+◌, ◌<◌, Bool, true, false, List, [], ◌∷◌, ◌++◌, Option, None, Some, String, map, length, get_or, set, refl, sym, ◌∙◌, subst, arith}
 use Rattle.std.specs.Global.{Global}
 use Rattle.std.specs.List.{slice_get}
 use Rattle.std.specs.Option.{is_none}
@@ -11,20 +11,20 @@ use Rattle.lic_keys.specs.Listing.{IsSet, plain_keys}
 use Rattle.lic_keys.specs.Rising.{IsRising}
 use Rattle.lic_keys.proofs.RisingLemmas.{IsRising-push}
 
-module _ (flags : List Bool) (n : ℕ) (inside : n < length flags) where
-  pub IsSet-here : IsSet (set flags n true) n
-  IsSet-here = get_or-set_same flags n true false inside
+module _ (flags : List Bool) (n : ℕ) (b : Bool) (inside : n < length flags) where
+  pub IsSet-here : b ≡ true → IsSet (set flags n b) n
+  IsSet-here h = get_or-set_same flags n b false inside ∙ h
 
   -- what is set stays set
-  pub IsSet-kept : (k : ℕ) → IsSet flags k → IsSet (set flags n true) k
-  IsSet-kept k h =
+  pub IsSet-kept : (IsSet flags n → b ≡ true) → (k : ℕ) → IsSet flags k → IsSet (set flags n b) k
+  IsSet-kept stays k h =
       ⊎_elim
-      (λ (same : k ≡ n). subst (IsSet (set flags n true)) (sym same) IsSet-here)
-      (λ (other : k ≡ n → ⊥). get_or-set_other flags n k true false other ∙ h)
+      (λ (same : k ≡ n). subst (IsSet (set flags n b)) (sym same) (IsSet-here (stays (subst (IsSet flags) same h))))
+      (λ (other : k ≡ n → ⊥). get_or-set_other flags n k b false other ∙ h)
       (cases_eq k n)
 
 -- the flag of a missing key
-pub IsSet-missing : (keys : List (Option (Vec ℕ Global))) (k : ℕ) → slice_get (plain_keys keys) k ≡ Some None → IsSet (map (λ key. is_none key) keys) k
+pub IsSet-missing : (keys : List (Option (String Global))) (k : ℕ) → slice_get (plain_keys keys) k ≡ Some None → IsSet (map (λ key. is_none key) keys) k
 IsSet-missing [] k h = absurd (none-some None h)
 IsSet-missing (None ∷ keys) zero h = refl
 IsSet-missing (Some key ∷ keys) zero h = cc

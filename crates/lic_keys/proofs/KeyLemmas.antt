@@ -16,7 +16,7 @@ use Rattle.lic_markup.specs.Meaning.{parts_words, part_words}
 use Rattle.lic_markup.proofs.MeaningLemmas.{part_words-Text}
 use Rattle.lic_keys.specs.Keys.{IsKeyOf, IsText, StandsIn, letters_of, without_blanks}
 
-without_blanks-append : (xs ys : List ℕ) → without_blanks (xs ++ ys) ≡ without_blanks xs ++ without_blanks ys
+pub without_blanks-append : (xs ys : List ℕ) → without_blanks (xs ++ ys) ≡ without_blanks xs ++ without_blanks ys
 without_blanks-append xs ys = filter-append _ xs ys
 
 pub letters_of-append : (xs ys : List (List ℕ)) → letters_of (xs ++ ys) ≡ letters_of xs ++ letters_of ys

@@ -1,3 +1,4 @@
+pub mod ByteLemmas
 pub mod KeyLemmas
 pub mod RisingLemmas
 pub mod WindowLemmas

@@ -1,5 +1,5 @@
 -- Keys that are picked, listed and looked for.
-use Rattle.std.proofs.Common.{◌≡◌, ℕ, zero, suc, ◌+◌, ◌<◌, Bool, List, [], ◌∷◌, ◌++◌, Option, None, Some, Vec, map, take, length, get_or, refl, sym, ap, ◌∙◌, subst, arith}
+use Rattle.std.proofs.Common.{◌≡◌, ℕ, zero, suc, ◌+◌, ◌<◌, Bool, List, [], ◌∷◌, ◌++◌, Option, None, Some, String, map, take, length, get_or, refl, sym, ap, ◌∙◌, subst, arith}
 use Rattle.std.specs.Global.{Global}
 use Rattle.std.specs.Option.{option_map}
 use Rattle.std.specs.List.{AllZip, slice_get}
@@ -38,7 +38,7 @@ module _ {A B : Type 0} (R : A → B → Type 0) where
   AllZip-count (a ∷ xs) (b ∷ ys) all = ap suc (AllZip-count xs ys all.1)
 
 -- the key at a place
-pub plain_at : (keys : List (Option (Vec ℕ Global))) (k : ℕ) (key : Option (Vec ℕ Global)) → k < length keys → key ≡ get_or keys k key →
+pub plain_at : (keys : List (Option (String Global))) (k : ℕ) (key : Option (String Global)) → k < length keys → key ≡ get_or keys k key →
     slice_get (plain_keys keys) k ≡ Some (plain_key key)
 plain_at keys k key inside is = slice_get-map plain_key keys k ∙ ap (option_map plain_key) (slice_get_read keys (length keys) k key refl inside is)
 
@@ -72,15 +72,16 @@ lengths_picked (t ∷ texts) (x ∷ keys) picked zero key there =
     let first : IsPickedOf t (Some key) = subst (IsPickedOf t) (same_Some x (Some key) there) picked.0 in first.count
 lengths_picked (t ∷ texts) (x ∷ keys) picked (suc k) key there = lengths_picked texts keys picked.1 k key there
 
--- The key of a template whose flag is not set stands nowhere in the letters, where the flags of missing keys and of windows are set.
-module _ (keys : List (Option (List ℕ))) (flags : List Bool) (letters : List ℕ) (lengths : HaveLengths keys)
+-- The key of a template whose flag is not set stands nowhere in the letters, where the flags of missing keys and of those that stand are
+-- set.
+module _ (keys : List (Option (List ℕ))) (flags : List Bool) (letters : List ℕ)
     (missing : (k : ℕ) → slice_get keys k ≡ Some None → IsSet flags k)
-    (standing : (k : ℕ) (key : List ℕ) → slice_get keys k ≡ Some (Some key) → IsWindowOf key letters → IsSet flags k) where
+    (standing : (k : ℕ) (key : List ℕ) → slice_get keys k ≡ Some (Some key) → StandsIn key letters → IsSet flags k) where
   not_set : (k : ℕ) (key : Option (List ℕ)) → slice_get keys k ≡ Some key → (IsSet flags k → ⊥) →
       (some : List ℕ) × (slice_get keys k ≡ Some (Some some)) × ¬ (StandsIn some letters)
   not_set k None there unset = absurd (unset (missing k there))
   not_set k (Some key) there unset =
-      (key, there, λ stands. unset (standing k key there (record { count = lengths k key there; stands = stands })))
+      (key, there, λ stands. unset (standing k key there stands))
 
   pub key_nowhere : (k : ℕ) → k < length keys → (IsSet flags k → ⊥) →
       (some : List ℕ) × (slice_get keys k ≡ Some (Some some)) × ¬ (StandsIn some letters)

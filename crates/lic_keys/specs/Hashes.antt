@@ -1,9 +1,7 @@
 -- Hashes of grams.
-use Rattle.std.specs.Prelude.{ℕ, ◌+◌, ◌*◌, List, slice_index}
+use Rattle.std.specs.Prelude.{ℕ, ◌*◌, ◌%◌, ◌^◌, List}
+use Rattle.std.specs.Int.{w64, from_le_bytes}
 
--- a sum over nine letters
+-- the bytes of a gram as one number, times an odd number
 unfoldable pub hash_of : List ℕ → ℕ
-hash_of gram =
-    slice_index gram 0 * 0x354D479C6B + slice_index gram 1 * 0x6A09E667F3 + slice_index gram 2 * 0x3C6EF372FF
-    + slice_index gram 3 * 0x520E517F41 + slice_index gram 4 * 0x1F83D9ABFB + slice_index gram 5 * 0x5BE0CD19A7
-    + slice_index gram 6 * 0x79E3779B97 + slice_index gram 7 * 0x4A2B7E1513 + slice_index gram 8 * 0x2D98C10E6D
+hash_of gram = from_le_bytes w64 gram * 0x9E3779B97F4A7C15 % 2 ^ 64

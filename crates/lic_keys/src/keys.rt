@@ -1,15 +1,18 @@
 //! The keys of templates, and the table in which their grams are looked up.
 
-ghost use Rattle.std.specs.Prelude.{◌≡◌, ◌↔◌, ◌<◌, ◌≤◌, ◌+◌, ℕ, List, None, Some, map, length, Contains, IfOk, OnOk, IsTrue};
+ghost use Rattle.std.specs.Prelude.{◌≡◌, ◌<◌, ◌≤◌, ◌+◌, ℕ, List, None, Some, map, length, Contains, IfOk, OnOk, IsTrue};
 ghost use Rattle.std.specs.List.{AllZip, slice_get};
-ghost use Rattle.std.specs.Option.{is_none, option_map};
-ghost use Rattle.lic_keys.specs.Keys.{AreKeysOf, IsWindowOf};
+ghost use Rattle.std.specs.Option.{is_none};
+ghost use Rattle.std.specs.Str.{chars, encode_utf8_all};
+ghost use Rattle.std.specs.String.{string_bytes};
+ghost use Rattle.lic_keys.specs.Keys.{AreKeysOf, StandsIn};
 ghost use Rattle.lic_keys.specs.Listing.{HaveLengths, IsListed, IsPickedOf, IsSet, MayHaveLetters, StandsAt, plain_key, plain_keys};
-ghost use Rattle.lic_keys.specs.Tables.{PutsDown};
+ghost use Rattle.lic_keys.specs.Tables.{PutsDown, place_in};
+ghost use Rattle.lic_keys.specs.declared.table.Place.{Place};
 
-use crate::table::Table;
+use crate::table::{Place, Table};
 use crate::texts::longest_letters;
-use crate::window::{Counts, GRAM, LENGTH, STEP};
+use crate::window::{Counts, GRAM, STEP};
 use lic_markup::Template;
 use std::alloc::{AllocError, Global};
 use std::marker::Model;
@@ -18,7 +21,8 @@ use std::marker::Model;
 /// template describes a range of tokens, its key stands within their letters.
 #[derive(Debug, Drop)]
 pub struct Keys {
-    keys: Vec<Option<Vec<char>>>,
+    // the text of each
+    keys: Vec<Option<String>>,
     table: Table,
 }
 
@@ -62,52 +66,62 @@ impl Keys {
         flags_of(alloc, &self.keys)
     }
 
-    /// Sets the flag of each template whose key stands in the letters.
+    /// Sets the flag of each template whose key stands in the bytes.
     ///
     /// It looks at one of eight places. Wherever a key stands, one of its first eight grams begins at such a place.
-    pub(crate) fn mark_all(&self, letters: &[char], flags: &mut [bool])
-        requires { length flags.old ≡ length self.now }
+    pub(crate) fn mark_all(&self, bytes: &[u8], flags: &mut [bool])
+        requires lengths { HaveLengths self.now }
+        requires flags { length flags.old ≡ length self.now }
         ensures kept { (k : ℕ) → IsSet flags.old k → IsSet flags.new k }
         ensures set { (k : ℕ) (key : List ℕ) → slice_get self.now k ≡ Some (Some key)
-            → IsWindowOf key letters.now → IsSet flags.new k }
+            → StandsIn (encode_utf8_all key) bytes.now → IsSet flags.new k }
     {
-        if letters.len() < LENGTH {
-            return;
-        }
-        for step in 0..(letters.len() - GRAM) / STEP + 1 {
-            self.mark(letters, step * STEP, flags);
+        for step in 0..bytes.len() / STEP {
+            self.mark(bytes, step * STEP, flags);
         }
     }
 
-    // Sets the flag of each template whose key stands in the letters and has one of its first eight grams at this place.
-    fn mark(&self, letters: &[char], place: usize, flags: &mut [bool])
-        requires place { place + 9 ≤ length letters.now }
+    // Sets the flag of each template whose key stands in the bytes and has one of its first eight grams at this place.
+    #[inline(always)]
+    fn mark(&self, bytes: &[u8], place: usize, flags: &mut [bool])
+        requires lengths { HaveLengths self.now }
+        requires place { place + 8 ≤ length bytes.now }
         requires flags { length flags.old ≡ length self.now }
         ensures kept { (k : ℕ) → IsSet flags.old k → IsSet flags.new k }
         ensures set { (k from : ℕ) (key : List ℕ) → slice_get self.now k ≡ Some (Some key)
-            → StandsAt key letters.now from → from ≤ place → place < from + 8
+            → StandsAt (encode_utf8_all key) bytes.now from → from ≤ place → place < from + 8
             → IsSet flags.new k }
     {
-        let numbers = self.table.numbers(&letters[place..place + GRAM]);
-        let start = place.saturating_sub(STEP - 1);
-        let end = letters.len().min(place + LENGTH);
-        mark_each(&self.keys, numbers, &letters[start..end], flags);
+        let gram = &bytes[place..place + GRAM];
+        if !self.table.may_have(gram) {
+            return;
+        }
+        mark_each(&self.keys, self.table.places(gram), bytes, place, flags);
     }
 }
 
-// Sets the flag of each of these numbers whose key stands in the letters.
-fn mark_each(keys: &[Option<Vec<char>>], numbers: &[usize], letters: &[char], flags: &mut [bool])
-    requires inside { (k : ℕ) → Contains numbers.now k → k < length keys.now }
+// Sets the flag of each key that stands in the bytes so that one of its places here comes to this byte.
+#[inline(never)]
+fn mark_each(
+    keys: &[Option<String>],
+    places: &[Place],
+    bytes: &[u8],
+    byte: usize,
+    flags: &mut [bool],
+)
+    requires inside { (p : Place) → Contains places.now p → p.key < length keys.now }
+    requires byte { byte ≤ length bytes.now }
     requires flags { length flags.old ≡ length keys.now }
     ensures kept { (k : ℕ) → IsSet flags.old k → IsSet flags.new k }
-    ensures set { (k : ℕ) (key : List ℕ) → Contains numbers.now k
-        → slice_get (plain_keys keys.now) k ≡ Some (Some key) → IsWindowOf key letters.now
+    ensures set { (k from start : ℕ) (key : List ℕ) → Contains places.now (place_in k start)
+        → slice_get (plain_keys keys.now) k ≡ Some (Some key)
+        → StandsAt (encode_utf8_all key) bytes.now from → from + start ≡ byte
         → IsSet flags.new k }
 {
-    for number in numbers {
-        if key_stands(&keys[*number], letters) {
-            flags[*number] = true;
-        }
+    for place in places {
+        let Place { key, start } = *place;
+        let found = is_found(flags[key], &keys[key], bytes, byte, start);
+        flags[key] = found;
     }
 }
 
@@ -129,7 +143,7 @@ fn pick_keys(
     alloc: Global,
     texts: &[Vec<char>],
     counts: &Counts,
-) -> Result<Vec<Option<Vec<char>>>, AllocError>
+) -> Result<Vec<Option<String>>, AllocError>
     ensures { IfOk result (λ keys.
         AllZip IsPickedOf (map (λ text. text.items) texts.now) (plain_keys keys.items)) }
 {
@@ -140,17 +154,17 @@ fn pick_keys(
     Ok(keys)
 }
 
-fn pick_key(alloc: Global, text: &[char], counts: &Counts) -> Result<Option<Vec<char>>, AllocError>
-    ensures { IfOk result (λ key. IsPickedOf text.now (option_map (λ window. window.items) key)) }
+fn pick_key(alloc: Global, text: &[char], counts: &Counts) -> Result<Option<String>, AllocError>
+    ensures { IfOk result (λ key. IsPickedOf text.now (plain_key key)) }
 {
     match counts.rarest(text) {
-        Some(window) => Ok(Some(Vec::from_slice(alloc, window)?)),
+        Some(window) => Ok(Some(text_of(alloc, window)?)),
         None => Ok(None),
     }
 }
 
 // Puts the number of each key down for it.
-fn list_keys(alloc: Global, keys: &[Option<Vec<char>>]) -> Result<Table, AllocError>
+fn list_keys(alloc: Global, keys: &[Option<String>]) -> Result<Table, AllocError>
     requires { HaveLengths (plain_keys keys.now) }
     ensures { IfOk result (λ table. IsListed (plain_keys keys.now) table) }
 {
@@ -161,55 +175,69 @@ fn list_keys(alloc: Global, keys: &[Option<Vec<char>>]) -> Result<Table, AllocEr
     Ok(table)
 }
 
-// Puts the number down for the first eight grams of the key, if there is one.
-fn put_down(table: &mut Table, key: &Option<Vec<char>>, number: usize) -> Result<(), AllocError>
+// Puts the places of the first eight grams of the key down, if there is one.
+fn put_down(table: &mut Table, key: &Option<String>, number: usize) -> Result<(), AllocError>
     requires { (letters : List ℕ) → plain_key key.now ≡ Some letters → length letters ≡ 16 }
     ensures { OnOk result (PutsDown (plain_key key.now) number table.old table.new) }
 {
     match key {
-        Some(key) => put_grams_down(table, key, number),
+        Some(key) => put_grams_down(table, key.as_str(), number),
         None => Ok(()),
     }
 }
 
-fn put_grams_down(table: &mut Table, key: &[char], number: usize) -> Result<(), AllocError>
-    requires { length key.now ≡ 16 }
-    ensures { OnOk result (PutsDown (Some key.now) number table.old table.new) }
+fn put_grams_down(table: &mut Table, key: &str, number: usize) -> Result<(), AllocError>
+    requires { length (chars key.now) ≡ 16 }
+    ensures { OnOk result (PutsDown (Some (chars key.now)) number table.old table.new) }
 {
+    let bytes = key.as_bytes();
     for start in 0..STEP {
-        table.add(&key[start..start + GRAM], number)?;
+        table.add(&bytes[start..start + GRAM], Place { key: number, start })?;
     }
     Ok(())
 }
 
-// Whether there is a key, and it stands in the letters.
-fn key_stands(key: &Option<Vec<char>>, letters: &[char]) -> bool
-    ensures { IsTrue result
-        ↔ ((window : List ℕ) × (plain_key key.now ≡ Some window)
-        × IsWindowOf window letters.now) }
+// Whether it was found before, or there is a key and its text stands in the bytes so that its byte number `start` is this one.
+fn is_found(before: bool, key: &Option<String>, bytes: &[u8], byte: usize, start: usize) -> bool
+    requires { byte ≤ length bytes.now }
+    ensures kept { IsTrue before → IsTrue result }
+    ensures stands { (letters : List ℕ) (from : ℕ) → plain_key key.now ≡ Some letters
+        → StandsAt (encode_utf8_all letters) bytes.now from → from + start ≡ byte
+        → IsTrue result }
 {
+    if before {
+        return true;
+    }
     match key {
-        Some(key) => window_stands(key, letters),
+        Some(key) => stands_around(key.as_bytes(), bytes, byte, start),
         None => false,
     }
 }
 
-fn window_stands(window: &[char], letters: &[char]) -> bool
-    ensures { IsTrue result ↔ IsWindowOf window.now letters.now }
+// Whether the text stands in the bytes so that its byte number `start` is this one.
+fn stands_around(text: &[u8], bytes: &[u8], byte: usize, start: usize) -> bool
+    requires { byte ≤ length bytes.now }
+    ensures { (from : ℕ) → StandsAt text.now bytes.now from → from + start ≡ byte → IsTrue result }
 {
-    if letters.len() < LENGTH {
+    if start > byte {
         return false;
     }
-    for place in 0..letters.len() - (LENGTH - 1) {
-        if &letters[place..place + LENGTH] == window {
-            return true;
-        }
+    bytes[byte - start..].starts_with(text)
+}
+
+// The text of these letters.
+fn text_of(alloc: Global, letters: &[char]) -> Result<String, AllocError>
+    ensures { IfOk result (λ text. chars (string_bytes text) ≡ letters.now) }
+{
+    let mut text = String::new(alloc);
+    for letter in letters {
+        text.push(*letter)?;
     }
-    false
+    Ok(text)
 }
 
 // A flag for each key that is missing.
-fn flags_of(alloc: Global, keys: &[Option<Vec<char>>]) -> Result<Vec<bool>, AllocError>
+fn flags_of(alloc: Global, keys: &[Option<String>]) -> Result<Vec<bool>, AllocError>
     ensures { IfOk result (λ flags. flags.items ≡ map (λ key. is_none key) keys.now) }
 {
     keys.iter().map(|key| key.is_none()).collect(alloc)

@@ -4,28 +4,32 @@ ghost use Rattle.std.specs.Prelude.{◌≡◌, ◌<◌, ◌≤◌, ◌-◌, ◌+
 ghost use Rattle.std.specs.List.{slice_get};
 ghost use Rattle.std.specs.Str.{chars};
 ghost use Rattle.lic_markup.specs.declared.part.Part.{Part};
-ghost use Rattle.lic_keys.specs.Keys.{AreKeysOf, StandsIn, letters_of};
+ghost use Rattle.lic_keys.specs.Keys.{AreKeysOf, StandsIn, letters_of, without_blanks};
 ghost use Rattle.lic_keys.specs.Listing.{HaveLengths, IsSet};
 ghost use Rattle.lic_keys.specs.Rising.{IsRising};
 
 use crate::keys::Keys;
 use crate::window::LENGTH;
+use memchr::memchr;
 use std::alloc::{AllocError, Global};
 
-// The most letters that are held.
+// The most bytes that are held.
 const ROOM: usize = 4096;
+
+// The most bytes that the text of a key has.
+const LONGEST: usize = 4 * LENGTH;
 
 /// Takes the tokens of a text one after another, and then answers which templates can describe a range of them.
 ///
-/// It holds at most 4,096 letters, however many the tokens have.
+/// It holds at most 4,096 bytes, however many the tokens have.
 #[derive(Debug, Drop)]
 pub struct Look<'k> {
     keys: &'k Keys,
-    // letters without blanks: those that were not looked through yet, and before them the last that were
-    letters: Vec<char>,
+    // those of the tokens that were not looked through yet, and before them the last that were
+    bytes: Vec<u8>,
     // set for each template without a key, and for each whose key was found
     flags: Vec<bool>,
-    ghost room: { length letters.items ≤ 4096 },
+    ghost room: { length bytes.items ≤ 4096 },
     ghost lengths: { HaveLengths keys.now },
     ghost count: { length flags.items ≡ length keys.now },
     ghost missing: { (k : ℕ) → slice_get keys.now k ≡ Some None → IsSet flags.items k },
@@ -41,7 +45,7 @@ impl<'k> Look<'k> {
     {
         Ok(Look {
             keys,
-            letters: Vec::with_capacity(alloc, ROOM)?,
+            bytes: Vec::with_capacity(alloc, ROOM)?,
             flags: keys.without_key(alloc)?,
         })
     }
@@ -66,40 +70,64 @@ impl<'k> Look<'k> {
             → HasTaken self.new (ts ++ chars text.now ∷ [])) }
         ensures keys { OnOk result (keys_of self.new ≡ keys_of self.old) }
     {
-        for letter in text.chars() {
-            if letter != ' ' {
-                self.push_letter(letter)?;
-            }
-        }
-        Ok(())
+        self.push_bytes(text.as_bytes())
     }
 
-    // Takes one more letter that is no blank.
-    #[inline]
-    fn push_letter(&mut self, letter: char) -> Result<(), AllocError>
+    // Takes more bytes. Blanks among them are let go later, those of many tokens at once.
+    #[inline(always)]
+    fn push_bytes(&mut self, bytes: &[u8]) -> Result<(), AllocError>
         ensures taken { OnOk result
-            ((letters : List ℕ) → HoldsAll self.old letters
-            → HoldsAll self.new (letters ++ letter ∷ [])) }
+            ((before : List ℕ) → HoldsAll self.old before
+            → HoldsAll self.new (before ++ without_blanks bytes.now)) }
         ensures keys { OnOk result (keys_of self.new ≡ keys_of self.old) }
     {
-        if self.letters.len() == ROOM {
-            self.look_through();
+        if bytes.len() > ROOM - self.bytes.len() {
+            return self.push_parts(bytes);
         }
-        self.letters.push(letter)?;
+        self.bytes.extend_from_slice(bytes)?;
         Ok(())
     }
 
-    // Looks through the letters that are held, and lets all but the last ones go.
+    // The same where they may have no room all at once.
     #[cold]
     #[inline(never)]
-    fn look_through(&mut self)
-        requires { length self.old.letters.items ≡ 4096 }
-        ensures taken { (letters : List ℕ) → HoldsAll self.old letters → HoldsAll self.new letters }
-        ensures keys { keys_of self.new ≡ keys_of self.old }
-        ensures room { length self.new.letters.items < 4096 }
+    fn push_parts(&mut self, bytes: &[u8]) -> Result<(), AllocError>
+        ensures taken { OnOk result
+            ((before : List ℕ) → HoldsAll self.old before
+            → HoldsAll self.new (before ++ without_blanks bytes.now)) }
+        ensures keys { OnOk result (keys_of self.new ≡ keys_of self.old) }
     {
-        self.keys.mark_all(&self.letters, self.flags.as_mut_slice());
-        keep_last(&mut self.letters);
+        let mut done = 0;
+        while done < bytes.len() {
+            self.make_room();
+            let room = ROOM - self.bytes.len();
+            let end = bytes.len().min(done + room);
+            self.bytes.extend_from_slice(&bytes[done..end])?;
+            done = end;
+        }
+        Ok(())
+    }
+
+    // Makes room for one more byte at least.
+    fn make_room(&mut self)
+        ensures taken { (before : List ℕ) → HoldsAll self.old before → HoldsAll self.new before }
+        ensures keys { keys_of self.new ≡ keys_of self.old }
+        ensures room { length self.new.bytes.items < 4096 }
+    {
+        if self.bytes.len() == ROOM {
+            self.look_through();
+        }
+    }
+
+    // Looks through the bytes that are held, and lets all but the last ones go.
+    fn look_through(&mut self)
+        ensures taken { (before : List ℕ) → HoldsAll self.old before → HoldsAll self.new before }
+        ensures keys { keys_of self.new ≡ keys_of self.old }
+        ensures room { length self.new.bytes.items < 4096 }
+    {
+        leave_blanks_out(&mut self.bytes);
+        self.keys.mark_all(&self.bytes, self.flags.as_mut_slice());
+        keep_last(&mut self.bytes);
     }
 
     /// The numbers of the templates without a key and of those whose key stands in the tokens that were taken.
@@ -115,20 +143,31 @@ impl<'k> Look<'k> {
     {
         let mut flags = Vec::from_slice(alloc, &self.flags)?;
         let marks = flags.as_mut_slice();
-        self.keys.mark_all(&self.letters, marks);
+        let mut bytes = Vec::from_slice(alloc, &self.bytes)?;
+        leave_blanks_out(&mut bytes);
+        self.keys.mark_all(&bytes, marks);
         numbers_of(alloc, marks)
     }
 }
 
-// Keeps the last letters, one fewer than a window has.
-fn keep_last(letters: &mut Vec<char>)
-    requires { 32 ≤ length letters.old.items }
-    ensures { letters.new.items ≡ drop (length letters.old.items - 15) letters.old.items }
+// Takes the blanks out.
+fn leave_blanks_out(bytes: &mut Vec<u8>)
+    ensures items { bytes.new.items ≡ without_blanks bytes.old.items }
+    ensures fewer { length bytes.new.items ≤ length bytes.old.items }
 {
-    let gone = letters.len() - (LENGTH - 1);
-    let (front, last) = letters.as_mut_slice().split_at_mut(gone);
-    front[..LENGTH - 1].copy_from_slice(last);
-    letters.truncate(LENGTH - 1);
+    if memchr(b' ', bytes).is_some() {
+        bytes.retain(|byte| *byte != b' ');
+    }
+}
+
+// Keeps the last bytes, one fewer than the text of a key has at most.
+fn keep_last(bytes: &mut Vec<u8>)
+    ensures { bytes.new.items ≡ drop (length bytes.old.items - 63) bytes.old.items }
+{
+    let gone = bytes.len().saturating_sub(LONGEST - 1);
+    let kept = bytes.len() - gone;
+    bytes.copy_within(gone.., 0);
+    bytes.truncate(kept);
 }
 
 // The places of the flags that are set.

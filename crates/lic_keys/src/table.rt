@@ -1,8 +1,10 @@
-//! The templates whose key has a gram: a table of marks in front of lists by hash.
+//! Where grams stand in keys: a table of marks in front of lists by hash.
 
 ghost use Rattle.std.specs.Prelude.{◌≡◌, ◌/◌, ◌%◌, ◌^◌, IfOk, OnOk, length, vec_len};
+ghost use Rattle.std.specs.Int.{w64, from_le_bytes};
+ghost use Rattle.lic_keys.specs.Hashes.{hash_of};
 
-use crate::window::hash;
+use crate::window::GRAM;
 use lic_rows::bits::Bits;
 use std::alloc::{AllocError, Global};
 
@@ -10,21 +12,31 @@ const MARKS: usize = 262_144;
 
 const LISTS: usize = 4_096;
 
-/// For each gram the numbers that were put down for it.
+// An odd number, the bits of which follow no pattern: a word times it spreads over the high bits of a hash.
+const SPREAD: u64 = 0x9E37_79B9_7F4A_7C15;
+
+/// Where a gram stands: in the key of this number, from this byte on.
+#[derive(Clone, Copy, Debug)]
+pub struct Place {
+    pub key: usize,
+    pub start: usize,
+}
+
+/// For each gram the places that were put down for it.
 #[derive(Debug, Drop)]
 pub struct Table {
-    // whether any number was put down for a gram with this mark
+    // whether any place was put down for a gram with this mark
     marks: Bits,
-    // the numbers, by the list of their grams
-    lists: Vec<Vec<usize>>,
+    // the places, by the list of their grams
+    lists: Vec<Vec<Place>>,
     ghost mark_count: { length marks ≡ 262144 },
     ghost list_count: { vec_len lists ≡ 4096 },
 }
 
 impl Table {
-    ghost use Rattle.lic_keys.specs.Tables.{AddsFor, HasNone, named};
+    ghost use Rattle.lic_keys.specs.Tables.{AddsFor, HasNone, may_have, named};
 
-    /// A table without numbers.
+    /// A table without places.
     pub fn new(alloc: Global) -> Result<Table, AllocError>
         ensures { IfOk result (λ table. HasNone table) }
     {
@@ -38,39 +50,64 @@ impl Table {
         })
     }
 
-    /// Puts a number down for a gram.
-    pub fn add(&mut self, gram: &[char], number: usize) -> Result<(), AllocError>
-        requires { length gram.now ≡ 9 }
-        ensures { OnOk result (AddsFor gram.now number self.old self.new) }
+    /// Puts a place down for a gram.
+    pub fn add(&mut self, gram: &[u8], place: Place) -> Result<(), AllocError>
+        requires { length gram.now ≡ 8 }
+        ensures { OnOk result (AddsFor gram.now place self.old self.new) }
     {
         let hash = hash(gram);
-        self.lists[list_of(hash)].push(number)?;
+        self.lists[list_of(hash)].push(place)?;
         self.marks.put(mark_of(hash), true);
         Ok(())
     }
 
-    /// The numbers that were put down for a gram, and perhaps some others.
-    pub fn numbers(&self, gram: &[char]) -> &[usize]
-        requires { length gram.now ≡ 9 }
+    /// Whether a place was put down for the gram, or for another with its mark.
+    #[inline(always)]
+    pub fn may_have(&self, gram: &[u8]) -> bool
+        requires { length gram.now ≡ 8 }
+        ensures { result ≡ may_have self.now gram.now }
+    {
+        self.marks.get(mark_of(hash(gram)))
+    }
+
+    /// The places that were put down for a gram, and perhaps some others.
+    pub fn places(&self, gram: &[u8]) -> &[Place]
+        requires { length gram.now ≡ 8 }
         ensures { result.now ≡ named self.now gram.now }
     {
-        let hash = hash(gram);
-        if self.marks.get(mark_of(hash)) {
-            &self.lists[list_of(hash)]
-        } else {
-            &[]
-        }
+        &self.lists[list_of(hash(gram))]
     }
 }
 
-fn mark_of(hash: u64) -> usize
-    ensures { result ≡ hash / 2 ^ 24 % 262144 }
+// The hash of a gram: its bytes as one word, times a number.
+#[inline(always)]
+fn hash(gram: &[u8]) -> u64
+    requires { length gram.now ≡ 8 }
+    ensures { result ≡ hash_of gram.now }
 {
-    (hash >> 24) as usize % MARKS
+    word_of(gram).wrapping_mul(SPREAD)
 }
 
-fn list_of(hash: u64) -> usize
-    ensures { result ≡ hash / 2 ^ 12 % 4096 }
+#[inline(always)]
+fn word_of(gram: &[u8]) -> u64
+    requires { length gram.now ≡ 8 }
+    ensures { result ≡ from_le_bytes w64 gram.now }
 {
-    (hash >> 12) as usize % LISTS
+    u64::from_le_bytes([
+        gram[0], gram[1], gram[2], gram[3], gram[4], gram[5], gram[6], gram[7],
+    ])
+}
+
+#[inline(always)]
+fn mark_of(hash: u64) -> usize
+    ensures { result ≡ hash / 2 ^ 46 % 262144 }
+{
+    (hash >> 46) as usize % MARKS
+}
+
+#[inline(always)]
+fn list_of(hash: u64) -> usize
+    ensures { result ≡ hash / 2 ^ 34 % 4096 }
+{
+    (hash >> 34) as usize % LISTS
 }

@@ -9,33 +9,18 @@ use std::alloc::{AllocError, Global};
 /// How many letters a window has.
 pub const LENGTH: usize = 16;
 
-/// Letters are looked at at one of so many places.
+/// Bytes are looked at at one of so many places.
 pub const STEP: usize = 8;
 
-/// How many letters a gram has. Wherever a window stands, one of its grams begins at a place that is looked at.
-pub const GRAM: usize = LENGTH - STEP + 1;
+/// How many bytes a gram has. Wherever the text of a window stands, one of its first grams begins at a place that is looked at: it
+/// has at least a byte for each letter.
+pub const GRAM: usize = 8;
 
 // One window of so many is counted.
 const COUNTED: usize = 8;
 
 // The most counters for windows.
 const MAX_COUNTERS: usize = 1 << 19;
-
-/// The hash of a gram.
-pub fn hash(gram: &[char]) -> u64
-    requires { length gram.now ≡ 9 }
-    ensures { result ≡ hash_of gram.now }
-{
-    letter(gram, 0) * 0x35_4D47_9C6B
-        + letter(gram, 1) * 0x6A_09E6_67F3
-        + letter(gram, 2) * 0x3C_6EF3_72FF
-        + letter(gram, 3) * 0x52_0E51_7F41
-        + letter(gram, 4) * 0x1F_83D9_ABFB
-        + letter(gram, 5) * 0x5B_E0CD_19A7
-        + letter(gram, 6) * 0x79_E377_9B97
-        + letter(gram, 7) * 0x4A_2B7E_1513
-        + letter(gram, 8) * 0x2D_98C1_0E6D
-}
 
 // A hash of a window, from every other letter of it.
 fn window_hash(window: &[char]) -> u64

@@ -1,11 +1,12 @@
 use Rattle.std.proofs.Common.{◌≡◌, ◌≤◌, ◌+◌, ◌<◌, Some, length, sym, ap, ◌∙◌, subst, arith}
 use Rattle.std.specs.List.{slice_get, Contains}
+use Rattle.std.specs.Prelude.{encode_utf8_all}
 use Rattle.std.proofs.lemmas.Bool.{cases_lt}
 use Rattle.std.proofs.lemmas.List.{length-map}
 use Rattle.std.proofs.lemmas.Option.{same_Some, slice_get_within}
 use Rattle.std.proofs.Math.Logic.{⊎_elim}
 use Rattle.lic_keys.specs.Listing.{plain_key, plain_keys}
-use Rattle.lic_keys.specs.Tables.{PutsDown, gram_at, named}
+use Rattle.lic_keys.specs.Tables.{LeadsTo, PutsDown, gram_at, place_in}
 use Rattle.lic_keys.proofs.ListingLemmas.{plain_at}
 use Rattle.lic_keys.proofs.TableLemmas.{none_inside}
 use Rattle.lic_keys.proofs.keys.list_keys.Goals as goal
@@ -20,7 +21,7 @@ loop-number-init c =
     let empty = c.in_ok-table.ensures in
     record {
       listed = λ k start key less there early. absurd (omega arith);
-      below = λ i k h. absurd (none_inside k (subst (λ xs. Contains xs k) (empty i) h));
+      below = λ i p h. absurd (none_inside p (subst (λ xs. Contains xs p) (empty i) h));
     }
 
 pub loop-number-preserved : goal.loop-number-preserved
@@ -33,13 +34,14 @@ loop-number-preserved c =
     record {
       listed = λ k start key less there early.
           ⊎_elim
-          (λ (earlier : k < n). down.kept (gram_at key start) k (before.listed k start key earlier there early))
+          (λ (earlier : k < n). down.kept (gram_at (encode_utf8_all key) start) (place_in k start) (before.listed k start key earlier there early))
           (λ (later : n ≤ k).
           let now : k ≡ n = omega arith in
           let same : Some (plain_key c.index-keys-number.result) ≡ Some (Some key) = sym here ∙ ap (slice_get (plain_keys c.args.keys.now)) (sym now) ∙ there in
-          subst (Contains (named c.put_down.new.table (gram_at key start))) (sym now) (down.added key start (same_Some _ _ same) early))
+          subst (λ m. LeadsTo c.put_down.new.table (gram_at (encode_utf8_all key) start) (place_in m start)) (sym now)
+          (down.added key start (same_Some _ _ same) early))
           (cases_lt k n);
-      below = down.below (n + 1) (λ i k h. let less : k < n = before.below i k h in omega arith) (omega arith);
+      below = down.below (n + 1) (λ i p h. let less : p.key < n = before.below i p h in omega arith) (omega arith);
     }
 
 pub returns : goal.returns
@@ -50,5 +52,5 @@ returns c =
       listed = λ k start key there early.
           let within : k < length (plain_keys c.args.keys.now) = slice_get_within (plain_keys c.args.keys.now) k (Some key) there in
           c.loop-number.invariant.listed k start key (omega (arith, c.loop-number-test.false)) there early;
-      below = λ i k h. let less : k < c.loop-number.number = c.loop-number.invariant.below i k h in omega (arith, c.loop-number.auto.number-end);
+      below = λ i p h. let less : p.key < c.loop-number.number = c.loop-number.invariant.below i p h in omega (arith, c.loop-number.auto.number-end);
     }

@@ -1,67 +1,72 @@
-use Rattle.std.proofs.Common.{◌≡◌, ◌+◌, ◌<◌, Some, true, [], ◌∷◌, ◌++◌, length, get_or, set, take, sym, ap, ◌∙◌, subst, arith}
+use Rattle.std.proofs.Common.{◌≡◌, ℕ, ◌+◌, ◌<◌, Some, [], ◌∷◌, ◌++◌, length, get_or, set, take, sym, ap, ◌∙◌, subst, arith}
 use Rattle.std.specs.List.{slice_get, Contains}
 use Rattle.std.proofs.lemmas.List.Elements.{Contains-get_or, Contains-push_cases}
-use Rattle.std.proofs.lemmas.List.{take_more}
-use Rattle.std.proofs.lemmas.Bool.{false≢true}
+use Rattle.std.proofs.lemmas.List.{take_all, take_more}
 use Rattle.std.proofs.lemmas.Option.{same_Some}
 use Rattle.std.proofs.Math.Logic.{⊎_elim}
 use Rattle.lic_keys.specs.Listing.{IsSet, plain_key, plain_keys}
+use Rattle.lic_keys.specs.Tables.{place_in}
 use Rattle.lic_keys.proofs.FlagLemmas.{IsSet-here, IsSet-kept}
 use Rattle.lic_keys.proofs.ListingLemmas.{plain_at}
 use Rattle.lic_keys.proofs.keys.mark_each.Goals as goal
-use Rattle.lic_keys.proofs.keys.mark_each.Goals.{then-key_stands, else-key_stands}
 
-pub offset_bounds-keys-number : goal.offset_bounds-keys-number
-offset_bounds-keys-number c =
-    let inside : get_or c.args.numbers.now c.loop-number.number-index 0 < length c.args.keys.now =
-    c.requires.inside (get_or c.args.numbers.now c.loop-number.number-index 0)
-    (Contains-get_or c.args.numbers.now c.loop-number.number-index 0 c.loop-number-test.true) in
+pub bounds-flags-key : goal.bounds-flags-key
+bounds-flags-key c =
+    let place = get_or c.args.places.now c.loop-place.place-index (place_in 0 0) in
+    let inside : place.key < length c.args.keys.now =
+    c.requires.inside place (Contains-get_or c.args.places.now c.loop-place.place-index (place_in 0 0) c.loop-place-test.true) in
+    omega (arith, c.requires.flags, c.loop-place.auto.flags)
+
+pub offset_bounds-keys-key : goal.offset_bounds-keys-key
+offset_bounds-keys-key c =
+    let place = get_or c.args.places.now c.loop-place.place-index (place_in 0 0) in
+    let inside : place.key < length c.args.keys.now =
+    c.requires.inside place (Contains-get_or c.args.places.now c.loop-place.place-index (place_in 0 0) c.loop-place-test.true) in
     omega arith
 
-pub bounds-keys-number : goal.bounds-keys-number
-bounds-keys-number c =
-    c.requires.inside (get_or c.args.numbers.now c.loop-number.number-index 0)
-    (Contains-get_or c.args.numbers.now c.loop-number.number-index 0 c.loop-number-test.true)
+pub bounds-keys-key : goal.bounds-keys-key
+bounds-keys-key c =
+    c.requires.inside (get_or c.args.places.now c.loop-place.place-index (place_in 0 0))
+    (Contains-get_or c.args.places.now c.loop-place.place-index (place_in 0 0) c.loop-place-test.true)
 
-pub bounds-flags-number : goal.bounds-flags-number
-bounds-flags-number c =
-    let inside : get_or c.args.numbers.now c.loop-number.number-index 0 < length c.args.keys.now =
-    c.requires.inside (get_or c.args.numbers.now c.loop-number.number-index 0)
-    (Contains-get_or c.args.numbers.now c.loop-number.number-index 0 c.loop-number-test.true) in
-    omega (arith, c.requires.flags, c.loop-number.auto.flags)
+pub bounds-flags-key-in-loop-place : goal.bounds-flags-key-in-loop-place
+bounds-flags-key-in-loop-place c =
+    let place = get_or c.args.places.now c.loop-place.place-index (place_in 0 0) in
+    let inside : place.key < length c.args.keys.now =
+    c.requires.inside place (Contains-get_or c.args.places.now c.loop-place.place-index (place_in 0 0) c.loop-place-test.true) in
+    omega (arith, c.requires.flags, c.loop-place.auto.flags)
 
-pub loop-number-preserved : goal.loop-number-preserved
-loop-number-preserved c =
-    let i = c.loop-number.number-index in
-    let numbers = c.args.numbers.now in
-    let n = get_or numbers i 0 in
-    let key = c.index-keys-number.result in
-    let before = c.loop-number.invariant in
-    let inside : n < length c.args.keys.now = c.requires.inside n (Contains-get_or numbers i 0 c.loop-number-test.true) in
-    let room : n < length c.loop-number.flags = omega (arith, c.requires.flags, c.loop-number.auto.flags) in
-    let more : take (i + 1) numbers ≡ take i numbers ++ n ∷ [] = take_more numbers i 0 c.loop-number-test.true in
-    let here : slice_get (plain_keys c.args.keys.now) n ≡ Some (plain_key key) = plain_at c.args.keys.now n key inside c.index-keys-number.is in
-    elim c.if-key_stands.branch [
-      | then-key_stands w ↦
-          record {
-            kept = λ k h. subst (λ fs. IsSet fs k) (sym w.flags-is) (IsSet-kept c.loop-number.flags n room k (before.kept k h));
-            set = λ k some h there stands.
-                subst (λ fs. IsSet fs k) (sym w.flags-is)
-                (⊎_elim
-                (λ (earlier : Contains (take i numbers) k). IsSet-kept c.loop-number.flags n room k (before.set k some earlier there stands))
-                (λ (now : n ≡ k). subst (IsSet (set c.loop-number.flags n true)) now (IsSet-here c.loop-number.flags n room))
-                (Contains-push_cases (take i numbers) n k (subst (λ xs. Contains xs k) more h)));
-          }
-      | else-key_stands w ↦
-          record {
-            kept = λ k h. subst (λ fs. IsSet fs k) (sym w.flags-is) (before.kept k h);
-            set = λ k some h there stands.
-                subst (λ fs. IsSet fs k) (sym w.flags-is)
-                (⊎_elim
-                (λ (earlier : Contains (take i numbers) k). before.set k some earlier there stands)
-                (λ (now : n ≡ k).
-                let is : plain_key key ≡ Some some = same_Some _ _ (sym here ∙ ap (slice_get (plain_keys c.args.keys.now)) now ∙ there) in
-                absurd (false≢true (sym w.if-key_stands.false ∙ c.key_stands.ensures.1 (some, is, stands))))
-                (Contains-push_cases (take i numbers) n k (subst (λ xs. Contains xs k) more h)));
-          }
-    ]
+pub loop-place-preserved : goal.loop-place-preserved
+loop-place-preserved c =
+    let i = c.loop-place.place-index in
+    let places = c.args.places.now in
+    let place = get_or places i (place_in 0 0) in
+    let n = place.key in
+    let flags = c.loop-place.flags in
+    let found = c.is_found-found.result in
+    let key = c.index-keys-key.result in
+    let before = c.loop-place.invariant in
+    let inside : n < length c.args.keys.now = c.requires.inside place (Contains-get_or places i (place_in 0 0) c.loop-place-test.true) in
+    let room : n < length flags = omega (arith, c.requires.flags, c.loop-place.auto.flags) in
+    let more : take (i + 1) places ≡ take i places ++ place ∷ [] = take_more places i (place_in 0 0) c.loop-place-test.true in
+    let here : slice_get (plain_keys c.args.keys.now) n ≡ Some (plain_key key) = plain_at c.args.keys.now n key inside c.index-keys-key.is in
+    let stays : (k : ℕ) → IsSet flags k → IsSet (set flags n found) k = IsSet-kept flags n found room c.is_found-found.ensures.kept in
+    record {
+      kept = λ k h. stays k (before.kept k h);
+      set = λ k from start letters h there stands around.
+          ⊎_elim
+          (λ (earlier : Contains (take i places) (place_in k start)). stays k (before.set k from start letters earlier there stands around))
+          (λ (now : place ≡ place_in k start).
+          let same : n ≡ k = ap (λ p. p.key) now in
+          let at : place.start ≡ start = ap (λ p. p.start) now in
+          let is : plain_key key ≡ Some letters = same_Some _ _ (sym here ∙ ap (slice_get (plain_keys c.args.keys.now)) same ∙ there) in
+          subst (IsSet (set flags n found)) same
+          (IsSet-here flags n found room (c.is_found-found.ensures.stands letters from is stands (ap (λ s. from + s) at ∙ around))))
+          (Contains-push_cases (take i places) place (place_in k start) (subst (λ xs. Contains xs (place_in k start)) more h));
+    }
+
+pub returns-clause-set : goal.returns-clause-set
+returns-clause-set c = λ k from start key h there stands around.
+    c.loop-place.invariant.set k from start key
+    (subst (λ xs. Contains xs (place_in k start)) (sym (take_all c.loop-place.place-index c.args.places.now c.loop-place-test.false)) h)
+    there stands around

@@ -8,16 +8,24 @@ use Rattle.lic_words.specs.Describing.{IsDescribed}
 use Rattle.lic_marks.specs.Cores.{WordsOf}
 use Rattle.lic_marks.specs.Nodes.{core_of}
 use Rattle.lic_keys.specs.Rising.{IsRising}
-use Rattle.lic_keys.proofs.RisingLemmas.{length-rising}
+use Rattle.lic_keys.proofs.RisingLemmas.{IsRising-nil, length-rising}
 use Rattle.lic_auto.specs.Choices.{templates_of}
 use Rattle.lic_auto.specs.Heads.{head_of}
 use Rattle.lic_auto.specs.Beginnings.{HasHead}
 use Rattle.lic_auto.specs.Directions.{ordered, read}
 use Rattle.lic_auto.specs.Sets.{words_of}
 use Rattle.lic_auto.proofs.Changing.{slice_get-some}
+use Rattle.lic_auto.proofs.Naming.{not_entered}
 use Rattle.lic_auto.proofs.PickedLemmas.{contains_or_not, some_at}
 use Rattle.lic_auto.proofs.Beginning.{HasHead-described, BeginsWithLetter-read}
 use Rattle.lic_auto.proofs.chosen.Chosen.enter.Goals as goal
+
+pub returns-then-names_none-clause-rising : goal.returns-then-names_none-clause-rising
+returns-then-names_none-clause-rising c = IsRising-nil (length (templates_of c.args.self.now))
+
+pub returns-then-names_none-clause-rest : goal.returns-then-names_none-clause-rest
+returns-then-names_none-clause-rest c = λ k known is gone more.
+    not_entered c.args.self.now c.args.token.now c.utf8.token c.requires.token (c.names_none.ensures c.if-names_none.true) k known is more
 
 pub keep_beginning-requires : goal.keep_beginning-requires
 keep_beginning-requires c =

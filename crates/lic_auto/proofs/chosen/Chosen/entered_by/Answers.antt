@@ -1,4 +1,4 @@
-use Rattle.std.proofs.Common.{◌∷◌, map, sym, ap, ◌∙◌, subst}
+use Rattle.std.proofs.Common.{◌∷◌, map, length, sym, ap, ◌∙◌, subst}
 use Rattle.std.specs.List.{Contains}
 use Rattle.std.proofs.Math.Logic.{∥∥₁_elim}
 use mathlib.Core.HLevel.{⊥_prop}
@@ -12,7 +12,16 @@ use Rattle.lic_auto.specs.Directions.{read}
 use Rattle.lic_auto.specs.Sets.{words_of}
 use Rattle.lic_auto.proofs.Changing.{slice_get-some}
 use Rattle.lic_auto.proofs.Beginning.{HasHead-described, BeginsWithLetter-read}
+use Rattle.lic_auto.proofs.Naming.{not_entered}
+use Rattle.lic_keys.proofs.RisingLemmas.{IsRising-nil}
 use Rattle.lic_auto.proofs.chosen.Chosen.entered_by.Goals as goal
+
+pub returns-then-names_none-clause-rising : goal.returns-then-names_none-clause-rising
+returns-then-names_none-clause-rising c = IsRising-nil (length (templates_of c.args.self.now))
+
+pub returns-then-names_none-clause-rest : goal.returns-then-names_none-clause-rest
+returns-then-names_none-clause-rest c = λ k known is gone more.
+    not_entered c.args.self.now c.args.token.now c.utf8.token c.requires (c.names_none.ensures c.if-names_none.true) k known is more
 
 pub returns-clause-rest : goal.returns-clause-rest
 returns-clause-rest c = λ k known is gone more described.

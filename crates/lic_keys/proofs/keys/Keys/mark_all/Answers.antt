@@ -1,7 +1,9 @@
-use Rattle.std.proofs.Common.{ℕ, ◌+◌, ◌/◌, ◌<◌, ◌≤◌, arith}
+use Rattle.std.proofs.Common.{ℕ, ◌+◌, ◌/◌, ◌<◌, ◌≤◌, length, arith}
 use Rattle.std.proofs.lemmas.Bool.{cases_lt}
 use Rattle.std.proofs.Math.Logic.{⊎_elim}
-use Rattle.lic_keys.proofs.WindowLemmas.{place_of_window, StandsAt-window}
+use Rattle.std.specs.Prelude.{encode_utf8_all}
+use Rattle.lic_keys.proofs.ByteLemmas.{text_lengths}
+use Rattle.lic_keys.proofs.WindowLemmas.{place_of_text}
 use Rattle.lic_keys.proofs.keys.Keys.mark_all.Goals as goal
 
 pub loop-step-preserved : goal.loop-step-preserved
@@ -18,13 +20,9 @@ loop-step-preserved c =
           (cases_lt step here);
     }
 
-pub returns-then-letters-lt-LENGTH-clause-set : goal.returns-then-letters-lt-LENGTH-clause-set
-returns-then-letters-lt-LENGTH-clause-set c = λ k key there window.
-    let (place, room, is) = place_of_window key c.args.letters.now window in
-    absurd (omega (arith, room))
-
 pub returns-clause-set : goal.returns-clause-set
-returns-clause-set c = λ k key there window.
-    let (from, stands) = StandsAt-window key c.args.letters.now window in
+returns-clause-set c = λ k key there inside.
+    let (from, stands) = place_of_text (encode_utf8_all key) c.args.bytes.now inside in
+    let long : 16 ≤ length (encode_utf8_all key) = (text_lengths key (c.requires.lengths k key there)).0 in
     let step : ℕ = (from + 7) / 8 in
     c.loop-step.invariant.set k step from key (omega (arith, stands.room, c.loop-step-test.false)) there stands (omega arith) (omega arith)

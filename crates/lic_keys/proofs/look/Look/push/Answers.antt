@@ -1,18 +1,22 @@
-use Rattle.std.proofs.Common.{◌≡◌, [], ◌∷◌, ◌++◌, sym, ap, ◌∙◌, subst}
+use Rattle.std.proofs.Common.{ℕ, ◌∷◌, ◌++◌, [], List, sym, ap, ◌∙◌, subst}
+use Rattle.std.specs.Prelude.{encode_utf8_all}
 use Rattle.std.specs.Str.{chars}
-use Rattle.std.proofs.lemmas.Iterator.{YieldsList-from_chars}
-use Rattle.std.proofs.lemmas.Iterator.Consumers.{YieldsList-end}
-use Rattle.std.proofs.lemmas.List.{map-id}
+use Rattle.std.proofs.lemmas.Result.{IfOk-weaker}
 use Rattle.lic_keys.specs.Keys.{letters_of, without_blanks}
-use Rattle.lic_keys.specs.Looks.{HoldsAll}
-use Rattle.lic_keys.proofs.KeyLemmas.{letters_of-push}
+use Rattle.lic_keys.specs.Looks.{HasTaken, HoldsAll}
+use Rattle.lic_keys.proofs.ByteLemmas.{letter_bytes-push}
 use Rattle.lic_keys.proofs.look.Look.push.Goals as goal
 
 pub returns-clause-taken : goal.returns-clause-taken
-returns-clause-taken c = λ ts taken.
-    let text = chars c.args.text.now in
-    let runs = YieldsList-from_chars c.args.text.now c.utf8.text cc in
-    let end = YieldsList-end runs c.loop-letter.yielded _ c.loop-letter.yielded_by _ _ c.in-None.is c.next.ensures.steps in
-    let all : letters_of ts ++ without_blanks c.loop-letter.yielded ≡ letters_of (ts ++ text ∷ []) =
-    ap (λ x. letters_of ts ++ without_blanks x) (sym (map-id c.loop-letter.yielded) ∙ end.0) ∙ sym (letters_of-push ts text) in
-    subst (HoldsAll c.loop-letter.self) all (c.loop-letter.invariant.taken (letters_of ts) taken)
+returns-clause-taken c =
+    let old = c.args.self.now in
+    let new = c.push_bytes.new.self in
+    let text = c.args.text.now in
+    IfOk-weaker c.push_bytes.result
+    (λ _. (before : List ℕ) → HoldsAll old before → HoldsAll new (before ++ without_blanks c.as_bytes.result.now))
+    (λ _. (ts : List (List ℕ)) → HasTaken old ts → HasTaken new (ts ++ chars text ∷ []))
+    (λ _ takes ts taken.
+    subst (HoldsAll new)
+    (ap (λ b. encode_utf8_all (letters_of ts) ++ without_blanks b) c.as_bytes.ensures.value ∙ sym (letter_bytes-push ts text c.utf8.text))
+    (takes (encode_utf8_all (letters_of ts)) taken))
+    c.push_bytes.ensures.taken
