@@ -18,7 +18,7 @@ use lic_kind::Rules;
 use lic_norm::fault::TextFault;
 use lic_norm::text::Text;
 use lic_norm::words::Words;
-use lic_report::lines::{add_match, add_token};
+use lic_report::lines::{add_file, add_match, add_token};
 use lic_report::wanted::Wanted;
 use lic_stream::stream::{Sink, Source};
 use lic_stream::transfer::{put_all, put_gathered};
@@ -139,9 +139,11 @@ fn report_tokens<W: Sink>(
     ensures writes { CountsWrites result (W.failed out.old) (W.failed out.new) }
     ensures faults { IsOfWriting result }
 {
+    let mut file = Vec::new(alloc);
+    add_file(&mut file, name)?;
     let mut lines = Vec::new(alloc);
     for i in 0..text.len() {
-        add_token(&mut lines, name, text.token(i))?;
+        add_token(&mut lines, &file, text.token(i))?;
         put_gathered(out, &mut lines)?;
     }
     put_all(out, lines.as_slice())?;

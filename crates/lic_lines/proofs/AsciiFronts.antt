@@ -88,7 +88,7 @@ front_word rules after_blank at text n ascii some within words stop =
 
 -- ---- a mark by itself
 
-one_mark : (rules : LineRules) (s : SourceChar) → runs_joined rules (Mark s ∷ []) ≡ Mark s ∷ []
+pub one_mark : (rules : LineRules) (s : SourceChar) → runs_joined rules (Mark s ∷ []) ≡ Mark s ∷ []
 one_mark rules s = at rules.separators
   where
     at : (b : Bool) → with_joined (cond b (without_separators (Mark s ∷ [])) (Mark s ∷ [])) ≡ Mark s ∷ []

@@ -1,23 +1,21 @@
 -- Lines of ASCII: their source characters, and the tokens of a row of bytes of one kind in front of one.
-use Rattle.std.proofs.Common.{◌≡◌, ◌≢◌, ℕ, All, zero, suc, ◌+◌, ◌-◌, ◌<◌, ◌≤◌, Bool, true, false, cond, List, [], ◌∷◌, ◌++◌, length, take, drop, map, get_or, refl, sym, ap, ap₂, subst, ◌∙◌, add-one, drop-cons, arith}
+use Rattle.std.proofs.Common.{◌≡◌, ◌≢◌, ℕ, All, zero, suc, ◌+◌, ◌-◌, ◌<◌, ◌≤◌, Bool, true, false, List, [], ◌∷◌, ◌++◌, length, take, drop, map, get_or, refl, sym, ap, ap₂, subst, ◌∙◌, add-one, drop-cons, arith}
 use Rattle.std.specs.Prelude.{IsAscii, encode_utf8_all}
 use Rattle.std.specs.Char.{len_utf8, to_ascii_lowercase}
 use Rattle.std.proofs.lemmas.Str.{len_utf8_ascii, encode_ascii, IsAscii-take}
 use Rattle.std.proofs.lemmas.Str.Ascii.{lowercase_ascii}
 use Rattle.std.proofs.lemmas.List.{length-take-le, get_or-take, take-map}
-use Rattle.lic_kind.specs.Kinds.{kind_of, is_word_kind, is_mark_kind, spell}
+use Rattle.lic_kind.specs.Kinds.{kind_of, spell}
 use Rattle.lic_kind.specs.declared.Kind.{Kind}
 use Rattle.lic_kind.specs.declared.Kind.TheVariants as kind
 use Rattle.lic_lines.specs.Texts.{groups}
 use Rattle.lic_lines.specs.Sources.{SourceChar, chars_of, placed}
 use Rattle.lic_lines.specs.LineRules.{LineRules}
-use Rattle.lic_lines.specs.Lines.{Blank, Mark, Word, cell_of}
+use Rattle.lic_lines.specs.Lines.{Word, cell_of}
 use Rattle.lic_lines.specs.Runs.{may_join, runs_joined}
 use Rattle.lic_lines.specs.Tokens.{Token, both_words, letters_of, tokens_from, blank_behind, tokens_after}
-use Rattle.lic_lines.proofs.GroupLemmas.{join_alone}
-use Rattle.lic_lines.proofs.Gaps.{no_runs, runs_joined-at}
 use Rattle.lic_lines.proofs.ItemLemmas.{none}
-use Rattle.lic_lines.proofs.KindRows.{words_row, marks_row}
+use Rattle.lic_lines.proofs.KindRows.{words_row, marks_row, blank_front}
 use Rattle.lic_lines.proofs.TokenLemmas.{word_is_token}
 
 -- ---- source characters
@@ -163,18 +161,5 @@ ascii_blank rules after_blank at [] ascii some no_word no_mark = absurd (omega a
 ascii_blank rules after_blank at (b ∷ bs) ascii some no_word no_mark =
     let s : SourceChar = record { char = b; start = at; end = at + len_utf8 b } in
     let one : len_utf8 b ≡ 1 = len_utf8_ascii b (ascii 0) in
-    let rest = map cell_of (placed (at + len_utf8 b) bs) in
     ap (λ w. tokens_after rules true (placed (at + w) bs)) (sym one)
-    ∙ sym (ap (λ c. tokens_from after_blank (groups both_words (runs_joined rules (c ∷ rest)))) (blank s no_word no_mark)
-    ∙ ap (λ l. tokens_from after_blank (groups both_words l))
-    (runs_joined-at rules [] Blank rest refl ∙ ap (λ l. l ++ Blank ∷ runs_joined rules rest) (no_runs rules))
-    ∙ ap (tokens_from after_blank) (join_alone both_words Blank (groups both_words (runs_joined rules rest)) (λ y. refl)))
-  where
-    blank : (s : SourceChar) → kind_of s.char ≢ kind.Word → kind_of s.char ≢ kind.Mark → cell_of s ≡ Blank
-    blank s no_word no_mark = at_kind (kind_of s.char) no_word no_mark
-      where
-        at_kind : (k : Kind) → k ≢ kind.Word → k ≢ kind.Mark → cond (is_word_kind k) (Word s) (cond (is_mark_kind k) (Mark s) Blank) ≡ Blank
-        at_kind kind.Blank no_word no_mark = refl
-        at_kind kind.Dropped no_word no_mark = refl
-        at_kind kind.Mark no_word no_mark = absurd (no_mark refl)
-        at_kind kind.Word no_word no_mark = absurd (no_word refl)
+    ∙ blank_front rules after_blank s (placed (at + len_utf8 b) bs) no_word no_mark

@@ -312,3 +312,23 @@ module _ (rules : LineRules) (after_blank : Bool) (text : List SourceChar) (n : 
       (no_words-runs rules (map cell_of (take n text))
       (cells_of_marks (take n text) (all_taken kind.Mark all))))
       ∙ tokens_from-append after_blank (groups both_words marks) (groups both_words rest))
+
+cell_of-Blank : (s : SourceChar) → kind_of s.char ≢ kind.Word → kind_of s.char ≢ kind.Mark → cell_of s ≡ Blank
+cell_of-Blank s no_word no_mark = at_kind (kind_of s.char) no_word no_mark
+  where
+    at_kind : (k : Kind) → k ≢ kind.Word → k ≢ kind.Mark → cond (is_word_kind k) (Word s) (cond (is_mark_kind k) (Mark s) Blank) ≡ Blank
+    at_kind kind.Blank no_word no_mark = refl
+    at_kind kind.Dropped no_word no_mark = refl
+    at_kind kind.Mark no_word no_mark = absurd (no_mark refl)
+    at_kind kind.Word no_word no_mark = absurd (no_word refl)
+
+-- a character that is neither a mark nor of a word
+pub blank_front : (rules : LineRules) (after_blank : Bool) (s : SourceChar) (text : List SourceChar)
+    → kind_of s.char ≢ kind.Word → kind_of s.char ≢ kind.Mark
+    → tokens_after rules true text ≡ tokens_after rules after_blank (s ∷ text)
+blank_front rules after_blank s text no_word no_mark =
+    let rest = map cell_of text in
+    sym (ap (λ c. tokens_from after_blank (groups both_words (runs_joined rules (c ∷ rest)))) (cell_of-Blank s no_word no_mark)
+    ∙ ap (λ l. tokens_from after_blank (groups both_words l))
+    (runs_joined-at rules [] Blank rest refl ∙ ap (λ l. l ++ Blank ∷ runs_joined rules rest) (no_runs rules))
+    ∙ ap (tokens_from after_blank) (join_alone both_words Blank (groups both_words (runs_joined rules rest)) (λ y. refl)))

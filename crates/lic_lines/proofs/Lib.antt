@@ -22,5 +22,6 @@ pub mod TokenLemmas
 pub mod AsciiLemmas
 pub mod PlainSigns
 pub mod AsciiFronts
+pub mod TextFronts
 pub mod LineByLine
 mod examples

@@ -8,3 +8,4 @@ pub mod Tokens
 pub mod Groupings
 pub mod Walks
 pub mod AsciiFronts
+pub mod TextFronts

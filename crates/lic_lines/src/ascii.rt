@@ -3,70 +3,24 @@ ghost use Rattle.std.specs.Prelude.{◌≡◌, ◌+◌, ◌++◌, ◌<◌, ◌�
 ghost use Rattle.std.specs.Char.{to_ascii_lowercase};
 ghost use Rattle.lic_kind.specs.Kinds.{kind_of};
 ghost use Rattle.lic_lines.specs.LineRules.{LineRules, rules_of};
-ghost use Rattle.lic_lines.specs.Lines.{cut_of, whole_line};
+ghost use Rattle.lic_lines.specs.Lines.{whole_line};
 ghost use Rattle.lic_lines.specs.Sources.{placed};
 ghost use Rattle.lic_lines.specs.AsciiFronts.{ascii_tokens};
 ghost use Rattle.lic_lines.specs.Tokens.{line_tokens, single_signs, tokens_after, tokens_in};
 
-use crate::ascii_cut::quick_cut;
+use crate::ascii_cut::cut_of_ascii;
 use crate::ascii_front::kind_count;
-use crate::cut::{LineCut, cut_line};
-use crate::line_part::LinePart;
 use crate::mark_rows::ascii_mark_count;
 use crate::room::Room;
 use crate::signs::{join_single_signs, signs_end};
 use crate::small_string::SmallString;
-use crate::source::SourceChar;
+use crate::source::place;
 use crate::text::{FrontPart, push_marks};
 use crate::tokens::FirstToken;
 use lic_kind::laws::words_are_folded;
 use lic_kind::{Kind, Rules, kind_of};
 use std::alloc::{AllocError, Global};
 use std::mem::replace;
-
-/// A line of a whole text.
-const WHOLE_LINE: LinePart = LinePart {
-    has_front: true,
-    has_end: true,
-    behind: None,
-};
-
-/// Puts the source characters of a text that begins at this byte in the place of those that are there.
-fn place(characters: &mut Vec<SourceChar>, at: u32, text: &[u8]) -> Result<(), AllocError>
-    requires ascii { IsAscii text.now }
-    requires fits { at + length text.now < 2 ^ 32 }
-    ensures { OnOk result (characters.new.items ≡ placed at text.now) }
-{
-    characters.clear();
-    for (i, byte) in text.iter().enumerate() {
-        let start = at + i as u32;
-        characters.push(SourceChar {
-            char: *byte as char,
-            start,
-            end: start + 1,
-        })?;
-    }
-    Ok(())
-}
-
-/// What is taken from a whole line: mostly a quick look says it.
-fn cut_of_line(
-    alloc: Global,
-    rules: &Rules,
-    line: &[u8],
-    characters: &mut Vec<SourceChar>,
-) -> Result<LineCut, AllocError>
-    requires ascii { IsAscii line.now }
-    requires fits { length line.now < 2 ^ 32 }
-    ensures cut { IfOk result (λ cut. cut ≡ cut_of (rules_of rules.now) whole_line line.now) }
-    ensures within { IfOk result (λ cut. cut.lead + cut.item + cut.tail ≤ length line.now) }
-{
-    if let Some(cut) = quick_cut(rules, line) {
-        return Ok(cut);
-    }
-    place(characters, 0, line)?;
-    cut_line(alloc, rules, WHOLE_LINE, characters)
-}
 
 /// Adds the token of the word in front of a text, of which the small letters are given too.
 #[inline(always)]
@@ -247,7 +201,7 @@ pub fn left_of_ascii<'a>(
     ensures ascii { IfOk result (λ left. IsAscii left.1.now) }
     ensures fits { IfOk result (λ left. left.0 + length left.1.now < 2 ^ 32) }
 {
-    let cut = cut_of_line(alloc, rules, line.as_bytes(), &mut room.marks)?;
+    let cut = cut_of_ascii(alloc, rules, line.as_bytes(), &mut room.marks)?;
     let lead = cut.lead + cut.item;
     Ok((at + lead as u32, &line[lead..line.len() - cut.tail]))
 }

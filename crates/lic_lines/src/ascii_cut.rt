@@ -1,5 +1,5 @@
-//! What is taken from a line of ASCII, by a quick look at its bytes.
-ghost use Rattle.std.specs.Prelude.{◌≡◌, ◌≢◌, ◌==◌, ◌||◌, ◌+◌, ◌<◌, ◌≤◌, ℕ, true, false, length, slice_index, IfSome, IsTrue};
+//! What is taken from a line of ASCII, each part mostly by a quick look at its bytes.
+ghost use Rattle.std.specs.Prelude.{◌≡◌, ◌≢◌, ◌==◌, ◌||◌, ◌+◌, ◌<◌, ◌≤◌, ◌^◌, ℕ, true, false, length, slice_index, IfOk, IfSome, IsAscii, IsTrue};
 ghost use Rattle.std.specs.List.{position_or_len};
 ghost use Rattle.std.specs.Char.{is_whitespace, is_ascii_digit};
 ghost use Rattle.lic_lines.specs.LineRules.{LineRules, rules_of};
@@ -9,9 +9,13 @@ ghost use Rattle.lic_lines.specs.Walks.{walked, is_walked_piece};
 
 use crate::ascii_texts::any_text_may_stand;
 use crate::cut::LineCut;
+use crate::item::item_length;
+use crate::rows::longest_row;
+use crate::source::{SourceChar, place};
 use crate::space_rows::quick_look;
 use crate::walk::Side;
 use lic_kind::Rules;
+use std::alloc::{AllocError, Global};
 
 /// The byte at this place of the way.
 #[inline(always)]
@@ -134,20 +138,66 @@ fn has_no_item(line: &[u8]) -> bool
     end >= line.len() || !may_be_item(&line[..end])
 }
 
-/// What is taken from a whole line, where a quick look shows that it is white space alone.
-pub(crate) fn quick_cut(rules: &Rules, line: &[u8]) -> Option<LineCut>
-    ensures cut { IfSome result (λ cut. cut ≡ cut_of (rules_of rules.now) whole_line line.now) }
-    ensures within { IfSome result (λ cut. cut.lead + cut.item + cut.tail ≤ length line.now) }
+/// How long the longest row of pieces is that stands at this side of a line: mostly it is white space alone. The characters
+/// are room for those of the line, whatever they hold.
+#[inline(always)]
+fn row_of_ascii(
+    alloc: Global,
+    rules: &Rules,
+    side: Side,
+    line: &[u8],
+    characters: &mut Vec<SourceChar>,
+) -> Result<usize, AllocError>
+    requires ascii { IsAscii line.now }
+    requires fits { length line.now < 2 ^ 32 }
+    ensures row { IfOk result (λ n. n
+        ≡ longest_front (is_row (is_walked_piece (rules_of rules.now) side))
+        (walked side line.now)) }
+    ensures within { IfOk result (λ n. n ≤ length line.now) }
 {
-    let lead = space_row(rules, Side::Front, line)?;
-    let left = &line[lead..];
-    if !has_no_item(left) {
-        return None;
+    if let Some(count) = space_row(rules, side, line) {
+        return Ok(count);
     }
-    let tail = space_row(rules, Side::End, left)?;
-    Some(LineCut {
-        lead,
-        item: 0,
-        tail,
-    })
+    place(characters, 0, line)?;
+    longest_row(alloc, rules, side, characters)
+}
+
+/// How long the list item is in front of a line, whose lead is taken already: mostly there is none. The characters are
+/// room for those of the line, whatever they hold.
+#[inline(always)]
+fn item_of_ascii(
+    rules: &Rules,
+    line: &[u8],
+    characters: &mut Vec<SourceChar>,
+) -> Result<usize, AllocError>
+    requires ascii { IsAscii line.now }
+    requires fits { length line.now < 2 ^ 32 }
+    ensures item { IfOk result (λ n. n ≡ item_length (rules_of rules.now) line.now) }
+    ensures within { IfOk result (λ n. n ≤ length line.now) }
+{
+    if has_no_item(line) {
+        return Ok(0);
+    }
+    place(characters, 0, line)?;
+    Ok(item_length(rules, characters, None))
+}
+
+/// What is taken from a whole line. The characters are room for those of the line, whatever they hold.
+pub(crate) fn cut_of_ascii(
+    alloc: Global,
+    rules: &Rules,
+    line: &[u8],
+    characters: &mut Vec<SourceChar>,
+) -> Result<LineCut, AllocError>
+    requires ascii { IsAscii line.now }
+    requires fits { length line.now < 2 ^ 32 }
+    ensures cut { IfOk result (λ cut. cut ≡ cut_of (rules_of rules.now) whole_line line.now) }
+    ensures within { IfOk result (λ cut. cut.lead + cut.item + cut.tail ≤ length line.now) }
+{
+    let lead = row_of_ascii(alloc, rules, Side::Front, line, characters)?;
+    let rest = &line[lead..];
+    let item = item_of_ascii(rules, rest, characters)?;
+    let left = &rest[item..];
+    let tail = row_of_ascii(alloc, rules, Side::End, left, characters)?;
+    Ok(LineCut { lead, item, tail })
 }

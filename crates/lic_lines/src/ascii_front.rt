@@ -32,7 +32,7 @@ pub(crate) fn kind_count(kind: Kind, text: &[u8]) -> usize
 
 /// Whether a mark stands for itself, and begins no copyright sign.
 #[inline(always)]
-fn is_itself(mark: u8) -> bool
+pub(crate) fn is_itself(mark: u8) -> bool
     requires { kind_of mark ≡ Kind.Mark }
     ensures letter { IsTrue result → spell mark ≡ mark ∷ [] }
     ensures sign { IsTrue result → mark ≢ 0x28 }

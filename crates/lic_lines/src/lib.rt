@@ -21,6 +21,7 @@ pub mod small_string;
 pub mod source;
 mod space_rows;
 mod text;
+mod text_front;
 pub mod tokens;
 mod walk;
 
@@ -34,4 +35,5 @@ pub use room::Room;
 pub use small_string::SmallString;
 pub use source::{SourceChar, unplaced};
 pub use text::{FrontPart, front_part};
+pub use text_front::{TextFront, front_of_text};
 pub use tokens::FirstToken;

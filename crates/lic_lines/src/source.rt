@@ -1,8 +1,8 @@
 //! Source characters.
-ghost use Rattle.std.specs.Prelude.{◌≡◌, not, IfOk};
+ghost use Rattle.std.specs.Prelude.{◌≡◌, ◌+◌, ◌<◌, ◌^◌, not, length, IfOk, OnOk, IsAscii};
 ghost use Rattle.std.specs.Str.{chars};
 ghost use Rattle.lic_kind.specs.Kinds.{is_dropped};
-ghost use Rattle.lic_lines.specs.Sources.{unplaced, without_dropped};
+ghost use Rattle.lic_lines.specs.Sources.{placed, unplaced, without_dropped};
 
 use lic_kind::is_dropped;
 use std::alloc::{AllocError, Global};
@@ -42,4 +42,26 @@ pub fn unplaced(alloc: Global, text: &str) -> Result<Vec<SourceChar>, AllocError
         }
     }
     Ok(characters)
+}
+
+/// Puts the source characters of a text of ASCII that begins at this byte in the place of those that are there.
+pub(crate) fn place(
+    characters: &mut Vec<SourceChar>,
+    at: u32,
+    text: &[u8],
+) -> Result<(), AllocError>
+    requires ascii { IsAscii text.now }
+    requires fits { at + length text.now < 2 ^ 32 }
+    ensures { OnOk result (characters.new.items ≡ placed at text.now) }
+{
+    characters.clear();
+    for (i, byte) in text.iter().enumerate() {
+        let start = at + i as u32;
+        characters.push(SourceChar {
+            char: *byte as char,
+            start,
+            end: start + 1,
+        })?;
+    }
+    Ok(())
 }

@@ -9,8 +9,8 @@ ghost use Rattle.lic_norm.specs.Tokens.{line_tokens_of};
 use crate::characters::read_characters;
 use crate::rewriting::{PartRoom, Rewriting};
 use lic_lines::{LinePart, Room, Rules, SourceChar, left_of_line};
-use simdutf8::compat::from_utf8;
 use std::alloc::{AllocError, Global};
+use std::str::from_utf8_unchecked;
 
 /// A line of a whole input.
 const WHOLE_LINE: LinePart = LinePart {
@@ -28,7 +28,8 @@ fn ascii_text(bytes: &[u8]) -> Option<&str>
     if !bytes.is_ascii() {
         return None;
     }
-    from_utf8(bytes).ok()
+    // What is ASCII is UTF-8.
+    Some(unsafe { from_utf8_unchecked(bytes) })
 }
 
 /// So many characters a list may keep room for from one line to the next.
@@ -39,8 +40,8 @@ const MAX_KEPT: usize = 65_536;
 pub(crate) struct LineRoom {
     /// The characters of a line that is not ASCII.
     characters: Vec<SourceChar>,
-    /// A line of ASCII in small letters.
-    lowered: String,
+    /// A line of ASCII in small letters, or the letters of a token of another line.
+    letters: String,
     room: PartRoom,
 }
 
@@ -49,7 +50,7 @@ impl LineRoom {
     pub(crate) fn new(alloc: Global) -> LineRoom {
         LineRoom {
             characters: Vec::new(alloc),
-            lowered: String::new(alloc),
+            letters: String::new(alloc),
             room: PartRoom {
                 room: Room::new(alloc),
                 tokens: Vec::new(alloc),
@@ -67,15 +68,14 @@ fn give_back(alloc: Global, characters: &mut Vec<SourceChar>)
     }
 }
 
-/// Takes the first tokens, by these line rules, of a line of any bytes that begins at this byte of the input. The
-/// characters are room for those of the line, whatever they hold, and so is the room.
+/// Takes the first tokens, by these line rules, of a line of any bytes that begins at this byte of the input. What the room
+/// holds has no effect.
 fn take_any_line(
     alloc: Global,
     rules: &Rules,
     at: u32,
     line: &[u8],
-    characters: &mut Vec<SourceChar>,
-    room: &mut PartRoom,
+    room: &mut LineRoom,
     rewriting: &mut Rewriting<'_>,
 ) -> Result<(), AllocError>
     requires { at + length line.now < 2 ^ 32 }
@@ -83,9 +83,14 @@ fn take_any_line(
         → HasTaken rewriting.new (taken ++ line_tokens_of (rules_of rules.now) at line.now)) }
     ensures phrases { rewriting.new.phrases.now ≡ rewriting.old.phrases.now }
 {
+    let LineRoom {
+        characters,
+        letters,
+        room,
+    } = room;
     read_characters(characters, at, line)?;
     let left = left_of_line(alloc, rules, WHOLE_LINE, characters)?;
-    rewriting.take_characters(alloc, rules, left, room)?;
+    rewriting.take_characters(alloc, rules, left, letters, room)?;
     give_back(alloc, characters);
     Ok(())
 }
@@ -106,15 +111,7 @@ pub(crate) fn take_line(
     ensures phrases { rewriting.new.phrases.now ≡ rewriting.old.phrases.now }
 {
     if let Some(text) = ascii_text(line) {
-        return rewriting.take_line(alloc, rules, at, text, &mut room.room, &mut room.lowered);
+        return rewriting.take_line(alloc, rules, at, text, &mut room.room, &mut room.letters);
     }
-    take_any_line(
-        alloc,
-        rules,
-        at,
-        line,
-        &mut room.characters,
-        &mut room.room,
-        rewriting,
-    )
+    take_any_line(alloc, rules, at, line, room, rewriting)
 }

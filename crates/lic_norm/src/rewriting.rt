@@ -12,8 +12,8 @@ ghost use Rattle.lic_norm.specs.Tokens.{reported};
 
 use crate::token_list::TokenList;
 use lic_lines::{
-    AsciiFront, FirstToken, FrontPart, Room, Rules, SmallString, SourceChar, front_of_ascii,
-    front_part, front_part_of_ascii, left_of_ascii,
+    AsciiFront, FirstToken, FrontPart, Room, Rules, SmallString, SourceChar, TextFront,
+    front_of_ascii, front_of_text, front_part, front_part_of_ascii, left_of_ascii,
 };
 use lic_phrases::{FinalToken, Phrases, Rewriter};
 use std::alloc::{AllocError, Global};
@@ -266,12 +266,42 @@ impl<'w> Rewriting<'w> {
         self.take_ascii(alloc, rules, start, text, lowered.as_str(), room)
     }
 
+    /// Takes a part in front of a text, of which nothing is taken, and lists the tokens that are settled then.
+    #[inline(never)]
+    fn take_front(
+        &mut self,
+        alloc: Global,
+        rules: &Rules,
+        after_blank: bool,
+        text: &[SourceChar],
+        room: &mut PartRoom,
+    ) -> Result<FrontPart, AllocError>
+        requires emptied { self.old.settled.items ≡ [] }
+        requires some { 0 < length text.now }
+        ensures some { IfOk result (λ part. 0 < part.length) }
+        ensures within { IfOk result (λ part. part.length ≤ length text.now) }
+        ensures taken { IfOk result (λ part. (taken : List Token) → HasTaken self.old taken
+            → (front : List Token) × HasTaken self.new (taken ++ front)
+            × (front ++ text_tokens_after (rules_of rules.now) part.blank_behind
+            (drop part.length text.now)
+            ≡ text_tokens_after (rules_of rules.now) after_blank text.now)) }
+        ensures phrases { self.new.phrases.now ≡ self.old.phrases.now }
+        ensures emptied { OnOk result (self.new.settled.items ≡ []) }
+    {
+        let PartRoom { room, tokens } = room;
+        let part = front_part(alloc, rules, after_blank, text, room, tokens)?;
+        self.take_all(alloc, tokens)?;
+        Ok(part)
+    }
+
     /// Takes a text, of which nothing is taken and before which a blank stands, and lists the tokens that are settled then.
+    /// The rooms may hold anything.
     pub(crate) fn take_characters(
         &mut self,
         alloc: Global,
         rules: &Rules,
         text: &[SourceChar],
+        letters: &mut String,
         room: &mut PartRoom,
     ) -> Result<(), AllocError>
         ensures taken { OnOk result ((taken : List Token) → HasTaken self.old taken
@@ -279,14 +309,28 @@ impl<'w> Rewriting<'w> {
         ensures phrases { self.new.phrases.now ≡ self.old.phrases.now }
     {
         self.settled.clear();
-        let PartRoom { room, tokens } = room;
         let mut after_blank = true;
         let mut place = 0;
         while place < text.len() {
-            let part = front_part(alloc, rules, after_blank, &text[place..], room, tokens)?;
-            self.take_all(alloc, tokens)?;
-            after_blank = part.blank_behind;
-            place += part.length;
+            let rest = &text[place..];
+            match front_of_text(alloc, rest, letters)? {
+                TextFront::Blank => {
+                    after_blank = true;
+                    place += 1;
+                }
+                TextFront::Token(length) => {
+                    let start = rest[0].start;
+                    let end = rest[length - 1].end;
+                    self.take_text(alloc, letters.as_str(), start, end, after_blank)?;
+                    after_blank = false;
+                    place += length;
+                }
+                TextFront::Other => {
+                    let part = self.take_front(alloc, rules, after_blank, rest, room)?;
+                    after_blank = part.blank_behind;
+                    place += part.length;
+                }
+            }
         }
         Ok(())
     }

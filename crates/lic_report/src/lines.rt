@@ -1,6 +1,6 @@
 //! Lines of a report.
 
-ghost use Rattle.std.specs.Prelude.{◌≡◌, ◌<◌, ◌≤◌, ◌++◌, length, OnOk, Some};
+ghost use Rattle.std.specs.Prelude.{◌≡◌, ◌<◌, ◌≤◌, ◌++◌, ℕ, List, length, OnOk, Some};
 ghost use Rattle.std.specs.List.{slice_index_or};
 ghost use Rattle.lic_fields.specs.Fields.{escaped, field};
 ghost use Rattle.lic_norm.specs.declared.token.Span.{Span};
@@ -35,7 +35,7 @@ fn span_at(text: &Text, i: usize) -> Span
 }
 
 /// Adds the file's name, which stands first in each line.
-fn add_file(lines: &mut Vec<u8>, name: &str) -> Result<(), AllocError>
+pub fn add_file(lines: &mut Vec<u8>, name: &str) -> Result<(), AllocError>
     ensures { OnOk result (lines.new.items ≡ lines.old.items ++ field (escaped name.now) 0x09) }
 {
     add_text(lines, name.as_bytes(), b'\t')
@@ -61,13 +61,14 @@ pub fn add_match(
     add_number(lines, span_at(text, triple.last).end as u64, b'\n')
 }
 
-/// Adds the line of a token: the file, the first byte of the token and its end, and its text.
-pub fn add_token(lines: &mut Vec<u8>, name: &str, token: Token<'_>) -> Result<(), AllocError>
-    ensures { OnOk result (lines.new.items
-        ≡ lines.old.items ++ token_line name.now
+/// Adds the line of a token: the file, as `add_file` has written its name, the first byte of the token and its end, and its
+/// text.
+pub fn add_token(lines: &mut Vec<u8>, file: &[u8], token: Token<'_>) -> Result<(), AllocError>
+    ensures { OnOk result ((name : List ℕ) → file.now ≡ field (escaped name) 0x09
+        → lines.new.items ≡ lines.old.items ++ token_line name
         (record { text = token.entry.text.now; span = token.entry.span })) }
 {
-    add_file(lines, name)?;
+    lines.extend_from_slice(file)?;
     add_number(lines, token.span.start as u64, b'\t')?;
     add_number(lines, token.span.end as u64, b'\t')?;
     add_text(lines, token.text.as_bytes(), b'\n')

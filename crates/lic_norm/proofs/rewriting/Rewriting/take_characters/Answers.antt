@@ -1,10 +1,76 @@
-use Rattle.std.proofs.Common.{◌≡◌, ◌++◌, ◌+◌, ◌-◌, [], length, take, drop, ap, sym, subst, ◌∙◌, append_assoc, append-nil, length-drop, arith}
+use Rattle.std.proofs.Common.{◌≡◌, ℕ, ◌++◌, ◌∷◌, ◌+◌, ◌-◌, [], List, true, false, get_or, length, take, drop, ap, sym, subst, ◌∙◌, append_assoc, append-nil, length-drop, arith}
+use Rattle.std.specs.Prelude.{string_bytes}
 use Rattle.std.proofs.lemmas.List.{drop-drop, drop_all, take_rest}
 use Rattle.lic_lines.specs.LineRules.{rules_of}
-use Rattle.lic_lines.specs.Tokens.{single_signs, text_tokens_after, tokens_in}
+use Rattle.lic_lines.specs.TextFronts.{IsTextFront}
+use Rattle.lic_lines.specs.Tokens.{Token, single_signs, text_tokens_after}
+use Rattle.lic_lines.specs.declared.text_front.TextFront.TheVariants as front
+use Rattle.lic_lines.proofs.ItemLemmas.{none}
 use Rattle.lic_lines.proofs.TokenLemmas.{no_tokens_after}
 use Rattle.lic_norm.specs.Reading.{HasTaken}
 use Rattle.lic_norm.proofs.rewriting.Rewriting.take_characters.Goals as goal
+
+pub loop-place-preserved-in-Blank : goal.loop-place-preserved-in-Blank
+loop-place-preserved-in-Blank c =
+    let rules = rules_of c.args.rules.now in
+    let text = c.args.text.now in
+    let place = c.loop-place.place in
+    let known = c.loop-place.invariant in
+    let here = take (length text - place) (drop place text) in
+    let rest : here ≡ drop place text = take_rest text place in
+    let told : IsTextFront front.Blank (string_bytes c.front_of_text.new.letters) here =
+    subst (λ f. IsTextFront f (string_bytes c.front_of_text.new.letters) here) c.in-Blank.is c.in_ok-front_of_text.ensures in
+    record {
+      within = omega arith;
+      taken = λ taken has.
+          let before = known.taken taken has in (
+            before.0,
+            before.1,
+            ap (λ l. before.0 ++ l)
+                (ap (text_tokens_after rules true) (sym (ap (drop 1) rest ∙ drop-drop 1 place text))
+                ∙ told rules c.loop-place.after_blank
+                ∙ ap (text_tokens_after rules c.loop-place.after_blank) rest) ∙ before.2,
+          );
+      phrases = known.phrases;
+      emptied = known.emptied;
+    }
+
+pub loop-place-preserved-in-Token : goal.loop-place-preserved-in-Token
+loop-place-preserved-in-Token c =
+    let rules = rules_of c.args.rules.now in
+    let text = c.args.text.now in
+    let place = c.loop-place.place in
+    let n = c.in-Token.length in
+    let known = c.loop-place.invariant in
+    let here = take (length text - place) (drop place text) in
+    let rest : here ≡ drop place text = take_rest text place in
+    let told : IsTextFront (front.Token n) (string_bytes c.front_of_text.new.letters) here =
+    subst (λ f. IsTextFront f (string_bytes c.front_of_text.new.letters) here) c.in-Token.is c.in_ok-front_of_text.ensures in
+    let token_with = λ (letters : List ℕ). let t : Token = record {
+      text = letters;
+      start = (get_or here 0 none).start;
+      end = (get_or here (n - 1) none).end;
+      after_blank = c.loop-place.after_blank;
+    } in t in
+    let token = token_with c.as_str.result.now in
+    let done = c.in_ok-take_text-in-Token.ensures in
+    record {
+      within = omega (arith, told.1, ap length rest, length-drop place text);
+      taken = λ taken has.
+          let before = known.taken taken has in (
+            before.0 ++ token ∷ [],
+            subst (HasTaken c.take_text.new.self) (append_assoc taken before.0 (token ∷ [])) (done.taken (taken ++ before.0) before.1),
+            append_assoc before.0 (token ∷ []) _
+                ∙ ap (λ l. before.0 ++ l)
+                (ap (λ l. token ∷ text_tokens_after rules false l) (sym (ap (drop n) rest ∙ drop-drop n place text))
+                ∙ ap (λ l. token_with l ∷ text_tokens_after rules false (drop n here)) c.as_str.ensures.value
+                ∙ told.2 rules c.loop-place.after_blank none
+                ∙ ap (text_tokens_after rules c.loop-place.after_blank) rest)
+                ∙ before.2,
+          );
+      phrases = c.take_text.ensures.phrases ∙ known.phrases;
+      emptied = done.emptied;
+    }
 
 pub loop-place-preserved : goal.loop-place-preserved
 loop-place-preserved c =
@@ -13,25 +79,23 @@ loop-place-preserved c =
     let place = c.loop-place.place in
     let known = c.loop-place.invariant in
     let rest : take (length text - place) (drop place text) ≡ drop place text = take_rest text place in
-    let part = c.in_ok-part.part in
-    let done = c.in_ok-part.ensures in
-    let firsts = tokens_in c.deref.result.now in
-    let listed : firsts ++ text_tokens_after rules part.blank_behind (drop (place + part.length) text)
-    ≡ text_tokens_after rules c.loop-place.after_blank (drop place text) =
-    ap (λ l. tokens_in l ++ text_tokens_after rules part.blank_behind (drop (place + part.length) text)) c.deref.ensures.value
-    ∙ ap (λ l. tokens_in c.front_part.new.out.items ++ text_tokens_after rules part.blank_behind l)
-    (sym (ap (drop part.length) rest ∙ drop-drop part.length place text))
-    ∙ done.tokens ∙ ap (text_tokens_after rules c.loop-place.after_blank) rest in
+    let part = c.in_ok-part-in-Other.part in
+    let done = c.in_ok-part-in-Other.ensures in
     record {
       within = omega (arith, done.within, ap length rest, length-drop place text);
       taken = λ taken has.
-          let before = known.taken taken has in (
-            before.0 ++ firsts,
-            subst (HasTaken c.take_all.new.self) (append_assoc taken before.0 firsts) (c.in_ok-take_all.ensures.taken (taken ++ before.0) before.1),
-            append_assoc before.0 firsts _ ∙ ap (λ l. before.0 ++ l) listed ∙ before.2,
+          let before = known.taken taken has in
+          let more = done.taken (taken ++ before.0) before.1 in (
+            before.0 ++ more.0,
+            subst (HasTaken c.take_front.new.self) (append_assoc taken before.0 more.0) more.1,
+            append_assoc before.0 more.0 _
+                ∙ ap (λ l. before.0 ++ l) (ap (λ l. more.0 ++ text_tokens_after rules part.blank_behind l)
+                (sym (ap (drop part.length) rest ∙ drop-drop part.length place text))
+                ∙ more.2 ∙ ap (text_tokens_after rules c.loop-place.after_blank) rest)
+                ∙ before.2,
           );
-      phrases = c.take_all.ensures.phrases ∙ known.phrases;
-      emptied = c.in_ok-take_all.ensures.emptied;
+      phrases = c.take_front.ensures.phrases ∙ known.phrases;
+      emptied = done.emptied;
     }
 
 pub returns-clause-taken : goal.returns-clause-taken

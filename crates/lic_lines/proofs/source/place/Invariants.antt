@@ -1,6 +1,6 @@
 use Rattle.std.proofs.Common.{◌≡◌, ◌+◌, ◌++◌, drop}
 use Rattle.lic_lines.specs.Sources.{placed}
-use Rattle.lic_lines.proofs.ascii.place.Given as goal
+use Rattle.lic_lines.proofs.source.place.Given as goal
 
 -- the characters so far, and those of what is left
 abbrev pub invariant-loop-i : goal.invariant-loop-i
