@@ -13,7 +13,7 @@ ghost use Rattle.lic_auto.specs.Directions.{ordered};
 ghost use Rattle.lic_auto.specs.Seeking.{AllSeek, AreQuietBut, BeginsAnew, HaveMoved, HaveWords, IsBegunAt, IsFoundAt, IsQuiet, SeekEach, TakesAlone, TakesEntered};
 
 use crate::chosen::Chosen;
-use crate::direction::{Direction, looked_at};
+use crate::direction::{Direction, known_of, read_taken};
 use lic_marks::plain::Plain;
 use lic_marks::seek::Seeker;
 use std::alloc::{AllocError, Global};
@@ -83,6 +83,7 @@ pub fn take_tokens(
     token: &str,
     direction: Direction,
     kept: &mut [usize],
+    plain: &mut Plain,
 ) -> usize
     requires rising { IsRising places.now (length seekers.old) }
     requires room { length places.now ≤ length kept.old }
@@ -95,13 +96,14 @@ pub fn take_tokens(
         (TakesEntered direction entered.now (chars token.now)) places.now seekers.old seekers.new }
     ensures kept { AreKeptOf IsQuiet places.now (take result kept.new) seekers.new }
 {
-    let known = looked_at(token, direction, !places.is_empty());
+    let is_plain = read_taken(token, direction, !places.is_empty(), plain);
+    let known = known_of(plain, is_plain);
     let mut count = 0;
     for place in places {
         let place = *place;
         let may_begin = has(entered, place);
         let seeker = &mut seekers[place];
-        push(seeker, token, direction, known.as_ref(), may_begin);
+        push(seeker, token, direction, known, may_begin);
         if !seeker.is_dead() {
             kept[count] = place;
             count += 1;
@@ -117,15 +119,17 @@ pub fn take_alone(
     token: &str,
     direction: Direction,
     may_begin: bool,
+    plain: &mut Plain,
 )
     requires place { place < length seekers.old }
     requires letters { 0 < letters_in (chars token.now) }
     ensures { HaveMoved
         (TakesAlone direction may_begin (chars token.now)) (place ∷ []) seekers.old seekers.new }
 {
-    let known = direction.look_at(token);
+    let is_plain = direction.read(token, plain);
+    let known = known_of(plain, is_plain);
     let seeker = &mut seekers[place];
-    push(seeker, token, direction, known.as_ref(), may_begin);
+    push(seeker, token, direction, known, may_begin);
 }
 
 // A seeker takes a token, as it is read in this direction.

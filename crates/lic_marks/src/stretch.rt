@@ -29,7 +29,7 @@ pub enum Way {
 
 impl<'a> Stretch<'a> {
     ghost use Rattle.lic_marks.specs.Cores.{Core};
-    ghost use Rattle.lic_marks.specs.Stretches.{LeadsTo, IsStretchOf};
+    ghost use Rattle.lic_marks.specs.Stretches.{LeadOn, LeadsTo, IsStretchOf};
     ghost use Rattle.lic_marks.specs.Ways.{IsGapWay, IsWay, IsWayAlong};
 
     /// No letters.
@@ -66,6 +66,19 @@ impl<'a> Stretch<'a> {
             return None;
         }
         Some(self.letters[distance])
+    }
+
+    // The letters behind a place, if it stands in the stretch, or behind it.
+    #[inline]
+    fn letters_from(self, place: usize) -> Option<&'a [char]>
+        ensures { IfSome result (λ letters. (r : Core) → IsStretchOf r self.entry
+            → LeadOn r place letters.now) }
+    {
+        let distance = place.checked_sub(self.place)?;
+        if distance > self.letters.len() {
+            return None;
+        }
+        Some(&self.letters[distance..])
     }
 
     /// Where letters lead from a place of the stretch on, if that is known here. The first stands behind a gap.
@@ -114,20 +127,23 @@ impl<'a> Stretch<'a> {
         ensures { IfSome result (λ way. (r : Core) → IsStretchOf r self.entry
             → IsWayAlong r place (map gapped_letter letters.now) way) }
     {
-        let mut at = place;
-        for letter in letters {
-            let next = self.letter_behind(at)?;
-            if letter.is_apart | (next != letter.letter) {
-                // behind a gap within the token that is not looked into
-                return if letter.is_apart {
-                    None
-                } else {
-                    Some(Way::Nowhere)
-                };
+        let text = self.letters_from(place)?;
+        let count = letters.len().min(text.len());
+        for i in 0..count {
+            let letter = letters[i];
+            if letter.is_apart {
+                // a gap within the token that is not looked into
+                return None;
             }
-            at = at.checked_add(1)?;
+            if text[i] != letter.letter {
+                return Some(Way::Nowhere);
+            }
         }
-        Some(Way::To { place: at })
+        if count < letters.len() {
+            return None;
+        }
+        let end = place.checked_add(count)?;
+        Some(Way::To { place: end })
     }
 }
 
