@@ -250,6 +250,45 @@ impl<'a> Seeker<'a> {
         true
     }
 
+    // Takes a plain token that is entered where one mark stands alone in a text, and no word goes on from there with its letters, where
+    // the text with which all words begin says where it leads. Otherwise nothing is done.
+    #[inline(never)]
+    fn turns_to(&mut self, plain: &Plain) -> bool
+        ensures none { (e : Expression) (ts : List (List ℕ)) → Seeks self.old e ts
+            → result ≡ false → Seeks self.new e ts }
+        ensures stands { (e : Expression) (ts : List (List ℕ)) (token : List ℕ)
+            → Seeks self.old e ts → IsTrue result
+            → IsPlain plain.now token → Seeks self.new e (ts ++ token ∷ []) }
+        ensures tree { tree_of self.new ≡ tree_of self.old }
+    {
+        let Some(front) = self.front else {
+            return false;
+        };
+        let Some(text) = self.lone else {
+            return false;
+        };
+        let first = plain.first_behind(self.last);
+        let Some(older) = text.stretch.over_token(text.place, first, plain.rest()) else {
+            return false;
+        };
+        let Way::Nowhere = older else {
+            return false;
+        };
+        let Some(way) = front.over(plain.first_behind(' '), plain.rest()) else {
+            return false;
+        };
+        let Way::To { place } = way else {
+            return false;
+        };
+        let stretch = front.rest;
+        if !none_ends(stretch, place) {
+            return false;
+        }
+        self.lone = Some(InText { place, stretch });
+        self.last = plain.last;
+        true
+    }
+
     // Takes a plain token where one mark stands alone in a text, and that says where its letters lead. Otherwise nothing is done.
     #[inline(never)]
     fn follows(&mut self, plain: &Plain) -> bool
@@ -298,7 +337,10 @@ impl<'a> Seeker<'a> {
             return false;
         };
         if may_begin {
-            return self.enters(plain);
+            if self.enters(plain) {
+                return true;
+            }
+            return self.turns_to(plain);
         }
         let None = self.lone else {
             return self.follows(plain);
