@@ -114,7 +114,7 @@ impl Plain {
 
     // The byte at a place, counted from the end or from the beginning.
     #[inline]
-    fn byte_at(bytes: &[u8], place: usize, is_turned: bool) -> u8
+    pub(crate) fn byte_at(bytes: &[u8], place: usize, is_turned: bool) -> u8
         requires { place < length bytes.now }
         ensures { result ≡ slice_index (in_order is_turned bytes.now) place }
     {

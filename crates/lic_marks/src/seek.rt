@@ -9,7 +9,7 @@ ghost use Rattle.lic_words.specs.Expressions.{Expression};
 ghost use Rattle.lic_marks.specs.Cores.{HasWordsOf};
 ghost use Rattle.lic_marks.specs.Rows.{weight};
 ghost use Rattle.lic_marks.specs.Nodes.{core_of, is_measured};
-ghost use Rattle.lic_marks.specs.Plain.{IsPlain};
+ghost use Rattle.lic_marks.specs.Plain.{IsPlain, in_order};
 ghost use Rattle.lic_marks.specs.States.{HasFirstBlanks, has_gap, room_of};
 ghost use Rattle.lic_marks.specs.Fronts.{IsFrontOf};
 ghost use Rattle.lic_marks.specs.Stretches.{IsStretchOf};
@@ -318,6 +318,33 @@ impl<'a> Seeker<'a> {
         }
         self.lone = Some(InText { place, stretch });
         self.last = plain.last;
+        true
+    }
+
+    /// Takes a token, read from its end or from its first letter on, with which no described list begins, where one mark stands alone in a
+    /// text that goes on with a blank and the token's letters, all of ASCII. The token is compared with the text as it is. Otherwise
+    /// nothing is done.
+    #[inline]
+    pub fn goes_on(&mut self, token: &str, is_turned: bool) -> bool
+        ensures none { result ≡ false → self.new ≡ self.old }
+        ensures stands { (e : Expression) (ts : List (List ℕ)) → Seeks self.old e ts
+            → IsTrue result → NoneBegins e (in_order is_turned (chars token.now))
+            → Seeks self.new e (ts ++ in_order is_turned (chars token.now) ∷ []) }
+        ensures tree { tree_of self.new ≡ tree_of self.old }
+    {
+        let bytes = token.as_bytes();
+        let Some(text) = self.lone else {
+            return false;
+        };
+        let stretch = text.stretch;
+        let Some(place) = stretch.over_bytes(text.place, bytes, is_turned) else {
+            return false;
+        };
+        if !none_ends(stretch, place) {
+            return false;
+        }
+        self.lone = Some(InText { place, stretch });
+        self.last = char::from(Plain::byte_at(bytes, bytes.len() - 1, is_turned));
         true
     }
 
