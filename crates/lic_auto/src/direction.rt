@@ -1,8 +1,8 @@
 //! From which end words are read.
 
-ghost use Rattle.std.specs.Prelude.{◌≡◌, IfSome};
+ghost use Rattle.std.specs.Prelude.{◌≡◌, ℕ, List, IfSome, IsTrue};
 ghost use Rattle.std.specs.Str.{chars};
-ghost use Rattle.lic_marks.specs.Plain.{IsPlain};
+ghost use Rattle.lic_marks.specs.Plain.{IsPlain, in_order};
 ghost use Rattle.lic_auto.specs.Directions.{ordered};
 
 use lic_marks::plain::Plain;
@@ -27,24 +27,47 @@ impl Direction {
         }
     }
 
-    /// What is known of a token's letters, read in this direction.
-    pub fn look_at(self, token: &str) -> Option<Plain>
-        ensures { IfSome result (λ plain. IsPlain plain (ordered self (chars token.now))) }
+    /// Whether words are read from their ends.
+    #[inline]
+    pub fn is_backward(self) -> bool
+        ensures { (row : List ℕ) → in_order result row ≡ ordered self row }
     {
         match self {
-            Direction::Forward => Plain::of(token),
-            Direction::Backward => Plain::turned(token),
+            Direction::Forward => false,
+            Direction::Backward => true,
+        }
+    }
+
+    /// Reads a token's letters in this direction, in place of those before. True only where it is plain: then `plain` is what is said
+    /// of it.
+    #[inline]
+    pub fn read(self, token: &str, plain: &mut Plain) -> bool
+        ensures { IsTrue result → IsPlain plain.new (ordered self (chars token.now)) }
+    {
+        match self {
+            Direction::Forward => plain.read(token),
+            Direction::Backward => plain.read_turned(token),
         }
     }
 }
 
-/// What is known of a token's letters, read in a direction. They are read only where some template takes them.
-pub fn looked_at(token: &str, direction: Direction, is_taken: bool) -> Option<Plain>
-    ensures { IfSome result (λ plain. IsPlain plain (ordered direction (chars token.now))) }
+/// Reads a token's letters in a direction as `Direction::read` does, but only where some template takes them.
+#[inline]
+pub fn read_taken(token: &str, direction: Direction, is_taken: bool, plain: &mut Plain) -> bool
+    ensures { IsTrue result → IsPlain plain.new (ordered direction (chars token.now)) }
 {
     if is_taken {
-        direction.look_at(token)
+        direction.read(token, plain)
     } else {
-        None
+        false
     }
+}
+
+/// What is said of a token, where that is known.
+#[inline]
+pub fn known_of(plain: &Plain, is_plain: bool) -> Option<&Plain>
+    ensures { (row : List ℕ) → (IsTrue is_plain → IsPlain plain.now row)
+        → IfSome result (λ known. IsPlain known.now row) }
+{
+    if is_plain { Some(plain) } else { None }
 }

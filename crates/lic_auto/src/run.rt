@@ -17,6 +17,7 @@ use crate::chosen::{Chosen, all_numbers};
 use crate::direction::Direction;
 use crate::set::Set;
 use crate::walk::{count_steps, enter, enter_these, take_token};
+use lic_marks::plain::Plain;
 use lic_marks::run::Run as TreeRun;
 use std::alloc::{AllocError, Global};
 
@@ -32,6 +33,8 @@ pub struct Run<'s> {
     live_count: usize,
     // the live templates are known: they were given, or a token has come
     has_begun: bool,
+    // room for what is said of a token
+    plain: Plain,
     steps: u64,
     ghost forward: { chosen.direction ≡ Forward },
     ghost count: { vec_len runs ≡ length (templates_of chosen) },
@@ -77,6 +80,7 @@ impl<'s> Run<'s> {
             live,
             live_count: 0,
             has_begun: false,
+            plain: Plain::none(),
             steps: 0,
         })
     }
@@ -133,7 +137,7 @@ impl<'s> Run<'s> {
         if !self.has_begun {
             count = enter(&self.chosen, runs, live, text);
         }
-        self.live_count = take_token(runs, live, count, text);
+        self.live_count = take_token(runs, live, count, text, &mut self.plain);
         self.has_begun = true;
         self.steps = count_steps(self.steps, text);
     }

@@ -16,6 +16,7 @@ use crate::seeking::{
     take_tokens,
 };
 use crate::set::Set;
+use lic_marks::plain::Plain;
 use lic_marks::seek::Seeker;
 use std::alloc::{AllocError, Global};
 
@@ -39,6 +40,8 @@ pub struct Seekers<'s> {
     // the numbers of the templates that were entered at the last token, of which none was marked before, and then anything
     begun: Vec<usize>,
     begun_count: usize,
+    // room for what is said of a token
+    plain: Plain,
     ghost count: { vec_len each ≡ length (templates_of chosen) },
     ghost words: { HaveWords chosen.direction (templates_of chosen) each.items },
     ghost marked_room: { vec_len marked ≡ length (templates_of chosen) },
@@ -95,6 +98,7 @@ impl<'s> Seekers<'s> {
             found_count: 0,
             begun,
             begun_count: 0,
+            plain: Plain::none(),
         })
     }
 
@@ -138,6 +142,7 @@ impl<'s> Seekers<'s> {
             text,
             direction,
             &mut self.marked,
+            &mut self.plain,
         );
         let marked = &self.marked[..self.marked_count];
         self.found_count = gather_found(&self.chosen, &self.each, marked, &mut self.found);
@@ -174,7 +179,14 @@ impl<'s> Seekers<'s> {
         self.marked_count = add_number(&mut self.marked, self.marked_count, place, &mut self.turns);
         let may_begin = self.chosen.may_enter(place, text);
         let direction = self.chosen.direction;
-        take_alone(&mut self.each, place, text, direction, may_begin);
+        take_alone(
+            &mut self.each,
+            place,
+            text,
+            direction,
+            may_begin,
+            &mut self.plain,
+        );
     }
 
     /// The numbers of the templates that described some end when all took a token, in rising order.

@@ -13,7 +13,7 @@ ghost use Rattle.lic_auto.specs.Directions.{ordered};
 ghost use Rattle.lic_auto.specs.Seeking.{AllSeek, AreQuietBut, BeginsAnew, HaveMoved, HaveWords, IsBegunAt, IsFoundAt, IsQuiet, SeekEach, TakesAlone, TakesEntered};
 
 use crate::chosen::Chosen;
-use crate::direction::{Direction, looked_at};
+use crate::direction::{Direction, known_of, read_taken};
 use lic_marks::plain::Plain;
 use lic_marks::seek::Seeker;
 use std::alloc::{AllocError, Global};
@@ -83,6 +83,7 @@ pub fn take_tokens(
     token: &str,
     direction: Direction,
     kept: &mut [usize],
+    plain: &mut Plain,
 ) -> usize
     requires rising { IsRising places.now (length seekers.old) }
     requires room { length places.now ≤ length kept.old }
@@ -95,13 +96,79 @@ pub fn take_tokens(
         (TakesEntered direction entered.now (chars token.now)) places.now seekers.old seekers.new }
     ensures kept { AreKeptOf IsQuiet places.now (take result kept.new) seekers.new }
 {
-    let known = looked_at(token, direction, !places.is_empty());
+    if take_in_text(seekers, places, entered, token, direction, kept) {
+        return 1;
+    }
+    take_each(seekers, places, entered, token, direction, kept, plain)
+}
+
+// One alone, which is not entered, takes a token where its mark stands alone in a text that goes on with the token. Otherwise nothing is
+// done.
+#[inline]
+fn take_in_text(
+    seekers: &mut [Seeker<'_>],
+    places: &[usize],
+    entered: &[usize],
+    token: &str,
+    direction: Direction,
+    kept: &mut [usize],
+) -> bool
+    requires rising { IsRising places.now (length seekers.old) }
+    requires room { length places.now ≤ length kept.old }
+    requires entered { IsRising entered.now (length seekers.old) }
+    ensures none { result ≡ false → seekers.new ≡ seekers.old }
+    ensures room { length kept.new ≡ length kept.old }
+    ensures count { IsTrue result → 1 ≤ length kept.new }
+    ensures rising { IsTrue result → IsRising (take 1 kept.new) (length seekers.new) }
+    ensures taken { IsTrue result → HaveMoved
+        (TakesEntered direction entered.now (chars token.now)) places.now seekers.old seekers.new }
+    ensures kept { IsTrue result → AreKeptOf IsQuiet places.now (take 1 kept.new) seekers.new }
+{
+    let count = places.len();
+    if count != 1 {
+        return false;
+    }
+    let place = places[0];
+    if has(entered, place) {
+        return false;
+    }
+    let seeker = &mut seekers[place];
+    if !seeker.goes_on(token, direction.is_backward()) {
+        return false;
+    }
+    kept[0] = place;
+    true
+}
+
+// Those at these places take a token, as `take_tokens` says.
+fn take_each(
+    seekers: &mut [Seeker<'_>],
+    places: &[usize],
+    entered: &[usize],
+    token: &str,
+    direction: Direction,
+    kept: &mut [usize],
+    plain: &mut Plain,
+) -> usize
+    requires rising { IsRising places.now (length seekers.old) }
+    requires room { length places.now ≤ length kept.old }
+    requires entered { IsRising entered.now (length seekers.old) }
+    requires letters { 0 < letters_in (chars token.now) }
+    ensures count { result ≤ length kept.new }
+    ensures room { length kept.new ≡ length kept.old }
+    ensures rising { IsRising (take result kept.new) (length seekers.new) }
+    ensures taken { HaveMoved
+        (TakesEntered direction entered.now (chars token.now)) places.now seekers.old seekers.new }
+    ensures kept { AreKeptOf IsQuiet places.now (take result kept.new) seekers.new }
+{
+    let is_plain = read_taken(token, direction, !places.is_empty(), plain);
+    let known = known_of(plain, is_plain);
     let mut count = 0;
     for place in places {
         let place = *place;
         let may_begin = has(entered, place);
         let seeker = &mut seekers[place];
-        push(seeker, token, direction, known.as_ref(), may_begin);
+        push(seeker, token, direction, known, may_begin);
         if !seeker.is_dead() {
             kept[count] = place;
             count += 1;
@@ -117,15 +184,17 @@ pub fn take_alone(
     token: &str,
     direction: Direction,
     may_begin: bool,
+    plain: &mut Plain,
 )
     requires place { place < length seekers.old }
     requires letters { 0 < letters_in (chars token.now) }
     ensures { HaveMoved
         (TakesAlone direction may_begin (chars token.now)) (place ∷ []) seekers.old seekers.new }
 {
-    let known = direction.look_at(token);
+    let is_plain = direction.read(token, plain);
+    let known = known_of(plain, is_plain);
     let seeker = &mut seekers[place];
-    push(seeker, token, direction, known.as_ref(), may_begin);
+    push(seeker, token, direction, known, may_begin);
 }
 
 // A seeker takes a token, as it is read in this direction.

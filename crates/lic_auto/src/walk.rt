@@ -13,7 +13,8 @@ ghost use Rattle.lic_auto.specs.declared.direction.Direction.TheVariants.{Forwar
 ghost use Rattle.lic_auto.specs.Walks.{AreChanged, AreKept, Resets, Takes};
 
 use crate::chosen::Chosen;
-use crate::direction::{Direction, looked_at};
+use crate::direction::{Direction, known_of, read_taken};
+use lic_marks::plain::Plain;
 use lic_marks::run::Run as TreeRun;
 
 /// Begins anew with the templates that a text with this first token can enter, and gives how many they are. Their numbers
@@ -77,7 +78,13 @@ fn reset_each(runs: &mut [TreeRun<'_>], numbers: &[usize])
 
 /// Gives the token to the runs of the first numbers, puts the numbers of those that are not dead then to the front, and gives how
 /// many they are.
-pub fn take_token(runs: &mut [TreeRun<'_>], live: &mut [usize], count: usize, token: &str) -> usize
+pub fn take_token(
+    runs: &mut [TreeRun<'_>],
+    live: &mut [usize],
+    count: usize,
+    token: &str,
+    plain: &mut Plain,
+) -> usize
     requires within { count ≤ length live.old }
     requires rising { IsRising (take count live.old) (length runs.old) }
     ensures count { result ≤ count }
@@ -85,22 +92,28 @@ pub fn take_token(runs: &mut [TreeRun<'_>], live: &mut [usize], count: usize, to
     ensures taken { AreChanged (Takes (chars token.now)) (take count live.old) runs.old runs.new }
     ensures kept { AreKept (take count live.old) (take result live.new) runs.new }
 {
-    take_each(runs, &mut live[..count], token)
+    take_each(runs, &mut live[..count], token, plain)
 }
 
-fn take_each(runs: &mut [TreeRun<'_>], numbers: &mut [usize], token: &str) -> usize
+fn take_each(
+    runs: &mut [TreeRun<'_>],
+    numbers: &mut [usize],
+    token: &str,
+    plain: &mut Plain,
+) -> usize
     requires { IsRising numbers.old (length runs.old) }
     ensures count { result ≤ length numbers.old }
     ensures rising { IsRising (take result numbers.new) (length runs.old) }
     ensures taken { AreChanged (Takes (chars token.now)) numbers.old runs.old runs.new }
     ensures kept { AreKept numbers.old (take result numbers.new) runs.new }
 {
-    let known = looked_at(token, Direction::Forward, !numbers.is_empty());
+    let is_plain = read_taken(token, Direction::Forward, !numbers.is_empty(), plain);
+    let known = known_of(plain, is_plain);
     let mut kept = 0;
     for i in 0..numbers.len() {
         let number = numbers[i];
         let run = &mut runs[number];
-        run.push_known(token, known.as_ref());
+        run.push_known(token, known);
         if !run.is_dead() {
             numbers[kept] = number;
             kept += 1;

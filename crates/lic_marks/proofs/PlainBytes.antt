@@ -1,5 +1,5 @@
 -- Tokens whose bytes are their letters, read byte by byte.
-use Rattle.std.proofs.Common.{◌≡◌, ℕ, ◌+◌, ◌-◌, ◌<◌, ◌≤◌, Bool, true, false, ◌==◌, ◌&&◌, List, [], ◌∷◌, ◌++◌, length, drop, get_or, append_assoc, append-nil, refl, sym, ap, ◌∙◌, subst, arith}
+use Rattle.std.proofs.Common.{◌≡◌, ℕ, ◌+◌, ◌-◌, ◌<◌, ◌≤◌, Bool, true, false, ◌==◌, ◌&&◌, List, [], ◌∷◌, ◌++◌, length, drop, get_or, append_assoc, append-nil, refl, sym, ap, ◌∙◌, arith}
 use Rattle.std.specs.Str.{IsAscii}
 use Rattle.std.proofs.Math.Logic.{⊎_elim}
 use Rattle.std.proofs.lemmas.Bool.{cases_lt, ne_eqb}
@@ -8,51 +8,46 @@ use Rattle.lic_words.specs.Words.{blank}
 use Rattle.lic_words.specs.Letters.{is_word}
 use Rattle.lic_words.specs.Spelling.{Gap, no_gap, gap_of, gapped_from, last_letter}
 use Rattle.lic_words.proofs.Rows.{gapped_from-letter, last_letter-letter}
-use Rattle.lic_marks.specs.Plain.{ComeJoined, IsPlain, others_in, in_order}
-use Rattle.lic_marks.specs.declared.plain.Plain.{Plain}
+use Rattle.lic_marks.specs.Memories.{has}
+use Rattle.lic_marks.specs.Plain.{ComeJoined, in_order}
+use Rattle.lic_marks.specs.declared.letter_set.LetterSet.{LetterSet}
+use Rattle.lic_marks.proofs.Joining.{ComeJoined-more, ComeJoined-push}
 
--- so many bytes of the row are read: all are of ASCII, the first is no blank, and those behind it are letters that came at once
-pub record HasRead (row : List ℕ) (place : ℕ) (plain : Plain) : Type 0 where
-  pub first : get_or row 0 0 ≡ plain.first
-  pub letters : gapped_from plain.first false (drop 1 row) ≡ others_in plain ++ gapped_from plain.last false (drop place row)
-  pub joined : ComeJoined plain.others (others_in plain)
-  pub last : last_letter plain.first (drop 1 row) ≡ last_letter plain.last (drop place row)
+-- So many bytes of the row are read: all are of ASCII, `a` is the first, and those behind it are letters of the set that came at once,
+-- the last of them `z`.
+pub record HasRead (row : List ℕ) (place : ℕ) (a z : ℕ) (set : LetterSet) (others : List (Gap × ℕ)) : Type 0 where
+  pub first : get_or row 0 0 ≡ a
+  pub letters : gapped_from a false (drop 1 row) ≡ others ++ gapped_from z false (drop place row)
+  pub joined : ComeJoined set others
+  pub last : last_letter a (drop 1 row) ≡ last_letter z (drop place row)
   pub ascii : (k : ℕ) → k < place → get_or row k 0 < 128
 
 -- the first byte
-pub HasRead-begin : (row : List ℕ) (plain : Plain) → get_or row 0 0 < 128 → plain.first ≡ get_or row 0 0 → plain.last ≡ get_or row 0 0
-    → others_in plain ≡ [] → HasRead row 1 plain
-HasRead-begin row plain ascii first last none =
-    let same : plain.first ≡ plain.last = first ∙ sym last in
-    record {
-      first = sym first;
-      letters = ap (λ l. gapped_from l false (drop 1 row)) same ∙ ap (λ xs. xs ++ gapped_from plain.last false (drop 1 row)) (sym none);
-      joined = subst (ComeJoined plain.others) (sym none) tt;
-      last = ap (λ l. last_letter l (drop 1 row)) same;
-      ascii = λ k h. let here : k ≡ 0 = omega arith in let value = ap (λ i. get_or row i 0) here in omega (arith, value, ascii);
-    }
+pub HasRead-begin : (row : List ℕ) (first : ℕ) (set : LetterSet) → get_or row 0 0 < 128 → first ≡ get_or row 0 0 → HasRead row 1 first first set []
+HasRead-begin row first set ascii is = record {
+  first = sym is;
+  letters = refl;
+  joined = tt;
+  last = refl;
+  ascii = λ k h. let here : k ≡ 0 = omega arith in let value = ap (λ i. get_or row i 0) here in omega (arith, value, ascii);
+}
 
 -- a byte more
-pub HasRead-more : (row : List ℕ) (place : ℕ) (old new : Plain) (b : ℕ) → place < length row → get_or row place 0 ≡ b → b < 128 → (b ≡ blank → ⊥)
-    → HasRead row place old → new.first ≡ old.first → others_in new ≡ others_in old ++ (no_gap, b) ∷ [] → ComeJoined new.others (others_in new)
-    → new.last ≡ b → HasRead row (place + 1) new
-HasRead-more row place old new b inside is ascii letter read first others joined last =
+pub HasRead-more : (row : List ℕ) (place : ℕ) (first last : ℕ) (old new : LetterSet) (others : List (Gap × ℕ)) (b : ℕ) → place < length row
+    → get_or row place 0 ≡ b → b < 128 → (b ≡ blank → ⊥) → HasRead row place first last old others
+    → ((c : ℕ) → has old c ≡ true → has new c ≡ true) → has new b ≡ true → HasRead row (place + 1) first b new (others ++ (no_gap, b) ∷ [])
+HasRead-more row place first last old new others b inside is ascii letter read kept added =
     let rest = drop (place + 1) row in
     let split : drop place row ≡ b ∷ rest = drop_more row place 0 inside ∙ ap {B = List ℕ} (λ x. x ∷ rest) is in
     let other : (b == blank) ≡ false = ne_eqb b blank letter in
-    let so_far : List (Gap × ℕ) = others_in old in
     let one : Gap × ℕ = (no_gap, b) in
     record {
-      first = read.first ∙ sym first;
-      letters = ap (λ f. gapped_from f false (drop 1 row)) first ∙ read.letters
-          ∙ ap (λ xs. so_far ++ gapped_from old.last false xs) split
-          ∙ ap (λ xs. so_far ++ xs) (gapped_from-letter old.last false b rest other)
-          ∙ sym (append_assoc so_far (one ∷ []) (gapped_from b false rest))
-          ∙ ap (λ xs. xs ++ gapped_from b false rest) (sym others)
-          ∙ ap (λ l. others_in new ++ gapped_from l false rest) (sym last);
-      joined = joined;
-      last = ap (λ f. last_letter f (drop 1 row)) first ∙ read.last ∙ ap (last_letter old.last) split
-          ∙ last_letter-letter old.last false b rest other ∙ ap (λ l. last_letter l rest) (sym last);
+      first = read.first;
+      letters = read.letters ∙ ap (λ xs. others ++ gapped_from last false xs) split
+          ∙ ap (λ xs. others ++ xs) (gapped_from-letter last false b rest other)
+          ∙ sym (append_assoc others (one ∷ []) (gapped_from b false rest));
+      joined = ComeJoined-push new others one (ComeJoined-more old new kept others read.joined) refl letter added;
+      last = read.last ∙ ap (last_letter last) split ∙ last_letter-letter last false b rest other;
       ascii = λ k h.
           ⊎_elim (λ (before : k < place). read.ascii k before)
           (λ (here : place ≤ k). let same : k ≡ place = omega arith in let value = ap (λ i. get_or row i 0) same in omega (arith, value, is, ascii))
@@ -60,22 +55,26 @@ HasRead-more row place old new b inside is ascii letter read first others joined
     }
 
 -- all bytes
-module _ (row : List ℕ) (place : ℕ) (plain : Plain) (some : 0 < length row) (all : length row ≤ place) (read : HasRead row place plain) where
-  pub IsPlain-read : IsPlain plain row
-  IsPlain-read =
-      let others : List (Gap × ℕ) = others_in plain in
-      let none : drop place row ≡ [] = drop_all place row all in
-      let split : row ≡ plain.first ∷ drop 1 row = drop_more row 0 0 some ∙ ap {B = List ℕ} (λ x. x ∷ drop 1 row) read.first in
-      let other : (plain.first == blank) ≡ false = ne_eqb plain.first blank plain.is_letter in
-      let rest : gapped_from plain.first false (drop 1 row) ≡ others =
-      read.letters ∙ ap (λ xs. others ++ gapped_from plain.last false xs) none ∙ append-nil others in
-      record {
-        letters = λ last. ap (gapped_from last true) split ∙ gapped_from-letter last true plain.first (drop 1 row) other
-            ∙ ap {B = List (Gap × ℕ)} (λ x. (gap_of true (is_word last && is_word plain.first), plain.first) ∷ x) rest;
-        joined = read.joined;
-        last = λ last. ap (last_letter last) split ∙ last_letter-letter last true plain.first (drop 1 row) other ∙ read.last
-            ∙ ap (last_letter plain.last) none;
-      }
+module _ (row : List ℕ) (place : ℕ) (a z : ℕ) (set : LetterSet) (others : List (Gap × ℕ)) (letter : a ≡ blank → ⊥) (some : 0 < length row)
+    (all : length row ≤ place) (read : HasRead row place a z set others) where
+  none_left : drop place row ≡ []
+  none_left = drop_all place row all
+
+  split : row ≡ a ∷ drop 1 row
+  split = drop_more row 0 0 some ∙ ap {B = List ℕ} (λ x. x ∷ drop 1 row) read.first
+
+  other : (a == blank) ≡ false
+  other = ne_eqb a blank letter
+
+  pub letters-read : (last : ℕ) → gapped_from last true row ≡ (gap_of true (is_word last && is_word a), a) ∷ others
+  letters-read last =
+      let rest : gapped_from a false (drop 1 row) ≡ others =
+      read.letters ∙ ap (λ xs. others ++ gapped_from z false xs) none_left ∙ append-nil others in
+      ap (gapped_from last true) split ∙ gapped_from-letter last true a (drop 1 row) other
+      ∙ ap {B = List (Gap × ℕ)} (λ x. (gap_of true (is_word last && is_word a), a) ∷ x) rest
+
+  pub last-read : (last : ℕ) → last_letter last row ≡ z
+  last-read last = ap (last_letter last) split ∙ last_letter-letter last true a (drop 1 row) other ∙ read.last ∙ ap (last_letter z) none_left
 
   pub IsAscii-read : IsAscii row
   IsAscii-read = λ k.

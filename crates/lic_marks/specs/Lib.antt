@@ -15,6 +15,7 @@ pub mod Fronts
 pub mod Nodes
 pub mod Memories
 pub mod Plain
+pub mod Letters
 pub mod States
 pub mod Runs
 pub mod Seeks

@@ -41,10 +41,13 @@ pub record LeadsTo (r : Core) (k d : ℕ) : Type 0 where
   pub moves : (after : Bool) (c : ℕ)
       → flags_of r (shift r after false (mark_at r k) c) ≡ flags_of r (if c == d then mark_at r (suc k) else no_marks r)
 
+-- from this position on each letter is the one to which the position before it leads
+abbrev pub LeadOn : Core → ℕ → List ℕ → Type 0
+LeadOn r k letters = (i : ℕ) → i < length letters → LeadsTo r (k + i) (get_or letters i 0)
+
 -- each letter of the stretch is the one to which the place before it leads
 abbrev pub IsStretchOf : Core → Stretch → Type 0
-IsStretchOf r stretch = (i : ℕ) → i < length stretch.letters.now
-    → LeadsTo r (stretch.place + i) (get_or stretch.letters.now i 0)
+IsStretchOf r stretch = LeadOn r stretch.place stretch.letters.now
 
 -- from this position on these letters, each at once, lead on one by one
 abbrev pub LeadsAlong : Core → ℕ → List (Gap × ℕ) → Type 0

@@ -13,6 +13,9 @@ use lic_kind::is_word;
 use lic_words::letters::{Letter, Letters};
 use lic_words::turned_letters::TurnedLetters;
 
+/// A token of more bytes has more letters than are kept: one of at most four bytes and 24 of one each.
+const MOST_BYTES: usize = 28;
+
 /// A token as it is read from one of its ends, where the letters behind the first are not many, all are of ASCII and no gap stands before
 /// any of them.
 #[derive(Clone, Copy, Debug)]
@@ -34,50 +37,84 @@ pub struct Plain {
 impl Plain {
     ghost use Rattle.lic_marks.specs.Plain.{ComeJoined, IsJoined, IsPlain, in_order, others_in};
 
-    /// The token read from its beginning, if it is plain.
-    pub fn of(token: &str) -> Option<Plain>
-        ensures { IfSome result (λ plain. IsPlain plain (chars token.now)) }
+    /// Room for what is said of a token.
+    pub fn none() -> Plain
+        ensures { others_in result ≡ [] }
     {
-        match Plain::of_bytes(token.as_bytes(), false) {
-            Some(plain) => Some(plain),
-            None => Plain::of_letters(token),
+        Plain {
+            first: 'a',
+            is_of_word: is_word('a'),
+            others: LetterSet::none(),
+            last: 'a',
+            rest: Spelled::none(' '),
         }
     }
 
-    /// The token read from its end, if it is plain.
-    pub fn turned(token: &str) -> Option<Plain>
-        ensures { IfSome result (λ plain. IsPlain plain (reverse (chars token.now))) }
+    /// Reads a token from its beginning, in place of the one before. True only where it is plain: then this is what is said of it.
+    pub fn read(&mut self, token: &str) -> bool
+        ensures { IsTrue result → IsPlain self.new (chars token.now) }
     {
-        match Plain::of_bytes(token.as_bytes(), true) {
-            Some(plain) => Some(plain),
-            None => Plain::of_turned_letters(token),
+        if self.read_bytes(token.as_bytes(), false) {
+            return true;
         }
+        if token.len() > MOST_BYTES {
+            return false;
+        }
+        self.read_letters(token)
+    }
+
+    /// Reads a token from its end, as `read` does.
+    pub fn read_turned(&mut self, token: &str) -> bool
+        ensures { IsTrue result → IsPlain self.new (reverse (chars token.now)) }
+    {
+        if self.read_bytes(token.as_bytes(), true) {
+            return true;
+        }
+        if token.len() > MOST_BYTES {
+            return false;
+        }
+        self.read_turned_letters(token)
     }
 
     // A token whose bytes are its letters, all of ASCII and none a blank, read from its beginning or from its end.
     #[inline(always)]
-    fn of_bytes(bytes: &[u8], is_turned: bool) -> Option<Plain>
-        ensures { IfSome result (λ plain. IsPlain plain (in_order is_turned (chars bytes.now))) }
+    fn read_bytes(&mut self, bytes: &[u8], is_turned: bool) -> bool
+        ensures { IsTrue result → IsPlain self.new (in_order is_turned (chars bytes.now)) }
     {
-        if bytes.is_empty() {
-            return None;
+        let count = bytes.len();
+        if count == 0 {
+            return false;
+        }
+        let behind = count - 1;
+        if behind > 24 {
+            return false;
         }
         let head = Plain::byte_at(bytes, 0, is_turned);
-        let first = Plain::joined_letter(head)?;
-        let mut plain = Plain::begin(first);
-        for place in 1..bytes.len() {
-            let byte = Plain::byte_at(bytes, place, is_turned);
-            let letter = Plain::joined_letter(byte)?;
-            if !plain.push(letter) {
-                return None;
-            }
+        let Some(first) = Plain::joined_letter(head) else {
+            return false;
+        };
+        let mut others = LetterSet::none();
+        let mut last = first.letter;
+        for place in 0..behind {
+            let byte = Plain::byte_at(bytes, place + 1, is_turned);
+            let Some(letter) = Plain::joined_letter(byte) else {
+                return false;
+            };
+            self.rest.put(place, letter);
+            others.add(letter.letter);
+            last = letter.letter;
         }
-        Some(plain)
+        self.rest.keep(behind);
+        self.first = first.letter;
+        self.is_of_word = is_word(first.letter);
+        self.others = others;
+        self.last = last;
+        true
     }
 
     // The byte at a place, counted from the end or from the beginning.
     #[inline]
-    fn byte_at(bytes: &[u8], place: usize, is_turned: bool) -> u8
+    pub(crate) fn byte_at(bytes: &[u8], place: usize, is_turned: bool) -> u8
         requires { place < length bytes.now }
         ensures { result ≡ slice_index (in_order is_turned bytes.now) place }
     {
@@ -105,52 +142,55 @@ impl Plain {
     }
 
     // Any token, read from its beginning.
-    fn of_letters(token: &str) -> Option<Plain>
-        ensures { IfSome result (λ plain. IsPlain plain (chars token.now)) }
+    #[inline(never)]
+    fn read_letters(&mut self, token: &str) -> bool
+        ensures { IsTrue result → IsPlain self.new (chars token.now) }
     {
         let mut letters = Letters::new(token, ' ', true);
-        let first = letters.next()?;
-        let mut plain = Plain::begin(first);
+        let Some(first) = letters.next() else {
+            return false;
+        };
+        self.begin(first);
         while let Some(letter) = letters.next() {
-            if !plain.add(letter) {
-                return None;
+            if !self.add(letter) {
+                return false;
             }
         }
-        plain.last = letters.last_letter();
-        Some(plain)
+        self.last = letters.last_letter();
+        true
     }
 
     // Any token, read from its end.
-    fn of_turned_letters(token: &str) -> Option<Plain>
-        ensures { IfSome result (λ plain. IsPlain plain (reverse (chars token.now))) }
+    #[inline(never)]
+    fn read_turned_letters(&mut self, token: &str) -> bool
+        ensures { IsTrue result → IsPlain self.new (reverse (chars token.now)) }
     {
         let mut letters = TurnedLetters::new(token, ' ', true);
-        let first = letters.next()?;
-        let mut plain = Plain::begin(first);
+        let Some(first) = letters.next() else {
+            return false;
+        };
+        self.begin(first);
         while let Some(letter) = letters.next() {
-            if !plain.add(letter) {
-                return None;
+            if !self.add(letter) {
+                return false;
             }
         }
-        plain.last = letters.last_letter();
-        Some(plain)
+        self.last = letters.last_letter();
+        true
     }
 
     // The first letter alone.
     #[inline]
-    fn begin(first: Letter) -> Plain
-        ensures first { result.first ≡ first.letter }
-        ensures others { others_in result ≡ [] }
-        ensures last { result.last ≡ first.letter }
+    fn begin(&mut self, first: Letter)
+        ensures first { self.new.first ≡ first.letter }
+        ensures others { others_in self.new ≡ [] }
+        ensures last { self.new.last ≡ first.letter }
     {
-        let letter = first.letter;
-        Plain {
-            first: letter,
-            is_of_word: is_word(letter),
-            others: LetterSet::none(),
-            last: letter,
-            rest: Spelled::none(' '),
-        }
+        self.first = first.letter;
+        self.is_of_word = is_word(first.letter);
+        self.others = LetterSet::none();
+        self.last = first.letter;
+        self.rest.keep(0);
     }
 
     // Adds a letter behind the others, if it comes at once and is one of ASCII, and there is room.
@@ -170,20 +210,6 @@ impl Plain {
         }
         self.others.add(letter.letter);
         true
-    }
-
-    // Adds a letter behind the others as `add` does, and notes that it is the last.
-    #[inline]
-    fn push(&mut self, letter: Letter) -> bool
-        ensures first { self.new.first ≡ self.old.first }
-        ensures others { IsTrue result
-            → others_in self.new ≡ others_in self.old ++ gapped_letter letter ∷ [] }
-        ensures joined { IsTrue result → ComeJoined self.old.others (others_in self.old)
-            → ComeJoined self.new.others (others_in self.new) }
-        ensures last { IsTrue result → self.new.last ≡ letter.letter }
-    {
-        self.last = letter.letter;
-        self.add(letter)
     }
 
     /// The first letter behind the letter `last` and a gap.

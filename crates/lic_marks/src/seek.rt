@@ -9,7 +9,7 @@ ghost use Rattle.lic_words.specs.Expressions.{Expression};
 ghost use Rattle.lic_marks.specs.Cores.{HasWordsOf};
 ghost use Rattle.lic_marks.specs.Rows.{weight};
 ghost use Rattle.lic_marks.specs.Nodes.{core_of, is_measured};
-ghost use Rattle.lic_marks.specs.Plain.{IsPlain};
+ghost use Rattle.lic_marks.specs.Plain.{IsPlain, in_order};
 ghost use Rattle.lic_marks.specs.States.{HasFirstBlanks, has_gap, room_of};
 ghost use Rattle.lic_marks.specs.Fronts.{IsFrontOf};
 ghost use Rattle.lic_marks.specs.Stretches.{IsStretchOf};
@@ -250,6 +250,45 @@ impl<'a> Seeker<'a> {
         true
     }
 
+    // Takes a plain token that is entered where one mark stands alone in a text, and no word goes on from there with its letters, where
+    // the text with which all words begin says where it leads. Otherwise nothing is done.
+    #[inline(never)]
+    fn turns_to(&mut self, plain: &Plain) -> bool
+        ensures none { (e : Expression) (ts : List (List ℕ)) → Seeks self.old e ts
+            → result ≡ false → Seeks self.new e ts }
+        ensures stands { (e : Expression) (ts : List (List ℕ)) (token : List ℕ)
+            → Seeks self.old e ts → IsTrue result
+            → IsPlain plain.now token → Seeks self.new e (ts ++ token ∷ []) }
+        ensures tree { tree_of self.new ≡ tree_of self.old }
+    {
+        let Some(front) = self.front else {
+            return false;
+        };
+        let Some(text) = self.lone else {
+            return false;
+        };
+        let first = plain.first_behind(self.last);
+        let Some(older) = text.stretch.over_token(text.place, first, plain.rest()) else {
+            return false;
+        };
+        let Way::Nowhere = older else {
+            return false;
+        };
+        let Some(way) = front.over(plain.first_behind(' '), plain.rest()) else {
+            return false;
+        };
+        let Way::To { place } = way else {
+            return false;
+        };
+        let stretch = front.rest;
+        if !none_ends(stretch, place) {
+            return false;
+        }
+        self.lone = Some(InText { place, stretch });
+        self.last = plain.last;
+        true
+    }
+
     // Takes a plain token where one mark stands alone in a text, and that says where its letters lead. Otherwise nothing is done.
     #[inline(never)]
     fn follows(&mut self, plain: &Plain) -> bool
@@ -282,6 +321,33 @@ impl<'a> Seeker<'a> {
         true
     }
 
+    /// Takes a token, read from its end or from its first letter on, with which no described list begins, where one mark stands alone in a
+    /// text that goes on with a blank and the token's letters, all of ASCII. The token is compared with the text as it is. Otherwise
+    /// nothing is done.
+    #[inline]
+    pub fn goes_on(&mut self, token: &str, is_turned: bool) -> bool
+        ensures none { result ≡ false → self.new ≡ self.old }
+        ensures stands { (e : Expression) (ts : List (List ℕ)) → Seeks self.old e ts
+            → IsTrue result → NoneBegins e (in_order is_turned (chars token.now))
+            → Seeks self.new e (ts ++ in_order is_turned (chars token.now) ∷ []) }
+        ensures tree { tree_of self.new ≡ tree_of self.old }
+    {
+        let bytes = token.as_bytes();
+        let Some(text) = self.lone else {
+            return false;
+        };
+        let stretch = text.stretch;
+        let Some(place) = stretch.over_bytes(text.place, bytes, is_turned) else {
+            return false;
+        };
+        if !none_ends(stretch, place) {
+            return false;
+        }
+        self.lone = Some(InText { place, stretch });
+        self.last = char::from(Plain::byte_at(bytes, bytes.len() - 1, is_turned));
+        true
+    }
+
     // Takes a plain token where that is known without a walk over the tree: as `enters`, or not entered, where its letters are known to
     // leave the marks as they are, or the text in which a lone mark stands says where it leads. Otherwise nothing is done.
     #[inline]
@@ -298,7 +364,10 @@ impl<'a> Seeker<'a> {
             return false;
         };
         if may_begin {
-            return self.enters(plain);
+            if self.enters(plain) {
+                return true;
+            }
+            return self.turns_to(plain);
         }
         let None = self.lone else {
             return self.follows(plain);

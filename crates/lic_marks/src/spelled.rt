@@ -1,6 +1,6 @@
 //! The letters of a token, read once for all that go over them.
 
-ghost use Rattle.std.specs.Prelude.{◌≡◌, ◌≤◌, ◌∷◌, ◌++◌, [], true, IfSome, IsTrue, map};
+ghost use Rattle.std.specs.Prelude.{◌≡◌, ◌<◌, ◌≤◌, ◌+◌, ◌∷◌, ◌++◌, [], true, IfSome, IsTrue, map};
 ghost use Rattle.std.specs.Str.{chars};
 ghost use Rattle.lic_words.specs.Spelling.{gapped_from, last_letter};
 ghost use Rattle.lic_words.specs.Reading.{gapped_letter};
@@ -19,7 +19,7 @@ pub struct Spelled {
 }
 
 impl Spelled {
-    ghost use Rattle.lic_marks.specs.Spelled.{gapped_in, last_in};
+    ghost use Rattle.lic_marks.specs.Spelled.{gapped_in, last_in, gapped_front};
 
     /// The letters of a token behind the letter `last` and a gap, unless there are too many.
     pub fn of(token: &str, last: char) -> Option<Spelled>
@@ -70,6 +70,24 @@ impl Spelled {
         }
     }
 
+    /// Takes so many letters from the first on for all of them.
+    #[inline]
+    pub fn keep(&mut self, count: usize)
+        requires { count ≤ 24 }
+        ensures { gapped_in self.new ≡ gapped_front self.old count }
+    {
+        self.count = count;
+    }
+
+    /// Writes a letter behind so many from the first on.
+    #[inline]
+    pub fn put(&mut self, count: usize, letter: Letter)
+        requires { count < 24 }
+        ensures { gapped_front self.new (count + 1) ≡ gapped_front self.old count ++ gapped_letter letter ∷ [] }
+    {
+        self.letters[count] = letter;
+    }
+
     /// Adds a letter behind the others, if there is room.
     #[inline]
     pub fn push(&mut self, letter: Letter) -> bool
@@ -79,7 +97,7 @@ impl Spelled {
         if count >= 24 {
             return false;
         }
-        self.letters[count] = letter;
+        self.put(count, letter);
         self.count = count + 1;
         true
     }

@@ -1,14 +1,17 @@
 //! Stretches of text in a compiled expression: literals, in which a lone mark moves on letter by letter.
 
-ghost use Rattle.std.specs.Prelude.{◌∷◌, true, IfSome, IsTrue, map};
+ghost use Rattle.std.specs.Prelude.{◌≡◌, ◌<◌, ◌-◌, ◌∷◌, ℕ, true, IfSome, IsTrue, length, map, slice_index};
 ghost use Rattle.std.specs.List.{list_all};
 ghost use Rattle.lic_marks.specs.Cores.{cat_all, alt_all};
 ghost use Rattle.lic_marks.specs.Nodes.{core_of, is_measured};
 ghost use Rattle.lic_marks.specs.Stretches.{IsStretch};
-ghost use Rattle.lic_words.specs.Spelling.{gap_of};
+ghost use Rattle.std.specs.Str.{chars};
+ghost use Rattle.lic_marks.specs.Letters.{IsLetter};
+ghost use Rattle.lic_words.specs.Spelling.{gap_of, gapped_from, last_letter};
 ghost use Rattle.lic_words.specs.Reading.{gapped_letter};
 
 use crate::node::Node;
+use crate::plain::Plain;
 use lic_words::letters::Letter;
 
 /// The letters behind a place of a compiled expression in its stretch of text: from a mark at that place alone they lead on one by one.
@@ -29,8 +32,10 @@ pub enum Way {
 
 impl<'a> Stretch<'a> {
     ghost use Rattle.lic_marks.specs.Cores.{Core};
-    ghost use Rattle.lic_marks.specs.Stretches.{LeadsTo, IsStretchOf};
+    ghost use Rattle.lic_marks.specs.Stretches.{LeadOn, LeadsTo, IsStretchOf};
     ghost use Rattle.lic_marks.specs.Ways.{IsGapWay, IsWay, IsWayAlong};
+    ghost use Rattle.lic_marks.specs.Plain.{in_order};
+    ghost use Rattle.lic_marks.specs.declared.stretch.Way.TheVariants.{To};
 
     /// No letters.
     pub fn none() -> Stretch<'a>
@@ -66,6 +71,19 @@ impl<'a> Stretch<'a> {
             return None;
         }
         Some(self.letters[distance])
+    }
+
+    // The letters behind a place, if it stands in the stretch, or behind it.
+    #[inline]
+    fn letters_from(self, place: usize) -> Option<&'a [char]>
+        ensures { IfSome result (λ letters. (r : Core) → IsStretchOf r self.entry
+            → LeadOn r place letters.now) }
+    {
+        let distance = place.checked_sub(self.place)?;
+        if distance > self.letters.len() {
+            return None;
+        }
+        Some(&self.letters[distance..])
     }
 
     /// Where letters lead from a place of the stretch on, if that is known here. The first stands behind a gap.
@@ -109,26 +127,75 @@ impl<'a> Stretch<'a> {
         }
     }
 
+    /// Where a token leads from a place of the stretch on, read from its end or from its beginning, if its bytes are letters of ASCII and
+    /// the text goes on with a blank and with these letters.
+    #[inline]
+    pub fn over_bytes(self, place: usize, bytes: &[u8], is_turned: bool) -> Option<usize>
+        ensures way { IfSome result (λ end. (r : Core) (last : ℕ) → IsStretchOf r self.entry
+            → IsWay r place (gapped_from last true (in_order is_turned (chars bytes.now))) (To end)) }
+        ensures some { IfSome result (λ end. 0 < length bytes.now) }
+        ensures last { IfSome result (λ end. (last : ℕ)
+            → last_letter last (in_order is_turned (chars bytes.now))
+            ≡ slice_index (in_order is_turned bytes.now) (length bytes.now - 1)) }
+    {
+        let text = self.letters_from(place)?;
+        let count = bytes.len();
+        if count == 0 {
+            return None;
+        }
+        if count >= text.len() {
+            return None;
+        }
+        if text[0] != ' ' {
+            return None;
+        }
+        for i in 0..count {
+            let byte = Plain::byte_at(bytes, i, is_turned);
+            if !is_letter(byte, text[i + 1]) {
+                return None;
+            }
+        }
+        let end = place.checked_add(count + 1)?;
+        Some(end)
+    }
+
     /// Where letters lead one by one, each at once, if that is known here.
     pub fn along(self, place: usize, letters: &[Letter]) -> Option<Way>
         ensures { IfSome result (λ way. (r : Core) → IsStretchOf r self.entry
             → IsWayAlong r place (map gapped_letter letters.now) way) }
     {
-        let mut at = place;
-        for letter in letters {
-            let next = self.letter_behind(at)?;
-            if letter.is_apart | (next != letter.letter) {
-                // behind a gap within the token that is not looked into
-                return if letter.is_apart {
-                    None
-                } else {
-                    Some(Way::Nowhere)
-                };
+        let text = self.letters_from(place)?;
+        let count = letters.len().min(text.len());
+        for i in 0..count {
+            let letter = letters[i];
+            if letter.is_apart {
+                // a gap within the token that is not looked into
+                return None;
             }
-            at = at.checked_add(1)?;
+            if text[i] != letter.letter {
+                return Some(Way::Nowhere);
+            }
         }
-        Some(Way::To { place: at })
+        if count < letters.len() {
+            return None;
+        }
+        let end = place.checked_add(count)?;
+        Some(Way::To { place: end })
     }
+}
+
+// Whether a byte is one of ASCII, no blank, and this letter.
+#[inline]
+fn is_letter(byte: u8, letter: char) -> bool
+    ensures { IsTrue result → IsLetter byte letter }
+{
+    if !byte.is_ascii() {
+        return false;
+    }
+    if byte == b' ' {
+        return false;
+    }
+    char::from(byte) == letter
 }
 
 /// The letters behind a position in its stretch of text, where it stands in one.

@@ -90,10 +90,14 @@ fn push_all(run: &mut Run<'_>, tokens: &str) {
 
 /// Takes them where what is known of plain ones is handed in.
 fn push_known(run: &mut Run<'_>, tokens: &str) {
+    let mut plain = Plain::none();
     for token in tokens.split('|') {
         if !token.is_empty() {
-            let known = Plain::of(token);
-            run.push_known(token, known.as_ref());
+            if plain.read(token) {
+                run.push_known(token, Some(&plain));
+            } else {
+                run.push(token);
+            }
         }
     }
 }
@@ -167,8 +171,9 @@ fn a_token_is_plain_from_either_end(rt: HostRuntime) {
         ("abcdefghijklmnopqrstuvwxy", true),
         ("abcdefghijklmnopqrstuvwxyz", false),
     ];
+    let mut plain = Plain::none();
     for (token, is_plain) in table {
-        assert_eq!(rt; Plain::of(token).is_some(), *is_plain, "{token:?}");
-        assert_eq!(rt; Plain::turned(token).is_some(), *is_plain, "{token:?}");
+        assert_eq!(rt; plain.read(token), *is_plain, "{token:?}");
+        assert_eq!(rt; plain.read_turned(token), *is_plain, "{token:?}");
     }
 }

@@ -12,6 +12,9 @@ use Rattle.lic_auto.proofs.Changing.{Changed-more, Kept-kept, Kept-dropped}
 use Rattle.lic_auto.proofs.walk.take_each.Goals as goal
 use Rattle.lic_auto.proofs.walk.take_each.Goals.{then-not-is_dead, else-not-is_dead}
 
+pub push_known-requires : goal.push_known-requires
+push_known-requires c = c.known_of-known.ensures (chars c.args.token.now) c.read_taken-is_plain.ensures
+
 pub loop-i-preserved : goal.loop-i-preserved
 loop-i-preserved c =
     let i = c.loop-i.i in

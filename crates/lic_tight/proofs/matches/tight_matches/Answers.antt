@@ -1,4 +1,4 @@
-use Rattle.std.proofs.Common.{[], ◌≡◌, subst, ◌∙◌, arith}
+use Rattle.std.proofs.Common.{[], ◌≡◌, length, refl, sym, subst, ◌∙◌, arith}
 use Rattle.std.specs.List.Sorted.{IsPermutation}
 use Rattle.lic_tight.specs.Steps.{range_steps, replayed_letters}
 use Rattle.lic_tight.specs.Walked.{HasCome, HasCounted, set_walked, numbers_walked, found_walked}
@@ -7,6 +7,18 @@ use Rattle.lic_tight.proofs.Counting.{range_steps-moved, replayed_letters-moved}
 use Rattle.lic_tight.proofs.Gathering.{HasFound, sorted-tight_of}
 use Rattle.lic_tight.proofs.Keeping.{match_kept}
 use Rattle.lic_tight.proofs.matches.tight_matches.Goals as goal
+
+pub loop-first-init : goal.loop-first-init
+loop-first-init c =
+    let tokens = c.args.text.now.tokens in
+    let walk = c.in_ok-walk.walk in
+    let all : c.len-first.result ≡ length tokens = c.len-first.ensures in
+    record {
+      come = subst (λ n. HasCome tokens n [] walk) (sym all) (c.in_ok-walk.ensures.come tokens);
+      counted = subst (λ n. HasCounted tokens n walk) (sym all) (c.in_ok-walk.ensures.counted tokens);
+      set = c.in_ok-walk.ensures.set;
+      numbers = refl;
+    }
 
 pub returns-clause-tight : goal.returns-clause-tight
 returns-clause-tight c = λ all matches.

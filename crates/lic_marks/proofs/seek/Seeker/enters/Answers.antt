@@ -1,30 +1,18 @@
-use Rattle.std.proofs.Common.{◌≡◌, ℕ, List, [], ◌∷◌, ◌++◌, ◌&&◌, true, append-nil, map, sym, ap, ◌∙◌, subst}
+use Rattle.std.proofs.Common.{◌≡◌, [], ◌∷◌, ◌++◌, true, map, sym, ap, ◌∙◌, subst}
 use Rattle.lic_words.specs.Words.{Word, blank}
-use Rattle.lic_words.specs.Letters.{is_word}
-use Rattle.lic_words.specs.Spelling.{Gap, free, gap_of, gapped, gapped_from, last_letter}
+use Rattle.lic_words.specs.Spelling.{last_letter}
 use Rattle.lic_words.specs.Reading.{gapped_letter}
-use Rattle.lic_words.proofs.Spellings.{gap-behind_blank}
 use Rattle.lic_marks.specs.Cores.{WordsOf}
 use Rattle.lic_marks.specs.Nodes.{core_of}
 use Rattle.lic_marks.specs.Fronts.{IsEntryWay, IsFrontOf}
-use Rattle.lic_marks.specs.Plain.{IsPlain, others_in}
 use Rattle.lic_marks.specs.Seeks.{GoOnAsEnds, StandsFor}
 use Rattle.lic_marks.specs.States.{HasTakenAny}
 use Rattle.lic_marks.specs.Standing.{AfterAny}
-use Rattle.lic_marks.specs.declared.plain.Plain.{Plain}
 use Rattle.lic_marks.specs.declared.stretch.Way.TheVariants.{To, Nowhere}
-use Rattle.lic_marks.proofs.Beginning.{goes_on_at, none_entered, still_none}
+use Rattle.lic_marks.proofs.Beginning.{alone, goes_on_at, none_entered, older_dead, still_none}
 use Rattle.lic_marks.proofs.Seeking.{any_last, entered, with_token}
 use Rattle.lic_marks.proofs.TextMarks.{in_text}
 use Rattle.lic_marks.proofs.seek.Seeker.enters.Goals as goal
-
--- the letters of a plain token alone
-alone : (plain : Plain) (t : List ℕ) → IsPlain plain t → (c : ℕ) → c ≡ plain.first → (rest : List (Gap × ℕ)) → rest ≡ others_in plain → (free, c) ∷ rest ≡ gapped (t ∷ [])
-alone plain t known c first rest others =
-    let gap : free ≡ gap_of true (is_word blank && is_word plain.first) = sym (gap-behind_blank plain.first) in
-    let whole : gapped (t ∷ []) ≡ gapped_from blank true t = ap (gapped_from blank true) (append-nil t) in
-    let letters = known.letters blank in
-    cc
 
 pub mark_alone-requires-clause-stretch : goal.mark_alone-requires-clause-stretch
 mark_alone-requires-clause-stretch c = (c.args.self.now.fronted c.in-Some.front c.in-Some.is).rest
@@ -54,7 +42,7 @@ returns-then-none_ends-clause-stands c = λ e ts t s _ known.
     record {
       words = s.words;
       lists = lists;
-      taken = (taken.kept, goes_on_at r self.last t s.lists dead c.in-To.place way.1);
+      taken = (taken.kept, goes_on_at r self.last t s.lists (older_dead r self.last t s.lists dead) c.in-To.place way.1);
       ends = subst (λ l. GoOnAsEnds e r l lists (ts ++ t ∷ [])) (known.last self.last) (entered e r self.last s.lists ts s.ends t own);
     }
 
@@ -74,7 +62,7 @@ returns-clause-stands c = λ e ts t s _ known.
       words = s.words;
       lists = lists;
       taken = subst (λ l. StandsFor r l c.mark_alone.new.self lists) (sym c.in-None.is)
-          (c.mark_alone.ensures.any s.lists lists taken (goes_on_at r self.last t s.lists dead c.in-To.place way.1));
+          (c.mark_alone.ensures.any s.lists lists taken (goes_on_at r self.last t s.lists (older_dead r self.last t s.lists dead) c.in-To.place way.1));
       ends = subst (λ l. GoOnAsEnds e r l lists (ts ++ t ∷ [])) (known.last self.last) (entered e r self.last s.lists ts s.ends t own);
     }
 
@@ -90,7 +78,7 @@ returns-in_default-way-clause-stands c = λ e ts t s _ known.
     let way = subst (λ l. IsEntryWay r l Nowhere) letters (rw c.in_default-way.is at (c.in-Some-over.ensures r front)) in
     let own : last_letter self.last t ≡ last_letter blank t = known.last self.last ∙ sym (known.last blank) in
     let lists = with_token true self.last t s.lists in
-    let none = none_entered r self.last t s.lists dead way in
+    let none = none_entered r self.last t s.lists (older_dead r self.last t s.lists dead) way in
     record {
       words = s.words;
       lists = lists;

@@ -9,8 +9,15 @@ use Rattle.lic_marks.specs.Seeks.{GoOnAsEnds, StandsFor}
 use Rattle.lic_marks.proofs.Seeking.{passed}
 use Rattle.lic_marks.proofs.seek.Seeker.passes.Goals as goal
 
+pub returns-then-enters-clause-stands : goal.returns-then-enters-clause-stands
+returns-then-enters-clause-stands c = λ e ts t s h known none. c.enters.ensures.stands e ts t s c.if-enters.true (rw c.in-Some.is at known)
+
+pub returns-then-may_begin-clause-none : goal.returns-then-may_begin-clause-none
+returns-then-may_begin-clause-none c = λ e ts s is. c.turns_to.ensures.none e ts (c.enters.ensures.none e ts s c.if-enters.false) is
+
 pub returns-then-may_begin-clause-stands : goal.returns-then-may_begin-clause-stands
-returns-then-may_begin-clause-stands c = λ e ts t s h known none. c.enters.ensures.stands e ts t s h (rw c.in-Some.is at known)
+returns-then-may_begin-clause-stands c = λ e ts t s h known none.
+    c.turns_to.ensures.stands e ts t (c.enters.ensures.none e ts s c.if-enters.false) h (rw c.in-Some.is at known)
 
 -- a mark stands alone in a text
 pub returns-in_default-lone-clause-stands : goal.returns-in_default-lone-clause-stands

@@ -2,7 +2,7 @@ use Rattle.std.proofs.Common.{◌≡◌, ◌≤◌, take, length, chars}
 use Rattle.lic_keys.specs.Rising.{IsRising}
 use Rattle.lic_auto.specs.Changes.{AreKeptOf}
 use Rattle.lic_auto.specs.Seeking.{HaveMoved, IsQuiet, TakesEntered}
-use Rattle.lic_auto.proofs.seeking.take_tokens.Given as goal
+use Rattle.lic_auto.proofs.seeking.take_each.Given as goal
 
 abbrev pub invariant-loop-place : goal.invariant-loop-place
 invariant-loop-place l = record {

@@ -1,6 +1,0 @@
-use Rattle.lic_marks.specs.Plain.{in_order}
-use Rattle.lic_marks.proofs.PlainBytes.{HasRead}
-use Rattle.lic_marks.proofs.plain.Plain.of_bytes.Given as goal
-
-abbrev pub invariant-loop-place : goal.invariant-loop-place
-invariant-loop-place l = HasRead (in_order l.is_turned l.bytes) l.place l.plain
