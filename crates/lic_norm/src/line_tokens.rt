@@ -9,8 +9,8 @@ ghost use Rattle.lic_norm.specs.Tokens.{line_tokens_of};
 use crate::characters::read_characters;
 use crate::rewriting::{PartRoom, Rewriting};
 use lic_lines::{LinePart, Room, Rules, SourceChar, left_of_line};
+use simdutf8::compat::from_utf8;
 use std::alloc::{AllocError, Global};
-use std::str::from_utf8_unchecked;
 
 /// A line of a whole input.
 const WHOLE_LINE: LinePart = LinePart {
@@ -28,8 +28,7 @@ fn ascii_text(bytes: &[u8]) -> Option<&str>
     if !bytes.is_ascii() {
         return None;
     }
-    // What is ASCII is UTF-8.
-    Some(unsafe { from_utf8_unchecked(bytes) })
+    from_utf8(bytes).ok()
 }
 
 /// So many characters a list may keep room for from one line to the next.
