@@ -48,7 +48,7 @@ def build(top):
     """Proves all, builds the program, and returns the exit status."""
     to = f"{top}/crates/{PROGRAM}/out"
     proving = Proving(top, [PROGRAM], f"{to}/build.log")
-    say(f"proving {len(proving.all)} crates and building the program: less than half an hour on four cores, and no time for a crate that was proved before")
+    say(f"proving {len(proving.all)} crates and building the program: half an hour on four quick cores, fifty minutes on slow ones, and no time for a crate that was proved before")
     if not proving.run() or not built(top, proving.all, to):
         say(f"the program could not be proved and built (log: crates/{PROGRAM}/out/build.log)")
         return 2
