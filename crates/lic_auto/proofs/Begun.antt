@@ -81,9 +81,9 @@ module _ (direction : Direction) (templates : List Known) (numbers : List ℕ) (
       NoneGoesOn (read direction (words_of known)) (lists n)
   goes_on-nowhere s there none =
       subst (λ k. NoneGoesOn (read direction (words_of known)) (lists k)) here
-      (λ m more within described.
+      (λ m more is_end within described.
       ∥∥₁_elim (stand place known s at_place there) ⊥_prop
-      (λ seeks. none (read direction (words_of known)) (list_at numbers lists place) seeks m more within described))
+      (λ seeks. none (read direction (words_of known)) (list_at numbers lists place) seeks m more is_end within described))
 
   -- so is each seeker but those at the marked places
   pub goes_on-quiet : (marked : List ℕ) → AreQuietBut marked seekers → ¬ (Contains marked place) → length (picked templates numbers) ≡ length seekers →

@@ -95,5 +95,5 @@ pub none_found : (direction : Direction) (numbers : List ℕ) (templates : List 
     → Contains [] n ↔ (Contains numbers n × IsFound direction templates [] n)
 none_found direction numbers templates n = (
   λ (i, inside, is). absurd (omega (arith, inside)),
-  λ (kept, (known, here, (m, described))). absurd (described.0 (drop_all m [] (omega arith))),
+  λ (kept, (known, here, (m, is_end, described))). absurd (described.0 (drop_all m [] (omega arith))),
 )

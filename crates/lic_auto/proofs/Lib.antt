@@ -32,6 +32,7 @@ pub mod Ordering
 pub mod KnownTrees
 pub mod Places
 pub mod PickedLemmas
+pub mod SetTails
 pub mod MovedSeekers
 pub mod Finding
 pub mod Living

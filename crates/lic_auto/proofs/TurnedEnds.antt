@@ -33,7 +33,7 @@ turned-take n ts within =
 module _ (e : Expression) (ts : List (List ℕ)) where
   -- some beginning is described
   pub beginning-from_end : DescribesEnd (mirrored e) (turned ts) → (n : ℕ) × IsDescribed e (take n ts)
-  beginning-from_end (m, described) =
+  beginning-from_end (m, is_end, described) =
       ⊎_elim
       (λ (inside : m < length ts).
       let back : length ts - (length ts - m) ≡ m = omega arith in
@@ -47,8 +47,8 @@ module _ (e : Expression) (ts : List (List ℕ)) where
   end-from_beginning n described =
       ⊎_elim
       (λ (inside : n < length ts).
-      (length ts - n, subst (IsDescribed (mirrored e)) (turned-take n ts (omega arith)) (IsDescribed-turned e (take n ts) described)))
-      (λ (outside : length ts ≤ n). (zero, IsDescribed-turned e ts (subst (IsDescribed e) (take_all n ts outside) described)))
+      (length ts - n, refl, subst (IsDescribed (mirrored e)) (turned-take n ts (omega arith)) (IsDescribed-turned e (take n ts) described)))
+      (λ (outside : length ts ≤ n). (zero, refl, IsDescribed-turned e ts (subst (IsDescribed e) (take_all n ts outside) described)))
       (cases_lt n (length ts))
 
   -- where no list goes on from an end of what is read, none goes from tokens in front into the list
@@ -56,22 +56,22 @@ module _ (e : Expression) (ts : List (List ℕ)) where
   none_reaches none front n some within described =
       let same : turned (front ++ take n ts) ≡ drop (length ts - n) (turned ts) ++ turned front =
       turned-append front (take n ts) ∙ ap (λ xs. xs ++ turned front) (turned-take n ts within) in
-      none (length ts - n) (turned front) (omega (arith, some, within, length-turned ts))
+      none (length ts - n) (turned front) refl (omega (arith, some, within, length-turned ts))
       (subst (IsDescribed (mirrored e)) same (IsDescribed-turned e (front ++ take n ts) described))
 
 -- whether some end is described
 pub decide_end : (e : Expression) (ts : List (List ℕ)) → DescribesEnd e ts ⊎ ¬ (DescribesEnd e ts)
-decide_end e [] = inr (λ (n, described). described.0 (drop_all n [] (omega arith)))
+decide_end e [] = inr (λ (n, is_end, described). described.0 (drop_all n [] (omega arith)))
 decide_end e (t ∷ ts) = by_whole (decide_end e ts) (is_described e (t ∷ ts)) refl
   where
     none : is_described e (t ∷ ts) ≡ false → ¬ (DescribesEnd e ts) → ¬ (DescribesEnd e (t ∷ ts))
-    none fails rest (zero, described) = let passes : is_described e (t ∷ ts) ≡ true = is_described_complete e (t ∷ ts) described in cc
-    none fails rest (suc n, described) = rest (n, described)
+    none fails rest (zero, is_end, described) = let passes : is_described e (t ∷ ts) ≡ true = is_described_complete e (t ∷ ts) described in cc
+    none fails rest (suc n, is_end, described) = rest (n, refl, described)
 
     by_whole : DescribesEnd e ts ⊎ ¬ (DescribesEnd e ts) → (b : Bool) → is_described e (t ∷ ts) ≡ b → DescribesEnd e (t ∷ ts) ⊎ ¬ (DescribesEnd e (t ∷ ts))
-    by_whole later true is = inl (zero, is_described_sound e (t ∷ ts) is)
+    by_whole later true is = inl (zero, refl, is_described_sound e (t ∷ ts) is)
     by_whole later false is =
-        ⊎_elim (λ (h : DescribesEnd e ts). let (n, described) = h in inl (suc n, described))
+        ⊎_elim (λ (h : DescribesEnd e ts). let (n, is_end, described) = h in inl (suc n, refl, described))
         (λ (no : ¬ (DescribesEnd e ts)). inr (none is no))
         later
 

@@ -41,7 +41,7 @@ pub struct Chosen<'s> {
 }
 
 impl<'s> Chosen<'s> {
-    ghost use Rattle.lic_auto.specs.Choices.{templates_of, ArePlaces};
+    ghost use Rattle.lic_auto.specs.Choices.{numbers_chosen, set_chosen, templates_of, ArePlaces};
 
     /// The templates of these numbers.
     pub fn new(
@@ -52,8 +52,8 @@ impl<'s> Chosen<'s> {
     ) -> Result<Chosen<'s>, AllocError>
         requires { IsRising numbers.items (length set.now) }
         ensures direction { IfOk result (λ chosen. chosen.direction ≡ direction) }
-        ensures set { IfOk result (λ chosen. chosen.set.now ≡ set.now) }
-        ensures numbers { IfOk result (λ chosen. chosen.numbers.items ≡ numbers.items) }
+        ensures set { IfOk result (λ chosen. set_chosen chosen ≡ set.now) }
+        ensures numbers { IfOk result (λ chosen. numbers_chosen chosen ≡ numbers.items) }
     {
         let trees = trees_of(alloc, set, &numbers, direction)?;
         let mut firsts = Vec::new(alloc);
@@ -78,18 +78,18 @@ impl<'s> Chosen<'s> {
     /// The number of the template at a place.
     pub fn number(&self, place: usize) -> usize
         requires { place < length (templates_of self.now) }
-        ensures { result ≡ slice_index self.now.numbers.items place }
+        ensures { result ≡ slice_index (numbers_chosen self.now) place }
     {
         self.numbers[place]
     }
 
     /// The first place whose number is not below this one.
-    pub fn place_from(&self, from: usize) -> Option<usize>
-        ensures some { IfSome result (λ place. (i : ℕ) → i < length self.now.numbers.items
-            → place ≤ i ↔ (from ≤ slice_index self.now.numbers.items i)) }
+    pub(crate) fn place_from(&self, from: usize) -> Option<usize>
+        ensures some { IfSome result (λ place. (i : ℕ) → i < length (numbers_chosen self.now)
+            → place ≤ i ↔ (from ≤ slice_index (numbers_chosen self.now) i)) }
         ensures none { IfNone result
-            ((i : ℕ) → i < length self.now.numbers.items
-            → slice_index self.now.numbers.items i < from) }
+            ((i : ℕ) → i < length (numbers_chosen self.now)
+            → slice_index (numbers_chosen self.now) i < from) }
     {
         let place = self.count_below(from);
         if place < self.numbers.len() {
@@ -101,8 +101,8 @@ impl<'s> Chosen<'s> {
 
     // How many of the numbers are below this one: all in front of that place, and none from there on.
     fn count_below(&self, number: usize) -> usize
-        ensures { (i : ℕ) → i < length self.now.numbers.items
-            → result ≤ i ↔ (number ≤ slice_index self.now.numbers.items i) }
+        ensures { (i : ℕ) → i < length (numbers_chosen self.now)
+            → result ≤ i ↔ (number ≤ slice_index (numbers_chosen self.now) i) }
     {
         match self.numbers.binary_search(&number) {
             Ok(place) => place,
@@ -111,11 +111,11 @@ impl<'s> Chosen<'s> {
     }
 
     /// Writes the places of these numbers, one for each.
-    pub fn find_places(&self, numbers: &[usize], places: &mut [usize])
-        requires within { (k : ℕ) → Contains numbers.now k → Contains self.now.numbers.items k }
+    pub(crate) fn find_places(&self, numbers: &[usize], places: &mut [usize])
+        requires within { (k : ℕ) → Contains numbers.now k → Contains (numbers_chosen self.now) k }
         requires room { length places.old ≡ length numbers.now }
         ensures room { length places.new ≡ length numbers.now }
-        ensures places { ArePlaces self.now.numbers.items places.new numbers.now }
+        ensures places { ArePlaces (numbers_chosen self.now) places.new numbers.now }
     {
         for i in 0..numbers.len() {
             let place = self.place_of(numbers[i]);
@@ -124,10 +124,10 @@ impl<'s> Chosen<'s> {
     }
 
     /// The place of one of its numbers.
-    pub fn place_of(&self, number: usize) -> usize
-        requires { Contains self.now.numbers.items number }
-        ensures inside { result < length self.now.numbers.items }
-        ensures there { slice_index self.now.numbers.items result ≡ number }
+    pub(crate) fn place_of(&self, number: usize) -> usize
+        requires { Contains (numbers_chosen self.now) number }
+        ensures inside { result < length (numbers_chosen self.now) }
+        ensures there { slice_index (numbers_chosen self.now) result ≡ number }
     {
         match self.numbers.binary_search(&number) {
             Ok(place) => place,
@@ -218,7 +218,7 @@ fn trees_of<'s>(
 }
 
 /// All numbers below a count.
-pub fn all_numbers(alloc: Global, count: usize) -> Result<Vec<usize>, AllocError>
+pub(crate) fn all_numbers(alloc: Global, count: usize) -> Result<Vec<usize>, AllocError>
     ensures rising { IfOk result (λ numbers. IsRising numbers.items count) }
     ensures all { IfOk result (λ numbers. (k : ℕ) → k < count → Contains numbers.items k) }
 {

@@ -18,7 +18,7 @@ pub enum Direction {
 
 impl Direction {
     /// Puts a row that is read from its first item on into the order in which this direction reads it.
-    pub fn order<T>(self, row: &mut [T])
+    pub(crate) fn order<T>(self, row: &mut [T])
         ensures { row.new ≡ ordered self row.old }
     {
         match self {

@@ -2,15 +2,16 @@
 #![tactic(auto)]
 
 pub mod back;
-mod chosen;
+pub mod chosen;
 pub mod compile;
-mod direction;
+pub mod direction;
 mod first;
 mod head;
 mod index;
 mod joining;
 pub mod laws;
 pub mod run;
+pub mod seek;
 mod seekers;
 mod seeking;
 pub mod set;

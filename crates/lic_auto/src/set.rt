@@ -1,12 +1,14 @@
 //! Sets of templates.
 
-ghost use Rattle.std.specs.Prelude.{◌≡◌, ◌≢◌, ◌<◌, ◌≤◌, ◌↔◌, [], map, length, slice_index_or, IfOk, IfSome, IfNone, OnOk, IsErrOf, IsTrue, Some};
+ghost use Rattle.std.specs.Prelude.{◌≡◌, ◌≢◌, ◌<◌, ◌≤◌, ◌↔◌, [], ℕ, List, map, length, chars, slice_index_or, IfOk, IfSome, IfNone, OnOk, IsErrOf, IsTrue, Some};
 ghost use Rattle.std.specs.String.{string_bytes};
 ghost use Rattle.std.specs.List.{slice_get, AllAdjacentBelow};
 ghost use Rattle.lic_marks.specs.Cores.{HasWordsOf};
 ghost use Rattle.lic_marks.specs.Nodes.{core_of, is_measured};
-ghost use Rattle.lic_keys.specs.Keys.{AreKeysOf};
+ghost use Rattle.lic_words.specs.Describing.{IsDescribed};
+ghost use Rattle.lic_keys.specs.Keys.{AreKeysOf, letters_of};
 ghost use Rattle.lic_keys.specs.Looks.{HasTaken, keys_of};
+ghost use Rattle.lic_keys.specs.Tails.{AreTailsOf, EndsWith, NoBlanks};
 ghost use Rattle.lic_auto.specs.Sets.{RepeatsAt, all_known, words_of};
 ghost use Rattle.lic_auto.specs.Compiled.{parts_of};
 ghost use Rattle.lic_auto.specs.Compiling.{AllHaveWords};
@@ -16,6 +18,7 @@ use crate::compile::compile;
 use crate::direction::Direction;
 use lic_keys::keys::Keys;
 use lic_keys::look::Look;
+use lic_keys::tails::Tails;
 use lic_marks::node::Node;
 use lic_markup::Template;
 use std::alloc::{AllocError, Global};
@@ -64,6 +67,7 @@ pub struct Set {
     // the trees whose words are read from the end
     mirrored: Vec<Node>,
     keys: Keys,
+    tails: Tails,
 }
 
 impl Model for Set {
@@ -80,7 +84,7 @@ impl Model for Set {
     ghost view = { λ a. all_known a.named.items };
 
     ghost invariant = { λ a.
-        IsCompiled (all_known a.named.items) a.trees.items a.mirrored.items a.keys };
+        IsCompiled (all_known a.named.items) a.trees.items a.mirrored.items a.keys a.tails };
 }
 
 impl Set {
@@ -113,7 +117,7 @@ impl Set {
         Ok(Set::assemble(alloc, templates)?)
     }
 
-    // These templates in this order, with their trees and keys.
+    // These templates in this order, with their trees, keys and tails.
     fn assemble(alloc: Global, templates: Vec<(String, Template)>) -> Result<Set, AllocError>
         ensures { IfOk result (λ set. set ≡ pairs_known templates.items) }
     {
@@ -124,11 +128,13 @@ impl Set {
         let trees = compile_all(alloc, &named, Direction::Forward)?;
         let mirrored = compile_all(alloc, &named, Direction::Backward)?;
         let keys = build_keys(alloc, &named)?;
+        let tails = build_tails(alloc, &named)?;
         Ok(Set {
             named,
             trees,
             mirrored,
             keys,
+            tails,
         })
     }
 
@@ -168,6 +174,20 @@ impl Set {
         }
     }
 
+    /// The last letters of every range of tokens that the template number `k` describes, the blanks aside: up to sixteen, where
+    /// its last part is a text that gives them.
+    pub fn tail(&self, k: usize) -> Option<&str>
+        requires { k < length self.now }
+        ensures ends { IfSome result (λ tail. (known : Known) → slice_get self.now k ≡ Some known
+            → (range : List (List ℕ)) → IsDescribed (words_of known) range
+            → EndsWith (letters_of range) (chars tail.now)) }
+        ensures some { IfSome result (λ tail. 0 < length (chars tail.now)) }
+        ensures few { IfSome result (λ tail. length (chars tail.now) ≤ 16) }
+        ensures letters { IfSome result (λ tail. NoBlanks (chars tail.now)) }
+    {
+        self.tails.tail(k)
+    }
+
     /// A look for the templates that can describe a range of a text's tokens.
     pub fn look(&self, alloc: Global) -> Result<Look<'_>, AllocError>
         ensures taken { IfOk result (λ look. HasTaken look []) }
@@ -197,11 +217,28 @@ fn compile_all(
 fn build_keys(alloc: Global, named: &[Named]) -> Result<Keys, AllocError>
     ensures { IfOk result (λ keys. AreKeysOf (parts_of (all_known named.now)) keys) }
 {
+    let templates = templates_of(alloc, named)?;
+    Keys::build(alloc, &templates)
+}
+
+// The tails of these templates.
+fn build_tails(alloc: Global, named: &[Named]) -> Result<Tails, AllocError>
+    ensures { IfOk result (λ tails. AreTailsOf (parts_of (all_known named.now)) tails) }
+{
+    let templates = templates_of(alloc, named)?;
+    Tails::build(alloc, &templates)
+}
+
+// These templates without their identifiers.
+fn templates_of(alloc: Global, named: &[Named]) -> Result<Vec<&Template>, AllocError>
+    ensures { IfOk result (λ templates.
+        map (λ t. t.now.parts) templates.items ≡ parts_of (all_known named.now)) }
+{
     let mut templates = Vec::with_capacity(alloc, named.len())?;
     for one in named {
         templates.push(&one.template)?;
     }
-    Keys::build(alloc, &templates)
+    Ok(templates)
 }
 
 // The first place whose identifier is that of the place before.

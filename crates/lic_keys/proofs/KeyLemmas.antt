@@ -27,7 +27,7 @@ pub letters_of-push : (ts : List (List ℕ)) (t : List ℕ) → letters_of (ts +
 letters_of-push ts t = letters_of-append ts (t ∷ []) ∙ ap (λ x. letters_of ts ++ without_blanks x) (append-nil t)
 
 -- a text has its letters alone
-text_letters : (part : Part) (bytes : List ℕ) (w : Word) → IsText part bytes → Language (part_words part) w → w ≡ chars bytes
+pub text_letters : (part : Part) (bytes : List ℕ) (w : Word) → IsText part bytes → Language (part_words part) w → w ≡ chars bytes
 text_letters part bytes w (text, is, same) h =
     letters_sound (chars bytes) w
     (subst (λ b. Language (letters (chars b)) w) same

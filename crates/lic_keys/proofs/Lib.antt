@@ -6,3 +6,4 @@ pub mod TableLemmas
 pub mod FlagLemmas
 pub mod ListingLemmas
 pub mod LookLemmas
+pub mod TailLemmas

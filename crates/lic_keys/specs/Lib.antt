@@ -4,3 +4,4 @@ pub mod Listing
 pub mod Looks
 pub mod Rising
 pub mod Tables
+pub mod Tails

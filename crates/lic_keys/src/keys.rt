@@ -225,8 +225,8 @@ fn stands_around(text: &[u8], bytes: &[u8], byte: usize, start: usize) -> bool
     bytes[byte - start..].starts_with(text)
 }
 
-// The text of these letters.
-fn text_of(alloc: Global, letters: &[char]) -> Result<String, AllocError>
+/// The text of these letters.
+pub(crate) fn text_of(alloc: Global, letters: &[char]) -> Result<String, AllocError>
     ensures { IfOk result (λ text. chars (string_bytes text) ≡ letters.now) }
 {
     let mut text = String::new(alloc);

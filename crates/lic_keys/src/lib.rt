@@ -5,5 +5,6 @@ pub mod keys;
 pub mod laws;
 pub mod look;
 mod table;
+pub mod tails;
 mod texts;
 mod window;

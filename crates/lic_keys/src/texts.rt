@@ -1,9 +1,10 @@
-//! The letters of texts, and the longest text of a template outside optional parts.
+//! The letters of texts: of a template's longest one outside optional parts, and of its last part.
 
 ghost use Rattle.std.specs.Prelude.{◌≡◌, ◌++◌, ◌⊎◌, [], List, String, IfOk, OnOk};
 ghost use Rattle.std.specs.Str.{chars};
 ghost use Rattle.lic_keys.specs.Listing.{MayHaveLetters};
 ghost use Rattle.lic_keys.specs.Keys.{HasText, IsText, without_blanks};
+ghost use Rattle.lic_keys.specs.Tails.{HasLastLetters, IsLastText};
 
 use lic_markup::Part;
 use std::alloc::{AllocError, Global};
@@ -30,6 +31,16 @@ pub fn longest_letters(alloc: Global, parts: &[Part]) -> Result<Vec<char>, Alloc
     Ok(letters)
 }
 
+/// The letters of a template's last part without the blanks; none where it is no text.
+pub fn last_letters(alloc: Global, parts: &[Part]) -> Result<Vec<char>, AllocError>
+    ensures { IfOk result (λ letters.
+        (letters.items ≡ []) ⊎ HasLastLetters parts.now letters.items) }
+{
+    let mut letters = Vec::new(alloc);
+    push_letters(&mut letters, last_text(parts))?;
+    Ok(letters)
+}
+
 // The longest text outside optional parts, or no letters.
 fn longest_text(parts: &[Part]) -> &str
     ensures { (result.now ≡ []) ⊎ HasText parts.now result.now }
@@ -42,6 +53,16 @@ fn longest_text(parts: &[Part]) -> &str
         }
     }
     longest
+}
+
+// The text of the last part, or no letters.
+fn last_text(parts: &[Part]) -> &str
+    ensures { (result.now ≡ []) ⊎ IsLastText parts.now result.now }
+{
+    match parts.last() {
+        Some(part) => text_of(part),
+        None => "",
+    }
 }
 
 // The text of a part that is one, or no letters.

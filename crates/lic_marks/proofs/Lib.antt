@@ -43,6 +43,7 @@ mod DescribedExamples
 pub mod TextEnds
 pub mod LetterSlices
 pub mod TextMarks
+pub mod AloneMarks
 pub mod Moved
 pub mod ThreadRows
 pub mod MarkedRows

@@ -1,5 +1,5 @@
 -- The ends of a list of tokens that goes on by one token.
-use Rattle.std.proofs.Common.{◌≡◌, ℕ, zero, suc, ◌+◌, ◌<◌, ◌≤◌, Bool, true, false, ◌&&◌, ◌==◌, List, [], ◌∷◌, ◌++◌, ◌⊎◌, inl, inr, length, drop, refl, sym, ap, ◌∙◌, subst, arith, append_assoc, append-nil, length-drop}
+use Rattle.std.proofs.Common.{◌≡◌, ℕ, zero, suc, ◌+◌, ◌<◌, ◌≤◌, Bool, true, false, IsTrue, ◌&&◌, ◌==◌, List, [], ◌∷◌, ◌++◌, ◌⊎◌, inl, inr, length, drop, refl, sym, ap, ◌∙◌, subst, arith, append_assoc, append-nil, length-drop}
 use Rattle.std.proofs.lemmas.Bool.{cases_lt}
 use Rattle.std.proofs.lemmas.List.{drop_all}
 use Rattle.lic_words.specs.Words.{Word, blank, blanks}
@@ -11,7 +11,8 @@ use Rattle.lic_words.proofs.Rows.{gapped_from-blank, gapped_from-letter, last_le
 use Rattle.lic_words.proofs.Spellings.{gap-behind_blank}
 use Rattle.lic_marks.specs.Cores.{Core, HasWordsOf, WordsOf}
 use Rattle.lic_marks.specs.Standing.{After, AfterAny, each_with}
-use Rattle.lic_marks.specs.Seeks.{DescribesEnd, NoneBegins, NoneGoesOn, GoOnAsEnds}
+use Rattle.lic_marks.specs.declared.seek.Seeker.{Seeker}
+use Rattle.lic_marks.specs.Seeks.{DescribesEndAt, NoneBegins, NoneGoesOnAt, GoOnAsEnds, SeeksAt}
 use Rattle.lic_marks.proofs.TokenRows.{gapped-append, gapped-snoc}
 use Rattle.lic_marks.proofs.Standing.{After-spells, spells-After}
 use Rattle.lic_marks.proofs.Lists.{each_with-append, After-append, append-After, After-map, After-some, After-pair, AfterAny-append, append-AfterAny}
@@ -79,7 +80,7 @@ module _ (last : ℕ) (t : List ℕ) (p : Gap × ℕ) (rest : List (Gap × ℕ))
 
 -- ---- the lists of letters once a token is taken
 
--- `entered` says that the token was entered
+-- the test says that the token was entered
 abbrev pub with_token : Bool → ℕ → List ℕ → List (List (Gap × ℕ)) → List (List (Gap × ℕ))
 with_token true last t lists = gapped (t ∷ []) ∷ each_with (gapped_from last true t) lists
 with_token false last t lists = each_with (gapped_from last true t) lists
@@ -91,7 +92,8 @@ module _ (last : ℕ) (t : List ℕ) (p : Gap × ℕ) (rest : List (Gap × ℕ))
   pub enters : each_with rest (((free, p.1) ∷ []) ∷ each_with (p ∷ []) lists) ≡ with_token true last t lists
   enters = λ i. gapped-token last t p rest e i ∷ goes_on i
 
-module _ (e : Expression) (r : Core) (last : ℕ) (lists : List (List (Gap × ℕ))) (ts : List (List ℕ)) (ends : GoOnAsEnds e r last lists ts) where
+module _ (entered : ℕ → Bool) (e : Expression) (r : Core) (last : ℕ) (lists : List (List (Gap × ℕ))) (ts : List (List ℕ))
+    (ends : GoOnAsEnds entered e r last lists ts) where
   -- ---- the answers
 
   some_left : (n : ℕ) → n < length ts → drop n ts ≡ [] → ⊥
@@ -101,22 +103,22 @@ module _ (e : Expression) (r : Core) (last : ℕ) (lists : List (List (Gap × �
   inside_of : (n : ℕ) → (drop n ts ≡ [] → ⊥) → n < length ts
   inside_of n some = elim (cases_lt n (length ts)) [ inl h ↦ h | inr h ↦ absurd (some (drop_all n ts h)) ]
 
-  pub answer_sound : HasWordsOf r e → (n : ℕ) × AfterAny (WordsOf r) lists (blanks n) → DescribesEnd e ts
+  pub answer_sound : HasWordsOf r e → (n : ℕ) × AfterAny (WordsOf r) lists (blanks n) → DescribesEndAt entered e ts
   answer_sound words (n, h) =
       let end = ends.sound (blanks n) h in
-      let word = spells-After (gapped (drop end.0 ts)) (WordsOf r) n end.3 in
-      (end.0, (some_left end.0 end.1, word.0, (words word.0).0 word.1, word.2))
+      let word = spells-After (gapped (drop end.0 ts)) (WordsOf r) n end.4 in
+      (end.0, end.1, (some_left end.0 end.2, word.0, (words word.0).0 word.1, word.2))
 
-  pub answer_complete : HasWordsOf r e → DescribesEnd e ts → (n : ℕ) × AfterAny (WordsOf r) lists (blanks n)
-  answer_complete words (n, described) =
+  pub answer_complete : HasWordsOf r e → DescribesEndAt entered e ts → (n : ℕ) × AfterAny (WordsOf r) lists (blanks n)
+  answer_complete words (n, is_end, described) =
       let word : Word = described.1 in
       let some = After-spells (gapped (drop n ts)) (WordsOf r) word ((words word).1 described.2) described.3 in
       let whole : drop n ts ≡ drop n ts ++ [] = sym (append-nil (drop n ts)) in
-      (some.0, (ends.complete n [] (inside_of n described.0) (subst (IsDescribed e) whole described) (blanks some.0) some.1).1)
+      (some.0, (ends.complete n [] is_end (inside_of n described.0) (subst (IsDescribed e) whole described) (blanks some.0) some.1).1)
 
-  -- where nothing goes on behind the lists, no described list goes on from an end
-  pub none_goes_on : HasWordsOf r e → ((v : Word) → AfterAny (WordsOf r) lists v → ⊥) → NoneGoesOn e ts
-  none_goes_on words dead = λ n more inside described.
+  -- where nothing goes on behind the lists, no described list goes on from an entered end
+  pub none_goes_on : HasWordsOf r e → ((v : Word) → AfterAny (WordsOf r) lists v → ⊥) → NoneGoesOnAt entered e ts
+  none_goes_on words dead = λ n more is_end inside described.
       let word : Word = described.1 in
       let here : List (Gap × ℕ) = gapped (drop n ts) in
       let rest : List (Gap × ℕ) = gapped_from (last_of blank (drop n ts)) false (row_of more) in
@@ -124,7 +126,7 @@ module _ (e : Expression) (r : Core) (last : ℕ) (lists : List (List (Gap × �
       let whole : After (WordsOf r) (here ++ rest) (blanks end.0) =
       subst (λ (x : List (Gap × ℕ)). After (WordsOf r) x (blanks end.0)) (gapped-append (drop n ts) more) end.1 in
       let some = After-some rest (After (WordsOf r) here) (blanks end.0) (After-append here rest (WordsOf r) (blanks end.0) whole) in
-      dead some.0 (ends.complete n more inside described some.0 some.1).1
+      dead some.0 (ends.complete n more is_end inside described some.0 some.1).1
 
   -- ---- one token more
 
@@ -140,29 +142,30 @@ module _ (e : Expression) (r : Core) (last : ℕ) (lists : List (List (Gap × �
           ∙ ap (last_of blank) (sym (drop-push n ts t (omega (arith, inside))))
 
     abbrev GoesOn : ℕ → Word → Type 0
-    GoesOn n u = (n < length ts) × (last ≡ last_of blank (drop n ts)) × After (WordsOf r) (gapped (drop n ts)) u
+    GoesOn n u = IsTrue (entered n) × (n < length ts) × (last ≡ last_of blank (drop n ts)) × After (WordsOf r) (gapped (drop n ts)) u
 
     older_sound : (v : Word) → AfterAny (WordsOf r) (each_with (gapped_from last true t) lists) v →
-        (n : ℕ) × (n < length (ts ++ t ∷ [])) × (last_letter last t ≡ last_of blank (drop n (ts ++ t ∷ [])))
+        (n : ℕ) × IsTrue (entered n) × (n < length (ts ++ t ∷ [])) × (last_letter last t ≡ last_of blank (drop n (ts ++ t ∷ [])))
         × After (WordsOf r) (gapped (drop n (ts ++ t ∷ []))) v
     older_sound v h =
         let more : List (Gap × ℕ) = gapped_from last true t in
         let end = After-pair more GoesOn v (After-map more (AfterAny (WordsOf r) lists) (λ u. (n : ℕ) × GoesOn n u)
-        (λ u p. let f = ends.sound u p in (f.0, (f.1, f.2, f.3))) v (AfterAny-append (WordsOf r) lists more v h)) in
+        (λ u p. let f = ends.sound u p in (f.0, (f.1, f.2, f.3, f.4))) v (AfterAny-append (WordsOf r) lists more v h)) in
         let n : ℕ = end.0 in
         let some = After-some more (GoesOn n) v end.1 in
-        let inside : n < length ts = some.1.0 in
-        let same : last ≡ last_of blank (drop n ts) = some.1.1 in
+        let inside : n < length ts = some.1.1 in
+        let same : last ≡ last_of blank (drop n ts) = some.1.2 in
         let here : After (WordsOf r) (gapped (drop n ts) ++ more) v =
-        append-After (gapped (drop n ts)) more (WordsOf r) v (After-map more (GoesOn n) (After (WordsOf r) (gapped (drop n ts))) (λ u f. f.2) v end.1) in (
+        append-After (gapped (drop n ts)) more (WordsOf r) v (After-map more (GoesOn n) (After (WordsOf r) (gapped (drop n ts))) (λ u f. f.3) v end.1) in (
           n,
+          some.1.0,
           omega (arith, inside, length-push ts t),
           last_more n inside same,
           subst (λ (x : List (Gap × ℕ)). After (WordsOf r) x v) (sym (letters_more n inside same)) here,
         )
 
     -- what follows the longer end follows the shorter one
-    module _ (n : ℕ) (more : List (List ℕ)) (inside : n < length ts) (described : IsDescribed e (drop n (ts ++ t ∷ []) ++ more))
+    module _ (n : ℕ) (more : List (List ℕ)) (is_end : IsTrue (entered n)) (inside : n < length ts) (described : IsDescribed e (drop n (ts ++ t ∷ []) ++ more))
         (v : Word) (h : After (WordsOf r) (gapped (drop n (ts ++ t ∷ []))) v) where
       described_before : IsDescribed e (drop n ts ++ t ∷ more)
       described_before = subst (IsDescribed e)
@@ -177,48 +180,55 @@ module _ (e : Expression) (r : Core) (last : ℕ) (lists : List (List (Gap × �
       word_before = After-some (gapped_from (last_of blank (drop n ts)) true t) (After (WordsOf r) (gapped (drop n ts))) v before
 
       same_last : last ≡ last_of blank (drop n ts)
-      same_last = (ends.complete n (t ∷ more) inside described_before word_before.0 word_before.1).0
+      same_last = (ends.complete n (t ∷ more) is_end inside described_before word_before.0 word_before.1).0
 
       older_complete : AfterAny (WordsOf r) (each_with (gapped_from last true t) lists) v
       older_complete = append-AfterAny (WordsOf r) lists (gapped_from last true t) v
           (subst (λ l. After (AfterAny (WordsOf r) lists) (gapped_from l true t) v) (sym same_last)
           (After-map (gapped_from (last_of blank (drop n ts)) true t) (After (WordsOf r) (gapped (drop n ts))) (AfterAny (WordsOf r) lists)
-          (λ u a. (ends.complete n (t ∷ more) inside described_before u a).1) v before))
+          (λ u a. (ends.complete n (t ∷ more) is_end inside described_before u a).1) v before))
 
     -- the end that begins with the token
     module _ (n : ℕ) (more : List (List ℕ)) (inside : n < length (ts ++ t ∷ [])) (not_before : length ts ≤ n) where
+      place : n ≡ length ts
+      place = omega (arith, inside, not_before, length-push ts t)
+
       at_token : drop n (ts ++ t ∷ []) ≡ t ∷ []
-      at_token = let place : n ≡ length ts = omega (arith, inside, not_before, length-push ts t) in ap (λ k. drop k (ts ++ t ∷ [])) place ∙ drop-last ts t
+      at_token = ap (λ k. drop k (ts ++ t ∷ [])) place ∙ drop-last ts t
 
-      none_begins : NoneBegins e t → IsDescribed e (drop n (ts ++ t ∷ []) ++ more) → ⊥
-      none_begins none described = none more (subst (IsDescribed e) (ap (λ x. x ++ more) at_token) described)
+      none_begins : IsTrue (entered n) → (IsTrue (entered (length ts)) → NoneBegins e t) → IsDescribed e (drop n (ts ++ t ∷ []) ++ more) → ⊥
+      none_begins is_end none described =
+          none (subst (λ k. IsTrue (entered k)) place is_end) more (subst (IsDescribed e) (ap (λ x. x ++ more) at_token) described)
 
-    -- with nothing left, a token with which no described list begins is passed over
-    pub skipped : ((v : Word) → AfterAny (WordsOf r) lists v → ⊥) → NoneBegins e t → GoOnAsEnds e r last lists (ts ++ t ∷ [])
+    -- With nothing left, a token is passed over with which no described list begins, or which is not entered.
+    pub skipped : ((v : Word) → AfterAny (WordsOf r) lists v → ⊥) → (IsTrue (entered (length ts)) → NoneBegins e t)
+        → GoOnAsEnds entered e r last lists (ts ++ t ∷ [])
     skipped dead none = record {
       sound = λ v h. absurd (dead v h);
-      complete = λ n more inside described v h. elim (cases_lt n (length ts)) [
+      complete = λ n more is_end inside described v h. elim (cases_lt n (length ts)) [
         | inl low ↦
-            let u = word_before n more low described v h in
-            absurd (dead u.0 (ends.complete n (t ∷ more) low (described_before n more low described v h) u.0 u.1).1)
-        | inr high ↦ absurd (none_begins n more inside high none described)
+            let u = word_before n more is_end low described v h in
+            absurd (dead u.0 (ends.complete n (t ∷ more) is_end low (described_before n more is_end low described v h) u.0 u.1).1)
+        | inr high ↦ absurd (none_begins n more inside high is_end none described)
       ];
     }
 
-    pub passed : NoneBegins e t → GoOnAsEnds e r (last_letter last t) (with_token false last t lists) (ts ++ t ∷ [])
+    pub passed : (IsTrue (entered (length ts)) → NoneBegins e t)
+        → GoOnAsEnds entered e r (last_letter last t) (with_token false last t lists) (ts ++ t ∷ [])
     passed none = record {
       sound = older_sound;
-      complete = λ n more inside described v h. elim (cases_lt n (length ts)) [
-        | inl low ↦ (last_more n low (same_last n more low described v h), older_complete n more low described v h)
-        | inr high ↦ absurd (none_begins n more inside high none described)
+      complete = λ n more is_end inside described v h. elim (cases_lt n (length ts)) [
+        | inl low ↦ (last_more n low (same_last n more is_end low described v h), older_complete n more is_end low described v h)
+        | inr high ↦ absurd (none_begins n more inside high is_end none described)
       ];
     }
 
-    pub entered : last_letter last t ≡ last_letter blank t → GoOnAsEnds e r (last_letter last t) (with_token true last t lists) (ts ++ t ∷ [])
-    entered own = record {
+    pub token_entered : IsTrue (entered (length ts)) → last_letter last t ≡ last_letter blank t
+        → GoOnAsEnds entered e r (last_letter last t) (with_token true last t lists) (ts ++ t ∷ [])
+    token_entered is_entered own = record {
       sound = λ v h. sound v h;
-      complete = λ n more inside described v h. elim (cases_lt n (length ts)) [
-        | inl low ↦ (last_more n low (same_last n more low described v h), inr (older_complete n more low described v h))
+      complete = λ n more is_end inside described v h. elim (cases_lt n (length ts)) [
+        | inl low ↦ (last_more n low (same_last n more is_end low described v h), inr (older_complete n more is_end low described v h))
         | inr high ↦
             let here = at_token n more inside high in
             (own ∙ ap (last_of blank) (sym here), inl (subst (λ us. After (WordsOf r) (gapped us) v) here h))
@@ -226,39 +236,59 @@ module _ (e : Expression) (r : Core) (last : ℕ) (lists : List (List (Gap × �
     }
       where
         sound : (v : Word) → AfterAny (WordsOf r) (with_token true last t lists) v →
-            (n : ℕ) × (n < length (ts ++ t ∷ [])) × (last_letter last t ≡ last_of blank (drop n (ts ++ t ∷ [])))
+            (n : ℕ) × IsTrue (entered n) × (n < length (ts ++ t ∷ [])) × (last_letter last t ≡ last_of blank (drop n (ts ++ t ∷ [])))
             × After (WordsOf r) (gapped (drop n (ts ++ t ∷ []))) v
         sound v (inr h) = older_sound v h
         sound v (inl h) =
-            let here = drop-last ts t in
-            (length ts, omega (arith, length-push ts t), own ∙ ap (last_of blank) (sym here), subst (λ us. After (WordsOf r) (gapped us) v) (sym here) h)
+            let here = drop-last ts t in (
+              length ts,
+              is_entered,
+              omega (arith, length-push ts t),
+              own ∙ ap (last_of blank) (sym here),
+              subst (λ us. After (WordsOf r) (gapped us) v) (sym here) h,
+            )
 
 -- ---- no token
 
-pub no_ends : (e : Expression) (r : Core) (last : ℕ) → GoOnAsEnds e r last [] []
-no_ends e r last = record {
+pub no_ends : (entered : ℕ → Bool) (e : Expression) (r : Core) (last : ℕ) → GoOnAsEnds entered e r last [] []
+no_ends entered e r last = record {
   sound = λ v h. absurd h;
-  complete = λ n more inside described v h. absurd (omega (arith, inside));
+  complete = λ n more is_end inside described v h. absurd (omega (arith, inside));
 }
 
 -- where nothing goes on behind the lists, any letter may be the last
-pub any_last : (e : Expression) (r : Core) (l m : ℕ) (lists : List (List (Gap × ℕ))) (ts : List (List ℕ)) → GoOnAsEnds e r l lists ts →
-    ((v : Word) → AfterAny (WordsOf r) lists v → ⊥) → GoOnAsEnds e r m lists ts
-any_last e r l m lists ts g none = record {
+pub any_last : (entered : ℕ → Bool) (e : Expression) (r : Core) (l m : ℕ) (lists : List (List (Gap × ℕ))) (ts : List (List ℕ)) →
+    GoOnAsEnds entered e r l lists ts → ((v : Word) → AfterAny (WordsOf r) lists v → ⊥) → GoOnAsEnds entered e r m lists ts
+any_last entered e r l m lists ts g none = record {
   sound = λ v h. absurd (none v h);
-  complete = λ n more inside described v h. absurd (none v (g.complete n more inside described v h).1);
+  complete = λ n more is_end inside described v h. absurd (none v (g.complete n more is_end inside described v h).1);
 }
 
 -- where nothing goes on behind the lists, they are as good as none
-pub nothing_left : (e : Expression) (r : Core) (l : ℕ) (lists : List (List (Gap × ℕ))) → ((v : Word) → AfterAny (WordsOf r) lists v → ⊥)
-    → GoOnAsEnds e r l lists []
-nothing_left e r l lists none = record {
+pub nothing_left : (entered : ℕ → Bool) (e : Expression) (r : Core) (l : ℕ) (lists : List (List (Gap × ℕ))) →
+    ((v : Word) → AfterAny (WordsOf r) lists v → ⊥) → GoOnAsEnds entered e r l lists []
+nothing_left entered e r l lists none = record {
   sound = λ v h. absurd (none v h);
-  complete = λ n more inside described v h. absurd (omega (arith, inside));
+  complete = λ n more is_end inside described v h. absurd (omega (arith, inside));
 }
 
 -- the last letter is known, or nothing goes on
-pub known_last : (e : Expression) (r : Core) (l m : ℕ) (lists : List (List (Gap × ℕ))) (ts : List (List ℕ)) → GoOnAsEnds e r l lists ts →
-    (m ≡ l) ⊎ ((v : Word) → AfterAny (WordsOf r) lists v → ⊥) → GoOnAsEnds e r m lists ts
-known_last e r l m lists ts g (inl same) = subst (λ k. GoOnAsEnds e r k lists ts) (sym same) g
-known_last e r l m lists ts g (inr none) = any_last e r l m lists ts g none
+pub known_last : (entered : ℕ → Bool) (e : Expression) (r : Core) (l m : ℕ) (lists : List (List (Gap × ℕ))) (ts : List (List ℕ)) →
+    GoOnAsEnds entered e r l lists ts → (m ≡ l) ⊎ ((v : Word) → AfterAny (WordsOf r) lists v → ⊥) → GoOnAsEnds entered e r m lists ts
+known_last entered e r l m lists ts g (inl same) = subst (λ k. GoOnAsEnds entered e r k lists ts) (sym same) g
+known_last entered e r l m lists ts g (inr none) = any_last entered e r l m lists ts g none
+
+-- ---- other ends
+
+-- only the ends count that have a token
+pub same_ends : (entered others : ℕ → Bool) (s : Seeker) (e : Expression) (ts : List (List ℕ)) →
+    ((n : ℕ) → n < length ts → entered n ≡ others n) → SeeksAt entered s e ts → SeeksAt others s e ts
+same_ends entered others s e ts same stands = record {
+  words = stands.words;
+  lists = stands.lists;
+  taken = stands.taken;
+  ends = record {
+    sound = λ v h. let end = stands.ends.sound v h in (end.0, subst IsTrue (same end.0 end.2) end.1, end.2, end.3, end.4);
+    complete = λ n more is_end inside. stands.ends.complete n more (subst IsTrue (sym (same n inside)) is_end) inside;
+  };
+}

@@ -1,6 +1,5 @@
 -- A mark that stands alone in a text, outside of a state's rows.
 use Rattle.std.proofs.Common.{◌≡◌, ℕ, ◌+◌, false, List, [], ◌∷◌, Some, length, sym, subst}
-use Rattle.std.specs.Option.{ForSome}
 use Rattle.lic_words.specs.Words.{Word}
 use Rattle.lic_words.specs.Spelling.{Gap}
 use Rattle.lic_marks.specs.Cores.{Core, WordsOf}
@@ -13,6 +12,8 @@ use Rattle.lic_marks.specs.States.{HasLeft, HasTakenAny}
 use Rattle.lic_marks.specs.Stretches.{mark_at, IsLone, LeadsOver}
 use Rattle.lic_marks.specs.Threads.{IsInText}
 use Rattle.lic_marks.specs.Ways.{LeadsNowhere}
+use Rattle.lic_marks.specs.Alone.{StandsInText}
+use Rattle.lic_marks.specs.declared.alone.Alone.TheVariants.{Text}
 use Rattle.lic_marks.specs.declared.state.State.{State}
 use Rattle.lic_marks.specs.declared.threads.InText.{InText}
 use Rattle.lic_marks.proofs.Following.{follows_gap, follows_along}
@@ -21,7 +22,7 @@ use Rattle.lic_marks.proofs.LoneMarks.{marks_of-lone}
 use Rattle.lic_marks.proofs.Standing.{Leads-same}
 use Rattle.lic_marks.proofs.StateLemmas.{LeadsSoFar-same}
 
-pub in_text : (r : Core) (text : InText) → IsInText r text → ForSome (Some text) (IsInText r)
+pub in_text : (r : Core) (text : InText) → IsInText r text → StandsInText r (Some (Text text))
 in_text r text h = λ t is. let same : text ≡ t = cc in subst (IsInText r) same h
 
 module _ (r : Core) (place : ℕ) (lists : List (List (Gap × ℕ))) where

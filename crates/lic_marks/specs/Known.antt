@@ -1,19 +1,20 @@
 -- Letters with which no word goes on from a position alone.
-use Rattle.std.specs.Prelude.{◌≡◌, ℕ, ◌≤◌, true}
+use Rattle.std.specs.Prelude.{◌≡◌, ℕ, IsTrue, true}
 use Rattle.std.specs.Option.{ForSome}
 use Rattle.lic_marks.specs.Cores.{Core}
 use Rattle.lic_marks.specs.Rows.{weight}
 use Rattle.lic_marks.specs.Counts.{IsQuiet, IsQuietBehindBlanks}
 use Rattle.lic_marks.specs.Lone.{NoneEnds}
 use Rattle.lic_marks.specs.Memories.{has}
-use Rattle.lic_marks.specs.States.{room_of}
-use Rattle.lic_marks.specs.declared.probe.Probe.{Probe}
+use Rattle.lic_marks.specs.States.{has_gap, room_of}
+use Rattle.lic_marks.specs.declared.state.State.{State}
 use Rattle.lic_marks.specs.declared.known.Known.{Known}
 use Rattle.lic_marks.specs.declared.known.Knowledge.{Knowledge}
 
--- how many positions a probe has room for
-abbrev pub room_in_probe : Probe → ℕ
-room_in_probe probe = room_of probe.state
+-- a state in which any position may be marked, to see what goes on from there
+pub record IsProbe (r : Core) (probe : State) : Type 0 where
+  pub room : room_of probe ≡ weight r
+  pub gap : IsTrue (has_gap probe)
 
 -- what is known of the position is right
 pub record IsKnown (r : Core) (known : Known) : Type 0 where
@@ -25,4 +26,4 @@ pub record IsKnown (r : Core) (known : Known) : Type 0 where
 pub record IsKnowledge (r : Core) (knowledge : Knowledge) : Type 0 where
   pub first : IsKnown r knowledge.first
   pub second : IsKnown r knowledge.second
-  pub room : ForSome knowledge.probe (λ probe. weight r ≤ room_in_probe probe)
+  pub probe : ForSome knowledge.probe (IsProbe r)

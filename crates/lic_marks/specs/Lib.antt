@@ -18,5 +18,6 @@ pub mod Plain
 pub mod Letters
 pub mod States
 pub mod Runs
+pub mod Alone
 pub mod Seeks
 pub mod Deciding

@@ -1,16 +1,20 @@
 //! What is known of the letters that follow positions which stand alone.
 
-ghost use Rattle.std.specs.Prelude.{◌≡◌, ℕ, ◌≤◌, IsTrue, IfOk};
+ghost use Rattle.std.specs.Prelude.{◌≡◌, ◌∷◌, Some, IsTrue, IfOk, IfSome, map};
+ghost use Rattle.std.specs.Option.{ForSome};
+ghost use Rattle.lic_words.specs.Reading.{gapped_letter};
 ghost use Rattle.lic_marks.specs.Cores.{Core};
 ghost use Rattle.lic_marks.specs.Counts.{IsQuiet, IsQuietBehindBlanks};
-ghost use Rattle.lic_marks.specs.Lone.{NoneEnds};
+ghost use Rattle.lic_marks.specs.Lone.{MovesTo, NoneEnds};
 ghost use Rattle.lic_marks.specs.Nodes.{core_of, is_measured};
-ghost use Rattle.lic_marks.specs.Rows.{weight};
 
-use crate::counts::has_counts;
+use crate::counts::{Counts, has_counts};
 use crate::letter_set::LetterSet;
 use crate::node::Node;
-use crate::probe::Probe;
+use crate::over::over_counts;
+use crate::probe;
+use crate::state::State;
+use lic_words::letters::Letter;
 use std::alloc::{AllocError, Global};
 
 /// What is known of a position.
@@ -28,10 +32,10 @@ pub struct Known {
 }
 
 impl Known {
-    ghost use Rattle.lic_marks.specs.Known.{IsKnown, room_in_probe};
+    ghost use Rattle.lic_marks.specs.Known.{IsKnown, IsProbe};
 
-    // Nothing is known of the position.
-    fn none(place: usize) -> Known
+    /// Nothing is known of the position.
+    pub fn none(place: usize) -> Known
         ensures known { (r : Core) → IsKnown r result }
         ensures place { result.place ≡ place }
     {
@@ -44,33 +48,33 @@ impl Known {
         }
     }
 
-    // As `Knowledge::is_quiet`, of this position.
-    fn is_quiet(&mut self, tree: &Node, letter: char, probe: &mut Probe) -> bool
+    /// Whether no word goes on from the position with the letter at once.
+    pub fn is_quiet(&mut self, tree: &Node, letter: char, probe: &mut State) -> bool
         requires measured { IsTrue (is_measured tree.now) }
-        requires room { weight (core_of tree.now) ≤ room_in_probe probe.old }
         requires known { IsKnown (core_of tree.now) self.old }
-        ensures room { room_in_probe probe.new ≡ room_in_probe probe.old }
+        requires probe { IsProbe (core_of tree.now) probe.old }
         ensures known { IsKnown (core_of tree.now) self.new }
+        ensures probe { IsProbe (core_of tree.now) probe.new }
         ensures place { self.new.place ≡ self.old.place }
         ensures quiet { IsTrue result → IsQuiet (core_of tree.now) self.old.place letter }
     {
         if self.at_once.has(letter) {
             return true;
         }
-        let is_quiet = probe.is_quiet(tree, self.place, letter);
+        let is_quiet = probe::is_quiet(probe, tree, self.place, letter);
         if is_quiet {
             self.at_once.add(letter);
         }
         is_quiet
     }
 
-    // As `Knowledge::is_quiet_behind_blanks`, of this position.
-    fn is_quiet_behind_blanks(&mut self, tree: &Node, letter: char, probe: &mut Probe) -> bool
+    /// Whether no word goes on from the position with the letter, at once or behind blanks.
+    pub fn is_quiet_behind_blanks(&mut self, tree: &Node, letter: char, probe: &mut State) -> bool
         requires measured { IsTrue (is_measured tree.now) }
-        requires room { weight (core_of tree.now) ≤ room_in_probe probe.old }
         requires known { IsKnown (core_of tree.now) self.old }
-        ensures room { room_in_probe probe.new ≡ room_in_probe probe.old }
+        requires probe { IsProbe (core_of tree.now) probe.old }
         ensures known { IsKnown (core_of tree.now) self.new }
+        ensures probe { IsProbe (core_of tree.now) probe.new }
         ensures place { self.new.place ≡ self.old.place }
         ensures quiet { IsTrue result
             → IsQuietBehindBlanks (core_of tree.now) self.old.place letter }
@@ -81,7 +85,7 @@ impl Known {
         if self.loud.has(letter) {
             return false;
         }
-        let is_quiet = probe.is_quiet_behind_blanks(tree, self.place, letter);
+        let is_quiet = probe::is_quiet_behind_blanks(probe, tree, self.place, letter);
         if is_quiet {
             self.behind_blanks.add(letter);
         } else {
@@ -90,20 +94,30 @@ impl Known {
         is_quiet
     }
 
-    // As `Knowledge::none_ends`, of this position.
-    fn none_ends(&mut self, tree: &Node, probe: &mut Probe) -> bool
+    // Whether no word ends behind the position, but for blanks.
+    fn none_ends(&mut self, tree: &Node, probe: &mut State) -> bool
         requires measured { IsTrue (is_measured tree.now) }
-        requires room { weight (core_of tree.now) ≤ room_in_probe probe.old }
         requires known { IsKnown (core_of tree.now) self.old }
-        ensures room { room_in_probe probe.new ≡ room_in_probe probe.old }
+        requires probe { IsProbe (core_of tree.now) probe.old }
         ensures known { IsKnown (core_of tree.now) self.new }
+        ensures probe { IsProbe (core_of tree.now) probe.new }
         ensures place { self.new.place ≡ self.old.place }
         ensures none { IsTrue result → NoneEnds (core_of tree.now) self.old.place }
     {
         if !self.none_ends {
-            self.none_ends = probe.none_ends(tree, self.place);
+            self.none_ends = probe::none_ends(probe, tree, self.place);
         }
         self.none_ends
+    }
+
+    /// What is known of this position: nothing, where another was asked for before.
+    pub fn bring(&mut self, place: usize)
+        ensures known { (r : Core) → IsKnown r self.old → IsKnown r self.new }
+        ensures place { self.new.place ≡ place }
+    {
+        if self.place != place {
+            *self = Known::none(place);
+        }
     }
 }
 
@@ -112,12 +126,13 @@ impl Known {
 pub struct Knowledge {
     first: Known,
     second: Known,
-    /// Where letters are counted at all.
-    probe: Option<Probe>,
+    /// Where letters are counted at all, a state to learn by.
+    probe: Option<State>,
 }
 
 impl Knowledge {
     ghost use Rattle.lic_marks.specs.Known.{IsKnowledge};
+    ghost use Rattle.lic_marks.specs.Threads.{AreCounts, IsAmongCounts};
 
     /// Nothing is known.
     ///
@@ -128,7 +143,9 @@ impl Knowledge {
         ensures { IfOk result (IsKnowledge (core_of tree.now)) }
     {
         let probe = if has_counts(tree) {
-            Some(Probe::new(alloc, tree)?)
+            let mut probe = State::new(alloc, tree)?;
+            probe.clear();
+            Some(probe)
         } else {
             None
         };
@@ -139,31 +156,26 @@ impl Knowledge {
         })
     }
 
-    /// Whether no word goes on from the position with the letter at once.
-    pub fn is_quiet(&mut self, tree: &Node, place: usize, letter: char) -> bool
+    /// Where the letters of a token lead from a place that counts letters, if that is known.
+    pub fn over_counts(
+        &mut self,
+        counts: Counts<'_>,
+        place: usize,
+        tree: &Node,
+        first: Letter,
+        others: &[Letter],
+    ) -> Option<Option<usize>>
         requires measured { IsTrue (is_measured tree.now) }
         requires knowledge { IsKnowledge (core_of tree.now) self.old }
         ensures knowledge { IsKnowledge (core_of tree.now) self.new }
-        ensures quiet { IsTrue result → IsQuiet (core_of tree.now) place letter }
+        ensures moves { IfSome result (λ found. AreCounts (core_of tree.now) counts.entry place
+            → MovesTo (core_of tree.now) (Some place) (gapped_letter first ∷ map gapped_letter others.now) found
+            × ForSome found (IsAmongCounts counts.entry)) }
     {
-        self.bring(place);
+        self.bring(counts.last);
         match &mut self.probe {
-            Some(probe) => self.first.is_quiet(tree, letter, probe),
-            None => false,
-        }
-    }
-
-    /// Whether no word goes on from the position with the letter, at once or behind blanks.
-    pub fn is_quiet_behind_blanks(&mut self, tree: &Node, place: usize, letter: char) -> bool
-        requires measured { IsTrue (is_measured tree.now) }
-        requires knowledge { IsKnowledge (core_of tree.now) self.old }
-        ensures knowledge { IsKnowledge (core_of tree.now) self.new }
-        ensures quiet { IsTrue result → IsQuietBehindBlanks (core_of tree.now) place letter }
-    {
-        self.bring(place);
-        match &mut self.probe {
-            Some(probe) => self.first.is_quiet_behind_blanks(tree, letter, probe),
-            None => false,
+            Some(probe) => over_counts(counts, place, tree, first, others, &mut self.first, probe),
+            None => None,
         }
     }
 

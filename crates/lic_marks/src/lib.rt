@@ -2,6 +2,7 @@
 //! machine that reads a list of tokens with them.
 #![tactic(auto)]
 
+mod alone;
 pub mod build;
 mod counts;
 mod front;

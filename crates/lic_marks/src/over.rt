@@ -4,7 +4,7 @@ ghost use Rattle.std.specs.Prelude.{◌≡◌, ℕ, ◌+◌, ◌<◌, ◌≤◌,
 ghost use Rattle.std.specs.Option.{ForSome};
 ghost use Rattle.lic_words.specs.Reading.{gapped_letter};
 ghost use Rattle.lic_marks.specs.Cores.{Core};
-ghost use Rattle.lic_marks.specs.Known.{IsKnowledge};
+ghost use Rattle.lic_marks.specs.Known.{IsKnown, IsProbe};
 ghost use Rattle.lic_marks.specs.Lone.{MovesTo, NoneEnds};
 ghost use Rattle.lic_marks.specs.Nodes.{core_of, is_measured, passes};
 ghost use Rattle.lic_marks.specs.Rows.{weight};
@@ -12,8 +12,9 @@ ghost use Rattle.lic_marks.specs.Stretches.{IsStretchOf};
 ghost use Rattle.lic_marks.specs.Threads.{AreCounts, IsAmongCounts};
 
 use crate::counts::Counts;
-use crate::known::Knowledge;
+use crate::known::Known;
 use crate::node::Node;
+use crate::state::State;
 use crate::stretch::{Stretch, Way};
 use lic_words::letters::Letter;
 
@@ -57,24 +58,30 @@ pub fn none_ends(stretch: Stretch<'_>, place: usize) -> bool
     }
 }
 
-/// Where the letters of a token lead from a place that counts letters, if that is known.
+/// Where the letters of a token lead from a place that counts letters, if that is known: `known` of the last count, and what a probe
+/// tells.
 pub fn over_counts(
     counts: Counts<'_>,
     place: usize,
     tree: &Node,
     first: Letter,
     others: &[Letter],
-    knowledge: &mut Knowledge,
+    known: &mut Known,
+    probe: &mut State,
 ) -> Option<Option<usize>>
     requires measured { IsTrue (is_measured tree.now) }
-    requires knowledge { IsKnowledge (core_of tree.now) knowledge.old }
-    ensures knowledge { IsKnowledge (core_of tree.now) knowledge.new }
+    requires known { IsKnown (core_of tree.now) known.old }
+    requires last { known.old.place ≡ counts.last }
+    requires probe { IsProbe (core_of tree.now) probe.old }
+    ensures known { IsKnown (core_of tree.now) known.new }
+    ensures last { known.new.place ≡ known.old.place }
+    ensures probe { IsProbe (core_of tree.now) probe.new }
     ensures moves { IfSome result (λ found. AreCounts (core_of tree.now) counts.entry place
         → MovesTo (core_of tree.now) (Some place) (gapped_letter first ∷ map gapped_letter others.now) found
         × ForSome found (IsAmongCounts counts.entry)) }
 {
-    match over_letter(counts, place, tree, first, knowledge)? {
-        Some(next) => over_letters(counts, next, tree, others, knowledge),
+    match over_letter(counts, place, tree, first, known, probe)? {
+        Some(next) => over_letters(counts, next, tree, others, known, probe),
         None => Some(None),
     }
 }
@@ -85,18 +92,23 @@ fn over_letters(
     place: usize,
     tree: &Node,
     letters: &[Letter],
-    knowledge: &mut Knowledge,
+    known: &mut Known,
+    probe: &mut State,
 ) -> Option<Option<usize>>
     requires measured { IsTrue (is_measured tree.now) }
-    requires knowledge { IsKnowledge (core_of tree.now) knowledge.old }
-    ensures knowledge { IsKnowledge (core_of tree.now) knowledge.new }
+    requires known { IsKnown (core_of tree.now) known.old }
+    requires last { known.old.place ≡ counts.last }
+    requires probe { IsProbe (core_of tree.now) probe.old }
+    ensures known { IsKnown (core_of tree.now) known.new }
+    ensures last { known.new.place ≡ known.old.place }
+    ensures probe { IsProbe (core_of tree.now) probe.new }
     ensures moves { IfSome result (λ found. AreCounts (core_of tree.now) counts.entry place
         → MovesTo (core_of tree.now) (Some place) (map gapped_letter letters.now) found
         × ForSome found (IsAmongCounts counts.entry)) }
 {
     let mut at = place;
     for letter in letters {
-        match over_letter(counts, at, tree, *letter, knowledge)? {
+        match over_letter(counts, at, tree, *letter, known, probe)? {
             Some(next) => at = next,
             None => return Some(None),
         }
@@ -110,11 +122,16 @@ fn over_letter(
     place: usize,
     tree: &Node,
     letter: Letter,
-    knowledge: &mut Knowledge,
+    known: &mut Known,
+    probe: &mut State,
 ) -> Option<Option<usize>>
     requires measured { IsTrue (is_measured tree.now) }
-    requires knowledge { IsKnowledge (core_of tree.now) knowledge.old }
-    ensures knowledge { IsKnowledge (core_of tree.now) knowledge.new }
+    requires known { IsKnown (core_of tree.now) known.old }
+    requires last { known.old.place ≡ counts.last }
+    requires probe { IsProbe (core_of tree.now) probe.old }
+    ensures known { IsKnown (core_of tree.now) known.new }
+    ensures last { known.new.place ≡ known.old.place }
+    ensures probe { IsProbe (core_of tree.now) probe.new }
     ensures moves { IfSome result (λ found. AreCounts (core_of tree.now) counts.entry place
         → MovesTo (core_of tree.now) (Some place) (gapped_letter letter ∷ []) found
         × ForSome found (IsAmongCounts counts.entry)) }
@@ -123,9 +140,9 @@ fn over_letter(
         return None;
     }
     if letter.is_apart {
-        return over_gap(counts, place, tree, letter, knowledge);
+        return over_gap(counts, place, tree, letter, known, probe);
     }
-    if !knowledge.is_quiet(tree, counts.last, letter.letter) {
+    if !known.is_quiet(tree, letter.letter, probe) {
         return None;
     }
     Some(next_count(counts, place, 1))
@@ -137,13 +154,18 @@ fn over_gap(
     place: usize,
     tree: &Node,
     letter: Letter,
-    knowledge: &mut Knowledge,
+    known: &mut Known,
+    probe: &mut State,
 ) -> Option<Option<usize>>
     requires measured { IsTrue (is_measured tree.now) }
-    requires knowledge { IsKnowledge (core_of tree.now) knowledge.old }
+    requires known { IsKnown (core_of tree.now) known.old }
+    requires last { known.old.place ≡ counts.last }
+    requires probe { IsProbe (core_of tree.now) probe.old }
     requires passes { passes counts.test.now letter.letter ≡ true }
     requires apart { letter.is_apart ≡ true }
-    ensures knowledge { IsKnowledge (core_of tree.now) knowledge.new }
+    ensures known { IsKnown (core_of tree.now) known.new }
+    ensures last { known.new.place ≡ known.old.place }
+    ensures probe { IsProbe (core_of tree.now) probe.new }
     ensures moves { IfSome result (λ found. AreCounts (core_of tree.now) counts.entry place
         → MovesTo (core_of tree.now) (Some place) (gapped_letter letter ∷ []) found
         × ForSome found (IsAmongCounts counts.entry)) }
@@ -151,7 +173,7 @@ fn over_gap(
     if !counts.test.passes(' ') {
         return None;
     }
-    if !knowledge.is_quiet_behind_blanks(tree, counts.last, letter.letter) {
+    if !known.is_quiet_behind_blanks(tree, letter.letter, probe) {
         return None;
     }
     let step = if letter.are_words { 2 } else { 1 };

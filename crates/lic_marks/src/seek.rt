@@ -1,7 +1,7 @@
-//! A compiled expression on its way over a list of tokens, entered at every token. The tokens are read in one direction:
+//! A compiled expression on its way over a list of tokens, entered at some of them. The tokens are read in one direction:
 //! all from their ends, or all from their first letters on.
 
-ghost use Rattle.std.specs.Prelude.{◌≡◌, ℕ, ◌<◌, ◌≤◌, ◌↔◌, IsTrue, IfOk, List, [], ◌∷◌, ◌++◌, IfSome, None, false, length, reverse};
+ghost use Rattle.std.specs.Prelude.{◌≡◌, ℕ, ◌<◌, ◌≤◌, ◌↔◌, Bool, IsTrue, IfOk, List, [], ◌∷◌, ◌++◌, IfSome, None, Some, false, length, reverse};
 ghost use Rattle.std.specs.Option.{ForSome};
 ghost use Rattle.std.specs.Str.{chars};
 ghost use Rattle.lic_words.specs.Letters.{letters_in};
@@ -13,11 +13,15 @@ ghost use Rattle.lic_marks.specs.Plain.{IsPlain, in_order};
 ghost use Rattle.lic_marks.specs.States.{HasFirstBlanks, has_gap, room_of};
 ghost use Rattle.lic_marks.specs.Fronts.{IsFrontOf};
 ghost use Rattle.lic_marks.specs.Stretches.{IsStretchOf};
-ghost use Rattle.lic_marks.specs.Threads.{IsInText};
+ghost use Rattle.lic_marks.specs.Alone.{StandsInText};
+ghost use Rattle.lic_marks.specs.Known.{IsKnown};
+ghost use Rattle.lic_marks.specs.declared.alone.Alone.TheVariants.{Count, Text};
 
+use crate::alone::{Alone, Tally};
 use crate::front::Front;
+use crate::known::Known;
 use crate::node::Node;
-use crate::over::none_ends;
+use crate::over::{none_ends, over_counts};
 use crate::plain::Plain;
 use crate::row::Row;
 use crate::state::State;
@@ -27,15 +31,18 @@ use lic_words::letters::Letters;
 use lic_words::turned_letters::TurnedLetters;
 use std::alloc::{AllocError, Global};
 
-/// A run of a compiled expression that is entered at every token: it says whether the expression describes some end of
-/// the list. It keeps no token, and takes memory in `new` alone. What is not entered, and has nothing marked, costs nothing; one mark
-/// alone in a text costs no more than to compare the token with the text.
+/// A run of a compiled expression that is entered at tokens of the caller's choice: it says whether the expression describes an end of
+/// the list that begins with one of them. It keeps no token, and takes memory in `new` alone. What is not entered, and has nothing
+/// marked, costs nothing; one mark alone in a text costs no more than to compare the token with the text, and one alone that counts
+/// letters no more than to look at these.
 #[derive(Drop, Debug)]
 pub struct Seeker<'a> {
     tree: &'a Node,
     state: State,
-    /// One mark alone, in place of all those of the state: it stands in a text, and no word ends there.
-    lone: Option<InText<'a>>,
+    /// One mark alone, in place of all those of the state: it stands in a text, and no word ends there, or it counts letters.
+    lone: Option<Alone<'a>>,
+    /// What is known of the last place of those that count letters, where the lone mark was one of them.
+    known: Known,
     /// Where one position alone was marked, the stretch in which it stands.
     stretch: Stretch<'a>,
     /// The text with which all words begin, where there is one.
@@ -45,17 +52,18 @@ pub struct Seeker<'a> {
     /// Where a position is marked, the last letter that was taken.
     last: char,
     ghost measured: { IsTrue (is_measured tree.now) },
-    ghost fits: { weight (core_of tree.now) ≤ room_of state },
+    ghost fits: { room_of state ≡ weight (core_of tree.now) },
     ghost open: { IsTrue (has_gap state) },
     ghost size: { length first ≡ room_of state },
     ghost stretched: { IsStretchOf (core_of tree.now) stretch },
-    ghost in_text: { ForSome lone (IsInText (core_of tree.now)) },
+    ghost in_text: { StandsInText (core_of tree.now) lone },
+    ghost learned: { IsKnown (core_of tree.now) known },
     ghost fronted: { ForSome front (IsFrontOf (core_of tree.now)) },
     ghost blanks: { HasFirstBlanks (core_of tree.now) first },
 }
 
 impl<'a> Seeker<'a> {
-    ghost use Rattle.lic_marks.specs.Seeks.{DescribesEnd, NoneBegins, NoneGoesOn, Seeks, tree_of};
+    ghost use Rattle.lic_marks.specs.Seeks.{DescribesEndAt, NoneBegins, NoneGoesOnAt, SeeksAt, tree_of};
 
     /// A run that stands for the empty list. It is dead.
     ///
@@ -63,8 +71,8 @@ impl<'a> Seeker<'a> {
     /// Out of memory.
     pub fn new(alloc: Global, tree: &'a Node) -> Result<Seeker<'a>, AllocError>
         requires { IsTrue (is_measured tree.now) }
-        ensures stands { (e : Expression) → HasWordsOf (core_of tree.now) e
-            → IfOk result (λ s. Seeks s e []) }
+        ensures stands { (entered : ℕ → Bool) (e : Expression) → HasWordsOf (core_of tree.now) e
+            → IfOk result (λ s. SeeksAt entered s e []) }
         ensures tree { IfOk result (λ s. tree_of s ≡ tree.now) }
     {
         let mut state = State::new(alloc, tree)?;
@@ -74,6 +82,7 @@ impl<'a> Seeker<'a> {
             tree,
             state,
             lone: None,
+            known: Known::none(0),
             stretch: Stretch::none(),
             front: Front::of(tree),
             first,
@@ -83,22 +92,23 @@ impl<'a> Seeker<'a> {
 
     /// Begins anew with the empty list.
     pub fn reset(&mut self)
-        ensures stands { (e : Expression) → HasWordsOf (core_of (tree_of self.old)) e
-            → Seeks self.new e [] }
+        ensures stands { (entered : ℕ → Bool) (e : Expression) → HasWordsOf (core_of (tree_of self.old)) e
+            → SeeksAt entered self.new e [] }
         ensures tree { tree_of self.new ≡ tree_of self.old }
     {
         self.lone = None;
         self.state.clear();
     }
 
-    /// Takes a token from its last letter to its first. `may_begin` is false where no described list begins with it: then
-    /// it is not entered there.
+    /// Takes a token from its last letter to its first. It is entered there where `may_begin` is true. Where that is false, no described
+    /// list begins with the token, or the caller does not ask for the end of the list that begins with it.
     #[inline(never)]
     pub fn push_turned(&mut self, token: &str, may_begin: bool)
         requires { 0 < letters_in (chars token.now) }
-        ensures stands { (e : Expression) (ts : List (List ℕ)) → Seeks self.old e ts
-            → (may_begin ≡ false → NoneBegins e (reverse (chars token.now)))
-            → Seeks self.new e (ts ++ reverse (chars token.now) ∷ []) }
+        ensures stands { (entered : ℕ → Bool) (e : Expression) (ts : List (List ℕ)) → SeeksAt entered self.old e ts
+            → (IsTrue may_begin → IsTrue (entered (length ts)))
+            → (may_begin ≡ false → IsTrue (entered (length ts)) → NoneBegins e (reverse (chars token.now)))
+            → SeeksAt entered self.new e (ts ++ reverse (chars token.now) ∷ []) }
         ensures tree { tree_of self.new ≡ tree_of self.old }
     {
         if !may_begin && self.is_dead() {
@@ -125,9 +135,10 @@ impl<'a> Seeker<'a> {
     #[inline(never)]
     fn take(&mut self, token: &str, may_begin: bool)
         requires { 0 < letters_in (chars token.now) }
-        ensures stands { (e : Expression) (ts : List (List ℕ)) → Seeks self.old e ts
-            → (may_begin ≡ false → NoneBegins e (chars token.now))
-            → Seeks self.new e (ts ++ chars token.now ∷ []) }
+        ensures stands { (entered : ℕ → Bool) (e : Expression) (ts : List (List ℕ)) → SeeksAt entered self.old e ts
+            → (IsTrue may_begin → IsTrue (entered (length ts)))
+            → (may_begin ≡ false → IsTrue (entered (length ts)) → NoneBegins e (chars token.now))
+            → SeeksAt entered self.new e (ts ++ chars token.now ∷ []) }
         ensures tree { tree_of self.new ≡ tree_of self.old }
     {
         if !may_begin && self.is_dead() {
@@ -150,34 +161,58 @@ impl<'a> Seeker<'a> {
         self.take_out();
     }
 
-    // Puts the mark that stands alone in a text back among those of the state.
+    // Puts the mark that stands alone back among those of the state.
     fn put_back(&mut self)
-        ensures stands { (e : Expression) (ts : List (List ℕ)) → Seeks self.old e ts → Seeks self.new e ts }
+        ensures stands { (entered : ℕ → Bool) (e : Expression) (ts : List (List ℕ)) → SeeksAt entered self.old e ts → SeeksAt entered self.new e ts }
         ensures tree { tree_of self.new ≡ tree_of self.old }
         ensures last { self.new.last ≡ self.old.last }
         ensures none { self.new.lone ≡ None }
     {
-        let Some(text) = self.lone else {
+        let Some(lone) = self.lone else {
             return;
         };
         self.lone = None;
-        self.stretch = text.stretch;
-        self.state.mark_alone(self.tree, text.stretch, text.place);
+        match lone {
+            Alone::Text(text) => {
+                self.stretch = text.stretch;
+                self.state.mark_alone(self.tree, text.stretch, text.place);
+            }
+            Alone::Count(tally) => {
+                self.state.clear();
+                self.state.mark_both(self.tree, Some(tally.place), None);
+            }
+        }
     }
 
-    // Takes the mark out of the state, where it stands alone in a text and no word ends there.
+    // The mark that stands alone in a text.
+    #[inline(always)]
+    fn text(&self) -> Option<InText<'a>>
+        ensures { IfSome result (λ text. self.now.lone ≡ Some (Text text)) }
+    {
+        match self.lone {
+            Some(Alone::Text(text)) => Some(text),
+            _ => None,
+        }
+    }
+
+    // The mark that stands alone and counts letters.
+    #[inline(always)]
+    fn tally(&self) -> Option<Tally<'a>>
+        ensures { IfSome result (λ tally. self.now.lone ≡ Some (Count tally)) }
+    {
+        match self.lone {
+            Some(Alone::Count(tally)) => Some(tally),
+            _ => None,
+        }
+    }
+
+    // Takes the mark out of the state, where it stands alone in a text and no word ends there, or counts letters.
     fn take_out(&mut self)
         requires { self.old.lone ≡ None }
-        ensures stands { (e : Expression) (ts : List (List ℕ)) → Seeks self.old e ts → Seeks self.new e ts }
+        ensures stands { (entered : ℕ → Bool) (e : Expression) (ts : List (List ℕ)) → SeeksAt entered self.old e ts → SeeksAt entered self.new e ts }
         ensures tree { tree_of self.new ≡ tree_of self.old }
     {
-        let Some(place) = self.state.lone() else {
-            return;
-        };
-        let stretch = self.stretch;
-        if none_ends(stretch, place) {
-            self.lone = Some(InText { place, stretch });
-        }
+        self.lone = Alone::of(self.tree, &self.state, self.stretch);
     }
 
     /// Takes a token from its first letter to its last, of which the caller may know that it is plain. `may_begin` as for `push_turned`.
@@ -185,9 +220,10 @@ impl<'a> Seeker<'a> {
     pub fn push(&mut self, token: &str, known: Option<&Plain>, may_begin: bool)
         requires letters { 0 < letters_in (chars token.now) }
         requires known { IfSome known (λ plain. IsPlain plain.now (chars token.now)) }
-        ensures stands { (e : Expression) (ts : List (List ℕ)) → Seeks self.old e ts
-            → (may_begin ≡ false → NoneBegins e (chars token.now))
-            → Seeks self.new e (ts ++ chars token.now ∷ []) }
+        ensures stands { (entered : ℕ → Bool) (e : Expression) (ts : List (List ℕ)) → SeeksAt entered self.old e ts
+            → (IsTrue may_begin → IsTrue (entered (length ts)))
+            → (may_begin ≡ false → IsTrue (entered (length ts)) → NoneBegins e (chars token.now))
+            → SeeksAt entered self.new e (ts ++ chars token.now ∷ []) }
         ensures tree { tree_of self.new ≡ tree_of self.old }
     {
         if !self.passes(known, may_begin) {
@@ -197,14 +233,15 @@ impl<'a> Seeker<'a> {
 
     /// As `push_turned`, of a token of which the caller may know that it is plain: then it is not read again where its letters are
     /// known to leave the marks as they are, nor where one mark alone stands in a text, or none does and all words begin with a text:
-    /// its letters are compared with that.
+    /// its letters are compared with that; nor where one mark alone counts letters, and it is known that these lead on from there.
     #[inline]
     pub fn push_known(&mut self, token: &str, known: Option<&Plain>, may_begin: bool)
         requires letters { 0 < letters_in (chars token.now) }
         requires known { IfSome known (λ plain. IsPlain plain.now (reverse (chars token.now))) }
-        ensures stands { (e : Expression) (ts : List (List ℕ)) → Seeks self.old e ts
-            → (may_begin ≡ false → NoneBegins e (reverse (chars token.now)))
-            → Seeks self.new e (ts ++ reverse (chars token.now) ∷ []) }
+        ensures stands { (entered : ℕ → Bool) (e : Expression) (ts : List (List ℕ)) → SeeksAt entered self.old e ts
+            → (IsTrue may_begin → IsTrue (entered (length ts)))
+            → (may_begin ≡ false → IsTrue (entered (length ts)) → NoneBegins e (reverse (chars token.now)))
+            → SeeksAt entered self.new e (ts ++ reverse (chars token.now) ∷ []) }
         ensures tree { tree_of self.new ≡ tree_of self.old }
     {
         if self.passes(known, may_begin) {
@@ -217,11 +254,11 @@ impl<'a> Seeker<'a> {
     // the token's letters are compared with that. Otherwise nothing is done.
     #[inline(never)]
     fn enters(&mut self, plain: &Plain) -> bool
-        ensures none { (e : Expression) (ts : List (List ℕ)) → Seeks self.old e ts
-            → result ≡ false → Seeks self.new e ts }
-        ensures stands { (e : Expression) (ts : List (List ℕ)) (token : List ℕ)
-            → Seeks self.old e ts → IsTrue result
-            → IsPlain plain.now token → Seeks self.new e (ts ++ token ∷ []) }
+        ensures none { (entered : ℕ → Bool) (e : Expression) (ts : List (List ℕ)) → SeeksAt entered self.old e ts
+            → result ≡ false → SeeksAt entered self.new e ts }
+        ensures stands { (entered : ℕ → Bool) (e : Expression) (ts : List (List ℕ)) (token : List ℕ)
+            → SeeksAt entered self.old e ts → IsTrue result
+            → IsPlain plain.now token → IsTrue (entered (length ts)) → SeeksAt entered self.new e (ts ++ token ∷ []) }
         ensures tree { tree_of self.new ≡ tree_of self.old }
     {
         let Some(front) = self.front else {
@@ -242,7 +279,7 @@ impl<'a> Seeker<'a> {
         self.last = plain.last;
         let stretch = front.rest;
         if none_ends(stretch, place) {
-            self.lone = Some(InText { place, stretch });
+            self.lone = Some(Alone::Text(InText { place, stretch }));
             return true;
         }
         self.stretch = stretch;
@@ -254,17 +291,17 @@ impl<'a> Seeker<'a> {
     // the text with which all words begin says where it leads. Otherwise nothing is done.
     #[inline(never)]
     fn turns_to(&mut self, plain: &Plain) -> bool
-        ensures none { (e : Expression) (ts : List (List ℕ)) → Seeks self.old e ts
-            → result ≡ false → Seeks self.new e ts }
-        ensures stands { (e : Expression) (ts : List (List ℕ)) (token : List ℕ)
-            → Seeks self.old e ts → IsTrue result
-            → IsPlain plain.now token → Seeks self.new e (ts ++ token ∷ []) }
+        ensures none { (entered : ℕ → Bool) (e : Expression) (ts : List (List ℕ)) → SeeksAt entered self.old e ts
+            → result ≡ false → SeeksAt entered self.new e ts }
+        ensures stands { (entered : ℕ → Bool) (e : Expression) (ts : List (List ℕ)) (token : List ℕ)
+            → SeeksAt entered self.old e ts → IsTrue result
+            → IsPlain plain.now token → IsTrue (entered (length ts)) → SeeksAt entered self.new e (ts ++ token ∷ []) }
         ensures tree { tree_of self.new ≡ tree_of self.old }
     {
         let Some(front) = self.front else {
             return false;
         };
-        let Some(text) = self.lone else {
+        let Some(text) = self.text() else {
             return false;
         };
         let first = plain.first_behind(self.last);
@@ -284,7 +321,7 @@ impl<'a> Seeker<'a> {
         if !none_ends(stretch, place) {
             return false;
         }
-        self.lone = Some(InText { place, stretch });
+        self.lone = Some(Alone::Text(InText { place, stretch }));
         self.last = plain.last;
         true
     }
@@ -292,14 +329,15 @@ impl<'a> Seeker<'a> {
     // Takes a plain token where one mark stands alone in a text, and that says where its letters lead. Otherwise nothing is done.
     #[inline(never)]
     fn follows(&mut self, plain: &Plain) -> bool
-        ensures none { (e : Expression) (ts : List (List ℕ)) → Seeks self.old e ts
-            → result ≡ false → Seeks self.new e ts }
-        ensures stands { (e : Expression) (ts : List (List ℕ)) (token : List ℕ)
-            → Seeks self.old e ts → IsTrue result
-            → IsPlain plain.now token → NoneBegins e token → Seeks self.new e (ts ++ token ∷ []) }
+        ensures none { (entered : ℕ → Bool) (e : Expression) (ts : List (List ℕ)) → SeeksAt entered self.old e ts
+            → result ≡ false → SeeksAt entered self.new e ts }
+        ensures stands { (entered : ℕ → Bool) (e : Expression) (ts : List (List ℕ)) (token : List ℕ)
+            → SeeksAt entered self.old e ts → IsTrue result
+            → IsPlain plain.now token → (IsTrue (entered (length ts)) → NoneBegins e token)
+            → SeeksAt entered self.new e (ts ++ token ∷ []) }
         ensures tree { tree_of self.new ≡ tree_of self.old }
     {
-        let Some(text) = self.lone else {
+        let Some(text) = self.text() else {
             return false;
         };
         let stretch = text.stretch;
@@ -316,24 +354,73 @@ impl<'a> Seeker<'a> {
         if !none_ends(stretch, place) {
             return false;
         }
-        self.lone = Some(InText { place, stretch });
+        self.lone = Some(Alone::Text(InText { place, stretch }));
         self.last = plain.last;
         true
     }
 
-    /// Takes a token, read from its end or from its first letter on, with which no described list begins, where one mark stands alone in a
+    // Takes a plain token where one mark alone counts letters, and it is known where the token's letters lead from there. Otherwise
+    // nothing is done.
+    #[inline(never)]
+    fn counts_on(&mut self, plain: &Plain) -> bool
+        ensures none { (entered : ℕ → Bool) (e : Expression) (ts : List (List ℕ)) → SeeksAt entered self.old e ts
+            → result ≡ false → SeeksAt entered self.new e ts }
+        ensures stands { (entered : ℕ → Bool) (e : Expression) (ts : List (List ℕ)) (token : List ℕ)
+            → SeeksAt entered self.old e ts → IsTrue result
+            → IsPlain plain.now token → (IsTrue (entered (length ts)) → NoneBegins e token)
+            → SeeksAt entered self.new e (ts ++ token ∷ []) }
+        ensures tree { tree_of self.new ≡ tree_of self.old }
+    {
+        let Some(tally) = self.tally() else {
+            return false;
+        };
+        let counts = tally.counts;
+        let first = plain.first_behind(self.last);
+        let rest = plain.rest();
+        self.known.bring(counts.last);
+        let Some(found) = over_counts(
+            counts,
+            tally.place,
+            self.tree,
+            first,
+            rest,
+            &mut self.known,
+            &mut self.state,
+        ) else {
+            return false;
+        };
+        self.last = plain.last;
+        match found {
+            Some(place) => {
+                let ends = tally.ends;
+                self.lone = Some(Alone::Count(Tally {
+                    place,
+                    counts,
+                    ends,
+                }));
+                true
+            }
+            None => {
+                self.lone = None;
+                self.state.clear();
+                true
+            }
+        }
+    }
+
+    /// Takes a token, read from its end or from its first letter on, at which it is not entered, where one mark stands alone in a
     /// text that goes on with a blank and the token's letters, all of ASCII. The token is compared with the text as it is. Otherwise
     /// nothing is done.
     #[inline]
     pub fn goes_on(&mut self, token: &str, is_turned: bool) -> bool
         ensures none { result ≡ false → self.new ≡ self.old }
-        ensures stands { (e : Expression) (ts : List (List ℕ)) → Seeks self.old e ts
-            → IsTrue result → NoneBegins e (in_order is_turned (chars token.now))
-            → Seeks self.new e (ts ++ in_order is_turned (chars token.now) ∷ []) }
+        ensures stands { (entered : ℕ → Bool) (e : Expression) (ts : List (List ℕ)) → SeeksAt entered self.old e ts
+            → IsTrue result → (IsTrue (entered (length ts)) → NoneBegins e (in_order is_turned (chars token.now)))
+            → SeeksAt entered self.new e (ts ++ in_order is_turned (chars token.now) ∷ []) }
         ensures tree { tree_of self.new ≡ tree_of self.old }
     {
         let bytes = token.as_bytes();
-        let Some(text) = self.lone else {
+        let Some(text) = self.text() else {
             return false;
         };
         let stretch = text.stretch;
@@ -343,21 +430,22 @@ impl<'a> Seeker<'a> {
         if !none_ends(stretch, place) {
             return false;
         }
-        self.lone = Some(InText { place, stretch });
+        self.lone = Some(Alone::Text(InText { place, stretch }));
         self.last = char::from(Plain::byte_at(bytes, bytes.len() - 1, is_turned));
         true
     }
 
     // Takes a plain token where that is known without a walk over the tree: as `enters`, or not entered, where its letters are known to
-    // leave the marks as they are, or the text in which a lone mark stands says where it leads. Otherwise nothing is done.
+    // leave the marks as they are, or it is known where they lead from a mark that stands alone. Otherwise nothing is done.
     #[inline]
     fn passes(&mut self, known: Option<&Plain>, may_begin: bool) -> bool
-        ensures none { (e : Expression) (ts : List (List ℕ)) → Seeks self.old e ts
-            → result ≡ false → Seeks self.new e ts }
-        ensures stands { (e : Expression) (ts : List (List ℕ)) (token : List ℕ)
-            → Seeks self.old e ts → IsTrue result
+        ensures none { (entered : ℕ → Bool) (e : Expression) (ts : List (List ℕ)) → SeeksAt entered self.old e ts
+            → result ≡ false → SeeksAt entered self.new e ts }
+        ensures stands { (entered : ℕ → Bool) (e : Expression) (ts : List (List ℕ)) (token : List ℕ)
+            → SeeksAt entered self.old e ts → IsTrue result
             → IfSome known.entry (λ plain. IsPlain plain.now token)
-            → (may_begin ≡ false → NoneBegins e token) → Seeks self.new e (ts ++ token ∷ []) }
+            → (IsTrue may_begin → IsTrue (entered (length ts)))
+            → (may_begin ≡ false → IsTrue (entered (length ts)) → NoneBegins e token) → SeeksAt entered self.new e (ts ++ token ∷ []) }
         ensures tree { tree_of self.new ≡ tree_of self.old }
     {
         let Some(plain) = known else {
@@ -370,7 +458,10 @@ impl<'a> Seeker<'a> {
             return self.turns_to(plain);
         }
         let None = self.lone else {
-            return self.follows(plain);
+            if self.follows(plain) {
+                return true;
+            }
+            return self.counts_on(plain);
         };
         if self.state.stays(plain, self.last) {
             self.last = plain.last;
@@ -387,31 +478,31 @@ impl<'a> Seeker<'a> {
         true
     }
 
-    /// Whether the expression describes some end of the list of tokens.
+    /// Whether the expression describes an entered end of the list of tokens.
     #[inline]
     pub fn accepts(&self) -> bool
-        ensures { (e : Expression) (ts : List (List ℕ)) → Seeks self.now e ts
-            → IsTrue result ↔ DescribesEnd e ts }
+        ensures { (entered : ℕ → Bool) (e : Expression) (ts : List (List ℕ)) → SeeksAt entered self.now e ts
+            → IsTrue result ↔ DescribesEndAt entered e ts }
     {
         match self.lone {
-            Some(_) => false,
+            Some(lone) => lone.ends(),
             None => self.state.accepts(self.tree, self.stretch),
         }
     }
 
-    /// True where no position is marked: then no described list goes on from an end of the list, and it stands as it is for the
-    /// list with one token more that no described list begins with, and for the empty list. It looks at a few flags.
+    /// True where no position is marked: then no described list goes on from an entered end of the list, and it stands as it is for the
+    /// list with one token more that is not entered, or that no described list begins with, and for the empty list. It looks at a few flags.
     #[inline]
     pub fn is_dead(&self) -> bool
-        ensures none { (e : Expression) (ts : List (List ℕ)) → Seeks self.now e ts → IsTrue result
-            → ¬ (DescribesEnd e ts) }
-        ensures skips { (e : Expression) (ts : List (List ℕ)) (token : List ℕ)
-            → Seeks self.now e ts → IsTrue result
-            → NoneBegins e token → Seeks self.now e (ts ++ token ∷ []) }
-        ensures ends { (e : Expression) (ts : List (List ℕ)) → Seeks self.now e ts → IsTrue result
-            → NoneGoesOn e ts }
-        ensures anew { (e : Expression) (ts : List (List ℕ)) → Seeks self.now e ts → IsTrue result
-            → Seeks self.now e [] }
+        ensures none { (entered : ℕ → Bool) (e : Expression) (ts : List (List ℕ)) → SeeksAt entered self.now e ts → IsTrue result
+            → ¬ (DescribesEndAt entered e ts) }
+        ensures skips { (entered : ℕ → Bool) (e : Expression) (ts : List (List ℕ)) (token : List ℕ)
+            → SeeksAt entered self.now e ts → IsTrue result
+            → (IsTrue (entered (length ts)) → NoneBegins e token) → SeeksAt entered self.now e (ts ++ token ∷ []) }
+        ensures ends { (entered : ℕ → Bool) (e : Expression) (ts : List (List ℕ)) → SeeksAt entered self.now e ts → IsTrue result
+            → NoneGoesOnAt entered e ts }
+        ensures anew { (entered others : ℕ → Bool) (e : Expression) (ts : List (List ℕ)) → SeeksAt entered self.now e ts → IsTrue result
+            → SeeksAt others self.now e [] }
     {
         match self.lone {
             Some(_) => false,

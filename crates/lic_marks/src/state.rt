@@ -466,6 +466,11 @@ impl State {
             → ForSome other (λ k. k < weight (core_of tree.now))
             → LeadFromBoth (core_of tree.now) one other (After (WordsOf (core_of tree.now)) letters)
             → HasTaken (core_of tree.now) self.new letters }
+        ensures any { (lists : List (List (Gap × ℕ))) → IsRemembering (core_of tree.now) self.old
+            → ForSome one (λ k. k < weight (core_of tree.now))
+            → ForSome other (λ k. k < weight (core_of tree.now))
+            → LeadFromBoth (core_of tree.now) one other (AfterAny (WordsOf (core_of tree.now)) lists)
+            → HasTakenAny (core_of tree.now) self.new lists }
         ensures open { IsTrue (has_gap self.new) }
     {
         self.at_once.clear();
@@ -514,38 +519,40 @@ impl State {
         self.entry
     }
 
-    /// Whether no word goes on with the letter at once. `spare` is room to work in.
-    pub fn is_quiet(&self, tree: &Node, letter: char, spare: &mut Row) -> bool
+    /// Whether no word goes on with the letter at once.
+    pub fn is_quiet(&mut self, tree: &Node, letter: char) -> bool
         requires measured { IsTrue (is_measured tree.now) }
-        requires room { weight (core_of tree.now) ≤ room_of self.now }
-        requires size { length spare.old ≡ room_of self.now }
-        ensures size { length spare.new ≡ length spare.old }
+        requires room { weight (core_of tree.now) ≤ room_of self.old }
+        ensures room { room_of self.new ≡ room_of self.old }
+        ensures open { has_gap self.new ≡ has_gap self.old }
+        ensures behind { (k : ℕ) → HasLeft (core_of tree.now) self.old (Behind (core_of tree.now) k)
+            → HasLeft (core_of tree.now) self.new (Behind (core_of tree.now) k) }
         ensures quiet { (k : ℕ)
-            → HasLeft (core_of tree.now) self.now (Behind (core_of tree.now) k)
+            → HasLeft (core_of tree.now) self.old (Behind (core_of tree.now) k)
             → IsTrue result → IsQuiet (core_of tree.now) k letter }
     {
         if self.entry {
             return false;
         }
-        spare.copy_from(&self.at_once);
-        spare.shift(tree, false, false, letter);
-        spare.is_clear()
+        self.spare.copy_from(&self.at_once);
+        self.spare.shift(tree, false, false, letter);
+        self.spare.is_clear()
     }
 
-    /// Whether no word goes on with the letter behind one blank or more. A gap must be open. `spare` is room to work in.
-    pub fn is_quiet_apart(&self, tree: &Node, letter: char, spare: &mut Row) -> bool
+    /// Whether no word goes on with the letter behind one blank or more. A gap must be open.
+    pub fn is_quiet_apart(&mut self, tree: &Node, letter: char) -> bool
         requires measured { IsTrue (is_measured tree.now) }
-        requires room { weight (core_of tree.now) ≤ room_of self.now }
-        requires size { length spare.old ≡ room_of self.now }
-        ensures size { length spare.new ≡ length spare.old }
+        requires room { weight (core_of tree.now) ≤ room_of self.old }
+        ensures room { room_of self.new ≡ room_of self.old }
+        ensures open { has_gap self.new ≡ has_gap self.old }
         ensures quiet { (k : ℕ)
-            → HasLeft (core_of tree.now) self.now (Behind (core_of tree.now) k)
-            → has_gap self.now ≡ true → IsTrue result
+            → HasLeft (core_of tree.now) self.old (Behind (core_of tree.now) k)
+            → has_gap self.old ≡ true → IsTrue result
             → IsQuietApart (core_of tree.now) k letter }
     {
-        spare.copy_from(&self.after_blanks);
-        spare.shift(tree, true, false, letter);
-        spare.is_clear()
+        self.spare.copy_from(&self.after_blanks);
+        self.spare.shift(tree, true, false, letter);
+        self.spare.is_clear()
     }
 
     // The place of the one mark, and where the letters lead from there along the stretch.

@@ -17,7 +17,7 @@ ghost use Rattle.lic_marks.specs.States.{room_of};
 use crate::counts::{Counts, counts_at};
 use crate::known::Knowledge;
 use crate::node::Node;
-use crate::over::{none_ends, over_counts, over_text};
+use crate::over::{none_ends, over_text};
 use crate::state::State;
 use crate::stretch::Stretch;
 use lic_words::letters::Letter;
@@ -250,7 +250,7 @@ fn counted_over<'a>(
         Some(here) => here,
         None => return Some(None),
     };
-    match over_counts(here.counts, here.place, tree, first, others, knowledge)? {
+    match knowledge.over_counts(here.counts, here.place, tree, first, others)? {
         Some(place) => Some(Some(Counting {
             place,
             counts: here.counts,

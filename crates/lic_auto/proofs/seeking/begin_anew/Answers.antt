@@ -3,7 +3,7 @@ use Rattle.std.specs.List.{slice_get, Contains}
 use Rattle.std.proofs.Math.ListN.{set}
 use Rattle.std.proofs.lemmas.List.{take_more}
 use Rattle.std.proofs.lemmas.Option.{slice_get-get_or}
-use Rattle.lic_marks.specs.Seeks.{tree_of}
+use Rattle.lic_marks.specs.Seeks.{at_every, tree_of}
 use Rattle.lic_keys.proofs.RisingLemmas.{fresh_before}
 use Rattle.lic_auto.specs.Seeking.{HaveMoved, BeginsAnew}
 use Rattle.lic_auto.proofs.Changing.{Changed-more}
@@ -22,4 +22,4 @@ loop-place-preserved c =
     let here : slice_get seekers n ≡ Some a = slice_get-get_or seekers n c.index-seekers-place.result within in
     subst (λ s. HaveMoved BeginsAnew s c.args.seekers.now (set seekers n c.reset.new.self)) (sym (take_more places i 0 inside))
     (Changed-more tree_of BeginsAnew
-    (take i places) n c.args.seekers.now seekers a c.reset.new.self c.loop-place.invariant fresh here c.reset.ensures.tree c.reset.ensures.stands)
+    (take i places) n c.args.seekers.now seekers a c.reset.new.self c.loop-place.invariant fresh here c.reset.ensures.tree (c.reset.ensures.stands at_every))

@@ -2,6 +2,7 @@ use Rattle.std.proofs.Common.{◌≡◌, ◌<◌, ◌≤◌, ◌++◌, ◌∷◌
 use Rattle.std.specs.List.{slice_get, Contains}
 use Rattle.std.proofs.lemmas.List.{take_all, take_more, take_more_set, length-set}
 use Rattle.std.proofs.lemmas.Option.{slice_get-get_or}
+use Rattle.lic_marks.specs.Seeks.{at_every}
 use Rattle.lic_keys.proofs.RisingLemmas.{length-rising, less_before}
 use Rattle.lic_auto.specs.Picked.{picked}
 use Rattle.lic_auto.specs.Seeking.{IsFoundAt}
@@ -75,7 +76,7 @@ loop-place-preserved c =
             gathered = subst (λ seen. AreGathered chosen.direction set numbers seekers seen (take c.if-accepts.count c.if-accepts.found)) (sym more)
                 (subst (AreGathered chosen.direction set numbers seekers (take i places ++ place ∷ [])) (sym front)
                 (Gathered-add chosen.direction set numbers chosen.rising seekers (take i places)
-                (take count found) place s here c.accepts.result c.accepts.ensures gathered w.if-accepts.true inside
+                (take count found) place s here c.accepts.result (c.accepts.ensures at_every) gathered w.if-accepts.true inside
                 (λ k h. less_before places _ c.requires.rising i k within h) known there));
           }
       | else-accepts w ↦
@@ -85,7 +86,7 @@ loop-place-preserved c =
             gathered = subst (λ seen. AreGathered chosen.direction set numbers seekers seen (take c.if-accepts.count c.if-accepts.found)) (sym more)
                 (rw (w.found-is, w.count-is)
                 (Gathered-skip chosen.direction set numbers chosen.rising seekers (take i places)
-                (take count found) place s here c.accepts.result c.accepts.ensures gathered w.if-accepts.false));
+                (take count found) place s here c.accepts.result (c.accepts.ensures at_every) gathered w.if-accepts.false));
           }
     ]
 

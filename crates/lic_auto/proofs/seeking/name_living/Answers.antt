@@ -4,6 +4,7 @@ use Rattle.std.proofs.lemmas.Bool.{cases_eq}
 use Rattle.std.proofs.lemmas.List.{length-set, take_more_set}
 use Rattle.std.proofs.lemmas.List.Elements.{Contains-append_left, Contains-push}
 use Rattle.std.proofs.lemmas.Option.{same_Some, slice_get-get_or}
+use Rattle.lic_marks.specs.Seeks.{at_every}
 use Rattle.lic_keys.specs.Rising.{IsRising}
 use Rattle.lic_keys.proofs.RisingLemmas.{IsRising-push, IsRising-more}
 use Rattle.lic_auto.specs.Seeking.{IsQuiet}
@@ -51,10 +52,10 @@ loop-place-preserved c =
                 let there : slice_get seekers place ≡ Some one = slice_get-get_or seekers place c.index-seekers-place.result c.loop-place-test.true in
                 let it : one ≡ s = same_Some one s (sym there ∙ ap (slice_get seekers) (sym here) ∙ is) in
                 let quiet : IsQuiet c.index-seekers-place.result = record {
-                  none = λ e ts stands. c.is_dead.ensures.none e ts stands dead;
-                  skips = λ e ts token stands none. ∣ c.is_dead.ensures.skips e ts token stands dead none ∣₁;
-                  goes_on = λ e ts stands. c.is_dead.ensures.ends e ts stands dead;
-                  anew = λ e ts stands. ∣ c.is_dead.ensures.anew e ts stands dead ∣₁;
+                  none = λ e ts stands. c.is_dead.ensures.none at_every e ts stands dead;
+                  skips = λ e ts token stands none. ∣ c.is_dead.ensures.skips at_every e ts token stands dead (λ is_end. none) ∣₁;
+                  goes_on = λ e ts stands. c.is_dead.ensures.ends at_every e ts stands dead;
+                  anew = λ e ts stands. ∣ c.is_dead.ensures.anew at_every at_every e ts stands dead ∣₁;
                 } in
                 subst IsQuiet (c.index-seekers-place.is ∙ it) quiet)
                 (λ (apart : k ≢ place).

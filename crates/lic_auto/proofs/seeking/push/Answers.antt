@@ -1,6 +1,6 @@
-use Rattle.std.proofs.Common.{◌≡◌, Bool, ℕ, ◌∷◌, ◌++◌, List, [], false, sym, subst, chars}
+use Rattle.std.proofs.Common.{◌≡◌, Bool, ℕ, ◌∷◌, ◌++◌, List, [], false, refl, sym, subst, chars}
 use Rattle.lic_words.specs.Expressions.{Expression}
-use Rattle.lic_marks.specs.Seeks.{NoneBegins, Seeks}
+use Rattle.lic_marks.specs.Seeks.{at_every, NoneBegins, Seeks}
 use Rattle.lic_marks.specs.declared.seek.Seeker.{Seeker}
 use Rattle.lic_auto.specs.Directions.{ordered}
 use Rattle.lic_auto.specs.declared.direction.Direction.{Direction}
@@ -14,9 +14,11 @@ Takes may_begin token old new direction = (e : Expression) (ts : List (List ℕ)
 pub returns-in-Forward-clause-stands : goal.returns-in-Forward-clause-stands
 returns-in-Forward-clause-stands c =
     let takes = Takes c.args.may_begin (chars c.args.token.now) c.args.seeker.now c.push.new.self in
-    subst takes (sym c.in-Forward.is) c.push.ensures.stands
+    subst takes (sym c.in-Forward.is)
+    (λ e ts stands rest. c.push.ensures.stands at_every e ts stands (λ begins. refl) (λ out is_end. rest out))
 
 pub returns-in-Backward-clause-stands : goal.returns-in-Backward-clause-stands
 returns-in-Backward-clause-stands c =
     let takes = Takes c.args.may_begin (chars c.args.token.now) c.args.seeker.now c.push_known.new.self in
-    subst takes (sym c.in-Backward.is) c.push_known.ensures.stands
+    subst takes (sym c.in-Backward.is)
+    (λ e ts stands rest. c.push_known.ensures.stands at_every e ts stands (λ begins. refl) (λ out is_end. rest out))

@@ -3,6 +3,7 @@ use Rattle.std.specs.List.{slice_get}
 use Rattle.std.proofs.Math.Logic.{∥∥₁_map}
 use Rattle.lic_marks.specs.Cores.{HasWordsOf}
 use Rattle.lic_marks.specs.Nodes.{core_of}
+use Rattle.lic_marks.specs.Seeks.{at_every}
 use Rattle.lic_auto.specs.Sets.{Known, words_of}
 use Rattle.lic_auto.specs.Directions.{read}
 use Rattle.lic_auto.specs.Choices.{templates_of}
@@ -26,5 +27,5 @@ loop-place-preserved c =
           (λ known is. subst (λ t. ∥ HasWordsOf (core_of t) (read direction (words_of known)) ∥₁) (sym c.in_ok-seeker.ensures.tree) (words known is)));
       stand = subst (λ xs. AllSeek direction set xs []) (sym c.in_ok-push.ensures.items)
           (AllSeek-push direction set seekers seeker [] c.loop-place.invariant.stand
-          (λ known is. ∥∥₁_map (words known is) (λ w. c.in_ok-seeker.ensures.stands (read direction (words_of known)) w)));
+          (λ known is. ∥∥₁_map (words known is) (λ w. c.in_ok-seeker.ensures.stands at_every (read direction (words_of known)) w)));
     }

@@ -3,7 +3,7 @@ use Rattle.std.specs.List.{slice_get, Contains}
 use Rattle.std.proofs.Math.ListN.{set}
 use Rattle.std.proofs.lemmas.List.{take_all, take_more, take_more_set, length-set}
 use Rattle.std.proofs.lemmas.Option.{slice_get-get_or}
-use Rattle.lic_marks.specs.Seeks.{tree_of}
+use Rattle.lic_marks.specs.Seeks.{at_every, tree_of}
 use Rattle.lic_keys.specs.Rising.{IsRising}
 use Rattle.lic_keys.proofs.RisingLemmas.{fresh_before, less_before, IsRising-push, IsRising-more}
 use Rattle.lic_auto.specs.Changes.{AreKeptOf}
@@ -59,10 +59,10 @@ loop-place-preserved c =
           let dead : c.is_dead.result ≡ true = search rules in
           let same : take c.if-not-is_dead.count c.if-not-is_dead.kept ≡ take count kept = rw (w.kept-is, w.count-is) refl in
           let quiet : IsQuiet b = record {
-            none = λ e ts s. c.is_dead.ensures.none e ts s dead;
-            skips = λ e ts token s none. ∣ c.is_dead.ensures.skips e ts token s dead none ∣₁;
-            goes_on = λ e ts s. c.is_dead.ensures.ends e ts s dead;
-            anew = λ e ts s. ∣ c.is_dead.ensures.anew e ts s dead ∣₁;
+            none = λ e ts s. c.is_dead.ensures.none at_every e ts s dead;
+            skips = λ e ts token s none. ∣ c.is_dead.ensures.skips at_every e ts token s dead (λ is_end. none) ∣₁;
+            goes_on = λ e ts s. c.is_dead.ensures.ends at_every e ts s dead;
+            anew = λ e ts s. ∣ c.is_dead.ensures.anew at_every at_every e ts s dead ∣₁;
           } in
           record {
             few = omega (arith, w.count-is, invariant.few);

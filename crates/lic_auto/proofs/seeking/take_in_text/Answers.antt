@@ -4,7 +4,7 @@ use Rattle.std.proofs.Math.ListN.{set}
 use Rattle.std.proofs.lemmas.List.{drop_all, drop_more, take_more_set, length-set, set-get_or}
 use Rattle.std.proofs.lemmas.Option.{same_Some, slice_get-get_or}
 use Rattle.lic_marks.specs.Plain.{in_order}
-use Rattle.lic_marks.specs.Seeks.{NoneBegins, Seeks, tree_of}
+use Rattle.lic_marks.specs.Seeks.{at_every, NoneBegins, Seeks, tree_of}
 use Rattle.lic_marks.specs.declared.seek.Seeker.{Seeker}
 use Rattle.lic_keys.specs.Rising.{IsRising}
 use Rattle.lic_auto.specs.Directions.{ordered}
@@ -65,7 +65,8 @@ returns-clause-taken c = λ _.
     let moved : HaveMoved changes (n ∷ []) seekers (set seekers n b) =
     Changed-more tree_of changes [] n seekers seekers a b (unmoved changes seekers) (none_in n) here c.goes_on.ensures.tree
     (λ e ts stands rest. subst (λ row. Seeks b e (ts ++ row ∷ [])) read
-    (c.goes_on.ensures.stands e ts stands c.if-not-goes_on.false (subst (NoneBegins e) (sym read) (rest (c.has.ensures.gone c.if-has.false))))) in
+    (c.goes_on.ensures.stands at_every e ts stands c.if-not-goes_on.false
+    (λ is_end. subst (NoneBegins e) (sym read) (rest (c.has.ensures.gone c.if-has.false))))) in
     subst (λ ps. HaveMoved changes ps seekers (set seekers n b)) (sym (alone places one)) moved
 
 pub returns-clause-kept : goal.returns-clause-kept

@@ -19,7 +19,7 @@ returns-clause-moves c = λ are.
     elim c.if-letter.branch [ then-letter w ↦ rw w.if-letter.true w.step-is | else-letter w ↦ rw w.if-letter.false w.step-is ] in
     let over : passes counts.test.now blank ≡ true = sym c.passes.ensures ∙ c.if-not-passes.false in
     let quiet : IsQuietBehindBlanks r (counts.first + counts.most) letter.letter =
-    subst (λ k. IsQuietBehindBlanks r k letter.letter) (sym counts.sum) (c.is_quiet_behind_blanks.ensures.quiet c.if-not-is_quiet_behind_blanks.false) in
+    subst (λ k. IsQuietBehindBlanks r k letter.letter) (c.requires.last ∙ sym counts.sum) (c.is_quiet_behind_blanks.ensures.quiet c.if-not-is_quiet_behind_blanks.false) in
     let moves = moves_first r counts c.args.place letter.letter letter.are_words c.if-letter.step are c.requires.passes over letter.is_letter quiet step in (
       subst (λ found. MovesTo r (Some c.args.place) ((gap_of letter.is_apart letter.are_words, letter.letter) ∷ []) found) (sym c.next_count.ensures)
           (subst (λ b. MovesTo r (Some c.args.place) ((gap_of b letter.are_words, letter.letter) ∷ []) (next_of counts c.args.place c.if-letter.step)) (sym c.requires.apart) moves),

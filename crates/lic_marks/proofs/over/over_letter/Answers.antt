@@ -15,7 +15,7 @@ returns-clause-moves c = λ are.
     let letter = c.args.letter in
     let pass : passes counts.test.now letter.letter ≡ true = sym c.passes.ensures ∙ c.if-not-passes.false in
     let quiet : IsQuiet r (counts.first + counts.most) letter.letter =
-    subst (λ k. IsQuiet r k letter.letter) (sym counts.sum) (c.is_quiet.ensures.quiet c.if-not-is_quiet.false) in
+    subst (λ k. IsQuiet r k letter.letter) (c.requires.last ∙ sym counts.sum) (c.is_quiet.ensures.quiet c.if-not-is_quiet.false) in
     let moves = moves_next r counts c.args.place letter.letter are pass letter.is_letter quiet in (
       subst (λ found. MovesTo r (Some c.args.place) ((gap_of letter.is_apart letter.are_words, letter.letter) ∷ []) found) (sym c.next_count.ensures)
           (subst (λ b. MovesTo r (Some c.args.place) ((gap_of b letter.are_words, letter.letter) ∷ []) (next_of counts c.args.place 1)) (sym c.if-letter.false) moves),

@@ -1,4 +1,4 @@
-use Rattle.std.proofs.Common.{◌≡◌, ◌∷◌, [], ℕ, ◌+◌, ◌<◌, List, Option, Some, None, get_or, map, take, drop, length, sym, subst}
+use Rattle.std.proofs.Common.{◌≡◌, ◌∷◌, [], ℕ, ◌+◌, ◌<◌, List, Option, Some, None, get_or, map, take, drop, length, sym, ◌∙◌, subst}
 use Rattle.lic_words.specs.Spelling.{Gap}
 use Rattle.lic_words.specs.Reading.{gapped_letter}
 use Rattle.lic_words.specs.declared.letters.Letter.{Letter}
@@ -12,7 +12,9 @@ use Rattle.lic_marks.proofs.over.over_letters.Goals as goal
 
 pub loop-letter-init : goal.loop-letter-init
 loop-letter-init c = record {
-  knowledge = c.requires.knowledge;
+  known = c.requires.known;
+  last = c.requires.last;
+  probe = c.requires.probe;
   moves = λ are. (moves_nothing (core_of c.args.tree.now) (Some c.args.place), are.among);
 }
 
@@ -34,7 +36,9 @@ module _ (r : Core) (counts : Counts) (place at : ℕ) (xs : List Letter) (i : �
 
 pub loop-letter-preserved : goal.loop-letter-preserved
 loop-letter-preserved c = record {
-  knowledge = c.in_ok-next.ensures.knowledge;
+  known = c.in_ok-next.ensures.known;
+  last = c.in_ok-next.ensures.last ∙ c.loop-letter.invariant.last;
+  probe = c.in_ok-next.ensures.probe;
   moves = λ are.
       let r = core_of c.args.tree.now in
       let so_far = c.loop-letter.invariant.moves are in
@@ -48,7 +52,9 @@ loop-letter-preserved c = record {
 
 pub returns-in-None : goal.returns-in-None
 returns-in-None c = record {
-  knowledge = c.in_ok-next.ensures.knowledge;
+  known = c.in_ok-next.ensures.known;
+  last = c.in_ok-next.ensures.last ∙ c.loop-letter.invariant.last ∙ sym c.requires.last;
+  probe = c.in_ok-next.ensures.probe;
   moves = λ are.
       let r = core_of c.args.tree.now in
       let so_far = c.loop-letter.invariant.moves are in

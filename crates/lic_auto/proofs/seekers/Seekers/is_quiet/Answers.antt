@@ -1,6 +1,7 @@
 use Rattle.std.proofs.Common.{◌≡◌, ◌<◌, Some, length, sym, ap, ◌∙◌, arith}
 use Rattle.std.specs.List.{slice_get}
 use Rattle.std.proofs.lemmas.Option.{slice_get-get_or}
+use Rattle.lic_marks.specs.Seeks.{at_every}
 use Rattle.lic_auto.specs.Choices.{templates_of}
 use Rattle.lic_auto.proofs.PickedLemmas.{length-picked}
 use Rattle.lic_auto.proofs.Begun.{goes_on-nowhere}
@@ -25,4 +26,4 @@ returns c = λ lists s quiet known here.
     slice_get-get_or self.each.items place seeker within ∙ ap Some (sym c.index.ensures) in
     goes_on-nowhere self.chosen.direction self.chosen.set.now numbers self.chosen.rising self.each.items lists s.seekers place c.args.number
     c.place_of-place.ensures.inside c.place_of-place.ensures.there known here seeker there
-    (λ e ts seeks. c.is_dead.ensures.ends e ts seeks quiet)
+    (λ e ts seeks. c.is_dead.ensures.ends at_every e ts seeks quiet)

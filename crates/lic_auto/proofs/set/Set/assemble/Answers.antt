@@ -11,6 +11,7 @@ use Rattle.lic_auto.specs.declared.set.Named.{Named}
 use Rattle.lic_auto.specs.declared.direction.Direction.TheVariants.{Forward, Backward}
 use Rattle.lic_auto.specs.Sets.{known_of, all_known}
 use Rattle.lic_keys.specs.Keys.{AreKeysOf}
+use Rattle.lic_keys.specs.Tails.{AreTailsOf}
 use Rattle.lic_auto.specs.Compiled.{parts_of}
 use Rattle.lic_auto.proofs.KnownTrees.{HaveTheirTrees-from_trees}
 use Rattle.lic_auto.proofs.set.Set.assemble.Goals as goal
@@ -24,6 +25,7 @@ invariant_of-result c =
           (all_known c.in_ok-named.named.items) c.in_ok-mirrored.mirrored.items
           (rw c.deref-2.ensures.value at c.in_ok-mirrored.ensures);
       keys = subst (λ ns. AreKeysOf (parts_of (all_known ns)) c.in_ok-keys.keys) c.deref-3.ensures.value c.in_ok-keys.ensures;
+      tails = subst (λ ns. AreTailsOf (parts_of (all_known ns)) c.in_ok-tails.tails) c.deref-4.ensures.value c.in_ok-tails.ensures;
     }
 
 pub returns : goal.returns

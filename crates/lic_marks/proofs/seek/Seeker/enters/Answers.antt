@@ -5,12 +5,13 @@ use Rattle.lic_words.specs.Reading.{gapped_letter}
 use Rattle.lic_marks.specs.Cores.{WordsOf}
 use Rattle.lic_marks.specs.Nodes.{core_of}
 use Rattle.lic_marks.specs.Fronts.{IsEntryWay, IsFrontOf}
-use Rattle.lic_marks.specs.Seeks.{GoOnAsEnds, StandsFor}
+use Rattle.lic_marks.specs.Alone.{StandsFor}
+use Rattle.lic_marks.specs.Seeks.{GoOnAsEnds}
 use Rattle.lic_marks.specs.States.{HasTakenAny}
 use Rattle.lic_marks.specs.Standing.{AfterAny}
 use Rattle.lic_marks.specs.declared.stretch.Way.TheVariants.{To, Nowhere}
 use Rattle.lic_marks.proofs.Beginning.{alone, goes_on_at, none_entered, older_dead, still_none}
-use Rattle.lic_marks.proofs.Seeking.{any_last, entered, with_token}
+use Rattle.lic_marks.proofs.Seeking.{any_last, token_entered, with_token}
 use Rattle.lic_marks.proofs.TextMarks.{in_text}
 use Rattle.lic_marks.proofs.seek.Seeker.enters.Goals as goal
 
@@ -28,7 +29,7 @@ pub invariant_of-self-2-clause-stretched : goal.invariant_of-self-2-clause-stret
 invariant_of-self-2-clause-stretched c = (c.args.self.now.fronted c.in-Some.front c.in-Some.is).rest
 
 pub returns-then-none_ends-clause-stands : goal.returns-then-none_ends-clause-stands
-returns-then-none_ends-clause-stands c = λ e ts t s _ known.
+returns-then-none_ends-clause-stands c = λ entered e ts t s _ known is_entered.
     let self = c.args.self.now in
     let plain = c.args.plain.now in
     let r = core_of self.tree.now in
@@ -43,11 +44,11 @@ returns-then-none_ends-clause-stands c = λ e ts t s _ known.
       words = s.words;
       lists = lists;
       taken = (taken.kept, goes_on_at r self.last t s.lists (older_dead r self.last t s.lists dead) c.in-To.place way.1);
-      ends = subst (λ l. GoOnAsEnds e r l lists (ts ++ t ∷ [])) (known.last self.last) (entered e r self.last s.lists ts s.ends t own);
+      ends = subst (λ l. GoOnAsEnds entered e r l lists (ts ++ t ∷ [])) (known.last self.last) (token_entered entered e r self.last s.lists ts s.ends t is_entered own);
     }
 
 pub returns-clause-stands : goal.returns-clause-stands
-returns-clause-stands c = λ e ts t s _ known.
+returns-clause-stands c = λ entered e ts t s _ known is_entered.
     let self = c.args.self.now in
     let plain = c.args.plain.now in
     let r = core_of self.tree.now in
@@ -63,11 +64,11 @@ returns-clause-stands c = λ e ts t s _ known.
       lists = lists;
       taken = subst (λ l. StandsFor r l c.mark_alone.new.self lists) (sym c.in-None.is)
           (c.mark_alone.ensures.any s.lists lists taken (goes_on_at r self.last t s.lists (older_dead r self.last t s.lists dead) c.in-To.place way.1));
-      ends = subst (λ l. GoOnAsEnds e r l lists (ts ++ t ∷ [])) (known.last self.last) (entered e r self.last s.lists ts s.ends t own);
+      ends = subst (λ l. GoOnAsEnds entered e r l lists (ts ++ t ∷ [])) (known.last self.last) (token_entered entered e r self.last s.lists ts s.ends t is_entered own);
     }
 
 pub returns-in_default-way-clause-stands : goal.returns-in_default-way-clause-stands
-returns-in_default-way-clause-stands c = λ e ts t s _ known.
+returns-in_default-way-clause-stands c = λ entered e ts t s _ known is_entered.
     let self = c.args.self.now in
     let plain = c.args.plain.now in
     let r = core_of self.tree.now in
@@ -84,5 +85,5 @@ returns-in_default-way-clause-stands c = λ e ts t s _ known.
       lists = lists;
       taken = subst (λ l. StandsFor r l self.state lists) (sym c.in-None.is)
           (still_none r self.state s.lists (AfterAny (WordsOf r) lists) taken dead none);
-      ends = any_last e r (last_letter self.last t) self.last lists (ts ++ t ∷ []) (entered e r self.last s.lists ts s.ends t own) none;
+      ends = any_last entered e r (last_letter self.last t) self.last lists (ts ++ t ∷ []) (token_entered entered e r self.last s.lists ts s.ends t is_entered own) none;
     }

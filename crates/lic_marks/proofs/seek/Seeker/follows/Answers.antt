@@ -4,7 +4,8 @@ use Rattle.lic_words.specs.Reading.{gapped_letter}
 use Rattle.lic_marks.specs.Cores.{WordsOf}
 use Rattle.lic_marks.specs.Nodes.{core_of}
 use Rattle.lic_marks.specs.Standing.{AfterAny, each_with}
-use Rattle.lic_marks.specs.Seeks.{GoOnAsEnds, StandsFor}
+use Rattle.lic_marks.specs.Alone.{StandsFor}
+use Rattle.lic_marks.specs.Seeks.{GoOnAsEnds}
 use Rattle.lic_marks.specs.Ways.{IsWay}
 use Rattle.lic_marks.specs.declared.stretch.Way.TheVariants.{To, Nowhere}
 use Rattle.lic_marks.proofs.Seeking.{passed}
@@ -16,12 +17,12 @@ pub invariant_of-self-2-clause-in_text : goal.invariant_of-self-2-clause-in_text
 invariant_of-self-2-clause-in_text c =
     let self = c.args.self.now in
     let r = core_of self.tree.now in
-    let stretch = (self.in_text c.in-Some.text c.in-Some.is).stretch in
+    let stretch = (self.in_text c.in-Some.text c.in-Some.ensures).stretch in
     let ends = c.none_ends.ensures r stretch c.if-not-none_ends.false in
     in_text r _ record { stretch = stretch; within = ends.0; none_ends = ends.1 }
 
 pub returns-clause-stands : goal.returns-clause-stands
-returns-clause-stands c = λ e ts t s _ known none.
+returns-clause-stands c = λ entered e ts t s _ known none.
     let self = c.args.self.now in
     let r = core_of self.tree.now in
     let last = self.last in
@@ -29,19 +30,19 @@ returns-clause-stands c = λ e ts t s _ known none.
     let first = c.first_behind-first.ensures in
     let others = c.rest.ensures in
     let whole = known.letters last in cc in
-    let stretch = (self.in_text c.in-Some.text c.in-Some.is).stretch in
+    let stretch = (self.in_text c.in-Some.text c.in-Some.ensures).stretch in
     let way = subst (λ l. IsWay r c.in-Some.text.place l (To c.in-To.place)) letters (rw c.in-To.is at (c.in-Some-over_token.ensures r stretch)) in
-    let lone = subst (λ l. StandsFor r l self.state s.lists) c.in-Some.is s.taken in
+    let lone = subst (λ l. StandsFor r l self.state s.lists) c.in-Some.ensures s.taken in
     let lists = each_with (gapped_from last true t) s.lists in
     record {
       words = s.words;
       lists = lists;
       taken = (lone.0, goes_on_to r c.in-Some.text.place s.lists c.in-To.place (gapped_from last true t) lone.1 way);
-      ends = subst (λ l. GoOnAsEnds e r l lists (ts ++ t ∷ [])) (known.last last) (passed e r last s.lists ts s.ends t none);
+      ends = subst (λ l. GoOnAsEnds entered e r l lists (ts ++ t ∷ [])) (known.last last) (passed entered e r last s.lists ts s.ends t none);
     }
 
 pub returns-in_default-way-clause-stands : goal.returns-in_default-way-clause-stands
-returns-in_default-way-clause-stands c = λ e ts t s _ known none.
+returns-in_default-way-clause-stands c = λ entered e ts t s _ known none.
     let self = c.args.self.now in
     let r = core_of self.tree.now in
     let last = self.last in
@@ -49,14 +50,14 @@ returns-in_default-way-clause-stands c = λ e ts t s _ known none.
     let first = c.first_behind-first.ensures in
     let others = c.rest.ensures in
     let whole = known.letters last in cc in
-    let stretch = (self.in_text c.in-Some.text c.in-Some.is).stretch in
+    let stretch = (self.in_text c.in-Some.text c.in-Some.ensures).stretch in
     let way = subst (λ l. IsWay r c.in-Some.text.place l Nowhere) letters (rw c.in_default-way.is at (c.in-Some-over_token.ensures r stretch)) in
-    let lone = subst (λ l. StandsFor r l self.state s.lists) c.in-Some.is s.taken in
+    let lone = subst (λ l. StandsFor r l self.state s.lists) c.in-Some.ensures s.taken in
     let lists = each_with (gapped_from last true t) s.lists in
     record {
       words = s.words;
       lists = lists;
       taken = none_left r _ (AfterAny (WordsOf r) lists) (c.clear.ensures.any r)
           (goes_nowhere r c.in-Some.text.place s.lists (gapped_from last true t) lone.1 way);
-      ends = subst (λ l. GoOnAsEnds e r l lists (ts ++ t ∷ [])) (known.last last) (passed e r last s.lists ts s.ends t none);
+      ends = subst (λ l. GoOnAsEnds entered e r l lists (ts ++ t ∷ [])) (known.last last) (passed entered e r last s.lists ts s.ends t none);
     }

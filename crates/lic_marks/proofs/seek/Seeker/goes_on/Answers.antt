@@ -5,7 +5,8 @@ use Rattle.lic_marks.specs.Nodes.{core_of}
 use Rattle.lic_marks.specs.Plain.{in_order}
 use Rattle.lic_marks.specs.Standing.{each_with}
 use Rattle.lic_marks.specs.Stretches.{LeadsOver}
-use Rattle.lic_marks.specs.Seeks.{GoOnAsEnds, StandsFor}
+use Rattle.lic_marks.specs.Alone.{StandsFor}
+use Rattle.lic_marks.specs.Seeks.{GoOnAsEnds}
 use Rattle.lic_marks.proofs.Seeking.{passed}
 use Rattle.lic_marks.proofs.TextMarks.{in_text, goes_on_to}
 use Rattle.lic_marks.proofs.seek.Seeker.goes_on.Goals as goal
@@ -14,27 +15,27 @@ pub invariant_of-self-clause-in_text : goal.invariant_of-self-clause-in_text
 invariant_of-self-clause-in_text c =
     let self = c.args.self.now in
     let r = core_of self.tree.now in
-    let stretch = (self.in_text c.in-Some.text c.in-Some.is).stretch in
+    let stretch = (self.in_text c.in-Some.text c.in-Some.ensures).stretch in
     let ends = c.none_ends.ensures r stretch c.if-not-none_ends.false in
     in_text r _ record { stretch = stretch; within = ends.0; none_ends = ends.1 }
 
 pub returns-clause-stands : goal.returns-clause-stands
-returns-clause-stands c = λ e ts s _ none.
+returns-clause-stands c = λ entered e ts s _ none.
     let self = c.args.self.now in
     let r = core_of self.tree.now in
     let last = self.last in
     let t : List ℕ = in_order c.args.is_turned (chars c.args.token.now) in
-    let stretch = (self.in_text c.in-Some.text c.in-Some.is).stretch in
+    let stretch = (self.in_text c.in-Some.text c.in-Some.ensures).stretch in
     let end = c.in-Some-over_bytes.place in
     let same : in_order c.args.is_turned (chars c.as_bytes-bytes.result.now) ≡ t =
     ap (λ bytes. in_order c.args.is_turned (chars bytes)) c.as_bytes-bytes.ensures.value in
     let way = subst (λ row. LeadsOver r c.in-Some.text.place (gapped_from last true row) end) same (c.in-Some-over_bytes.ensures.way r last stretch) in
     let ends_in : last_letter last t ≡ c.from-self.result = ap (last_letter last) (sym same) ∙ c.in-Some-over_bytes.ensures.last last ∙ sym c.byte_at.ensures ∙ sym c.from-self.ensures in
-    let lone = subst (λ l. StandsFor r l self.state s.lists) c.in-Some.is s.taken in
+    let lone = subst (λ l. StandsFor r l self.state s.lists) c.in-Some.ensures s.taken in
     let lists = each_with (gapped_from last true t) s.lists in
     record {
       words = s.words;
       lists = lists;
       taken = (lone.0, goes_on_to r c.in-Some.text.place s.lists end (gapped_from last true t) lone.1 way);
-      ends = subst (λ l. GoOnAsEnds e r l lists (ts ++ t ∷ [])) ends_in (passed e r last s.lists ts s.ends t none);
+      ends = subst (λ l. GoOnAsEnds entered e r l lists (ts ++ t ∷ [])) ends_in (passed entered e r last s.lists ts s.ends t none);
     }

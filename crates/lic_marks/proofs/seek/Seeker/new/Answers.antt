@@ -4,11 +4,11 @@ use Rattle.lic_marks.proofs.Seeking.{no_ends}
 use Rattle.lic_marks.proofs.seek.Seeker.new.Goals as goal
 
 pub returns-clause-stands : goal.returns-clause-stands
-returns-clause-stands c = λ e words. record {
+returns-clause-stands c = λ entered e words. record {
   words = words;
   lists = [];
   taken = c.clear.ensures.any (core_of c.args.tree.now);
-  ends = no_ends e _ _;
+  ends = no_ends entered e _ _;
 }
 
 pub invariant_of-result-clause-fronted : goal.invariant_of-result-clause-fronted

@@ -5,27 +5,39 @@ use Rattle.lic_marks.specs.Nodes.{core_of}
 use Rattle.lic_marks.specs.Plain.{IsPlain}
 use Rattle.lic_marks.specs.Standing.{each_with}
 use Rattle.lic_marks.specs.States.{HasTakenAny}
-use Rattle.lic_marks.specs.Seeks.{GoOnAsEnds, StandsFor}
+use Rattle.lic_marks.specs.Alone.{StandsFor}
+use Rattle.lic_marks.specs.Seeks.{GoOnAsEnds}
 use Rattle.lic_marks.proofs.Seeking.{passed}
 use Rattle.lic_marks.proofs.seek.Seeker.passes.Goals as goal
 
 pub returns-then-enters-clause-stands : goal.returns-then-enters-clause-stands
-returns-then-enters-clause-stands c = λ e ts t s h known none. c.enters.ensures.stands e ts t s c.if-enters.true (rw c.in-Some.is at known)
+returns-then-enters-clause-stands c = λ entered e ts t s h known begins none.
+    c.enters.ensures.stands entered e ts t s c.if-enters.true (rw c.in-Some.is at known) (begins c.if-may_begin.true)
 
 pub returns-then-may_begin-clause-none : goal.returns-then-may_begin-clause-none
-returns-then-may_begin-clause-none c = λ e ts s is. c.turns_to.ensures.none e ts (c.enters.ensures.none e ts s c.if-enters.false) is
+returns-then-may_begin-clause-none c = λ entered e ts s is.
+    c.turns_to.ensures.none entered e ts (c.enters.ensures.none entered e ts s c.if-enters.false) is
 
 pub returns-then-may_begin-clause-stands : goal.returns-then-may_begin-clause-stands
-returns-then-may_begin-clause-stands c = λ e ts t s h known none.
-    c.turns_to.ensures.stands e ts t (c.enters.ensures.none e ts s c.if-enters.false) h (rw c.in-Some.is at known)
+returns-then-may_begin-clause-stands c = λ entered e ts t s h known begins none.
+    c.turns_to.ensures.stands entered e ts t (c.enters.ensures.none entered e ts s c.if-enters.false) h (rw c.in-Some.is at known)
+    (begins c.if-may_begin.true)
 
--- a mark stands alone in a text
+-- a mark stands alone
+pub returns-then-follows-clause-stands : goal.returns-then-follows-clause-stands
+returns-then-follows-clause-stands c = λ entered e ts t s _ known enters none.
+    c.follows.ensures.stands entered e ts t s c.if-follows.true (rw c.in-Some.is at known) (none c.if-may_begin.false)
+
+pub returns-in_default-lone-clause-none : goal.returns-in_default-lone-clause-none
+returns-in_default-lone-clause-none c = λ entered e ts s is.
+    c.counts_on.ensures.none entered e ts (c.follows.ensures.none entered e ts s c.if-follows.false) is
+
 pub returns-in_default-lone-clause-stands : goal.returns-in_default-lone-clause-stands
-returns-in_default-lone-clause-stands c = λ e ts t s h known none.
-    c.follows.ensures.stands e ts t s h (rw c.in-Some.is at known) (none c.if-may_begin.false)
+returns-in_default-lone-clause-stands c = λ entered e ts t s h known enters none.
+    c.counts_on.ensures.stands entered e ts t (c.follows.ensures.none entered e ts s c.if-follows.false) h (rw c.in-Some.is at known) (none c.if-may_begin.false)
 
 pub returns-then-not-follow-clause-none : goal.returns-then-not-follow-clause-none
-returns-then-not-follow-clause-none c = λ e ts s is.
+returns-then-not-follow-clause-none c = λ entered e ts s is.
     let self = c.args.self.now in
     let r = core_of self.tree.now in
     let taken : HasTakenAny r self.state s.lists = subst (λ l. StandsFor r l self.state s.lists) c.in-None.is s.taken in
@@ -37,7 +49,7 @@ returns-then-not-follow-clause-none c = λ e ts s is.
     }
 
 pub returns-then-stays-clause-stands : goal.returns-then-stays-clause-stands
-returns-then-stays-clause-stands c = λ e ts t s _ h none.
+returns-then-stays-clause-stands c = λ entered e ts t s _ h begins none.
     let self = c.args.self.now in
     let r = core_of self.tree.now in
     let last = self.last in
@@ -48,11 +60,11 @@ returns-then-stays-clause-stands c = λ e ts t s _ h none.
       words = s.words;
       lists = lists;
       taken = subst (λ l. StandsFor r l self.state lists) (sym c.in-None.is) (c.stays.ensures r t s.lists known taken c.if-stays.true);
-      ends = subst (λ l. GoOnAsEnds e r l lists (ts ++ t ∷ [])) (known.last last) (passed e r last s.lists ts s.ends t (none c.if-may_begin.false));
+      ends = subst (λ l. GoOnAsEnds entered e r l lists (ts ++ t ∷ [])) (known.last last) (passed entered e r last s.lists ts s.ends t (none c.if-may_begin.false));
     }
 
 pub returns-clause-stands : goal.returns-clause-stands
-returns-clause-stands c = λ e ts t s _ h none.
+returns-clause-stands c = λ entered e ts t s _ h begins none.
     let self = c.args.self.now in
     let r = core_of self.tree.now in
     let last = self.last in
@@ -69,5 +81,5 @@ returns-clause-stands c = λ e ts t s _ h none.
       lists = lists;
       taken = subst (λ l. StandsFor r l c.follow.new.self lists) (sym c.in-None.is)
           (subst (λ l. HasTakenAny r c.follow.new.self (each_with l s.lists)) letters (c.follow.ensures.any s.lists taken c.if-not-follow.false));
-      ends = subst (λ l. GoOnAsEnds e r l lists (ts ++ t ∷ [])) (known.last last) (passed e r last s.lists ts s.ends t (none c.if-may_begin.false));
+      ends = subst (λ l. GoOnAsEnds entered e r l lists (ts ++ t ∷ [])) (known.last last) (passed entered e r last s.lists ts s.ends t (none c.if-may_begin.false));
     }

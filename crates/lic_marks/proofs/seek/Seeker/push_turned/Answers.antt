@@ -9,15 +9,16 @@ use Rattle.lic_marks.specs.Nodes.{core_of}
 use Rattle.lic_marks.specs.Cores.{WordsOf}
 use Rattle.lic_marks.specs.Standing.{AfterAny, each_with}
 use Rattle.lic_marks.specs.States.{HasTakenAny}
-use Rattle.lic_marks.specs.Seeks.{GoOnAsEnds, StandsFor}
-use Rattle.lic_marks.proofs.Seeking.{first_apart, last_letter-own, with_token, goes_on, enters, passed, entered, known_last}
+use Rattle.lic_marks.specs.Alone.{StandsFor}
+use Rattle.lic_marks.specs.Seeks.{GoOnAsEnds}
+use Rattle.lic_marks.proofs.Seeking.{first_apart, last_letter-own, with_token, goes_on, enters, passed, token_entered, known_last}
 use Rattle.lic_marks.proofs.StateLemmas.{none_of}
 use Rattle.lic_marks.proofs.seek.Seeker.push_turned.Goals as goal
 use Rattle.lic_marks.proofs.seek.Seeker.push_turned.Goals.{then-may_begin, else-may_begin}
 
 pub returns-then-is_dead-clause-stands : goal.returns-then-is_dead-clause-stands
-returns-then-is_dead-clause-stands c = λ e ts s none.
-    c.is_dead.ensures.skips e ts (reverse (chars c.args.token.now)) s c.if-is_dead.true (none c.if-not-may_begin.true)
+returns-then-is_dead-clause-stands c = λ entered e ts s begins none.
+    c.is_dead.ensures.skips entered e ts (reverse (chars c.args.token.now)) s c.if-is_dead.true (none c.if-not-may_begin.true)
 
 -- a token has letters
 pub returns-in_default-clause-stands : goal.returns-in_default-clause-stands
@@ -34,12 +35,12 @@ enter-requires-clause-apart c =
     (sym c.new-letters.ensures.letters ∙ c.in-Some.ensures.steps.first) c.in-Some.letter.is_apart c.in-Some.letter.are_words refl
 
 pub returns-clause-stands : goal.returns-clause-stands
-returns-clause-stands c = λ e ts given none.
+returns-clause-stands c = λ entered e ts given begins none.
     let self = c.put_back.new.self in
     let r = core_of self.tree.now in
-    let s = c.put_back.ensures.stands e ts given in
+    let s = c.put_back.ensures.stands entered e ts given in
     let before : HasTakenAny r self.state s.lists = subst (λ l. StandsFor r l self.state s.lists) c.put_back.ensures.none s.taken in
-    let ends : GoOnAsEnds e r c.args.self.now.last s.lists ts = subst (λ l. GoOnAsEnds e r l s.lists ts) c.put_back.ensures.last s.ends in
+    let ends : GoOnAsEnds entered e r c.args.self.now.last s.lists ts = subst (λ l. GoOnAsEnds entered e r l s.lists ts) c.put_back.ensures.last s.ends in
     let last = c.args.self.now.last in
     let t : List ℕ = reverse (chars c.args.token.now) in
     let p : Gap × ℕ = gapped_letter c.in-Some.letter in
@@ -53,7 +54,7 @@ returns-clause-stands c = λ e ts given none.
       | inl same ↦ inl (same ∙ step)
       | inr none ↦ inr (none_of r _ (AfterAny (WordsOf r) lists) (none r) taken)
     ] in
-    c.take_out.ensures.stands e (ts ++ t ∷ []) (elim c.if-may_begin.branch [
+    c.take_out.ensures.stands entered e (ts ++ t ∷ []) (elim c.if-may_begin.branch [
       | then-may_begin w ↦
           let lists = with_token true last t s.lists in
           let taken : HasTakenAny r c.rest_of_token-self.new.self lists =
@@ -63,7 +64,7 @@ returns-clause-stands c = λ e ts given none.
             words = s.words;
             lists = lists;
             taken = subst (λ l. StandsFor r l c.rest_of_token-self.new.self lists) (sym c.put_back.ensures.none) taken;
-            ends = known_last e r right _ lists (ts ++ t ∷ []) (entered e r last s.lists ts ends t (last_letter-own last t p rest split)) (known lists taken);
+            ends = known_last entered e r right _ lists (ts ++ t ∷ []) (token_entered entered e r last s.lists ts ends t (begins w.if-may_begin.true) (last_letter-own last t p rest split)) (known lists taken);
           }
       | else-may_begin w ↦
           let lists = with_token false last t s.lists in
@@ -74,6 +75,6 @@ returns-clause-stands c = λ e ts given none.
             words = s.words;
             lists = lists;
             taken = subst (λ l. StandsFor r l c.rest_of_token-self.new.self lists) (sym c.put_back.ensures.none) taken;
-            ends = known_last e r right _ lists (ts ++ t ∷ []) (passed e r last s.lists ts ends t (none w.if-may_begin.false)) (known lists taken);
+            ends = known_last entered e r right _ lists (ts ++ t ∷ []) (passed entered e r last s.lists ts ends t (none w.if-may_begin.false)) (known lists taken);
           }
     ])

@@ -7,14 +7,15 @@ use Rattle.lic_words.proofs.Counts.{length-gapped_from}
 use Rattle.lic_marks.specs.Nodes.{core_of}
 use Rattle.lic_marks.specs.Standing.{each_with}
 use Rattle.lic_marks.specs.States.{HasTakenAny}
-use Rattle.lic_marks.specs.Seeks.{GoOnAsEnds, StandsFor}
-use Rattle.lic_marks.proofs.Seeking.{first_apart, last_letter-own, with_token, goes_on, enters, passed, entered}
+use Rattle.lic_marks.specs.Alone.{StandsFor}
+use Rattle.lic_marks.specs.Seeks.{GoOnAsEnds}
+use Rattle.lic_marks.proofs.Seeking.{first_apart, last_letter-own, with_token, goes_on, enters, passed, token_entered}
 use Rattle.lic_marks.proofs.seek.Seeker.take.Goals as goal
 use Rattle.lic_marks.proofs.seek.Seeker.take.Goals.{then-may_begin, else-may_begin}
 
 pub returns-then-is_dead-clause-stands : goal.returns-then-is_dead-clause-stands
-returns-then-is_dead-clause-stands c = λ e ts s none.
-    c.is_dead.ensures.skips e ts (chars c.args.token.now) s c.if-is_dead.true (none c.if-not-may_begin.true)
+returns-then-is_dead-clause-stands c = λ entered e ts s begins none.
+    c.is_dead.ensures.skips entered e ts (chars c.args.token.now) s c.if-is_dead.true (none c.if-not-may_begin.true)
 
 -- a token has letters
 pub returns-in_default-clause-stands : goal.returns-in_default-clause-stands
@@ -31,12 +32,12 @@ enter-requires-clause-apart c =
     (sym c.new-letters.ensures.letters ∙ c.in-Some.ensures.steps.first) c.in-Some.first.is_apart c.in-Some.first.are_words refl
 
 pub returns-clause-stands : goal.returns-clause-stands
-returns-clause-stands c = λ e ts given none.
+returns-clause-stands c = λ entered e ts given begins none.
     let self = c.put_back.new.self in
     let r = core_of self.tree.now in
-    let s = c.put_back.ensures.stands e ts given in
+    let s = c.put_back.ensures.stands entered e ts given in
     let before : HasTakenAny r self.state s.lists = subst (λ l. StandsFor r l self.state s.lists) c.put_back.ensures.none s.taken in
-    let ends : GoOnAsEnds e r c.args.self.now.last s.lists ts = subst (λ l. GoOnAsEnds e r l s.lists ts) c.put_back.ensures.last s.ends in
+    let ends : GoOnAsEnds entered e r c.args.self.now.last s.lists ts = subst (λ l. GoOnAsEnds entered e r l s.lists ts) c.put_back.ensures.last s.ends in
     let last = c.args.self.now.last in
     let t : List ℕ = chars c.args.token.now in
     let p : Gap × ℕ = gapped_letter c.in-Some.first in
@@ -45,7 +46,7 @@ returns-clause-stands c = λ e ts given none.
     let right : ℕ = last_letter last t in
     let step : last_in c.next.new.self ≡ right = c.in-Some.ensures.steps.last ∙ c.new-letters.ensures.last in
     let known : c.letters-self.result ≡ right = c.letters-self.ensures.last ∙ step in
-    c.take_out.ensures.stands e (ts ++ t ∷ []) (elim c.if-may_begin.branch [
+    c.take_out.ensures.stands entered e (ts ++ t ∷ []) (elim c.if-may_begin.branch [
       | then-may_begin w ↦
           let lists = with_token true last t s.lists in
           let taken : HasTakenAny r c.letters-self.new.self lists =
@@ -55,7 +56,7 @@ returns-clause-stands c = λ e ts given none.
             words = s.words;
             lists = lists;
             taken = subst (λ l. StandsFor r l c.letters-self.new.self lists) (sym c.put_back.ensures.none) taken;
-            ends = subst (λ l. GoOnAsEnds e r l lists (ts ++ t ∷ [])) (sym known) (entered e r last s.lists ts ends t (last_letter-own last t p rest split));
+            ends = subst (λ l. GoOnAsEnds entered e r l lists (ts ++ t ∷ [])) (sym known) (token_entered entered e r last s.lists ts ends t (begins w.if-may_begin.true) (last_letter-own last t p rest split));
           }
       | else-may_begin w ↦
           let lists = with_token false last t s.lists in
@@ -66,6 +67,6 @@ returns-clause-stands c = λ e ts given none.
             words = s.words;
             lists = lists;
             taken = subst (λ l. StandsFor r l c.letters-self.new.self lists) (sym c.put_back.ensures.none) taken;
-            ends = subst (λ l. GoOnAsEnds e r l lists (ts ++ t ∷ [])) (sym known) (passed e r last s.lists ts ends t (none w.if-may_begin.false));
+            ends = subst (λ l. GoOnAsEnds entered e r l lists (ts ++ t ∷ [])) (sym known) (passed entered e r last s.lists ts ends t (none w.if-may_begin.false));
           }
     ])
