@@ -5,9 +5,9 @@ Usage, at any place: python3 scripts/gate/finder_source.py
 
 It reads the code of lic_find (crates/lic_find/src: no proofs, no clauses, no comments) and its line of crates.txt:
 - the code imports lic_auto and lic_norm alone, and other libraries of its line are there for definitions;
-- it asks no template for its identifier, its text or its parts: only what a run says of a list of tokens makes a match;
+- it asks no template for its identifier, its text or its parts: only what a run or a seeker says of a list of tokens makes a match;
 - the finder does not ask `is_match`;
-- one run is made, for both constructors of the finder, one for `is_match`, and one walk from the end of a text, of two machines, whose steps are added;
+- one run is made, for both constructors of the finder, and one for `is_match`; one walk from the end of a text notes first tokens, and it alone makes trails, each with one seeker;
 - `Finder::steps` adds the steps of the walk that notes, those of the run, and what is counted for first tokens that are known.
 """
 import os
@@ -94,9 +94,11 @@ def main():
     finder = {name: text for name, text in code.items() if name != "matches.rt"}
     expect("calls of is_match by the finder", places(finder, r"\bis_match\b"), [])
     expect("runs are made in", places(code, r"\bRun\s*::\s*(?:over|new)\b"), ["finder.rt", "matches.rt"])
-    expect("machines from the end are made in", places(code, r"\bBack\s*::\s*(?:over|new)\b"), ["walk.rt", "walk.rt"])
-    expect("the steps of both are added in", places(code, r"\bself\.back\.steps\(\)\.saturating_add\(self\.inner\.steps\(\)\)"), ["walk.rt"])
-    expect("they are walked in", places(code, r"\bWalk\s*::\s*over\b"), ["noting.rt"])
+    expect("machines from the end are made in", places(code, r"\bBack\s*::\s*(?:over|new)\b"), [])
+    expect("seekers are made in", places(code, r"\bSeeker\s*::\s*new\b"), ["trail.rt"])
+    expect("trails are made in", places(code, r"\bTrail\s*::\s*new\b"), ["entrances.rt"])
+    expect("steps are counted in", places(code, r"\bself\.steps = count_steps\(self\.steps, token\)"), ["walk.rt"])
+    expect("walks begin in", places(code, r"\bWalk\s*::\s*over\b"), ["noting.rt"])
     steps = "".join(body_of(code.get("finder.rt", ""), "pub fn steps").split())
     expect("Finder::steps is", steps, "{self.noting.saturating_add(self.run.steps()).saturating_add(self.passed)}")
     for fault in faults:

@@ -104,10 +104,10 @@ module _ (set : List Known) (tokens : List TokenValue) (listed : (after : Option
       (λ i low high. begins_not i (λ t m here. none t m (omega arith)))
 
   -- from here on the first is this one
-  firsts_from-next : (kept : List ℕ) (from : ℕ) (noted : NotedFirst) → IsFirstFrom set tokens kept from noted →
+  firsts_from-next : (from : ℕ) (noted : NotedFirst) → IsFirstFrom set tokens from noted →
       firsts_from set tokens from ≡ noted.first ∷ firsts_from set tokens (noted.first + 1)
   unfolding firsts_from
-  firsts_from-next kept from noted is =
+  firsts_from-next from noted is =
       let (last, template, m) = is.begins in
       let low : from ≤ noted.first = is.low in
       let order : noted.first ≤ last = m.order in
@@ -117,11 +117,11 @@ module _ (set : List Known) (tokens : List TokenValue) (listed : (after : Option
       low (omega arith) (begins (triple_at noted.first last template) m)
 
   -- the noted first tokens from here on are all of them
-  pub firsts_from-noted : (kept : List ℕ) (from : ℕ) (noted : List NotedFirst) → AreFirstsFrom set tokens kept from noted
+  pub firsts_from-noted : (from : ℕ) (noted : List NotedFirst) → AreFirstsFrom set tokens from noted
       → firsts_from set tokens from ≡ firsts_in noted
-  firsts_from-noted kept from [] none = firsts_from-none from none
-  firsts_from-noted kept from (one ∷ more) (is, behind) =
-      firsts_from-next kept from one is ∙ ap (λ firsts. one.first ∷ firsts) (firsts_from-noted kept (one.first + 1) more behind)
+  firsts_from-noted from [] none = firsts_from-none from none
+  firsts_from-noted from (one ∷ more) (is, behind) =
+      firsts_from-next from one is ∙ ap (λ firsts. one.first ∷ firsts) (firsts_from-noted (one.first + 1) more behind)
 
   -- the longest match ends where all matches have ended
   pub letters_of_longest-ended : (first end : ℕ) → first ≤ end → AllEndBy set tokens first end

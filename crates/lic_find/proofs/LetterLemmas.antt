@@ -67,3 +67,14 @@ module _ (tokens : List TokenValue) where
       let both : letters_of (slice_range tokens a e) ≡ letters_of (slice_range tokens a b) + letters_of (slice_range tokens b e) =
       ap letters_of (slice_range-split tokens a b e low high) ∙ letters_of-append (slice_range tokens a b) (slice_range tokens b e) in
       omega arith
+
+  -- a count that goes on by the letters of a token
+  module _ (first : ℕ) (d : TokenValue) (within : first < length tokens) (text : List ℕ) (same : text ≡ (get_or tokens first d).text) (before count : ℕ) where
+    more : letters_of (drop first tokens) ≡ letters_in (chars text) + letters_of (drop (first + 1) tokens)
+    more = letters_of-drop first d within ∙ ap (λ t. letters_in (chars t) + letters_of (drop (first + 1) tokens)) (sym same)
+
+    pub counted_most : count ≤ before + letters_in (chars text) → count + letters_of (drop (first + 1) tokens) ≤ before + letters_of (drop first tokens)
+    counted_most most = omega (arith, most, more)
+
+    pub counted_least : before + letters_in (chars text) ≤ count → before + letters_of (drop first tokens) ≤ count + letters_of (drop (first + 1) tokens)
+    counted_least least = omega (arith, least, more)

@@ -4,6 +4,18 @@ pub mod Listed
 pub mod Matching
 pub mod Ranges
 pub mod LetterLemmas
+pub mod EndLemmas
+pub mod EnteredEnds
+pub mod Trailing
+pub mod TrailLists
+pub mod TrailRuns
+pub mod Dropping
+pub mod Gathering
+pub mod Entering
+pub mod WalkingOn
+pub mod Filtering
+pub mod Forgotten
+pub mod Merged
 pub mod StartLemmas
 pub mod FirstLemmas
 pub mod CountLemmas
@@ -12,6 +24,5 @@ pub mod Asking
 pub mod Walking
 pub mod BeginningLemmas
 pub mod GivingLemmas
-pub mod LimitLemmas
-pub mod KnownLemmas
 pub mod Passing
+pub mod TailLemmas

@@ -1,151 +1,165 @@
 -- Where the matches of a first token are known, the next of them is given without a walk.
-use Rattle.std.proofs.Common.{◌≡◌, ℕ, ◌+◌, ◌<◌, ◌≤◌, Bool, true, false, List, [], ◌∷◌, Option, Some, refl, sym, ap, ◌∙◌, subst, inl, ⊎_elim, arith}
-use Rattle.std.specs.List.{slice_get, Contains}
+use Rattle.std.proofs.Common.{◌≡◌, ℕ, ◌+◌, ◌<◌, ◌≤◌, ◌⊎◌, Bool, false, List, [], ◌∷◌, length, Option, Some, IsTrue, sym, ap, ◌∙◌, subst, inl, ⊎_elim, arith}
+use Rattle.std.specs.List.{Contains}
 use Rattle.std.proofs.lemmas.Bool.{cases_lt}
-use Rattle.std.proofs.lemmas.Option.{get_or_from_slice_get, slice_get-get_or, slice_get_within}
 use Rattle.lic_norm.specs.Tokens.{TokenValue}
 use Rattle.lic_auto.specs.Sets.{Known}
-use Rattle.lic_auto.specs.Runs.{numbers_of}
 use Rattle.lic_auto.specs.declared.run.Run.{Run}
-use Rattle.lic_find.specs.Firsts.{NotedFirst, AreFirstsFrom, IsFirstFrom, noted_with}
-use Rattle.lic_find.specs.Knowing.{IsKnown, IsNextKnown}
+use Rattle.lic_find.specs.Firsts.{NotedFirst, AreFirstsFrom, AreMatchesFrom, firsts_in, noted_at}
 use Rattle.lic_find.specs.Listing.{triple_at}
 use Rattle.lic_find.specs.Matches.{IsMatch, IsAfter, Precedes}
-use Rattle.lic_find.specs.Walks.{AreLeft, HasCome, IsNext, NoneBegins}
+use Rattle.lic_find.specs.Starts.{TakesMatch}
+use Rattle.lic_find.specs.Walks.{AreLeft, HasCome, IsNext, IsNextNoted, NoneBegins}
 use Rattle.lic_find.specs.declared.triple.Triple.{Triple}
-use Rattle.lic_find.proofs.Triples.{Contains-nil, same_parts}
-use Rattle.lic_find.proofs.Walking.{IsFirstFrom-itself, next_first}
+use Rattle.lic_find.proofs.Matching.{IsAfter-trans}
+use Rattle.lic_find.proofs.Triples.{Contains-cons_cases, Contains-head, Contains-nil, Contains-tail, Precedes-both, Precedes-itself}
+use Rattle.lic_find.proofs.Walking.{AreLeft-beyond, first_within, next_first}
 
--- a first token with numbers stands for these alone
-only_numbers : (kept numbers : List ℕ) (k j : ℕ) → Contains numbers k → Contains (noted_with kept numbers) j → Contains numbers j
-only_numbers kept [] k j some inside = absurd (Contains-nil k some)
-only_numbers kept (n ∷ numbers) k j some inside = inside
+-- a list with a member is not empty
+length_of_member : (xs : List Triple) (x : Triple) → Contains xs x → 0 < length xs
+length_of_member [] x there = absurd (Contains-nil x there)
+length_of_member (y ∷ xs) x there = omega arith
 
--- a number of a list has a place there
-place_in : (xs : List ℕ) (k : ℕ) → Contains xs k → (i : ℕ) × (slice_get xs i ≡ Some k)
-place_in xs k (i, within, is) = (i, slice_get-get_or xs i k within ∙ ap Some is)
+some_member : (xs : List Triple) → 0 < length xs → (x : Triple) × Contains xs x
+some_member [] some = absurd (omega arith)
+some_member (x ∷ xs) some = (x, Contains-head x xs)
 
-at_place : (xs : List ℕ) (i k : ℕ) → slice_get xs i ≡ Some k → Contains xs k
-at_place xs i k is = (i, slice_get_within xs i k is, get_or_from_slice_get xs i k k is)
+-- the first of the matches that are noted with a token
+module _ (set : List Known) (tokens : List TokenValue) (place : Option Triple) (first : ℕ) (t : Triple) (others : List Triple)
+    (known : AreMatchesFrom set tokens place t.first (t ∷ others)) (next : IsNextNoted set tokens place first t.first) where
+  is_match : IsMatch set tokens t
+  is_match = (known.sound t (Contains-head t others)).0
 
-module _ (set : List Known) (tokens : List TokenValue) (kept : List ℕ) (next : NotedFirst)
-    (is : IsFirstFrom set tokens kept next.first next) (first : ℕ) (later : first < next.first) (place : Option Triple) (found : Triple × Bool)
-    (known : IsNextKnown next.first next.numbers next.lasts place found) where
-  -- a match ends with the last token that is noted
-  known_match : (s : Triple) → IsMatch set tokens s → s.first ≡ next.first → IsKnown next.first next.numbers next.lasts s
-  known_match s m here =
-      let (there, at, its) = known.least.inside.1 in
-      let (i, number) = place_in next.numbers s.template
-      (only_numbers kept next.numbers found.0.template s.template (at_place next.numbers there found.0.template at) (is.all s m here)) in
-      let (last, noted) = known.all i s.template number in
-      (here, (i, number, noted ∙ ap (λ n. Some (Some n)) (sym (is.ends s i last m here number noted))))
+  is_after : IsAfter place t
+  is_after = (known.sound t (Contains-head t others)).2
 
-  match_at : (s : Triple) → IsKnown next.first next.numbers next.lasts s → IsMatch set tokens (triple_at next.first s.last s.template)
-  match_at s (here, (i, number, noted)) =
-      let (last, m) = is.only s.template (at_place next.numbers i s.template number) in
-      let same : last ≡ s.last = is.ends (triple_at next.first last s.template) i s.last m refl number noted in
-      subst (λ n. IsMatch set tokens (triple_at next.first n s.template)) same m
+  -- it, or one of the others
+  among : (s : Triple) → IsMatch set tokens s → IsAfter place s → s.first ≡ t.first → (t ≡ s) ⊎ Contains others s
+  among s m after here = Contains-cons_cases t others s (known.all (omega arith) s m here after)
 
-  its_triple : (s : Triple) → IsKnown next.first next.numbers next.lasts s → triple_at next.first s.last s.template ≡ s
-  its_triple s (here, noted) = same_parts s (triple_at next.first s.last s.template) here refl refl
-
-  match_known : (s : Triple) → IsKnown next.first next.numbers next.lasts s → IsMatch set tokens s
-  match_known s k = subst (IsMatch set tokens) (its_triple s k) (match_at s k)
-
-  begins_here : found.0.first ≡ next.first
-  begins_here = known.least.inside.0
-
-  -- no match comes between the place and the one that is known
-  IsNext-known : ((s : Triple) → IsMatch set tokens s → IsAfter place s → next.first ≤ s.first) → IsNext set tokens place found.0
-  IsNext-known passed = record {
-    matches = match_known found.0 known.least.inside;
-    after = known.least.behind;
+  -- no match comes between the place and it
+  IsNext-first : ((s : Triple) → IsMatch set tokens s → IsAfter place s → t.first ≤ s.first) → IsNext set tokens place t
+  IsNext-first passed = record {
+    matches = is_match;
+    after = is_after;
     least = λ s m after before.
-        let here = begins_here in
-        let low : next.first ≤ s.first = passed s m after in
-        let same : s.first ≡ next.first = omega (arith, before) in
-        known.least.least s (known_match s m same) after before;
+        let low : t.first ≤ s.first = passed s m after in
+        let same : s.first ≡ t.first = omega (arith, before) in
+        ⊎_elim
+        (λ (is : t ≡ s). Precedes-itself t (subst (λ u. Precedes u t) (sym is) before))
+        (λ (there : Contains others s). Precedes-both s t before (known.ascending.0 s there))
+        (among s m after same);
   }
 
-  -- where another is known behind it
-  AreLeft-others : (more : List NotedFirst) → AreFirstsFrom set tokens kept (next.first + 1) more → found.1 ≡ true →
-      AreLeft set tokens kept (Some found.0) first (next ∷ more)
-  AreLeft-others more behind others =
-      let here = begins_here in (
+  -- the others lie behind it
+  AreMatchesFrom-others : AreMatchesFrom set tokens (Some t) t.first others
+  AreMatchesFrom-others = record {
+    ascending = known.ascending.1;
+    sound = λ s there.
+        let (m, here, after) = known.sound s (Contains-tail t others s there) in (m, here, known.ascending.0 s there);
+    all = λ some s m here after.
+        ⊎_elim
+        (λ (is : t ≡ s). absurd (Precedes-itself t (subst (λ u. Precedes t u) (sym is) after)))
+        (λ (there : Contains others s). there)
+        (among s m (IsAfter-trans place t s is_after after) here);
+  }
+
+  AreLeft-others : (more : List NotedFirst) → AreFirstsFrom set tokens (t.first + 1) more → 0 < length others →
+      AreLeft set tokens (Some t) first (noted_at t.first others ∷ more)
+  AreLeft-others more behind some =
+      let (s, there) = some_member others some in
+      let (m, here, after) = AreMatchesFrom-others.sound s there in (
         record {
-          later = later;
-          comes = let (s, k, less) = known.least.others others in (s.last, s.template, match_at s k, subst (Precedes found.0) (sym (its_triple s k)) less);
-          passed = λ s m after beyond. omega (arith, after);
-          ahead = λ s m beyond. inl (omega arith);
+          later = next.later;
+          comes = (s.last, s.template, subst (λ n. IsMatch set tokens (triple_at n s.last s.template)) here m, subst (λ n. Precedes t (triple_at n s.last s.template)) here after);
+          passed = λ u n beyond late. omega (arith, beyond);
+          ahead = λ u n late. inl (omega arith);
         },
-        (is, behind),
+        AreMatchesFrom-others,
+        behind,
       )
 
-  -- where none is, the first token is passed
-  beyond_it : found.1 ≡ false → (s : Triple) → IsMatch set tokens s → Precedes found.0 s → next.first < s.first
+  -- where there are none, the first token is passed
+  beyond_it : others ≡ [] → (s : Triple) → IsMatch set tokens s → Precedes t s → t.first < s.first
   beyond_it none s m after =
-      let here = begins_here in
-      ⊎_elim (λ (more : next.first < s.first). more)
-      (λ (less : s.first ≤ next.first).
-      let same : s.first ≡ next.first = omega (arith, after) in
-      absurd (known.least.last none s (known_match s m same) after))
-      (cases_lt next.first s.first)
+      ⊎_elim (λ (more : t.first < s.first). more)
+      (λ (less : s.first ≤ t.first).
+      let same : s.first ≡ t.first = omega (arith, after) in
+      absurd (⊎_elim
+      (λ (is : t ≡ s). Precedes-itself t (subst (λ u. Precedes t u) (sym is) after))
+      (λ (there : Contains others s). Contains-nil s (subst (λ ts. Contains ts s) none there))
+      (among s m (IsAfter-trans place t s is_after after) same)))
+      (cases_lt t.first s.first)
 
-  AreLeft-passed : (more : List NotedFirst) → AreFirstsFrom set tokens kept (next.first + 1) more → found.1 ≡ false →
-      AreLeft set tokens kept (Some found.0) first more
-  AreLeft-passed [] behind none = λ s m after late. let beyond = beyond_it none s m after in behind s m (omega arith)
-  AreLeft-passed (one ∷ more) (begins, behind) none =
-      let here = begins_here in
-      let low : next.first + 1 ≤ one.first = begins.low in (
+  AreLeft-passed : (more : List NotedFirst) → AreFirstsFrom set tokens (t.first + 1) more → others ≡ [] → AreLeft set tokens (Some t) first more
+  AreLeft-passed more behind none =
+      AreLeft-earlier more (AreLeft-beyond set tokens (Some t) t.first more (λ s m late. inl late) (λ s m after. omega (arith, after)) behind)
+    where
+      -- no match behind it begins with it or before
+      AreLeft-earlier : (more : List NotedFirst) → AreLeft set tokens (Some t) t.first more → AreLeft set tokens (Some t) first more
+      AreLeft-earlier [] left = λ s m after.
+          let here : s.first ≡ t.first = left s m after in
+          let late : t.first < s.first = beyond_it none s m after in
+          omega arith
+      AreLeft-earlier (one ∷ more) (left, its, behind) = (
         record {
-          later = omega arith;
-          comes = let (last, template, m) = begins.begins in (last, template, m, inl (omega arith));
-          passed = λ s m after late. let beyond = beyond_it none s m after in begins.passed s m (omega arith);
-          ahead = λ s m beyond. inl (omega arith);
+          later = λ room.
+              let early : first < t.first = next.later room in
+              let late : t.first < one.first = left.later (first_within set tokens t is_match) in
+              omega arith;
+          comes = left.comes;
+          passed = λ s m after other. left.passed s m after (λ here. omega (arith, here, beyond_it none s m after));
+          ahead = left.ahead;
         },
-        (IsFirstFrom-itself set tokens kept (next.first + 1) one begins, behind),
+        its,
+        behind,
       )
 
-  -- the walk that has ended stays where it is
-  HasCome-known : (run : Run) (before after : List NotedFirst) (end : ℕ) → HasCome set tokens place run before first end
-      → AreLeft set tokens (numbers_of run) (Some found.0) first after → HasCome set tokens (Some found.0) run after first end
-  HasCome-known run before after end come left =
-      let here = begins_here in
-      record {
-        order = come.order;
-        within = come.within;
-        templates = come.templates;
-        numbers = come.numbers;
-        stands = come.stands;
-        all = come.all;
-        reached = λ s m behind. (omega (arith, behind), λ same. absurd (omega (arith, behind)));
-        left = left;
-      }
+-- the tokens alone, where the last match of the first of them was taken, and where others are left
+module _ (old : List NotedFirst) (t : Triple) (is_last : Bool) (new : List NotedFirst) (takes : TakesMatch old t is_last new) where
+  pub firsts_in-passed : IsTrue is_last → firsts_in old ≡ t.first ∷ firsts_in new
+  firsts_in-passed is = ap firsts_in takes.was ∙ ap (λ l. t.first ∷ firsts_in l) (sym (takes.last is).1)
+
+  pub firsts_in-others : is_last ≡ false → firsts_in old ≡ firsts_in new
+  firsts_in-others is = ap firsts_in takes.was ∙ sym (ap firsts_in (takes.more is).1)
 
 -- where the walk that has ended is known to have come
 module _ (set : List Known) (tokens : List TokenValue) (place : Option Triple) (run : Run) (noted : List NotedFirst) (first end : ℕ)
-    (come : HasCome set tokens place run noted first end) (next : NotedFirst) (more : List NotedFirst) (is : noted ≡ next ∷ more)
-    (found : Triple × Bool) (known : IsNextKnown next.first next.numbers next.lasts place found) where
-  left : AreLeft set tokens (numbers_of run) place first (next ∷ more)
-  left = next_first set tokens place run noted first end come next more is
+    (come : HasCome set tokens place run noted first end) (t : Triple) (is_last : Bool) (more : List NotedFirst)
+    (takes : TakesMatch noted t is_last more) where
+  left : AreLeft set tokens place first (noted_at t.first (t ∷ takes.others) ∷ takes.behind)
+  left = next_first set tokens place run noted first end come (noted_at t.first (t ∷ takes.others)) takes.behind takes.was
 
-  pub IsNext-given : NoneBegins set tokens place first → IsNext set tokens place found.0
+  pub IsNext-given : NoneBegins set tokens place first → IsNext set tokens place t
   IsNext-given none =
-      let (one, (begins, behind)) = left in
-      IsNext-known set tokens (numbers_of run) next begins first one.later place found known (λ s m after.
-      let low : first ≤ s.first = (come.reached s m after).0 in
-      let other : s.first ≡ first → ⊥ = none s m after in
-      one.passed s m after (omega arith))
+      let (next, known, behind) = left in
+      IsNext-first set tokens place first t takes.others known next (λ s m after. next.passed s m after (none s m after))
 
-  pub HasCome-others : found.1 ≡ true → HasCome set tokens (Some found.0) run noted first end
-  HasCome-others others =
-      let (one, (begins, behind)) = left in
-      HasCome-known set tokens (numbers_of run) next begins first one.later place found known run noted noted end come
-      (subst (AreLeft set tokens (numbers_of run) (Some found.0) first) (sym is)
-      (AreLeft-others set tokens (numbers_of run) next begins first one.later place found known more behind others))
+  -- the walk stays where it is
+  HasCome-behind : AreLeft set tokens (Some t) first more → HasCome set tokens (Some t) run more first end
+  HasCome-behind still = record {
+    order = come.order;
+    within = come.within;
+    templates = come.templates;
+    stands = come.stands;
+    all = come.all;
+    reached = λ s m behind here.
+        let within : s.first < length tokens = first_within set tokens s m in
+        let later : first < t.first = left.0.later (omega (arith, within, here)) in
+        absurd (omega (arith, behind, here));
+    left = still;
+  }
 
-  pub HasCome-passed : found.1 ≡ false → HasCome set tokens (Some found.0) run more first end
-  HasCome-passed none =
-      let (one, (begins, behind)) = left in
-      HasCome-known set tokens (numbers_of run) next begins first one.later place found known run noted more end come
-      (AreLeft-passed set tokens (numbers_of run) next begins first one.later place found known more behind none)
+  pub HasCome-passed : IsTrue is_last → HasCome set tokens (Some t) run more first end
+  HasCome-passed is =
+      let (next, known, behind) = left in
+      let (none, new) = takes.last is in
+      HasCome-behind (subst (AreLeft set tokens (Some t) first) (sym new)
+      (AreLeft-passed set tokens place first t takes.others known next takes.behind behind none))
+
+  pub HasCome-others : is_last ≡ false → HasCome set tokens (Some t) run more first end
+  HasCome-others is =
+      let (next, known, behind) = left in
+      let (some, new) = takes.more is in
+      HasCome-behind (subst (AreLeft set tokens (Some t) first) (sym new)
+      (AreLeft-others set tokens place first t takes.others known next takes.behind behind some))

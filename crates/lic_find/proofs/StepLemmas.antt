@@ -2,7 +2,7 @@
 use Rattle.std.proofs.Common.{◌≡◌, ℕ, ◌+◌, ◌-◌, ◌*◌, ◌^◌, ◌<◌, ◌≤◌, List, [], ◌∷◌, length, get_or, drop, Option, None, sym, ap, ◌∙◌, arith}
 use Rattle.std.specs.List.{sum_by, slice_range}
 use Rattle.std.specs.Str.{chars}
-use Rattle.std.proofs.Math.Nat.{mul-suc, mul-zero, mul-add, mul-one, mul-le-mul_left}
+use Rattle.std.proofs.Math.Nat.{mul-suc, mul-add, mul-one, mul-le-mul_left}
 use Rattle.std.proofs.Math.Seq.{drop-length}
 use Rattle.std.proofs.lemmas.List.Sums.{sum_by-cons}
 use Rattle.lic_norm.specs.Tokens.{TokenValue}
@@ -29,13 +29,13 @@ module _ (set : List Known) (tokens : List TokenValue) where
 
   module _ (listed : (after : Option Triple) → AreMatches set tokens after (matches_behind set tokens after)) (began : Option Triple) (noting : ℕ)
       (noting_most : noting ≤ 2 * letters_of tokens)
-      (noting_least : began ≡ None → noting < 2 ^ 64 - 1 → letters_of tokens ≤ noting) (kept : List ℕ) (from walked : ℕ)
+      (noting_least : began ≡ None → noting < 2 ^ 64 - 1 → letters_of tokens ≤ noting) (from walked : ℕ)
       (whole : began ≡ None → from ≡ 0) (within : from ≤ length tokens) where
     -- at the first of the first tokens from here on
-    pub AreCounted-begin : (noted : NotedFirst) (more : List NotedFirst) → walked ≤ 2 → AreFirstsFrom set tokens kept from (noted ∷ more) →
+    pub AreCounted-begin : (noted : NotedFirst) (more : List NotedFirst) → walked ≤ 2 → AreFirstsFrom set tokens from (noted ∷ more) →
         AreCounted set tokens began noting walked noted.first noted.first (firsts_in more)
     AreCounted-begin noted more few firsts =
-        let same : firsts_from set tokens from ≡ noted.first ∷ firsts_in more = firsts_from-noted set tokens listed kept from (noted ∷ more) firsts in
+        let same : firsts_from set tokens from ≡ noted.first ∷ firsts_in more = firsts_from-noted set tokens listed from (noted ∷ more) firsts in
         let left = left_more noted.first (firsts_in more) in
         let fewer : walk_over tokens * length (firsts_from set tokens from) ≤ walk_over tokens * length (firsts_of set tokens) =
         mul-le-mul_left (walk_over tokens) (firsts_from-fewer set tokens from within) in
@@ -54,20 +54,24 @@ module _ (set : List Known) (tokens : List TokenValue) where
               omega arith;
         }
 
-    -- where no match begins from here on
-    pub AreCounted-none : walked ≡ 0 → AreFirstsFrom set tokens kept from [] → AreCounted set tokens began noting walked (length tokens) (length tokens) []
-    AreCounted-none few none =
+    -- where no walk has begun
+    pub AreCounted-waiting : (noted : List NotedFirst) → walked ≡ 0 → AreFirstsFrom set tokens from noted →
+        AreCounted set tokens began noting walked (length tokens) (length tokens) (firsts_in noted)
+    AreCounted-waiting noted few firsts =
+        let same : firsts_from set tokens from ≡ firsts_in noted = firsts_from-noted set tokens listed from noted firsts in
+        let fewer : walk_over tokens * length (firsts_from set tokens from) ≤ walk_over tokens * length (firsts_of set tokens) =
+        mul-le-mul_left (walk_over tokens) (firsts_from-fewer set tokens from within) in
+        let count : walk_over tokens * length (firsts_from set tokens from) ≡ walk_over tokens * length (firsts_in noted) =
+        ap (λ firsts. walk_over tokens * length firsts) same in
         let nothing : letters_of (drop (length tokens) tokens) ≡ 0 = ap letters_of (drop-length tokens) ∙ letters_of-none in
         let empty : letters_of (slice_range tokens (length tokens) (length tokens)) ≡ 0 = letters_of-empty tokens (length tokens) in
-        let left : walk_over tokens * 0 ≡ 0 = mul-zero (walk_over tokens) in
         record {
           noting_most = noting_most;
           noting_least = noting_least;
           walked_most = omega arith;
           walked_least = λ b bounded.
-              let all : letters_of_matches set tokens ≡ 0 =
-              ap (λ n. sum_by (letters_of_longest set tokens) (firsts_from set tokens n)) (sym (whole b))
-              ∙ ap (sum_by (letters_of_longest set tokens)) (firsts_from-noted set tokens listed kept from [] none) in
+              let all : letters_of_matches set tokens ≡ sum_by (letters_of_longest set tokens) (firsts_in noted) =
+              ap (λ n. sum_by (letters_of_longest set tokens) (firsts_from set tokens n)) (sym (whole b)) ∙ ap (sum_by (letters_of_longest set tokens)) same in
               omega arith;
         }
 

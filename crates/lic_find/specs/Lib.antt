@@ -1,12 +1,15 @@
 pub mod Matches
 pub mod Listing
 pub mod Bounds
+pub mod Ends
 pub mod Firsts
 pub mod Starts
 pub mod Rises
-pub mod Knowing
 pub mod Walks
-pub mod Limits
+pub mod Trails
+pub mod TrailEnds
+pub mod Entrances
+pub mod Walked
 pub mod Counts
 pub mod Rest
 pub mod Giving

@@ -4,9 +4,9 @@ use Rattle.std.specs.List.{slice_range}
 use Rattle.std.specs.Str.{chars}
 use Rattle.lic_norm.specs.Tokens.{TokenValue}
 use Rattle.lic_auto.specs.Sets.{Known}
-use Rattle.lic_auto.specs.Runs.{StandsAmong, numbers_of, set_of}
+use Rattle.lic_auto.specs.Runs.{StandsFor, numbers_of, set_of}
 use Rattle.lic_auto.specs.declared.run.Run.{Run}
-use Rattle.lic_find.specs.Firsts.{NotedFirst, AreFirstsFrom}
+use Rattle.lic_find.specs.Firsts.{NotedFirst, AreFirstsFrom, AreMatchesFrom}
 use Rattle.lic_find.specs.Listing.{triple_at}
 use Rattle.lic_find.specs.Matches.{IsMatch, IsAfter, Precedes}
 use Rattle.lic_find.specs.declared.triple.Triple.{Triple}
@@ -21,34 +21,34 @@ BeginsAt None first = first ≡ 0
 BeginsAt (Some place) first = first ≡ place.first
 
 -- The noted first token that a walk from `first` comes to next: some match behind the place begins with it, and none between the two.
--- Every match that begins beyond it is behind the place.
+-- Every match that begins beyond it is behind the place. Where `first` is the end of the text, no walk has begun.
 pub record IsNextNoted (set : List Known) (tokens : List TokenValue) (place : Option Triple) (first next : ℕ) : Type 0 where
-  pub later : first < next
+  pub later : first < length tokens → first < next
   pub comes : (last template : ℕ) × IsMatch set tokens (triple_at next last template) × IsAfter place (triple_at next last template)
-  pub passed : (t : Triple) → IsMatch set tokens t → IsAfter place t → first < t.first → next ≤ t.first
+  pub passed : (t : Triple) → IsMatch set tokens t → IsAfter place t → ¬ (t.first ≡ first) → next ≤ t.first
   pub ahead : (t : Triple) → IsMatch set tokens t → next < t.first → IsAfter place t
 
--- the noted first tokens are those beyond `first` with which matches behind the place begin
-abbrev pub AreLeft : List Known → List TokenValue → List ℕ → Option Triple → ℕ → List NotedFirst → Type 0
-AreLeft set tokens kept place first [] = (t : Triple) → IsMatch set tokens t → IsAfter place t → ¬ (first < t.first)
-AreLeft set tokens kept place first (next ∷ more) =
-    IsNextNoted set tokens place first next.first × AreFirstsFrom set tokens kept next.first (next ∷ more)
+-- The noted first tokens are those beside `first` with which matches behind the place begin. Of the matches that are noted with the
+-- first of them those are left that come behind the place.
+abbrev pub AreLeft : List Known → List TokenValue → Option Triple → ℕ → List NotedFirst → Type 0
+AreLeft set tokens place first [] = (t : Triple) → IsMatch set tokens t → IsAfter place t → t.first ≡ first
+AreLeft set tokens place first (next ∷ more) =
+    IsNextNoted set tokens place first next.first × AreMatchesFrom set tokens place next.first next.matches
+    × AreFirstsFrom set tokens (next.first + 1) more
 
--- The run stands for the tokens from `first` up to `end`, among all templates of matches that begin with `first`. No match behind the
--- place begins before `first`, or there and with its last token before the last of these. The tokens beyond `first` with which matches
--- behind the place begin are noted.
+-- The run is over all templates of matches, and stands for the tokens from `first` up to `end`. No match behind the place begins there and
+-- has its last token before the last of these. Other first tokens of matches behind the place are noted, and lie beyond `first`, if a walk
+-- has begun.
 pub record HasCome (set : List Known) (tokens : List TokenValue) (place : Option Triple) (run : Run)
     (noted : List NotedFirst)
     (first end : ℕ) : Type 0 where
   pub order : first ≤ end
   pub within : end ≤ length tokens
   pub templates : set_of run ≡ set
-  pub numbers : List ℕ
-  pub stands : StandsAmong run numbers (letters_up_to tokens first end)
-  pub all : (t : Triple) → IsMatch set tokens t → t.first ≡ first → Contains numbers t.template
-  pub reached : (t : Triple) → IsMatch set tokens t → IsAfter place t
-      → (first ≤ t.first) × (t.first ≡ first → end ≤ t.last + 1)
-  pub left : AreLeft set tokens (numbers_of run) place first noted
+  pub stands : StandsFor run (letters_up_to tokens first end)
+  pub all : (t : Triple) → IsMatch set tokens t → Contains (numbers_of run) t.template
+  pub reached : (t : Triple) → IsMatch set tokens t → IsAfter place t → t.first ≡ first → end ≤ t.last + 1
+  pub left : AreLeft set tokens place first noted
 
 -- the first of the matches behind a place
 pub record IsNext (set : List Known) (tokens : List TokenValue) (place : Option Triple) (t : Triple) : Type 0 where

@@ -1,20 +1,18 @@
 //! The finder: one match after another, known by their last tokens, or found by a run from a token with which matches begin.
 
-ghost use Rattle.std.specs.Prelude.{◌≡◌, ℕ, ◌+◌, ◌-◌, ◌*◌, ◌^◌, ◌<◌, ◌≤◌, ◌↔◌, ◌∷◌, [], List, IfOk, IfSome, IfNone, Some, None, Contains, length, drop};
+ghost use Rattle.std.specs.Prelude.{◌≡◌, ℕ, ◌+◌, ◌-◌, ◌*◌, ◌^◌, ◌<◌, ◌≤◌, ◌↔◌, ◌⊎◌, ◌∷◌, [], List, IfOk, IfSome, IfNone, Some, None, length};
 ghost use Rattle.std.specs.Iterator.{item_count};
 ghost use Rattle.std.specs.Option.{option_or};
-ghost use Rattle.lic_keys.specs.Rising.{IsRising};
-ghost use Rattle.lic_auto.specs.Runs.{StandsAmong, set_of, numbers_of, steps_of};
+ghost use Rattle.lic_auto.specs.Runs.{StandsFor, set_of, numbers_of, steps_of};
 ghost use Rattle.lic_find.specs.Bounds.{letters_of, walk_over, firsts_of};
 ghost use Rattle.lic_find.specs.Counts.{AreCounted};
-ghost use Rattle.lic_find.specs.Firsts.{NotedFirst, firsts_in, noted_with};
+ghost use Rattle.lic_find.specs.Firsts.{NotedFirst, firsts_in};
 ghost use Rattle.lic_find.specs.Listing.{triple_at};
 ghost use Rattle.lic_find.specs.Matches.{AreMatches, IsAfter};
 ghost use Rattle.lic_find.specs.Starts.{starts_in};
 ghost use Rattle.lic_find.specs.Walks.{AllEndBy, BeginsAt, HasCome, IsNextOfRange, NoneBegins};
 
 use crate::kept::kept_templates;
-use crate::knowing::known_next;
 use crate::laws::matches_are_listed;
 use crate::noting::first_tokens;
 use crate::starts::Starts;
@@ -29,9 +27,8 @@ use std::cmp::Ordering;
 /// in the order of triples.
 ///
 /// It keeps no list of them. A walk from the end of the text, over the templates alone whose key stands in it, notes the tokens with
-/// which matches begin, and for each template the last token of these, where that is one alone. Where it is known for all templates
-/// that were noted at a first token, its matches are given so; from any other a run goes on, until no template can describe a range
-/// that goes on. Giving matches takes no memory.
+/// which matches begin, and their ends, where it knows them all. Then the matches from such a token are given so; from any other a run
+/// goes on, until no template can describe a range that goes on. Giving matches takes no memory.
 #[derive(Debug, Drop)]
 pub struct Finder<'a> {
     set: &'a Set,
@@ -47,7 +44,7 @@ pub struct Finder<'a> {
     began: Option<Triple>,
     /// The last triple that it gave.
     given: Option<Triple>,
-    /// The first token of the range that it has come to.
+    /// The first token of the range that it has come to, or the end of the text where no run has begun.
     first: usize,
     /// The end of this range: the run stands for the tokens from the first one up to here.
     end: usize,
@@ -112,7 +109,7 @@ impl<'a> Finder<'a> {
         let from = first_token(place).min(text.len());
         let (mut starts, noting) = first_tokens(alloc, set, text, behind, from)?;
         let mut run = Run::over(alloc, set, kept)?;
-        let first = begin_next(&mut run, &mut starts).unwrap_or(text.len());
+        let first = begin_behind(place, &mut run, &mut starts).unwrap_or(text.len());
         Ok(Finder {
             set,
             text,
@@ -223,13 +220,10 @@ impl<'a> Finder<'a> {
         ensures never_fall { self.old.passed ≤ self.new.passed }
         ensures most { self.new.passed ≤ self.old.passed + self.old.noting }
     {
-        let noted = self.starts.least()?;
-        let place = self.given.or(self.began);
-        let (triple, more) = known_next(noted, place)?;
+        let (triple, is_last) = self.starts.take_match()?;
         matches_are_listed();
         self.given = Some(triple);
-        if !more {
-            self.starts.remove_least();
+        if is_last {
             self.passed = self.passed.saturating_add(self.noting);
         }
         Some(triple)
@@ -243,17 +237,30 @@ fn first_token(place: Option<Triple>) -> usize
     place.map_or(0, |triple| triple.first)
 }
 
-// Takes the least noted first token that is left, and begins a run with it over the templates that it stands for.
-fn begin_next(run: &mut Run<'_>, starts: &mut Starts) -> Option<usize>
-    requires rising { (noted : NotedFirst) (more : List NotedFirst)
-        → starts_in starts.old ≡ noted ∷ more
-        → IsRising noted.numbers (length (set_of run.old)) }
-    requires within { (noted : NotedFirst) (more : List NotedFirst)
-        → starts_in starts.old ≡ noted ∷ more
-        → (k : ℕ) → Contains noted.numbers k → Contains (numbers_of run.old) k }
+// Begins a run with the least noted first token behind a place, since of its matches some may lie before the place. Where all matches are
+// asked for, there is none before, and a run begins only where it is wanted.
+fn begin_behind(place: Option<Triple>, run: &mut Run<'_>, starts: &mut Starts) -> Option<usize>
     ensures some { IfSome result (λ first. (noted : NotedFirst)
         × (starts_in starts.old ≡ noted ∷ starts_in starts.new) × (noted.first ≡ first)
-        × StandsAmong run.new (noted_with (numbers_of run.old) noted.numbers) []) }
+        × StandsFor run.new []) }
+    ensures none { IfNone result (((place ≡ None) ⊎ (starts_in starts.old ≡ []))
+        × (starts.new ≡ starts.old) × (run.new ≡ run.old)) }
+    ensures set { set_of run.new ≡ set_of run.old }
+    ensures numbers { numbers_of run.new ≡ numbers_of run.old }
+    ensures steps { (steps_of run.old ≤ steps_of run.new)
+        × (steps_of run.new ≤ steps_of run.old + 2) }
+{
+    if place.is_none() {
+        return None;
+    }
+    begin_next(run, starts)
+}
+
+// Takes the least noted first token that is left, and begins a run with it.
+fn begin_next(run: &mut Run<'_>, starts: &mut Starts) -> Option<usize>
+    ensures some { IfSome result (λ first. (noted : NotedFirst)
+        × (starts_in starts.old ≡ noted ∷ starts_in starts.new) × (noted.first ≡ first)
+        × StandsFor run.new []) }
     ensures none { IfNone result
         ((starts_in starts.old ≡ []) × (starts.new ≡ starts.old) × (run.new ≡ run.old)) }
     ensures set { set_of run.new ≡ set_of run.old }
@@ -261,13 +268,8 @@ fn begin_next(run: &mut Run<'_>, starts: &mut Starts) -> Option<usize>
     ensures steps { (steps_of run.old ≤ steps_of run.new)
         × (steps_of run.new ≤ steps_of run.old + 2) }
 {
-    let noted = starts.least()?;
-    let first = noted.first;
-    match noted.numbers {
-        [] => run.reset(),
-        numbers => run.begin(numbers),
-    }
-    starts.remove_least();
+    let first = starts.remove_least()?;
+    run.reset();
     Some(first)
 }
 

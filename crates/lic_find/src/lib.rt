@@ -2,13 +2,19 @@
 #![tactic(auto)]
 
 pub mod ask;
+pub mod end;
+mod entrances;
 pub mod finder;
+mod forgetting;
 pub mod kept;
-mod knowing;
 pub mod laws;
-mod limits;
 pub mod matches;
+mod merging;
 mod noting;
 mod starts;
+mod steps;
+mod tail;
+mod trail;
+mod trails;
 pub mod triple;
-mod walk;
+pub mod walk;

@@ -1,204 +1,172 @@
-//! A walk over a text towards its front, which says with which token the matches end that begin with the token it has come to.
+//! A walk over a text towards its front, which says where the matches end that begin with the token it has come to.
 
-ghost use Rattle.std.specs.Prelude.{◌≡◌, ◌<◌, ◌≤◌, ◌+◌, ◌*◌, ◌-◌, ◌^◌, ℕ, List, IfOk, IfSome, IsTrue, Contains, false, drop, length};
+ghost use Rattle.std.specs.Prelude.{◌≡◌, ◌↔◌, ◌<◌, ◌≤◌, ◌+◌, ◌-◌, ◌^◌, ◌∷◌, [], ℕ, List, Contains, IsTrue, length, drop, IfOk, OnOk};
 ghost use Rattle.lic_keys.specs.Rising.{IsRising};
-ghost use Rattle.lic_words.specs.Letters.{letters_in};
-ghost use Rattle.lic_auto.specs.Backs.{live_behind, numbers_behind, steps_behind};
-ghost use Rattle.lic_find.specs.Bounds.{letters_of};
 ghost use Rattle.lic_norm.specs.Tokens.{TokenValue};
+ghost use Rattle.lic_find.specs.Bounds.{letters_of};
+ghost use Rattle.lic_find.specs.TrailEnds.{end_at};
 
-use crate::limits::Limits;
-use lic_auto::back::Back;
+use crate::end::End;
+use crate::entrances::Entrances;
+use crate::forgetting::{forget_ends, forget_number, forget_trails};
+use crate::merging::merge;
+use crate::steps::count_steps;
+use crate::trail::Trail;
+use crate::trails::{are_single, drop_dead, gather_ends, take_token};
+use lic_auto::seek::Plain;
 use lic_auto::set::Set;
 use lic_norm::text::Text;
 use std::alloc::{AllocError, Global};
 
-/// Templates of a set on their way over a text towards its front, each by two machines: one that is entered at every token, and
-/// one that is entered in front of a limit alone. Matches that the first sees and the other does not end at the limit or beyond it.
-///
-/// Where nothing was on its way in front of a token, the walk is at rest: matches that begin with it end with it, and the second machine
-/// takes no token.
+/// Templates of a set on their way over a text towards its front. A template is entered at each token with which a match of it may end,
+/// and goes back from there on a trail. Where it has as many trails as it may, its newest one stands for several ends: which of these a
+/// match has is not known then.
 #[derive(Debug, Drop)]
 pub struct Walk<'s> {
-    back: Back<'s>,
-    // in front of the limits
-    inner: Back<'s>,
-    // No match ends beyond its limit that begins where the walk has come, or in front of that, unless it is at rest.
-    limits: Limits,
-    is_at_rest: bool,
-    ghost alike: { numbers_behind inner ≡ numbers_behind back },
-    ghost limited: { limits.numbers.items ≡ numbers_behind back },
+    entrances: Entrances<'s>,
+    trails: Vec<Trail<'s>>,
+    // what is said of the token that was taken last
+    plain: Plain,
+    ends: Vec<End>,
+    unclear: Vec<usize>,
+    steps: u64,
 }
 
 impl<'s> Walk<'s> {
-    ghost use Rattle.lic_find.specs.Limits.{AreLasts, HasTaken, HasWalked, IsLastOf, live_walked, numbers_walked, set_walked, steps_walked};
+    ghost use Rattle.lic_find.specs.Walked.{HasWalked, IsSingle, KnowsEnds, NoneEndsBefore, changed_at, ends_walked, numbers_walked, set_walked, steps_walked, unclear_walked};
 
-    /// A walk over the templates of these numbers that has taken no token of a text of so many. Fails if memory runs out.
+    /// A walk over the templates of these numbers that has taken no token. Each has so many trails at most, or one. Fails if memory runs
+    /// out.
     pub fn over(
         alloc: Global,
         set: &'s Set,
         kept: Vec<usize>,
-        count: usize,
+        most: usize,
     ) -> Result<Walk<'s>, AllocError>
         requires { IsRising kept.items (length set.now) }
-        ensures walked { IfOk result (λ walk. (tokens : List TokenValue) → length tokens ≡ count
-            → HasWalked tokens count walk) }
+        ensures walked { IfOk result (λ walk. (tokens : List TokenValue) (end : ℕ)
+            → end ≤ length tokens → HasWalked tokens (λ k. end) end walk) }
         ensures set { IfOk result (λ walk. set_walked walk ≡ set.now) }
         ensures numbers { IfOk result (λ walk. numbers_walked walk ≡ kept.items) }
+        ensures ends { IfOk result (λ walk. ends_walked walk ≡ []) }
+        ensures unclear { IfOk result (λ walk. unclear_walked walk ≡ []) }
         ensures steps { IfOk result (λ walk. steps_walked walk ≡ 0) }
     {
-        let again = Vec::from_slice(alloc, &kept)?;
-        let numbers = Vec::from_slice(alloc, &kept)?;
-        let back = Back::over(alloc, set, kept)?;
-        let inner = Back::over(alloc, set, again)?;
-        let limits = Limits::of(alloc, numbers, count)?;
+        let entrances = Entrances::of(alloc, set, kept, most)?;
         Ok(Walk {
-            back,
-            inner,
-            limits,
-            is_at_rest: true,
+            entrances,
+            trails: Vec::new(alloc),
+            plain: Plain::none(),
+            ends: Vec::new(alloc),
+            unclear: Vec::new(alloc),
+            steps: 0,
         })
     }
 
-    /// Takes the token with this number, in front of those that were taken.
-    pub fn take_token(&mut self, text: &Text, first: usize)
+    /// Takes the token with this number, in front of those that were taken. Then it knows the ends of the matches that begin with it, or of
+    /// some templates that there are such matches. Fails if memory runs out.
+    ///
+    /// A step is one letter, with the gap before it; their count stays at the greatest `u64`.
+    pub fn take_token(&mut self, alloc: Global, text: &Text, first: usize) -> Result<(), AllocError>
         requires { first < length text.now.tokens }
-        ensures taken { HasWalked text.now.tokens (first + 1) self.old
-            → HasTaken text.now.tokens first self.new }
+        ensures walked { OnOk result ((bound : ℕ → ℕ)
+            → HasWalked text.now.tokens bound (first + 1) self.old
+            → HasWalked text.now.tokens bound first self.new
+            × KnowsEnds text.now.tokens bound first self.new) }
         ensures set { set_walked self.new ≡ set_walked self.old }
         ensures numbers { numbers_walked self.new ≡ numbers_walked self.old }
-        ensures most { steps_walked self.new + 2 * letters_of (drop (first + 1) text.now.tokens)
-            ≤ steps_walked self.old + 2 * letters_of (drop first text.now.tokens) }
-        ensures least { steps_behind self.new.back < 2 ^ 64 - 1
-            → steps_behind self.old.back + letters_of (drop first text.now.tokens)
-            ≤ steps_behind self.new.back + letters_of (drop (first + 1) text.now.tokens) }
-        ensures never_fall { steps_behind self.old.back ≤ steps_behind self.new.back }
+        ensures most { steps_walked self.new + letters_of (drop (first + 1) text.now.tokens)
+            ≤ steps_walked self.old + letters_of (drop first text.now.tokens) }
+        ensures least { steps_walked self.new < 2 ^ 64 - 1
+            → steps_walked self.old + letters_of (drop first text.now.tokens)
+            ≤ steps_walked self.new + letters_of (drop (first + 1) text.now.tokens) }
+        ensures never_fall { steps_walked self.old ≤ steps_walked self.new }
     {
         let token = text.token(first).text;
-        self.back.push_front(token);
-        if self.is_at_rest {
-            return;
-        }
-        self.inner.push_front(token);
+        self.steps = count_steps(self.steps, token);
+        self.entrances.enter(alloc, text, first, &mut self.trails)?;
+        take_token(&mut self.trails, token, &mut self.plain);
+        drop_dead(&mut self.trails);
+        gather_ends(&self.trails, &mut self.ends, &mut self.unclear)
     }
 
-    /// The numbers of the templates of which matches begin with the token that was taken last, in rising order.
-    pub fn live_numbers(&self) -> &[usize]
-        ensures value { result.now ≡ live_walked self.now }
-        ensures rising { IsRising result.now (length (set_walked self.now)) }
+    /// The ends that are known of matches that begin with the token that was taken last: by falling last tokens, then by falling numbers
+    /// of templates, none twice.
+    pub fn ends(&self) -> &[End]
+        ensures { result.now ≡ ends_walked self.now }
     {
-        self.back.live_numbers()
+        &self.ends
     }
 
-    /// For each of these templates the last token of all its matches that begin with the token that was taken last, or none
-    /// where that is not known. Fails if memory runs out.
-    pub fn lasts(&self, alloc: Global, first: usize) -> Result<Vec<Option<usize>>, AllocError>
-        requires { (tokens : List TokenValue) × HasTaken tokens first self.now }
-        ensures { IfOk result (λ lasts. (tokens : List TokenValue) → HasTaken tokens first self.now
-            → AreLasts (set_walked self.now) tokens first (live_walked self.now) lasts.items) }
+    /// The numbers of the templates of which matches begin with the token that was taken last whose ends are not known. They may stand
+    /// there twice.
+    pub fn unclear(&self) -> &[usize]
+        ensures { result.now ≡ unclear_walked self.now }
     {
-        let live = self.back.live_numbers();
-        let mut lasts = Vec::with_capacity(alloc, live.len())?;
-        for number in live {
-            lasts.push(self.last_of(*number, first))?;
-        }
-        Ok(lasts)
+        &self.unclear
     }
 
-    // The same for one of its templates.
-    fn last_of(&self, number: usize, first: usize) -> Option<usize>
-        requires { Contains (numbers_walked self.now) number }
-        ensures { IfSome result (λ last. (tokens : List TokenValue) → HasTaken tokens first self.now
-            → IsLastOf (set_walked self.now) tokens first number last) }
+    /// Whether it knows of each end of a template's matches on its way which one it is: then `forget_ends_from` may be called.
+    pub fn is_single(&self, template: usize) -> bool
+        ensures { IsTrue result ↔ IsSingle self.now template }
     {
-        if self.is_at_rest {
-            return Some(first);
-        }
-        if has(self.back.begun_numbers(), number) {
-            return Some(first);
-        }
-        if has(self.inner.live_numbers(), number) {
-            return None;
-        }
-        Some(self.limits.last_of(number))
+        are_single(&self.trails, template)
     }
 
-    /// In front of the token that was taken last, the templates begin anew that began with it; all of them where nothing is on its way.
-    pub fn begin_anew(&mut self, first: usize)
-        ensures walked { (tokens : List TokenValue) → HasTaken tokens first self.old
-            → HasWalked tokens first self.new }
+    /// From here on it is asked for the matches of a template that end before this token alone, where each of its ways back is from one
+    /// end.
+    pub fn forget_ends_from(&mut self, template: usize, end: usize)
+        ensures walked { (tokens : List TokenValue) (bound : ℕ → ℕ) (first : ℕ)
+            → HasWalked tokens bound first self.old → IsSingle self.old template
+            → first ≤ end → end ≤ bound template
+            → HasWalked tokens (changed_at bound template end) first self.new }
+        ensures known { (tokens : List TokenValue) (bound : ℕ → ℕ) (first : ℕ)
+            → KnowsEnds tokens bound first self.old → end ≤ bound template
+            → ¬ (Contains (unclear_walked self.old) template)
+            → KnowsEnds tokens (changed_at bound template end) first self.new }
+        ensures fewer { Contains (ends_walked self.old) (end_at end template)
+            → length (ends_walked self.new) < length (ends_walked self.old) }
+        ensures unclear { unclear_walked self.new ≡ unclear_walked self.old }
         ensures set { set_walked self.new ≡ set_walked self.old }
         ensures numbers { numbers_walked self.new ≡ numbers_walked self.old }
-        ensures back { self.new.back ≡ self.old.back }
         ensures steps { steps_walked self.new ≡ steps_walked self.old }
     {
-        if !self.is_at_rest {
-            self.begin_each_anew(first);
-            self.come_to_rest();
-            return;
-        }
-        if self.back.is_idle() {
-            return;
-        }
-        self.wake(first);
+        forget_trails(&mut self.trails, template, end);
+        forget_ends(&mut self.ends, template, end);
     }
 
-    // At rest, something is on its way in front of this token: no match that begins in front of it ends beyond it.
-    fn wake(&mut self, first: usize)
-        ensures walked { (tokens : List TokenValue) → HasTaken tokens first self.old
-            → IsTrue self.old.is_at_rest → HasWalked tokens first self.new }
-        ensures back { self.new.back ≡ self.old.back }
-        ensures inner { self.new.inner ≡ self.old.inner }
-    {
-        self.limits.change_all(first);
-        self.is_at_rest = false;
-    }
-
-    // Where it is not at rest, each template that began with this token begins anew in front of it.
-    fn begin_each_anew(&mut self, first: usize)
-        ensures walked { (tokens : List TokenValue) → HasTaken tokens first self.old
-            → self.old.is_at_rest ≡ false → HasWalked tokens first self.new }
-        ensures back { self.new.back ≡ self.old.back }
+    /// From here on one of its templates goes on as on another walk, which went over this template alone and has come to the same token.
+    /// Of matches of the template that begin there nothing is told any more. Fails if memory runs out.
+    pub fn take_over(&mut self, template: usize, other: Walk<'s>) -> Result<(), AllocError>
+        requires { Contains (numbers_walked self.old) template }
+        ensures walked { OnOk result ((tokens : List TokenValue) (bound other_bound : ℕ → ℕ) (first : ℕ)
+            → HasWalked tokens bound first self.old → HasWalked tokens other_bound first other.entry
+            → set_walked other.entry ≡ set_walked self.old
+            → numbers_walked other.entry ≡ template ∷ []
+            → HasWalked tokens (changed_at bound template (other_bound template)) first self.new) }
+        ensures known { (tokens : List TokenValue) (bound : ℕ → ℕ) (first end : ℕ)
+            → KnowsEnds tokens bound first self.old
+            → NoneEndsBefore (set_walked self.old) tokens template first end
+            → KnowsEnds tokens (changed_at bound template end) first self.new }
+        ensures fewer { (end : ℕ) → Contains (ends_walked self.old) (end_at end template)
+            → length (ends_walked self.new) < length (ends_walked self.old) }
+        ensures clearer { Contains (unclear_walked self.old) template
+            → length (unclear_walked self.new) < length (unclear_walked self.old) }
+        ensures clear { unclear_walked self.old ≡ [] → unclear_walked self.new ≡ [] }
+        ensures set { set_walked self.new ≡ set_walked self.old }
+        ensures numbers { numbers_walked self.new ≡ numbers_walked self.old }
         ensures steps { steps_walked self.new ≡ steps_walked self.old }
     {
-        for i in 0..self.back.begun_numbers().len() {
-            let number = self.back.begun_numbers()[i];
-            if !self.back.is_quiet(number) {
-                self.limits.change(number, first);
-                self.inner.begin_one(number);
-            }
-        }
+        forget_trails(&mut self.trails, template, 0);
+        forget_ends(&mut self.ends, template, 0);
+        forget_number(&mut self.unclear, template);
+        merge(&mut self.trails, other.trails)
     }
 
-    // It is at rest where nothing is on its way.
-    fn come_to_rest(&mut self)
-        ensures walked { (tokens : List TokenValue) (first : ℕ) → HasWalked tokens first self.old
-            → HasWalked tokens first self.new }
-        ensures back { self.new.back ≡ self.old.back }
-        ensures inner { self.new.inner ≡ self.old.inner }
-    {
-        if self.back.is_idle() && self.inner.is_idle() {
-            self.is_at_rest = true;
-        }
-    }
-
-    /// The steps of both machines, at most the greatest `u64`.
+    /// The steps that were counted, at most the greatest `u64`.
     pub fn steps(&self) -> u64
-        ensures most { result ≤ steps_walked self.now }
-        ensures least { result < 2 ^ 64 - 1 → steps_behind self.now.back ≤ result }
+        ensures { result ≡ steps_walked self.now }
     {
-        self.back.steps().saturating_add(self.inner.steps())
-    }
-}
-
-// Whether a list of rising numbers has this one.
-fn has(numbers: &[usize], number: usize) -> bool
-    ensures found { IsTrue result → Contains numbers.now number }
-    ensures missed { result ≡ false → (bound : ℕ) → IsRising numbers.now bound
-        → ¬ (Contains numbers.now number) }
-{
-    match numbers.binary_search(&number) {
-        Ok(_) => true,
-        Err(_) => false,
+        self.steps
     }
 }

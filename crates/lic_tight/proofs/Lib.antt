@@ -1,5 +1,5 @@
 pub mod Finding
-pub mod LiveRanges
+pub mod LetterSums
 pub mod Sorting
 pub mod Gathering
 pub mod Walking
@@ -7,3 +7,4 @@ pub mod Keeping
 pub mod Starting
 pub mod Coming
 pub mod Counting
+pub mod Ending

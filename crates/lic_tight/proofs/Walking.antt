@@ -1,5 +1,5 @@
 -- Walks for the matches of one template.
-use Rattle.std.proofs.Common.{◌≡◌, ℕ, ◌+◌, ◌-◌, ◌<◌, ◌≤◌, ◌↔◌, Bool, List, [], ◌∷◌, ◌++◌, length, get_or, Option, Some, sym, ap, ◌∙◌, subst, ⊎_elim, arith}
+use Rattle.std.proofs.Common.{◌≡◌, ℕ, ◌+◌, ◌<◌, ◌≤◌, ◌↔◌, Bool, List, [], ◌∷◌, ◌++◌, length, get_or, Option, Some, sym, ap, ◌∙◌, subst, ⊎_elim, arith}
 use Rattle.std.specs.Bool.{IsTrue}
 use Rattle.std.specs.Str.{chars}
 use Rattle.std.proofs.lemmas.Bool.{cases_lt}
@@ -11,27 +11,12 @@ use Rattle.lic_find.specs.Listing.{triple_at}
 use Rattle.lic_find.specs.Matches.{IsMatch, letters_between}
 use Rattle.lic_find.specs.Walks.{letters_up_to}
 use Rattle.lic_find.proofs.Asking.{IsMatch-answer}
-use Rattle.lic_find.proofs.Ranges.{letters_up_to-front, letters_up_to-more}
+use Rattle.lic_find.proofs.Ranges.{letters_up_to-more}
 use Rattle.lic_tight.specs.Steps.{letters_from}
-use Rattle.lic_tight.proofs.LiveRanges.{letters_from-front, letters_from-more}
+use Rattle.lic_tight.proofs.LetterSums.{letters_from-more}
 
--- one more token in front, before the one with this number, or behind
+-- one more token behind
 module _ (tokens : List TokenValue) (text : List ℕ) (d : TokenValue) where
-  pub letters_front : (n end : ℕ) → 0 < n → n ≤ end → end ≤ length tokens → text ≡ (get_or tokens (n - 1) d).text →
-      letters_up_to tokens (n - 1) end ≡ chars text ∷ letters_up_to tokens n end
-  letters_front n end some order within is =
-      let next : n - 1 + 1 ≡ n = omega arith in
-      letters_up_to-front tokens (n - 1) end d (omega arith) within
-      ∙ ap (λ m. chars (get_or tokens (n - 1) d).text ∷ letters_up_to tokens m end) next ∙ ap (λ t. chars t ∷ letters_up_to tokens n end) (sym is)
-
-  pub count_front : (n end : ℕ) → 0 < n → n ≤ end → end ≤ length tokens → text ≡ (get_or tokens (n - 1) d).text →
-      letters_from tokens (n - 1) end ≡ letters_in (chars text) + letters_from tokens n end
-  count_front n end some order within is =
-      let next : n - 1 + 1 ≡ n = omega arith in
-      letters_from-front tokens (n - 1) end d (omega arith) within
-      ∙ ap (λ m. letters_in (chars (get_or tokens (n - 1) d).text) + letters_from tokens m end) next
-      ∙ ap (λ t. letters_in (chars t) + letters_from tokens n end) (sym is)
-
   pub letters_behind : (first end : ℕ) → first ≤ end → end < length tokens → text ≡ (get_or tokens end d).text →
       letters_up_to tokens first (end + 1) ≡ letters_up_to tokens first end ++ chars text ∷ []
   letters_behind first end order within is =

@@ -4,6 +4,7 @@ use Rattle.lic_norm.specs.Tokens.{TokenValue}
 use Rattle.lic_auto.specs.Sets.{Known}
 use Rattle.lic_find.specs.Listing.{triple_at}
 use Rattle.lic_find.specs.Matches.{IsMatch}
+use Rattle.lic_find.specs.Walked.{NoneEndsBefore}
 use Rattle.lic_find.specs.declared.triple.Triple.{Triple}
 use Rattle.lic_tight.specs.TightMatches.{IsTightMatch}
 
@@ -25,8 +26,7 @@ IsLatestFirst set tokens template end first =
 abbrev pub IsLeastLast : List Known → List TokenValue → ℕ → ℕ → Option ℕ → Type 0
 IsLeastLast set tokens template first None = (last : ℕ) → ¬ (IsMatch set tokens (triple_at first last template))
 IsLeastLast set tokens template first (Some last) =
-    IsMatch set tokens (triple_at first last template)
-    × ((less : ℕ) → less < last → ¬ (IsMatch set tokens (triple_at first less template)))
+    IsMatch set tokens (triple_at first last template) × NoneEndsBefore set tokens template first last
 
 -- the last of the tight matches of the template that end before `end`, if there is one
 abbrev pub IsLastTight : List Known → List TokenValue → ℕ → ℕ → Option Triple → Type 0

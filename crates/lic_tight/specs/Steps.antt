@@ -21,7 +21,3 @@ range_letters tokens t = letters_from tokens t.first (t.last + 1)
 -- for each match of the list four times its letters, and four
 abbrev pub range_steps : List TokenValue → List Triple → ℕ
 range_steps tokens found = sum_by (λ t. 4 * (range_letters tokens t + 1)) found
-
--- for each match of the list the letters of its tokens but the last one
-abbrev pub replayed_letters : List TokenValue → List Triple → ℕ
-replayed_letters tokens found = sum_by (λ t. letters_from tokens t.first t.last) found

@@ -1,4 +1,4 @@
-//! The tight (minimal) matches in a text, by reverse automata in one walk from its end, without a list of all matches.
+//! The tight (minimal) matches in a text, in one walk from its end, without a list of all matches.
 #![tactic(auto)]
 
 pub mod matches;

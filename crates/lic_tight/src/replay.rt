@@ -1,15 +1,22 @@
 //! Walks over a text for one template alone: to the end of a match, and back over it.
 
-ghost use Rattle.std.specs.Prelude.{◌≡◌, ◌<◌, ◌≤◌, ◌+◌, ◌*◌, ◌-◌, ◌^◌, ◌∷◌, [], ℕ, List, length, IfSome, Contains};
-ghost use Rattle.lic_auto.specs.Backs.{AreChangedListsAt, StandsForEach, set_behind, numbers_behind, live_behind, steps_behind};
+ghost use Rattle.std.specs.Prelude.{◌≡◌, ◌<◌, ◌≤◌, ◌+◌, ◌*◌, ◌∷◌, [], length, IfOk, IfSome, Contains};
 ghost use Rattle.lic_auto.specs.Runs.{set_of, numbers_of, steps_of};
-ghost use Rattle.lic_find.specs.Walks.{letters_up_to};
+ghost use Rattle.lic_find.specs.Matches.{IsMatch};
+ghost use Rattle.lic_find.specs.Walked.{HasWalked, numbers_walked, set_walked, steps_walked};
 ghost use Rattle.lic_tight.specs.Searches.{IsLeastLast};
 ghost use Rattle.lic_tight.specs.Steps.{letters_from};
 
-use lic_auto::back::Back;
 use lic_auto::run::Run;
+use lic_auto::set::Set;
+use lic_find::triple::Triple;
+use lic_find::walk::Walk;
 use lic_norm::text::Text;
+use std::alloc::{AllocError, Global};
+
+/// How many ways back from ends a template has at once, before ends become unclear. Those from a match's end on are forgotten, so that more
+/// would be rarely wanted.
+pub const MOST_TRAILS: usize = 2;
 
 /// Walks from a first token on, up to the least last token of a match of the template with this number.
 pub fn least_last(run: &mut Run<'_>, text: &Text, template: usize, first: usize) -> Option<usize>
@@ -32,25 +39,24 @@ pub fn least_last(run: &mut Run<'_>, text: &Text, template: usize, first: usize)
     None
 }
 
-/// The template begins anew before `end`, and is walked back to a first token. The others stay as they are.
-pub fn begin_before(back: &mut Back<'_>, text: &Text, template: usize, first: usize, end: usize)
-    requires order { first ≤ end }
-    requires end { end ≤ length text.now.tokens }
-    requires number { Contains (numbers_behind back.old) template }
-    ensures stands { (lists changed : ℕ → List (List ℕ)) → StandsForEach back.old lists
-        → AreChangedListsAt template (letters_up_to text.now.tokens first end) lists changed
-        → StandsForEach back.new changed }
-    ensures live { live_behind back.new ≡ live_behind back.old }
-    ensures set { set_behind back.new ≡ set_behind back.old }
-    ensures numbers { numbers_behind back.new ≡ numbers_behind back.old }
-    ensures most { steps_behind back.new
-        ≤ steps_behind back.old + 2 * letters_from text.now.tokens first end }
-    ensures least { steps_behind back.new < 2 ^ 64 - 1
-        → steps_behind back.old + letters_from text.now.tokens first end
-        ≤ steps_behind back.new }
+/// A walk over the template of a match alone, from before its last token back to its first one.
+pub fn walk_before<'s>(
+    alloc: Global,
+    set: &'s Set,
+    text: &Text,
+    found: Triple,
+) -> Result<Walk<'s>, AllocError>
+    requires { IsMatch set.now text.now.tokens found }
+    ensures walked { IfOk result (λ walk. HasWalked text.now.tokens (λ k. found.last) found.first walk) }
+    ensures set { IfOk result (λ walk. set_walked walk ≡ set.now) }
+    ensures numbers { IfOk result (λ walk. numbers_walked walk ≡ found.template ∷ []) }
+    ensures most { IfOk result (λ walk. steps_walked walk
+        ≤ letters_from text.now.tokens found.first found.last) }
 {
-    back.begin_one(template);
-    for number in (first..end).rev() {
-        back.push_front_one(template, text.token(number).text);
+    let alone = Vec::from_slice(alloc, &[found.template])?;
+    let mut walk = Walk::over(alloc, set, alone, MOST_TRAILS)?;
+    for number in (found.first..found.last).rev() {
+        walk.take_token(alloc, text, number)?;
     }
+    Ok(walk)
 }

@@ -21,7 +21,7 @@ returns-in_err-template c = λ come.
     subst (IsNextOfRange f.set.now tokens (place_of f) f.first f.end) (sym c.from_residual-in_err-template.ensures)
     (NoneHasRange-least f.set.now tokens (place_of f) f.run
     (starts_in f.starts) f.first f.end come c.in_ok-last.last ends c.in_ok-from.from c.in_ok-from.ensures.some
-    (c.in_err-template.ensures.among come.numbers (letters_up_to tokens f.first f.end) come.stands))
+    (c.in_err-template.ensures.least (letters_up_to tokens f.first f.end) come.stands))
 
 pub returns : goal.returns
 returns c = λ come.
@@ -32,5 +32,5 @@ returns c = λ come.
       ends,
       IsNext-least f.set.now tokens (place_of f) f.run
           (starts_in f.starts) f.first f.end come c.in_ok-last.last ends c.in_ok-from.from c.in_ok-from.ensures.some
-          c.in_ok-template.template (c.in_ok-template.ensures.among come.numbers (letters_up_to tokens f.first f.end) come.stands),
+          c.in_ok-template.template (c.in_ok-template.ensures.least (letters_up_to tokens f.first f.end) come.stands),
     )

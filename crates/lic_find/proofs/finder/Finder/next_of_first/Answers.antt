@@ -5,7 +5,7 @@ use Rattle.std.proofs.lemmas.Grind.{not_there}
 use Rattle.std.specs.Str.{chars}
 use Rattle.lic_norm.specs.Tokens.{TokenValue}
 use Rattle.lic_words.specs.Letters.{letters_in}
-use Rattle.lic_auto.specs.Runs.{StandsAmong, steps_of}
+use Rattle.lic_auto.specs.Runs.{StandsFor, steps_of}
 use Rattle.lic_find.specs.Firsts.{firsts_in}
 use Rattle.lic_find.specs.Listing.{matches_behind}
 use Rattle.lic_find.specs.Rest.{place_of}
@@ -24,7 +24,8 @@ invariant_of-self c =
     record {
       come = ∥∥₁_map f.come (λ come.
           let next = c.in-Some.ensures come in
-          HasCome-found f.set.now f.text.now.tokens (place_of f) f.run (starts_in f.starts) f.first f.end come c.in-Some.triple next.0 next.1 next.2.after);
+          HasCome-found f.set.now f.text.now.tokens (place_of f) f.run (starts_in f.starts) f.first f.end come c.in-Some.triple next.2.matches next.0 next.1
+          next.2.after);
       order = f.order;
       counted = f.counted;
     }
@@ -59,7 +60,7 @@ returns-then-self-len-clause-ended c = λ t m here.
       | then-self-len-via-else-self-len+then-dead w ↦
           ∥∥₁_elim f.come le_prop (λ come.
           AllEndBy-dead set tokens (place_of f) f.run (starts_in f.starts) f.first f.end come
-          (w.dead.ensures.among w.if-dead.true) t m here)
+          (w.dead.ensures.none w.if-dead.true) t m here)
     ]
 
 pub returns-then-self-len-clause-none : goal.returns-then-self-len-clause-none
@@ -88,8 +89,8 @@ invariant_of-self-in-loop-triple c =
           HasCome-push f.set.now tokens (place_of f) f.run
           (starts_in f.starts) f.first f.end come c.push.new.self token
           (c.in_default.ensures come) room c.push.ensures.set c.push.ensures.numbers
-          (subst (λ text. StandsAmong c.push.new.self come.numbers (letters_up_to tokens f.first f.end ++ chars text ∷ [])) text
-          (c.push.ensures.among come.numbers (letters_up_to tokens f.first f.end) come.stands)));
+          (subst (λ text. StandsFor c.push.new.self (letters_up_to tokens f.first f.end ++ chars text ∷ [])) text
+          (c.push.ensures.stands (letters_up_to tokens f.first f.end) come.stands)));
       order = let order = f.order in omega arith;
       counted = AreCounted-push f.set.now tokens f.began f.noting (steps_of f.run + f.passed) f.first f.end (firsts_in (starts_in f.starts)) f.counted token
           (steps_of c.push.new.self + f.passed) f.order room (let grows = c.push.ensures.never_fall in omega arith)

@@ -1,10 +1,8 @@
-use Rattle.std.proofs.Common.{◌≡◌, ◌+◌, ◌*◌, ◌≤◌, ◌∷◌, [], length, None, MatchOption, sym, ap, ◌∙◌, subst, arith}
-use Rattle.std.proofs.Math.Bridge.{le_prop}
-use Rattle.std.proofs.Math.Logic.{∥∥₁_elim, ∥∥₁_map}
+use Rattle.std.proofs.Common.{◌≡◌, ◌+◌, ◌*◌, ◌≤◌, ◌∷◌, [], None, MatchOption, sym, ap, ◌∙◌, subst, arith}
+use Rattle.std.proofs.Math.Logic.{∥∥₁_map}
 use Rattle.std.proofs.lemmas.Grind.{not_there}
 use Rattle.std.specs.Option.{option_or}
-use Rattle.lic_keys.specs.Rising.{IsRising}
-use Rattle.lic_auto.specs.Runs.{numbers_of, steps_of}
+use Rattle.lic_auto.specs.Runs.{steps_of}
 use Rattle.lic_find.specs.Counts.{AreCounted}
 use Rattle.lic_find.specs.Bounds.{letters_of, letters_of_matches}
 use Rattle.lic_find.specs.Firsts.{firsts_in}
@@ -14,21 +12,8 @@ use Rattle.lic_find.specs.Walks.{HasCome, NoneBegins}
 use Rattle.lic_find.proofs.GivingLemmas.{YieldsFirst-given, IfNone-never, capped-le, capped-most, capped-below}
 use Rattle.lic_find.proofs.Matching.{matches_behind-none, same_list}
 use Rattle.lic_find.proofs.StepLemmas.{AreCounted-next, walked-all}
-use Rattle.lic_find.proofs.Walking.{HasCome-next_first, next_first, none_behind, some_begins, there}
+use Rattle.lic_find.proofs.Walking.{HasCome-next_first, none_behind, some_begins}
 use Rattle.lic_find.proofs.finder.FinderIterator.next.Goals as goal
-
-pub begin_next-requires-clause-rising : goal.begin_next-requires-clause-rising
-begin_next-requires-clause-rising c = λ noted more is.
-    let f = c.next_known.new.self in
-    ∥∥₁_elim f.come (hlevel (le_prop)) (λ come.
-    subst (λ s. IsRising noted.numbers (length s)) (sym come.templates)
-    (next_first f.set.now f.text.now.tokens (place_of f) f.run (starts_in f.starts) f.first f.end come noted more is).1.0.rising)
-
-pub begin_next-requires-clause-within : goal.begin_next-requires-clause-within
-begin_next-requires-clause-within c = λ noted more is k inside.
-    let f = c.next_known.new.self in
-    there (numbers_of f.run) k (∥∥₁_map f.come (λ come.
-    (next_first f.set.now f.text.now.tokens (place_of f) f.run (starts_in f.starts) f.first f.end come noted more is).1.0.within k inside))
 
 pub returns-in_err-first-clause-steps : goal.returns-in_err-first-clause-steps
 returns-in_err-first-clause-steps c =

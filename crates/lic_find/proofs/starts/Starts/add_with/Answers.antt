@@ -1,5 +1,6 @@
-use Rattle.std.proofs.Common.{◌∷◌, ◌++◌, [], List, Option, ℕ, length, reverse, refl, ap, ◌∙◌}
+use Rattle.std.proofs.Common.{◌∷◌, ◌++◌, [], List, length, reverse, refl, ap, ◌∙◌}
 use Rattle.lic_find.specs.Starts.{starts_in, noted_in}
+use Rattle.lic_find.specs.declared.end.End.{End}
 use Rattle.lic_find.specs.declared.starts.Entry.{Entry}
 use Rattle.lic_find.proofs.StartLemmas.{noted_in-more}
 use Rattle.lic_find.proofs.starts.Starts.add_with.Goals as goal
@@ -8,12 +9,9 @@ pub returns : goal.returns
 unfolding starts_in
 returns c =
     let self = c.args.self.now in
-    let numbers = c.args.numbers.now in
-    let lasts = c.args.lasts.now in
+    let ends = c.args.ends.now in
     let entries = self.entries.items in
-    let one : Entry = record { first = c.args.first; count = length numbers } in
-    ap (λ l. noted_in (reverse l) c.add_numbers.new.self.numbers.items c.add_numbers.new.self.lasts.items) c.in_ok-push.ensures.items
-    ∙ ap (λ (l : List Entry). noted_in (reverse (l ++ one ∷ [])) c.add_numbers.new.self.numbers.items c.add_numbers.new.self.lasts.items) (ap (λ v. v.items) c.add_numbers.ensures.entries)
-    ∙ ap (λ (l : List ℕ). noted_in (reverse (entries ++ one ∷ [])) l c.add_numbers.new.self.lasts.items) c.in_ok-add_numbers.ensures.numbers
-    ∙ ap (λ (l : List (Option ℕ)). noted_in (reverse (entries ++ one ∷ [])) (self.numbers.items ++ numbers) l) c.in_ok-add_numbers.ensures.lasts
-    ∙ noted_in-more entries self.numbers.items numbers self.lasts.items lasts one refl self.pairs
+    let one : Entry = record { first = c.args.first; count = length ends } in
+    ap (λ (l : List Entry). noted_in (reverse l) (reverse c.extend_from_slice.new.self.items)) c.in_ok-push.ensures.items
+    ∙ ap (λ (l : List End). noted_in (reverse (entries ++ one ∷ [])) (reverse l)) c.in_ok-extend_from_slice.ensures.items
+    ∙ noted_in-more entries self.ends.items ends one refl

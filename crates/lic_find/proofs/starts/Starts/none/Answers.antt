@@ -5,4 +5,4 @@ use Rattle.lic_find.proofs.starts.Starts.none.Goals as goal
 
 pub returns : goal.returns
 unfolding starts_in
-returns c = noted_in-none c.new.result.items c.new-2.result.items c.new-3.result.items (ap length c.new.ensures.items)
+returns c = noted_in-none c.new.result.items c.new-2.result.items (ap length c.new.ensures.items)

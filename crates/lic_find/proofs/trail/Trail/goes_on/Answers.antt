@@ -1,0 +1,11 @@
+use Rattle.std.proofs.Common.{refl}
+use Rattle.lic_find.proofs.trail.Trail.goes_on.Goals as goal
+
+pub returns-clause-taken : goal.returns-clause-taken
+returns-clause-taken c = λ h. record {
+  template = refl;
+  high = refl;
+  low = refl;
+  joins = c.if-self.false;
+  seeks = λ entered e ts s inside outside. c.goes_on.ensures.stands entered e ts s h (λ entry. absurd (outside c.if-self.false entry));
+}

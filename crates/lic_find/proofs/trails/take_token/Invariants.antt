@@ -1,0 +1,12 @@
+use Rattle.std.proofs.Common.{reverse, chars}
+use Rattle.std.specs.Bool.{IsTrue}
+use Rattle.std.specs.Option.{IfSome}
+use Rattle.lic_marks.specs.Plain.{IsPlain}
+use Rattle.lic_find.proofs.TrailRuns.{HaveGoneBelow}
+use Rattle.lic_find.proofs.trails.take_token.Given as goal
+
+abbrev pub invariant-loop-place : goal.invariant-loop-place
+invariant-loop-place l = record {
+  below : HaveGoneBelow (chars l.token) l.place l.initial.trails l.trails;
+  read : IfSome l.read (λ is. IsTrue is → IsPlain l.plain (reverse (chars l.token)));
+}

@@ -1,0 +1,108 @@
+//! Where templates are entered on a walk towards the front of a text.
+
+ghost use Rattle.std.specs.Prelude.{◌≡◌, ◌<◌, false, length, slice_index, IfOk, OnOk};
+ghost use Rattle.lic_keys.specs.Rising.{IsRising};
+ghost use Rattle.lic_auto.specs.Choices.{set_chosen};
+ghost use Rattle.lic_auto.specs.declared.direction.Direction.TheVariants.{Backward};
+ghost use Rattle.lic_find.specs.Matches.{IsMatch};
+ghost use Rattle.lic_find.specs.Trails.{AreEntered, IsEntered};
+ghost use Rattle.lic_find.specs.declared.triple.Triple.{Triple};
+
+use crate::tail::may_end;
+use crate::trail::Trail;
+use crate::trails::newest_of_most;
+use lic_auto::chosen::Chosen;
+use lic_auto::direction::Direction;
+use lic_auto::set::Set;
+use lic_norm::text::Text;
+use std::alloc::{AllocError, Global};
+
+/// Templates of a set whose words are read from the end.
+#[derive(Debug, Drop)]
+pub struct Entrances<'s> {
+    set: &'s Set,
+    chosen: Chosen<'s>,
+    // how many trails a template may have, one at least
+    most: usize,
+    ghost same: { set_chosen chosen ≡ set.now },
+    ghost backward: { chosen.direction ≡ Backward },
+}
+
+impl<'s> Entrances<'s> {
+    ghost use Rattle.lic_find.specs.Entrances.{numbers_entered, set_entered};
+
+    /// The templates of these numbers, each with so many trails at most, or one. Fails if memory runs out.
+    pub fn of(
+        alloc: Global,
+        set: &'s Set,
+        numbers: Vec<usize>,
+        most: usize,
+    ) -> Result<Entrances<'s>, AllocError>
+        requires { IsRising numbers.items (length set.now) }
+        ensures set { IfOk result (λ entrances. set_entered entrances ≡ set.now) }
+        ensures numbers { IfOk result (λ entrances. numbers_entered entrances ≡ numbers.items) }
+    {
+        let chosen = Chosen::new(alloc, set, numbers, Direction::Backward)?;
+        Ok(Entrances { set, chosen, most })
+    }
+
+    /// The templates of which a match may end with this token are entered there: one trail of each joins with the token, which all trails
+    /// take next. Fails if memory runs out.
+    pub fn enter(
+        &self,
+        alloc: Global,
+        text: &Text,
+        last: usize,
+        trails: &mut Vec<Trail<'s>>,
+    ) -> Result<(), AllocError>
+        requires { last < length text.now.tokens }
+        ensures { OnOk result (AreEntered (set_entered self.now) (numbers_entered self.now)
+            text.now.tokens last trails.old.items trails.new.items) }
+    {
+        let token = text.token(last).text;
+        let places = self.chosen.entered_by(token);
+        for i in (0..places.len()).rev() {
+            let place = places[i];
+            if self.may_end(place, text, last) {
+                self.enter_one(alloc, place, last, trails)?;
+            }
+        }
+        Ok(())
+    }
+
+    // Whether a match of the template at a place may end with this token: false only where none does.
+    fn may_end(&self, place: usize, text: &Text, last: usize) -> bool
+        requires within { last < length text.now.tokens }
+        requires place { place < length (numbers_entered self.now) }
+        ensures { result ≡ false → (t : Triple) → IsMatch (set_entered self.now) text.now.tokens t
+            → t.template ≡ slice_index (numbers_entered self.now) place → ¬ (t.last ≡ last) }
+    {
+        if !may_end(self.set, text, self.chosen.number(place), last) {
+            return false;
+        }
+        self.chosen.may_enter(place, text.token(last).text)
+    }
+
+    // The template at a place is entered at this token: with a trail of its own, or where it has as many as it may, with its newest one.
+    fn enter_one(
+        &self,
+        alloc: Global,
+        place: usize,
+        end: usize,
+        trails: &mut Vec<Trail<'s>>,
+    ) -> Result<(), AllocError>
+        requires { place < length (numbers_entered self.now) }
+        ensures { OnOk result (IsEntered (set_entered self.now)
+            (slice_index (numbers_entered self.now) place) end trails.old.items trails.new.items) }
+    {
+        let template = self.chosen.number(place);
+        if let Some(newest) = newest_of_most(trails, template, self.most) {
+            let trail = &mut trails[newest];
+            trail.join(end);
+            return Ok(());
+        }
+        let trail = Trail::new(alloc, self.chosen.tree(place), template, end)?;
+        trails.push(trail)?;
+        Ok(())
+    }
+}

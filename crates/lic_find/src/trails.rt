@@ -1,0 +1,126 @@
+//! Lists of trails, the latest ends first.
+
+ghost use Rattle.std.specs.Prelude.{◌≡◌, ◌↔◌, false, reverse, IfSome, IsTrue, OnOk, Some};
+ghost use Rattle.std.specs.List.{slice_get};
+ghost use Rattle.std.specs.Str.{chars};
+ghost use Rattle.lic_phrases.specs.TokenTexts.{IsTokenText};
+ghost use Rattle.lic_marks.specs.Plain.{IsPlain};
+ghost use Rattle.lic_find.specs.TrailEnds.{AddsEnd, AreEndsOf};
+ghost use Rattle.lic_find.specs.Trails.{Accepts, AreSingle, AreWithoutDead, HaveGoneOn, IsDead};
+ghost use Rattle.lic_find.specs.declared.trail.Trail.{Trail};
+
+use crate::end::End;
+use crate::trail::Trail;
+use lic_auto::direction::{Direction, known_of};
+use lic_auto::seek::Plain;
+use std::alloc::AllocError;
+
+/// The place of the newest trail of a template, where it has as many as it may.
+pub fn newest_of_most(trails: &[Trail<'_>], template: usize, most: usize) -> Option<usize>
+    ensures { IfSome result (λ place. (trail : Trail)
+        × (slice_get trails.now place ≡ Some trail) × (trail.template ≡ template)) }
+{
+    let mut newest = None;
+    let mut count: usize = 0;
+    for place in 0..trails.len() {
+        if trails[place].template == template {
+            newest = Some(place);
+            count += 1;
+        }
+    }
+    if count < most {
+        return None;
+    }
+    newest
+}
+
+/// Whether the trails of a template have one end each.
+pub fn are_single(trails: &[Trail<'_>], template: usize) -> bool
+    ensures { IsTrue result ↔ AreSingle trails.now template }
+{
+    for place in 0..trails.len() {
+        let trail = &trails[place];
+        if trail.template == template {
+            if !trail.is_single() {
+                return false;
+            }
+        }
+    }
+    true
+}
+
+/// All trails take a token.
+pub fn take_token(trails: &mut [Trail<'_>], token: &str, plain: &mut Plain)
+    requires { IsTokenText token.now }
+    ensures { HaveGoneOn (chars token.now) trails.old trails.new }
+{
+    let mut read = None;
+    for place in 0..trails.len() {
+        let trail = &mut trails[place];
+        if !trail.goes_on(token) {
+            let is_plain = read_once(token, plain, &mut read);
+            trail.take(token, known_of(plain, is_plain));
+        }
+    }
+}
+
+// Reads a token's letters from its end, if that was not done before, and says whether they are plain.
+#[inline]
+fn read_once(token: &str, plain: &mut Plain, read: &mut Option<bool>) -> bool
+    ensures result { IfSome read.old (λ is. IsTrue is → IsPlain plain.old (reverse (chars token.now)))
+        → IsTrue result → IsPlain plain.new (reverse (chars token.now)) }
+    ensures kept { IfSome read.old (λ is. IsTrue is → IsPlain plain.old (reverse (chars token.now)))
+        → IfSome read.new (λ is. IsTrue is → IsPlain plain.new (reverse (chars token.now))) }
+{
+    if let Some(is_plain) = *read {
+        return is_plain;
+    }
+    let is_plain = Direction::Backward.read(token, plain);
+    *read = Some(is_plain);
+    is_plain
+}
+
+/// Drops the trails that are dead.
+pub fn drop_dead(trails: &mut Vec<Trail<'_>>)
+    ensures { AreWithoutDead trails.old.items trails.new.items }
+{
+    trails.retain(|trail| !trail.is_dead());
+}
+
+/// The ends of the matches that begin with the token that the trails took last, in place of those before. Where a trail has several ends,
+/// its template alone is told. Fails if memory runs out.
+pub fn gather_ends(
+    trails: &[Trail<'_>],
+    ends: &mut Vec<End>,
+    unclear: &mut Vec<usize>,
+) -> Result<(), AllocError>
+    ensures { OnOk result (AreEndsOf trails.now ends.new.items unclear.new.items) }
+{
+    ends.clear();
+    unclear.clear();
+    for trail in trails {
+        if trail.accepts() {
+            add_end(trail, ends, unclear)?;
+        }
+    }
+    Ok(())
+}
+
+// Adds the end of a trail, or its template where it has several ends.
+fn add_end(
+    trail: &Trail<'_>,
+    ends: &mut Vec<End>,
+    unclear: &mut Vec<usize>,
+) -> Result<(), AllocError>
+    ensures { OnOk result (AddsEnd trail.now ends.old.items unclear.old.items ends.new.items unclear.new.items) }
+{
+    if trail.is_single() {
+        ends.push(End {
+            last: trail.high,
+            template: trail.template,
+        })?;
+        return Ok(());
+    }
+    unclear.push(trail.template)?;
+    Ok(())
+}
