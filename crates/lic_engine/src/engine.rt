@@ -43,11 +43,13 @@ fn report_all<W: Sink>(
     ensures writes { CountsWrites result (W.failed out.old) (W.failed out.new) }
     ensures faults { IsOfWriting result }
 {
+    let mut file = Vec::new(alloc);
+    add_file(&mut file, name)?;
     let wanted = Wanted::new(alloc, set, text, ask)?;
     let mut lines = Vec::new(alloc);
     let mut some = false;
     for triple in wanted {
-        add_match(&mut lines, name, set, text, triple)?;
+        add_match(&mut lines, &file, set, text, triple)?;
         put_gathered(out, &mut lines)?;
         some = true;
     }

@@ -41,19 +41,20 @@ pub fn add_file(lines: &mut Vec<u8>, name: &str) -> Result<(), AllocError>
     add_text(lines, name.as_bytes(), b'\t')
 }
 
-/// Adds the line of a match: the file, the identifier, the numbers of the first and last token, the first
-/// byte of the one and the end of the other.
+/// Adds the line of a match: the file, as `add_file` has written its name, the identifier, the numbers of the first and last
+/// token, the first byte of the one and the end of the other.
 pub fn add_match(
     lines: &mut Vec<u8>,
-    name: &str,
+    file: &[u8],
     set: &Set,
     text: &Text,
     triple: Triple,
 ) -> Result<(), AllocError>
-    ensures { OnOk result (lines.new.items
-        ≡ lines.old.items ++ match_line name.now set.now text.now.tokens triple) }
+    ensures { OnOk result ((name : List ℕ) → file.now ≡ field (escaped name) 0x09
+        → lines.new.items
+        ≡ lines.old.items ++ match_line name set.now text.now.tokens triple) }
 {
-    add_file(lines, name)?;
+    lines.extend_from_slice(file)?;
     add_text(lines, id_at(set, triple.template).as_bytes(), b'\t')?;
     add_number(lines, triple.first as u64, b'\t')?;
     add_number(lines, triple.last as u64, b'\t')?;

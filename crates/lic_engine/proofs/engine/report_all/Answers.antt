@@ -2,6 +2,7 @@ use Rattle.std.proofs.Common.{rules, ◌≡◌, ◌∙◌, ap, ◌++◌, sym, ap
 use Rattle.std.specs.List.{flat_map}
 use Rattle.std.specs.Io.KnownBytes.{Appends}
 use Rattle.lic_stream.specs.Stream.{BeginsWith}
+use Rattle.lic_fields.specs.Fields.{escaped, field}
 use Rattle.lic_report.specs.Report.{match_line}
 use Rattle.lic_report.specs.Wanted.{wanted_of}
 use Rattle.lic_stream.proofs.Written.{IsPut, begins_empty, put_begins, put_begins_within, put_line, put_more, put_nothing, put_whole}
@@ -35,21 +36,25 @@ returns-in_err-put_gathered-clause-part g c =
     let all : wanted_of c.in_ok-wanted.wanted ≡ (c.loop-triple.yielded ++ c.in-Some.triple ∷ []) ++ wanted_of c.next.new.self =
     ap wanted_of (sym same) ∙ c.loop-triple.invariant.all ∙ ap (λ l. c.loop-triple.yielded ++ l) c.in-Some.ensures.steps
     ∙ sym (append_assoc c.loop-triple.yielded (c.in-Some.triple ∷ []) (wanted_of c.next.new.self)) in
+    let file : c.deref.result.now ≡ field (escaped c.args.name.now) 0x09 =
+    c.deref.ensures.value ∙ c.in_ok-add_file.ensures ∙ ap (λ l. l ++ field (escaped c.args.name.now) 0x09) c.new-file.ensures.items in
     let put : IsPut _ (g.W.Sink.taken c.loop-triple.out) c.add_match.new.lines.items _ =
-    put_line (match_line c.args.name.now c.args.set.now c.args.text.now.tokens) c.loop-triple.yielded c.in-Some.triple _ _ _ _ c.loop-triple.invariant.put c.in_ok-add_match.ensures in
+    put_line (match_line c.args.name.now c.args.set.now c.args.text.now.tokens) c.loop-triple.yielded c.in-Some.triple _ _ _ _ c.loop-triple.invariant.put (c.in_ok-add_match.ensures c.args.name.now file) in
     begins_report c.args.name.now c.args.set.now c.args.ask.now c.args.text.now.tokens (wanted_of c.in_ok-wanted.wanted) _ _ _ c.in_ok-wanted.ensures.only
     (put_begins_within (match_line c.args.name.now c.args.set.now c.args.text.now.tokens) _ _
     (wanted_of c.next.new.self) _ _ _ _ put c.in_err-put_gathered.ensures.part all)
 
 pub loop-triple-preserved : goal.loop-triple-preserved
 loop-triple-preserved g c =
+    let file : c.deref.result.now ≡ field (escaped c.args.name.now) 0x09 =
+    c.deref.ensures.value ∙ c.in_ok-add_file.ensures ∙ ap (λ l. l ++ field (escaped c.args.name.now) 0x09) c.new-file.ensures.items in
     record {
       can = tt;
       finite = tt;
       all = c.loop-triple.invariant.all ∙ ap (λ l. c.loop-triple.yielded ++ l) c.in-Some.ensures.steps
           ∙ sym (append_assoc c.loop-triple.yielded (c.in-Some.triple ∷ []) (wanted_of c.next.new.self));
       put = put_more _ (g.W.Sink.taken c.loop-triple.out) _ _ _ _
-          (put_line (match_line c.args.name.now c.args.set.now c.args.text.now.tokens) c.loop-triple.yielded c.in-Some.triple _ _ _ _ c.loop-triple.invariant.put c.in_ok-add_match.ensures)
+          (put_line (match_line c.args.name.now c.args.set.now c.args.text.now.tokens) c.loop-triple.yielded c.in-Some.triple _ _ _ _ c.loop-triple.invariant.put (c.in_ok-add_match.ensures c.args.name.now file))
           c.in_ok-put_gathered.ensures.ok;
       some = some_more c.loop-triple.yielded c.in-Some.triple;
       sound = search rules;
@@ -84,5 +89,8 @@ returns-clause-written g c =
     (put_whole _ (g.W.Sink.taken c.loop-triple.out) _ _ _ c.loop-triple.invariant.put put))
     (c.loop-triple.invariant.some ∙ ap (λ l. nat_lt 0 (length l)) all)
 
+pub returns-in_err-add_file-clause-part : goal.returns-in_err-add_file-clause-part
+returns-in_err-add_file-clause-part g c = on_error _ c.from_residual.result (λ lines are. begins_empty (g.W.Sink.taken c.args.out.now) lines)
+
 pub returns-in_err-wanted-clause-part : goal.returns-in_err-wanted-clause-part
-returns-in_err-wanted-clause-part g c = on_error _ c.from_residual.result (λ lines are. begins_empty (g.W.Sink.taken c.args.out.now) lines)
+returns-in_err-wanted-clause-part g c = on_error _ c.from_residual-in_err-wanted.result (λ lines are. begins_empty (g.W.Sink.taken c.args.out.now) lines)

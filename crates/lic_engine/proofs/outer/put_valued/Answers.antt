@@ -1,5 +1,6 @@
-use Rattle.std.proofs.Common.{rules, ◌≡◌, ◌<◌, ◌+◌, [], length, take, drop, get_or, refl, sym, subst, ◌∙◌}
+use Rattle.std.proofs.Common.{rules, ◌≡◌, ◌<◌, ◌+◌, ◌++◌, [], length, take, drop, get_or, refl, sym, ap, subst, ◌∙◌}
 use Rattle.std.proofs.lemmas.List.{take-append-drop}
+use Rattle.lic_fields.specs.Fields.{escaped, field}
 use Rattle.lic_find.specs.Matches.{IsMatch}
 use Rattle.lic_find.specs.declared.triple.Triple.{Triple}
 use Rattle.lic_report.specs.Report.{HasItsValues, Valued, triple_of, valued_lines}
@@ -37,7 +38,7 @@ returns-in_err-add_valued-clause-part g c =
     let lines = valued_lines c.args.name.now set c.args.text.now.source tokens in
     let i = c.loop-triple.triple-index in
     err_begins Triple Valued triple_of (HasItsValues set tokens) lines (one_valued set tokens c.values_are_one_list.ensures)
-    c.from_residual.result (g.W.Sink.taken c.args.out.now) (g.W.Sink.taken c.loop-triple.out) c.loop-triple.lines.items
+    c.from_residual-in_err-add_valued.result (g.W.Sink.taken c.args.out.now) (g.W.Sink.taken c.loop-triple.out) c.loop-triple.lines.items
     (take i c.args.triples.now) (drop i c.args.triples.now) c.args.triples.now c.loop-triple.invariant.done (sym (take-append-drop i c.args.triples.now))
 
 pub returns-in_err-put_gathered-clause-part : goal.returns-in_err-put_gathered-clause-part
@@ -47,13 +48,15 @@ returns-in_err-put_gathered-clause-part g c =
     let tokens = c.args.text.now.tokens in
     let lines = valued_lines c.args.name.now set source tokens in
     let i = c.loop-triple.triple-index in
+    let file : c.deref.result.now ≡ field (escaped c.args.name.now) 0x09 =
+    c.deref.ensures.value ∙ c.in_ok-add_file.ensures ∙ ap (λ l. l ++ field (escaped c.args.name.now) 0x09) c.new-file.ensures.items in
     let within : i < length c.args.triples.now = search rules in
     err_begins_within Triple Valued triple_of (HasItsValues set tokens) lines (one_valued set tokens c.values_are_one_list.ensures)
     c.from_residual-in_err-put_gathered.result (g.W.Sink.taken c.args.out.now) (g.W.Sink.taken c.loop-triple.out)
     (g.W.Sink.taken c.put_gathered.new.out) c.add_valued.new.lines.items
     (take (i + 1) c.args.triples.now) (drop (i + 1) c.args.triples.now) c.args.triples.now
     (valued_more c.args.name.now set source tokens (g.W.Sink.taken c.args.out.now)
-    (g.W.Sink.taken c.loop-triple.out) c.loop-triple.lines.items c.add_valued.new.lines.items c.args.triples.now i nowhere c.loop-triple.invariant.done within (valued_by c.args.name.now c.loop-triple.assigners set source tokens c.loop-triple.lines.items c.add_valued.new.lines.items (get_or c.args.triples.now i nowhere) c.loop-triple.invariant.assigners c.in_ok-add_valued.ensures.lines))
+    (g.W.Sink.taken c.loop-triple.out) c.loop-triple.lines.items c.add_valued.new.lines.items c.args.triples.now i nowhere c.loop-triple.invariant.done within (valued_by c.args.name.now c.loop-triple.assigners set source tokens c.loop-triple.lines.items c.add_valued.new.lines.items (get_or c.args.triples.now i nowhere) c.loop-triple.invariant.assigners (c.in_ok-add_valued.ensures.lines c.args.name.now file)))
     c.in_err-put_gathered.ensures.part (sym (take-append-drop (i + 1) c.args.triples.now))
 
 pub loop-triple-preserved : goal.loop-triple-preserved
@@ -63,11 +66,13 @@ loop-triple-preserved g c =
     let tokens = c.args.text.now.tokens in
     let lines = valued_lines c.args.name.now set source tokens in
     let i = c.loop-triple.triple-index in
+    let file : c.deref.result.now ≡ field (escaped c.args.name.now) 0x09 =
+    c.deref.ensures.value ∙ c.in_ok-add_file.ensures ∙ ap (λ l. l ++ field (escaped c.args.name.now) 0x09) c.new-file.ensures.items in
     let within : i < length c.args.triples.now = search rules in
     record {
       assigners = c.add_valued.ensures.set ∙ c.loop-triple.invariant.assigners;
       done = done_put Triple Valued triple_of (HasItsValues set tokens) lines _ (g.W.Sink.taken c.loop-triple.out) _ _ _ (take (i + 1) c.args.triples.now)
-          (valued_more c.args.name.now set source tokens _ _ _ _ c.args.triples.now i nowhere c.loop-triple.invariant.done within (valued_by c.args.name.now c.loop-triple.assigners set source tokens c.loop-triple.lines.items c.add_valued.new.lines.items (get_or c.args.triples.now i nowhere) c.loop-triple.invariant.assigners c.in_ok-add_valued.ensures.lines))
+          (valued_more c.args.name.now set source tokens _ _ _ _ c.args.triples.now i nowhere c.loop-triple.invariant.done within (valued_by c.args.name.now c.loop-triple.assigners set source tokens c.loop-triple.lines.items c.add_valued.new.lines.items (get_or c.args.triples.now i nowhere) c.loop-triple.invariant.assigners (c.in_ok-add_valued.ensures.lines c.args.name.now file)))
           c.in_ok-put_gathered.ensures.ok;
       sound = search rules;
     }
