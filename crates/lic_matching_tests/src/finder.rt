@@ -151,8 +151,16 @@ fn counts_the_steps_of_worked_texts(rt: HostRuntime) -> Result<(), Fail> {
             (0, 57),
             (24, 64),
         ),
-        // Ten letters and three gaps from the end; then the least and the most from where a match begins.
-        (&["z"], ("", "abc ", 3, "z"), (10, 22), 4, (1, 4), (11, 26)),
+        // Ten letters and three gaps from the end; then at least the letter of the match, and at most what one walk over the text takes, since a
+        // match that is known counts as the walk that noted it.
+        (
+            &["z"],
+            ("", "abc ", 3, "z"),
+            (10, 22),
+            22,
+            (1, 22),
+            (11, 44),
+        ),
         // No match, no walk from any token; the text is walked once all the same.
         (
             &["abc z"],

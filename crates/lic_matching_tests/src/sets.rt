@@ -1,6 +1,6 @@
 //! Sets of templates: how they are numbered, and why one is refused.
 
-use crate::profile::template_of;
+use crate::profile::{set_of, template_of};
 use lic_auto::set::Set;
 use lic_markup::Template;
 use std::alloc::Global;
@@ -59,6 +59,43 @@ fn templates_are_numbered_or_no_set(rt: HostRuntime) -> Result<(), Fail> {
     for (count, ids, expected) in table {
         let told = told(rt.alloc(), *count, ids)?;
         assert_eq!(rt; told.as_str(), *expected, "{count} and {ids}");
+    }
+    Ok(())
+}
+
+/// The tail of the template of a text, or `-` where it has none.
+fn tail_of(alloc: Global, text: &str) -> Result<String, Fail> {
+    let set = set_of(alloc, &[text])?;
+    if set.len() == 0 {
+        return Ok(String::new(alloc));
+    }
+    Ok(set.tail(0).unwrap_or("-").to_string(alloc)?)
+}
+
+#[test]
+fn a_set_has_the_tails_of_its_templates(rt: HostRuntime) -> Result<(), Fail> {
+    let table: &[(&str, &str)] = &[
+        // the last sixteen letters, without blanks
+        (
+            "Permission is hereby granted, free of charge",
+            "ted,freeofcharge",
+        ),
+        ("the end", "theend"),
+        (
+            "\u{e9}t\u{e9} \u{4e2d} \u{6587}",
+            "\u{e9}t\u{e9}\u{4e2d}\u{6587}",
+        ),
+        (
+            "<<var;name=\"a\";original=\"b\";match=\".+\">> of <<beginOptional>>b<<endOptional>> c",
+            "c",
+        ),
+        // the last part is no text
+        ("x <<var;name=\"a\";original=\"b\";match=\".+\">>", "-"),
+        ("x <<beginOptional>>y<<endOptional>>", "-"),
+    ];
+    for (text, expected) in table {
+        let tail = tail_of(rt.alloc(), text)?;
+        assert_eq!(rt; tail.as_str(), *expected, "of {text}");
     }
     Ok(())
 }
