@@ -1,11 +1,11 @@
-/* Preloaded before a program: the Nth request for memory fails, N being FAIL_NTH in the environment. How many there were is written
-   at the end to the file that COUNT_IN names. */
+/* Preloaded before a program: the Nth request for memory fails, N being FAIL_NTH in the environment. How many there were, and how many
+   blocks were held at once at most, is written at the end to the file that COUNT_IN names. */
 #define _GNU_SOURCE
 #include <dlfcn.h>
 #include <stdio.h>
 #include <stdlib.h>
 
-static long count = 0, at = -2;
+static long count = 0, at = -2, held = 0, most = 0;
 
 static int fails(void) {
     if (at == -2) {
@@ -15,29 +15,43 @@ static int fails(void) {
     return ++count == at;
 }
 
+static void *taken(void *block) {
+    if (block && ++held > most) most = held;
+    return block;
+}
+
 void *malloc(size_t n) {
     static void *(*real)(size_t);
     if (!real) real = dlsym(RTLD_NEXT, "malloc");
-    return fails() ? 0 : real(n);
+    return fails() ? 0 : taken(real(n));
 }
 
 void *realloc(void *p, size_t n) {
     static void *(*real)(void *, size_t);
     if (!real) real = dlsym(RTLD_NEXT, "realloc");
-    return fails() ? 0 : real(p, n);
+    if (fails()) return 0;
+    return p ? real(p, n) : taken(real(p, n));
 }
 
 void *aligned_alloc(size_t a, size_t n) {
     static void *(*real)(size_t, size_t);
     if (!real) real = dlsym(RTLD_NEXT, "aligned_alloc");
-    return fails() ? 0 : real(a, n);
+    return fails() ? 0 : taken(real(a, n));
+}
+
+void free(void *p) {
+    static void (*real)(void *);
+    if (!p) return;
+    if (!real) real = dlsym(RTLD_NEXT, "free");
+    held--;
+    real(p);
 }
 
 __attribute__((destructor)) static void tell(void) {
-    long requests = count;
+    long requests = count, blocks = most;
     const char *name = getenv("COUNT_IN");
     FILE *file = name ? fopen(name, "w") : 0;
     if (!file) return;
-    fprintf(file, "%ld\n", requests);
+    fprintf(file, "%ld %ld\n", requests, blocks);
     fclose(file);
 }

@@ -6,7 +6,8 @@
 A run in which a request was refused must either say and write what the whole run does, or end with
 status 2, report that memory ran out by a text of the manual, and write and tell nothing else that the whole run does not; each text with a
 code must come. And two thousand matches must
-take no more requests than one match, but for the growth of the report: giving a match takes no memory. Needs a C
+take no more requests than one match, but for the growth of the report: giving a match takes no memory. And a text that is a thousand times as
+long must hold hardly more blocks at once: what a template takes where it is entered is given back when it goes on no more. Needs a C
 compiler. Prints each run that breaks this; the last line is 'N runs, M bad', and the status is 1 if M is not 0.
 """
 import os, re, shutil, subprocess, sys, tempfile
@@ -63,7 +64,7 @@ FILES = {
 # a text with more than two thousand matches, and the most requests by which the report of them all grows
 MANY = b'x of y of z ' * 60
 GROWTH = 20
-# a text without a match, at each token of which one might begin; and the most requests by which a text a thousand times as long grows
+# a text without a match, at each token of which one might end; and the most blocks more that a text a thousand times as long holds at once
 NONE = b'z ' * 50
 LONGER = 60
 # after so many seconds a run is stopped
@@ -96,13 +97,13 @@ def run(program, folder, library, words, given, n):
 
 
 def requests(program, folder, library, limit, text):
-    """How many matches of a text a run of at most so many writes, and how many requests for memory it makes."""
+    """How many matches of a text a run of at most so many writes, how many requests for memory it makes, and how many blocks it holds at once."""
     count = os.path.join(folder, 'count')
     place = dict(os.environ, LD_PRELOAD=library, COUNT_IN=count)
     words = ['scan', '--all', '--templates', 'V', '--limit', str(limit)]
     ran = subprocess.run([program] + words, input=text, capture_output=True, env=place, cwd=folder)
     with open(count) as it:
-        return len(ran.stdout.splitlines()), int(it.read())
+        return len(ran.stdout.splitlines()), *map(int, it.read().split())
 
 
 def is_right(ran, whole):
@@ -143,15 +144,15 @@ def main():
                     bad += 1
                     print(words, 'request', n, ran)
             runs += n
-        (one, few), (all_of_them, many) = [requests(program, folder, library, limit, MANY) for limit in (1, 2000)]
-        (none, short), (still_none, long) = [requests(program, folder, library, 1, text) for text in (NONE, NONE * 1000)]
+        (one, few, _), (all_of_them, many, _) = [requests(program, folder, library, limit, MANY) for limit in (1, 2000)]
+        (none, _, short), (still_none, _, long) = [requests(program, folder, library, 1, text) for text in (NONE, NONE * 1000)]
         runs += 4
         if (one, all_of_them) != (1, 2000) or many - few > GROWTH:
             bad += 1
             print('requests', few, 'for', one, 'match', many, 'for', all_of_them)
         if (none, still_none) != (0, 0) or long - short > LONGER:
             bad += 1
-            print('requests', short, 'for a text without a match', long, 'for a long one')
+            print('blocks at once', short, 'for a text without a match', long, 'for a long one')
     if not codes >= CODES:
         bad += 1
         print('no run told', CODES - codes)

@@ -24,7 +24,7 @@ def run(program, name, library, count, n):
     except subprocess.TimeoutExpired:
         return False, 0
     with open(count) as it:
-        return ran.returncode == 0 and (ran.stdout + ran.stderr).strip() == b'test result: ok', int(it.read() or 0)
+        return ran.returncode == 0 and (ran.stdout + ran.stderr).strip() == b'test result: ok', int((it.read().split() or [0])[0])
 
 
 def sweep(program, name, library, count):
