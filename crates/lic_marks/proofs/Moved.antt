@@ -1,6 +1,6 @@
 -- Where letters lead from positions that stand alone.
-use Rattle.std.proofs.Common.{◌≡◌, ℕ, suc, ◌+◌, ◌-◌, ◌<◌, ◌≤◌, Bool, true, false, nat_lt, List, [], ◌∷◌, ◌++◌, Option, Some, None, length, refl, sym, ◌∙◌, subst, arith, if◌then◌else◌}
-use Rattle.std.proofs.lemmas.Bool.{ltb-true, ltb-false}
+use Rattle.std.proofs.Common.{◌≡◌, ℕ, suc, ◌+◌, ◌-◌, ◌<◌, ◌≤◌, Bool, true, false, nat_lt, List, [], ◌∷◌, ◌++◌, Option, Some, None, length, refl, sym, ap, ◌∙◌, subst, arith, if◌then◌else◌}
+use Rattle.std.proofs.lemmas.Bool.{ltb-true, ltb-false, lt-ltb, le-ltb}
 use Rattle.std.specs.Option.{ForSome}
 use Rattle.lic_words.specs.Words.{Word, blank}
 use Rattle.lic_words.specs.Spelling.{Gap, no_gap, gap_of}
@@ -9,10 +9,13 @@ use Rattle.lic_marks.specs.Standing.{After, Then, Leads}
 use Rattle.lic_marks.specs.Stretches.{mark_at, LeadsOver}
 use Rattle.lic_marks.specs.Counts.{IsQuiet, IsQuietBehindBlanks}
 use Rattle.lic_marks.specs.Lone.{Behind, BehindSome, MovesTo}
+use Rattle.lic_marks.specs.Memories.{has}
 use Rattle.lic_marks.specs.Nodes.{passes}
+use Rattle.lic_marks.specs.Plain.{ComeJoined}
 use Rattle.lic_marks.specs.Threads.{AreCounts, IsAmongCounts}
 use Rattle.lic_marks.specs.Ways.{IsWay}
 use Rattle.lic_marks.specs.declared.counts.Counts.{Counts}
+use Rattle.lic_marks.specs.declared.letter_set.LetterSet.{LetterSet}
 use Rattle.lic_marks.specs.declared.stretch.Way.TheVariants.{To, Nowhere}
 use Rattle.lic_marks.proofs.Counting.{counts_next, counts_first, step as step_count, step_of}
 use Rattle.lic_marks.proofs.Following.{follows_gap, follows_along}
@@ -125,3 +128,36 @@ moves_first r counts place c words step are pass over letter quiet is =
     (λ beyond v h.
     let far : counts.most < j + step_count words = omega (arith, here, beyond, steps) in
     both.1 far v (subst (λ n. Then (gap_of true words) c (Behind r n) v) (sym here) h))
+
+-- one letter at once, and then others
+module _ (r : Core) (counts : Counts) (place : ℕ) (p : Gap × ℕ) (rest : List (Gap × ℕ)) (are : AreCounts r counts place)
+    (more : AreCounts r counts (place + 1) → MovesTo r (Some (place + 1)) rest (next_of counts (place + 1) (length rest))) where
+  along_by : (b : Bool) → nat_lt (counts.first + counts.most) (place + 1) ≡ b → MovesTo r (Some place) (p ∷ []) (if b then None else Some (place + 1)) →
+      MovesTo r (Some place) (p ∷ rest) (next_of counts place (suc (length rest)))
+  along_by true e one =
+      let beyond : counts.first + counts.most < place + 1 = ltb-true _ _ e in
+      let far : nat_lt (counts.first + counts.most) (place + suc (length rest)) ≡ true = lt-ltb _ _ (omega (arith, beyond)) in
+      rw far (moves_nowhere r (Some place) (p ∷ []) rest one)
+  along_by false e one =
+      let low : place + 1 ≤ counts.first + counts.most = ltb-false _ _ e in
+      let there : AreCounts r counts (place + 1) =
+      record { positions = are.positions; among = record { low = omega (arith, are.among.low); high = low } } in
+      let same : place + 1 + length rest ≡ place + suc (length rest) = omega arith in
+      moves_more r (Some place) (Some (place + 1)) (next_of counts place (suc (length rest))) (p ∷ []) rest one
+      (subst (λ n. MovesTo r (Some (place + 1)) rest (if nat_lt (counts.first + counts.most) n then None else Some n)) same (more there))
+
+-- letters of a set one behind another, each at once
+module _ (r : Core) (counts : Counts) (set : LetterSet) (pass : (c : ℕ) → passes counts.test.now c ≡ true)
+    (quiet : (c : ℕ) → has set c ≡ true → IsQuiet r (counts.first + counts.most) c) where
+  pub moves_along : (letters : List (Gap × ℕ)) → ComeJoined set letters → (place : ℕ) → AreCounts r counts place →
+      MovesTo r (Some place) letters (next_of counts place (length letters))
+  moves_along [] joined place are =
+      let here : place + 0 ≡ place = omega arith in
+      let low : nat_lt (counts.first + counts.most) place ≡ false = le-ltb _ _ are.among.high in
+      rw (here, low) (moves_nothing r (Some place))
+  moves_along (p ∷ rest) joined place are =
+      let one : MovesTo r (Some place) ((no_gap, p.1) ∷ []) (next_of counts place 1) =
+      moves_next r counts place p.1 are (pass p.1) joined.1 (quiet p.1 joined.2) in
+      let is : (no_gap, p.1) ≡ p = ap (λ g. (g, p.1)) (sym joined.0) in
+      along_by r counts place p rest are (moves_along rest joined.3 (place + 1)) (nat_lt (counts.first + counts.most) (place + 1)) refl
+      (subst (λ q. MovesTo r (Some place) (q ∷ []) (next_of counts place 1)) is one)

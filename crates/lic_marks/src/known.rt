@@ -1,11 +1,12 @@
 //! What is known of the letters that follow positions which stand alone.
 
-ghost use Rattle.std.specs.Prelude.{◌≡◌, ◌∷◌, Some, IsTrue, IfOk, IfSome, map};
+ghost use Rattle.std.specs.Prelude.{◌≡◌, ℕ, ◌∷◌, Some, true, IsTrue, IfOk, IfSome, map};
 ghost use Rattle.std.specs.Option.{ForSome};
 ghost use Rattle.lic_words.specs.Reading.{gapped_letter};
 ghost use Rattle.lic_marks.specs.Cores.{Core};
 ghost use Rattle.lic_marks.specs.Counts.{IsQuiet, IsQuietBehindBlanks};
 ghost use Rattle.lic_marks.specs.Lone.{MovesTo, NoneEnds};
+ghost use Rattle.lic_marks.specs.Memories.{has};
 ghost use Rattle.lic_marks.specs.Nodes.{core_of, is_measured};
 
 use crate::counts::{Counts, has_counts};
@@ -66,6 +67,15 @@ impl Known {
             self.at_once.add(letter);
         }
         is_quiet
+    }
+
+    /// Whether it is known that no word goes on from the position with any letter of the set at once.
+    #[inline]
+    pub fn are_quiet(&self, letters: LetterSet) -> bool
+        ensures { (r : Core) → IsKnown r self.now → IsTrue result
+            → (c : ℕ) → has letters c ≡ true → IsQuiet r self.now.place c }
+    {
+        letters.is_within(self.at_once)
     }
 
     /// Whether no word goes on from the position with the letter, at once or behind blanks.

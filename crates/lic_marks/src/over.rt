@@ -1,12 +1,14 @@
 //! Where the letters of a token lead from one position that stands in a text, or counts letters.
 
-ghost use Rattle.std.specs.Prelude.{◌≡◌, ℕ, ◌+◌, ◌<◌, ◌≤◌, ◌∷◌, [], None, Some, if◌then◌else◌, nat_lt, IsTrue, true, IfSome, map};
+ghost use Rattle.std.specs.Prelude.{◌≡◌, ℕ, ◌+◌, ◌<◌, ◌≤◌, List, ◌∷◌, [], None, Some, if◌then◌else◌, nat_lt, IsTrue, true, IfSome, map};
 ghost use Rattle.std.specs.Option.{ForSome};
 ghost use Rattle.lic_words.specs.Reading.{gapped_letter};
+ghost use Rattle.lic_words.specs.Spelling.{gapped_from};
 ghost use Rattle.lic_marks.specs.Cores.{Core};
 ghost use Rattle.lic_marks.specs.Known.{IsKnown, IsProbe};
 ghost use Rattle.lic_marks.specs.Lone.{MovesTo, NoneEnds};
 ghost use Rattle.lic_marks.specs.Nodes.{core_of, is_measured, passes};
+ghost use Rattle.lic_marks.specs.Plain.{IsPlain};
 ghost use Rattle.lic_marks.specs.Rows.{weight};
 ghost use Rattle.lic_marks.specs.Stretches.{IsStretchOf};
 ghost use Rattle.lic_marks.specs.Threads.{AreCounts, IsAmongCounts};
@@ -14,6 +16,7 @@ ghost use Rattle.lic_marks.specs.Threads.{AreCounts, IsAmongCounts};
 use crate::counts::Counts;
 use crate::known::Known;
 use crate::node::Node;
+use crate::plain::Plain;
 use crate::state::State;
 use crate::stretch::{Stretch, Way};
 use lic_words::letters::Letter;
@@ -84,6 +87,40 @@ pub fn over_counts(
         Some(next) => over_letters(counts, next, tree, others, known, probe),
         None => Some(None),
     }
+}
+
+/// Where the letters of a plain token, behind the letter `last`, lead from a place that counts letters, if that is known. Those behind
+/// the first are gone over at once, where any letter is counted and of each of them that is known which has to be.
+pub fn over_plain(
+    counts: Counts<'_>,
+    place: usize,
+    tree: &Node,
+    plain: &Plain,
+    last: char,
+    known: &mut Known,
+    probe: &mut State,
+) -> Option<Option<usize>>
+    requires measured { IsTrue (is_measured tree.now) }
+    requires known { IsKnown (core_of tree.now) known.old }
+    requires last { known.old.place ≡ counts.last }
+    requires probe { IsProbe (core_of tree.now) probe.old }
+    ensures known { IsKnown (core_of tree.now) known.new }
+    ensures last { known.new.place ≡ known.old.place }
+    ensures probe { IsProbe (core_of tree.now) probe.new }
+    ensures moves { IfSome result (λ found. (token : List ℕ) → IsPlain plain.now token
+        → AreCounts (core_of tree.now) counts.entry place
+        → MovesTo (core_of tree.now) (Some place) (gapped_from last true token) found
+        × ForSome found (IsAmongCounts counts.entry)) }
+{
+    let first = plain.first_behind(last);
+    let Some(next) = over_letter(counts, place, tree, first, known, probe)? else {
+        return Some(None);
+    };
+    let others = plain.rest();
+    if counts.test.is_any() && known.are_quiet(plain.others) {
+        return Some(next_count(counts, next, others.len()));
+    }
+    over_letters(counts, next, tree, others, known, probe)
 }
 
 // Where letters lead one after another from a place that counts letters, if that is known.

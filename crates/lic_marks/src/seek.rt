@@ -21,7 +21,7 @@ use crate::alone::{Alone, Tally};
 use crate::front::Front;
 use crate::known::Known;
 use crate::node::Node;
-use crate::over::{none_ends, over_counts};
+use crate::over::{none_ends, over_plain};
 use crate::plain::Plain;
 use crate::row::Row;
 use crate::state::State;
@@ -375,15 +375,13 @@ impl<'a> Seeker<'a> {
             return false;
         };
         let counts = tally.counts;
-        let first = plain.first_behind(self.last);
-        let rest = plain.rest();
         self.known.bring(counts.last);
-        let Some(found) = over_counts(
+        let Some(found) = over_plain(
             counts,
             tally.place,
             self.tree,
-            first,
-            rest,
+            plain,
+            self.last,
             &mut self.known,
             &mut self.state,
         ) else {
@@ -458,10 +456,10 @@ impl<'a> Seeker<'a> {
             return self.turns_to(plain);
         }
         let None = self.lone else {
-            if self.follows(plain) {
+            if self.counts_on(plain) {
                 return true;
             }
-            return self.counts_on(plain);
+            return self.follows(plain);
         };
         if self.state.stays(plain, self.last) {
             self.last = plain.last;

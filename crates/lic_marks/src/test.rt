@@ -1,6 +1,6 @@
 //! Tests of one letter.
 
-ghost use Rattle.std.specs.Prelude.{◌≡◌, IfOk};
+ghost use Rattle.std.specs.Prelude.{◌≡◌, ℕ, true, IfOk, IsTrue};
 
 use lic_ere::Class;
 use std::alloc::{AllocError, Global};
@@ -28,6 +28,14 @@ impl Test {
             Test::Any => true,
             Test::Class(class) => class.has(c),
         }
+    }
+
+    /// Whether it is the test that any letter passes.
+    #[inline]
+    pub fn is_any(&self) -> bool
+        ensures { IsTrue result → (c : ℕ) → passes self.now c ≡ true }
+    {
+        matches!(self, Test::Any)
     }
 
     /// The same test once more.

@@ -1,6 +1,5 @@
-use Rattle.std.proofs.Common.{◌≡◌, [], ◌∷◌, ◌++◌, true, Some, None, map, sym, subst}
+use Rattle.std.proofs.Common.{[], ◌∷◌, ◌++◌, true, Some, sym, subst}
 use Rattle.lic_words.specs.Spelling.{gapped_from}
-use Rattle.lic_words.specs.Reading.{gapped_letter}
 use Rattle.lic_marks.specs.Alone.{StandsFor}
 use Rattle.lic_marks.specs.Cores.{WordsOf}
 use Rattle.lic_marks.specs.Lone.{MovesTo}
@@ -14,15 +13,15 @@ use Rattle.lic_marks.proofs.StateLemmas.{none_left}
 use Rattle.lic_marks.proofs.TextMarks.{goes_nowhere}
 use Rattle.lic_marks.proofs.seek.Seeker.counts_on.Goals as goal
 
-pub returns-in_default-over_counts-clause-none : goal.returns-in_default-over_counts-clause-none
-returns-in_default-over_counts-clause-none c = λ entered e ts s _.
+pub returns-in_default-over_plain-clause-none : goal.returns-in_default-over_plain-clause-none
+returns-in_default-over_plain-clause-none c = λ entered e ts s _.
     let self = c.args.self.now in
     let r = core_of self.tree.now in
     let lone = subst (λ l. StandsFor r l self.state s.lists) c.in-Some.ensures s.taken in
     record {
       words = s.words;
       lists = s.lists;
-      taken = subst (λ l. StandsFor r l c.over_counts.new.probe s.lists) (sym c.in-Some.ensures) lone;
+      taken = subst (λ l. StandsFor r l c.over_plain.new.probe s.lists) (sym c.in-Some.ensures) lone;
       ends = s.ends;
     }
 
@@ -33,14 +32,9 @@ returns-in-Some-found-clause-stands c = λ entered e ts t s _ known none.
     let last = self.last in
     let tally = c.in-Some.tally in
     let place = c.in-Some-found.place in
-    let letters : gapped_letter c.first_behind-first.result ∷ map gapped_letter c.rest-rest.result.now ≡ gapped_from last true t =
-    let first = c.first_behind-first.ensures in
-    let others = c.rest-rest.ensures in
-    let whole = known.letters last in cc in
     let lone = subst (λ l. StandsFor r l self.state s.lists) c.in-Some.ensures s.taken in
-    let there = c.in-Some-over_counts.ensures.moves lone.0.counts in
-    let moves = subst (λ l. MovesTo r (Some tally.place) l (Some place)) letters
-    (subst (λ f. MovesTo r (Some tally.place) (gapped_letter c.first_behind-first.result ∷ map gapped_letter c.rest-rest.result.now) f) c.in-Some-found.is there.0) in
+    let there = c.in-Some-over_plain.ensures.moves t known lone.0.counts in
+    let moves = subst (λ f. MovesTo r (Some tally.place) (gapped_from last true t) f) c.in-Some-found.is there.0 in
     let are : AreCounts r tally.counts place = record { positions = lone.0.counts.positions; among = there.1 place c.in-Some-found.is } in
     let lists = each_with (gapped_from last true t) s.lists in
     record {
@@ -59,14 +53,9 @@ returns-in-None-clause-stands c = λ entered e ts t s _ known none.
     let r = core_of self.tree.now in
     let last = self.last in
     let tally = c.in-Some.tally in
-    let letters : gapped_letter c.first_behind-first.result ∷ map gapped_letter c.rest-rest.result.now ≡ gapped_from last true t =
-    let first = c.first_behind-first.ensures in
-    let others = c.rest-rest.ensures in
-    let whole = known.letters last in cc in
     let lone = subst (λ l. StandsFor r l self.state s.lists) c.in-Some.ensures s.taken in
-    let there = c.in-Some-over_counts.ensures.moves lone.0.counts in
-    let moves = subst (λ l. MovesTo r (Some tally.place) l None) letters
-    (subst (λ f. MovesTo r (Some tally.place) (gapped_letter c.first_behind-first.result ∷ map gapped_letter c.rest-rest.result.now) f) c.in-None.is there.0) in
+    let there = c.in-Some-over_plain.ensures.moves t known lone.0.counts in
+    let moves = subst (λ f. MovesTo r (Some tally.place) (gapped_from last true t) f) c.in-None.is there.0 in
     let lists = each_with (gapped_from last true t) s.lists in
     record {
       words = s.words;

@@ -24,17 +24,17 @@ returns-then-may_begin-clause-stands c = λ entered e ts t s h known begins none
     (begins c.if-may_begin.true)
 
 -- a mark stands alone
-pub returns-then-follows-clause-stands : goal.returns-then-follows-clause-stands
-returns-then-follows-clause-stands c = λ entered e ts t s _ known enters none.
-    c.follows.ensures.stands entered e ts t s c.if-follows.true (rw c.in-Some.is at known) (none c.if-may_begin.false)
+pub returns-then-counts_on-clause-stands : goal.returns-then-counts_on-clause-stands
+returns-then-counts_on-clause-stands c = λ entered e ts t s _ known enters none.
+    c.counts_on.ensures.stands entered e ts t s c.if-counts_on.true (rw c.in-Some.is at known) (none c.if-may_begin.false)
 
 pub returns-in_default-lone-clause-none : goal.returns-in_default-lone-clause-none
 returns-in_default-lone-clause-none c = λ entered e ts s is.
-    c.counts_on.ensures.none entered e ts (c.follows.ensures.none entered e ts s c.if-follows.false) is
+    c.follows.ensures.none entered e ts (c.counts_on.ensures.none entered e ts s c.if-counts_on.false) is
 
 pub returns-in_default-lone-clause-stands : goal.returns-in_default-lone-clause-stands
 returns-in_default-lone-clause-stands c = λ entered e ts t s h known enters none.
-    c.counts_on.ensures.stands entered e ts t (c.follows.ensures.none entered e ts s c.if-follows.false) h (rw c.in-Some.is at known) (none c.if-may_begin.false)
+    c.follows.ensures.stands entered e ts t (c.counts_on.ensures.none entered e ts s c.if-counts_on.false) h (rw c.in-Some.is at known) (none c.if-may_begin.false)
 
 pub returns-then-not-follow-clause-none : goal.returns-then-not-follow-clause-none
 returns-then-not-follow-clause-none c = λ entered e ts s is.
