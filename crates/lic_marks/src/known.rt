@@ -1,6 +1,6 @@
 //! What is known of the letters that follow positions which stand alone.
 
-ghost use Rattle.std.specs.Prelude.{◌≡◌, ℕ, ◌∷◌, Some, true, IsTrue, IfOk, IfSome, map};
+ghost use Rattle.std.specs.Prelude.{◌≡◌, ℕ, ◌∷◌, Some, true, false, IsTrue, IfOk, IfSome, map};
 ghost use Rattle.std.specs.Option.{ForSome};
 ghost use Rattle.lic_words.specs.Reading.{gapped_letter};
 ghost use Rattle.lic_marks.specs.Cores.{Core};
@@ -30,6 +30,8 @@ pub struct Known {
     loud: LetterSet,
     /// It is known that no word ends there, but for blanks.
     none_ends: bool,
+    /// The position is marked alone in the probe.
+    is_marked: bool,
 }
 
 impl Known {
@@ -39,6 +41,7 @@ impl Known {
     pub fn none(place: usize) -> Known
         ensures known { (r : Core) → IsKnown r result }
         ensures place { result.place ≡ place }
+        ensures marked { result.is_marked ≡ false }
     {
         Known {
             place,
@@ -46,23 +49,54 @@ impl Known {
             behind_blanks: LetterSet::none(),
             loud: LetterSet::none(),
             none_ends: false,
+            is_marked: false,
         }
+    }
+
+    // Marks the position alone in the probe, unless it is, if there is such a position.
+    fn mark(&mut self, tree: &Node, probe: &mut State) -> bool
+        requires measured { IsTrue (is_measured tree.now) }
+        requires known { IsKnown (core_of tree.now) self.old }
+        requires probe { IsProbe (core_of tree.now) self.old probe.old }
+        ensures known { IsKnown (core_of tree.now) self.new }
+        ensures probe { IsProbe (core_of tree.now) self.new probe.new }
+        ensures place { self.new.place ≡ self.old.place }
+        ensures marked { result ≡ self.new.is_marked }
+    {
+        if self.is_marked {
+            return true;
+        }
+        self.is_marked = probe::mark(probe, tree, self.place);
+        self.is_marked
+    }
+
+    /// The probe is put to another use.
+    #[inline]
+    pub fn unmark(&mut self)
+        ensures known { (r : Core) → IsKnown r self.old → IsKnown r self.new }
+        ensures marked { self.new.is_marked ≡ false }
+        ensures place { self.new.place ≡ self.old.place }
+    {
+        self.is_marked = false;
     }
 
     /// Whether no word goes on from the position with the letter at once.
     pub fn is_quiet(&mut self, tree: &Node, letter: char, probe: &mut State) -> bool
         requires measured { IsTrue (is_measured tree.now) }
         requires known { IsKnown (core_of tree.now) self.old }
-        requires probe { IsProbe (core_of tree.now) probe.old }
+        requires probe { IsProbe (core_of tree.now) self.old probe.old }
         ensures known { IsKnown (core_of tree.now) self.new }
-        ensures probe { IsProbe (core_of tree.now) probe.new }
+        ensures probe { IsProbe (core_of tree.now) self.new probe.new }
         ensures place { self.new.place ≡ self.old.place }
         ensures quiet { IsTrue result → IsQuiet (core_of tree.now) self.old.place letter }
     {
         if self.at_once.has(letter) {
             return true;
         }
-        let is_quiet = probe::is_quiet(probe, tree, self.place, letter);
+        if !self.mark(tree, probe) {
+            return false;
+        }
+        let is_quiet = probe::is_quiet(probe, tree, letter);
         if is_quiet {
             self.at_once.add(letter);
         }
@@ -82,9 +116,9 @@ impl Known {
     pub fn is_quiet_behind_blanks(&mut self, tree: &Node, letter: char, probe: &mut State) -> bool
         requires measured { IsTrue (is_measured tree.now) }
         requires known { IsKnown (core_of tree.now) self.old }
-        requires probe { IsProbe (core_of tree.now) probe.old }
+        requires probe { IsProbe (core_of tree.now) self.old probe.old }
         ensures known { IsKnown (core_of tree.now) self.new }
-        ensures probe { IsProbe (core_of tree.now) probe.new }
+        ensures probe { IsProbe (core_of tree.now) self.new probe.new }
         ensures place { self.new.place ≡ self.old.place }
         ensures quiet { IsTrue result
             → IsQuietBehindBlanks (core_of tree.now) self.old.place letter }
@@ -95,7 +129,10 @@ impl Known {
         if self.loud.has(letter) {
             return false;
         }
-        let is_quiet = probe::is_quiet_behind_blanks(probe, tree, self.place, letter);
+        if !self.mark(tree, probe) {
+            return false;
+        }
+        let is_quiet = probe::is_quiet_behind_blanks(probe, tree, letter);
         if is_quiet {
             self.behind_blanks.add(letter);
         } else {
@@ -108,21 +145,26 @@ impl Known {
     fn none_ends(&mut self, tree: &Node, probe: &mut State) -> bool
         requires measured { IsTrue (is_measured tree.now) }
         requires known { IsKnown (core_of tree.now) self.old }
-        requires probe { IsProbe (core_of tree.now) probe.old }
+        requires probe { IsProbe (core_of tree.now) self.old probe.old }
         ensures known { IsKnown (core_of tree.now) self.new }
-        ensures probe { IsProbe (core_of tree.now) probe.new }
+        ensures probe { IsProbe (core_of tree.now) self.new probe.new }
         ensures place { self.new.place ≡ self.old.place }
         ensures none { IsTrue result → NoneEnds (core_of tree.now) self.old.place }
     {
-        if !self.none_ends {
-            self.none_ends = probe::none_ends(probe, tree, self.place);
+        if self.none_ends {
+            return true;
         }
+        if !self.mark(tree, probe) {
+            return false;
+        }
+        self.none_ends = probe::none_ends(probe, tree);
         self.none_ends
     }
 
     /// What is known of this position: nothing, where another was asked for before.
     pub fn bring(&mut self, place: usize)
         ensures known { (r : Core) → IsKnown r self.old → IsKnown r self.new }
+        ensures probe { (r : Core) (probe : State) → IsProbe r self.old probe → IsProbe r self.new probe }
         ensures place { self.new.place ≡ place }
     {
         if self.place != place {
@@ -209,13 +251,11 @@ impl Knowledge {
         ensures place { self.new.first.place ≡ place }
     {
         if self.first.place != place {
-            let known = if self.second.place == place {
-                self.second
-            } else {
-                Known::none(place)
-            };
+            let other = self.second;
             self.second = self.first;
-            self.first = known;
+            self.first = other;
+            self.first.unmark();
+            self.first.bring(place);
         }
     }
 }

@@ -75,10 +75,10 @@ pub fn over_counts(
     requires measured { IsTrue (is_measured tree.now) }
     requires known { IsKnown (core_of tree.now) known.old }
     requires last { known.old.place ≡ counts.last }
-    requires probe { IsProbe (core_of tree.now) probe.old }
+    requires probe { IsProbe (core_of tree.now) known.old probe.old }
     ensures known { IsKnown (core_of tree.now) known.new }
     ensures last { known.new.place ≡ known.old.place }
-    ensures probe { IsProbe (core_of tree.now) probe.new }
+    ensures probe { IsProbe (core_of tree.now) known.new probe.new }
     ensures moves { IfSome result (λ found. AreCounts (core_of tree.now) counts.entry place
         → MovesTo (core_of tree.now) (Some place) (gapped_letter first ∷ map gapped_letter others.now) found
         × ForSome found (IsAmongCounts counts.entry)) }
@@ -103,10 +103,10 @@ pub fn over_plain(
     requires measured { IsTrue (is_measured tree.now) }
     requires known { IsKnown (core_of tree.now) known.old }
     requires last { known.old.place ≡ counts.last }
-    requires probe { IsProbe (core_of tree.now) probe.old }
+    requires probe { IsProbe (core_of tree.now) known.old probe.old }
     ensures known { IsKnown (core_of tree.now) known.new }
     ensures last { known.new.place ≡ known.old.place }
-    ensures probe { IsProbe (core_of tree.now) probe.new }
+    ensures probe { IsProbe (core_of tree.now) known.new probe.new }
     ensures moves { IfSome result (λ found. (token : List ℕ) → IsPlain plain.now token
         → AreCounts (core_of tree.now) counts.entry place
         → MovesTo (core_of tree.now) (Some place) (gapped_from last true token) found
@@ -135,10 +135,10 @@ fn over_letters(
     requires measured { IsTrue (is_measured tree.now) }
     requires known { IsKnown (core_of tree.now) known.old }
     requires last { known.old.place ≡ counts.last }
-    requires probe { IsProbe (core_of tree.now) probe.old }
+    requires probe { IsProbe (core_of tree.now) known.old probe.old }
     ensures known { IsKnown (core_of tree.now) known.new }
     ensures last { known.new.place ≡ known.old.place }
-    ensures probe { IsProbe (core_of tree.now) probe.new }
+    ensures probe { IsProbe (core_of tree.now) known.new probe.new }
     ensures moves { IfSome result (λ found. AreCounts (core_of tree.now) counts.entry place
         → MovesTo (core_of tree.now) (Some place) (map gapped_letter letters.now) found
         × ForSome found (IsAmongCounts counts.entry)) }
@@ -165,10 +165,10 @@ fn over_letter(
     requires measured { IsTrue (is_measured tree.now) }
     requires known { IsKnown (core_of tree.now) known.old }
     requires last { known.old.place ≡ counts.last }
-    requires probe { IsProbe (core_of tree.now) probe.old }
+    requires probe { IsProbe (core_of tree.now) known.old probe.old }
     ensures known { IsKnown (core_of tree.now) known.new }
     ensures last { known.new.place ≡ known.old.place }
-    ensures probe { IsProbe (core_of tree.now) probe.new }
+    ensures probe { IsProbe (core_of tree.now) known.new probe.new }
     ensures moves { IfSome result (λ found. AreCounts (core_of tree.now) counts.entry place
         → MovesTo (core_of tree.now) (Some place) (gapped_letter letter ∷ []) found
         × ForSome found (IsAmongCounts counts.entry)) }
@@ -197,12 +197,12 @@ fn over_gap(
     requires measured { IsTrue (is_measured tree.now) }
     requires known { IsKnown (core_of tree.now) known.old }
     requires last { known.old.place ≡ counts.last }
-    requires probe { IsProbe (core_of tree.now) probe.old }
+    requires probe { IsProbe (core_of tree.now) known.old probe.old }
     requires passes { passes counts.test.now letter.letter ≡ true }
     requires apart { letter.is_apart ≡ true }
     ensures known { IsKnown (core_of tree.now) known.new }
     ensures last { known.new.place ≡ known.old.place }
-    ensures probe { IsProbe (core_of tree.now) probe.new }
+    ensures probe { IsProbe (core_of tree.now) known.new probe.new }
     ensures moves { IfSome result (λ found. AreCounts (core_of tree.now) counts.entry place
         → MovesTo (core_of tree.now) (Some place) (gapped_letter letter ∷ []) found
         × ForSome found (IsAmongCounts counts.entry)) }

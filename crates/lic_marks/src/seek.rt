@@ -13,7 +13,7 @@ ghost use Rattle.lic_marks.specs.Plain.{IsPlain, in_order};
 ghost use Rattle.lic_marks.specs.States.{HasFirstBlanks, has_gap, room_of};
 ghost use Rattle.lic_marks.specs.Fronts.{IsFrontOf};
 ghost use Rattle.lic_marks.specs.Stretches.{IsStretchOf};
-ghost use Rattle.lic_marks.specs.Alone.{StandsInText};
+ghost use Rattle.lic_marks.specs.Alone.{IsFree, StandsInText};
 ghost use Rattle.lic_marks.specs.Known.{IsKnown};
 ghost use Rattle.lic_marks.specs.declared.alone.Alone.TheVariants.{Count, Text};
 
@@ -58,6 +58,7 @@ pub struct Seeker<'a> {
     ghost stretched: { IsStretchOf (core_of tree.now) stretch },
     ghost in_text: { StandsInText (core_of tree.now) lone },
     ghost learned: { IsKnown (core_of tree.now) known },
+    ghost free: { IsFree (core_of tree.now) lone known state },
     ghost fronted: { ForSome front (IsFrontOf (core_of tree.now)) },
     ghost blanks: { HasFirstBlanks (core_of tree.now) first },
 }
@@ -212,6 +213,7 @@ impl<'a> Seeker<'a> {
         ensures stands { (entered : ℕ → Bool) (e : Expression) (ts : List (List ℕ)) → SeeksAt entered self.old e ts → SeeksAt entered self.new e ts }
         ensures tree { tree_of self.new ≡ tree_of self.old }
     {
+        self.known.unmark();
         self.lone = Alone::of(self.tree, &self.state, self.stretch);
     }
 

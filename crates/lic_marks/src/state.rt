@@ -545,6 +545,8 @@ impl State {
         requires room { weight (core_of tree.now) ≤ room_of self.old }
         ensures room { room_of self.new ≡ room_of self.old }
         ensures open { has_gap self.new ≡ has_gap self.old }
+        ensures behind { (k : ℕ) → HasLeft (core_of tree.now) self.old (Behind (core_of tree.now) k)
+            → HasLeft (core_of tree.now) self.new (Behind (core_of tree.now) k) }
         ensures quiet { (k : ℕ)
             → HasLeft (core_of tree.now) self.old (Behind (core_of tree.now) k)
             → has_gap self.old ≡ true → IsTrue result

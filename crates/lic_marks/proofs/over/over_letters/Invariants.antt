@@ -11,7 +11,7 @@ abbrev pub invariant-loop-letter : goal.invariant-loop-letter
 invariant-loop-letter l = record {
   known : IsKnown (core_of l.tree) l.known;
   last : l.known.place ≡ l.counts.last;
-  probe : IsProbe (core_of l.tree) l.probe;
+  probe : IsProbe (core_of l.tree) l.known l.probe;
   moves : AreCounts (core_of l.tree) l.counts l.place
       → MovesTo (core_of l.tree) (Some l.place) (map gapped_letter (take l.letter-index l.letters)) (Some l.at) × IsAmongCounts l.counts l.at;
 }

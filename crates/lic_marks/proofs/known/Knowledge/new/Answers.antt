@@ -1,4 +1,4 @@
-use Rattle.std.proofs.Common.{◌≡◌, Some, None, ◌∙◌, subst}
+use Rattle.std.proofs.Common.{◌≡◌, true, false, Some, None, sym, ◌∙◌, subst}
 use Rattle.lic_marks.specs.Known.{IsProbe}
 use Rattle.lic_marks.specs.Nodes.{core_of}
 use Rattle.lic_marks.proofs.known.Knowledge.new.Goals as goal
@@ -11,9 +11,10 @@ returns c = record {
   probe = λ x is. elim c.if-has_counts.branch [
     | then-has_counts+in_ok-probe w ↦
         let same : w.clear.new.self ≡ x = cc in
-        subst (IsProbe (core_of c.args.tree.now)) same record {
+        subst (IsProbe (core_of c.args.tree.now) c.none.result) same record {
           room = w.clear.ensures.room ∙ w.in_ok-probe.ensures.size;
           gap = w.clear.ensures.open;
+          marked = λ h. absurd (let never : true ≡ false = sym h ∙ c.none.ensures.marked in cc);
         }
     | else-has_counts w ↦ absurd (let never : None ≡ Some x = cc in cc)
   ];
