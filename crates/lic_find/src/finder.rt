@@ -161,6 +161,9 @@ impl<'a> Finder<'a> {
             → IsNextOfRange self.now.set.now self.now.text.now.tokens
             (place_of self.now) self.now.first self.now.end result }
     {
+        if self.first == self.end {
+            return None;
+        }
         let last = self.end.checked_sub(1)?;
         let from = self.least_number(last)?;
         let template = self.run.accepted(from)?;

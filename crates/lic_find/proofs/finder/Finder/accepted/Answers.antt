@@ -34,3 +34,9 @@ returns c = λ come.
           (starts_in f.starts) f.first f.end come c.in_ok-last.last ends c.in_ok-from.from c.in_ok-from.ensures.some
           c.in_ok-template.template (c.in_ok-template.ensures.least (letters_up_to tokens f.first f.end) come.stands),
     )
+
+pub returns-then-self : goal.returns-then-self
+returns-then-self c = λ come t m after here ends.
+    let order = m.order in
+    let same = c.if-self.true in
+    omega arith
