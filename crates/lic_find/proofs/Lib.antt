@@ -26,3 +26,4 @@ pub mod BeginningLemmas
 pub mod GivingLemmas
 pub mod Passing
 pub mod TailLemmas
+pub mod LastLetterLemmas

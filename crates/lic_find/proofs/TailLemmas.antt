@@ -13,6 +13,7 @@ use Rattle.lic_keys.specs.Keys.{letters_of, without_blanks}
 use Rattle.lic_keys.specs.Tails.{EndsWith}
 use Rattle.lic_keys.proofs.ByteLemmas.{letter_bytes-push}
 use Rattle.lic_keys.proofs.KeyLemmas.{letters_of-append}
+use Rattle.lic_find.specs.LastLetters.{bytes_up_to}
 use Rattle.lic_find.specs.Matches.{all_letters, letters_between}
 use Rattle.lic_find.proofs.Ranges.{all_letters-more, slice_range-split}
 
@@ -65,17 +66,13 @@ nothing_ends tail (before, e) = let all : 0 ≡ length before + length tail = ap
 
 -- ---- the bytes of the letters of tokens
 
--- those of the first tokens
-abbrev pub bytes_up_to : List TokenValue → ℕ → List ℕ
-bytes_up_to tokens n = encode_utf8_all (letters_of (all_letters (take n tokens)))
-
 -- where letters end others, their bytes end the bytes of these
 pub bytes_end : (letters tail : List ℕ) → IsUtf8 tail → EndsWith letters (chars tail) → EndsWith (encode_utf8_all letters) tail
 bytes_end letters tail utf8 (before, e) =
     (encode_utf8_all before, ap encode_utf8_all e ∙ encodes-append before (chars tail) ∙ ap (λ x. encode_utf8_all before ++ x) (encodes-chars tail utf8))
 
 -- where none is a blank, all stay
-all_stay : (bytes : List ℕ) → list_any (λ b. b == 32) bytes ≡ false → without_blanks bytes ≡ bytes
+pub all_stay : (bytes : List ℕ) → list_any (λ b. b == 32) bytes ≡ false → without_blanks bytes ≡ bytes
 all_stay [] none = refl
 all_stay (b ∷ bytes) none =
     let parts = or_parts (b == 32) (list_any (λ b. b == 32) bytes) none in

@@ -8,6 +8,7 @@ pub mod Rises
 pub mod Walks
 pub mod Trails
 pub mod TrailEnds
+pub mod LastLetters
 pub mod Entrances
 pub mod Walked
 pub mod Counts

@@ -1,13 +1,17 @@
 //! Where templates are entered on a walk towards the front of a text.
 
-ghost use Rattle.std.specs.Prelude.{◌≡◌, ◌<◌, false, length, slice_index, IfOk, OnOk};
+ghost use Rattle.std.specs.Prelude.{◌≡◌, ◌<◌, ◌+◌, ℕ, List, Some, false, length, slice_index, IfOk, IfSome, IsTrue, OnOk};
+ghost use Rattle.std.specs.List.{slice_get};
 ghost use Rattle.lic_keys.specs.Rising.{IsRising};
-ghost use Rattle.lic_auto.specs.Choices.{set_chosen};
+ghost use Rattle.lic_auto.specs.Choices.{numbers_chosen, set_chosen};
 ghost use Rattle.lic_auto.specs.declared.direction.Direction.TheVariants.{Backward};
+ghost use Rattle.lic_find.specs.LastLetters.{AreCodes, bytes_up_to, code_at};
 ghost use Rattle.lic_find.specs.Matches.{IsMatch};
+ghost use Rattle.lic_norm.specs.Tokens.{TokenValue};
 ghost use Rattle.lic_find.specs.Trails.{AreEntered, IsEntered};
 ghost use Rattle.lic_find.specs.declared.triple.Triple.{Triple};
 
+use crate::last_letters::{code_up_to, codes_of};
 use crate::tail::may_end;
 use crate::trail::Trail;
 use crate::trails::newest_of_most;
@@ -24,6 +28,9 @@ pub struct Entrances<'s> {
     chosen: Chosen<'s>,
     // how many trails a template may have, one at least
     most: usize,
+    // of each template at its place the number of the last letters of its matches, where it is known
+    codes: Vec<Option<u64>>,
+    ghost coded: { AreCodes set.now (numbers_chosen chosen) codes.items },
     ghost same: { set_chosen chosen ≡ set.now },
     ghost backward: { chosen.direction ≡ Backward },
 }
@@ -42,8 +49,14 @@ impl<'s> Entrances<'s> {
         ensures set { IfOk result (λ entrances. set_entered entrances ≡ set.now) }
         ensures numbers { IfOk result (λ entrances. numbers_entered entrances ≡ numbers.items) }
     {
+        let codes = codes_of(alloc, set, &numbers)?;
         let chosen = Chosen::new(alloc, set, numbers, Direction::Backward)?;
-        Ok(Entrances { set, chosen, most })
+        Ok(Entrances {
+            set,
+            chosen,
+            most,
+            codes,
+        })
     }
 
     /// The templates of which a match may end with this token are entered there: one trail of each joins with the token, which all trails
@@ -61,26 +74,51 @@ impl<'s> Entrances<'s> {
     {
         let token = text.token(last).text;
         let places = self.chosen.entered_by(token);
+        if places.is_empty() {
+            return Ok(());
+        }
+        let code = code_up_to(text, last);
         for i in (0..places.len()).rev() {
             let place = places[i];
-            if self.may_end(place, text, last) {
+            if self.may_end(place, text, last, code) {
                 self.enter_one(alloc, place, last, trails)?;
             }
         }
         Ok(())
     }
 
-    // Whether a match of the template at a place may end with this token: false only where none does.
-    fn may_end(&self, place: usize, text: &Text, last: usize) -> bool
+    // Whether a match of the template at a place may end with this token, of which the number of the last letters up to there may be known:
+    // false only where none does.
+    fn may_end(&self, place: usize, text: &Text, last: usize, code: Option<u64>) -> bool
         requires within { last < length text.now.tokens }
         requires place { place < length (numbers_entered self.now) }
+        requires code { IfSome code (λ code. code ≡ code_at (bytes_up_to text.now.tokens (last + 1)) 8) }
         ensures { result ≡ false → (t : Triple) → IsMatch (set_entered self.now) text.now.tokens t
             → t.template ≡ slice_index (numbers_entered self.now) place → ¬ (t.last ≡ last) }
     {
+        if self.ends_otherwise(place, code) {
+            return false;
+        }
         if !may_end(self.set, text, self.chosen.number(place), last) {
             return false;
         }
         self.chosen.may_enter(place, text.token(last).text)
+    }
+
+    // Whether the template at a place ends with other letters than those whose number this is.
+    #[inline]
+    fn ends_otherwise(&self, place: usize, code: Option<u64>) -> bool
+        ensures { IsTrue result → (number : ℕ) → slice_get (numbers_entered self.now) place ≡ Some number
+            → (tokens : List TokenValue) (t : Triple) → IsMatch (set_entered self.now) tokens t → t.template ≡ number
+            → ¬ (IfSome code (λ code. code ≡ code_at (bytes_up_to tokens (t.last + 1)) 8)) }
+    {
+        let Some(code) = code else {
+            return false;
+        };
+        match self.codes.get(place) {
+            Some(Some(own)) => *own != code,
+            _ => false,
+        }
     }
 
     // The template at a place is entered at this token: with a trail of its own, or where it has as many as it may, with its newest one.

@@ -7,6 +7,7 @@ mod entrances;
 pub mod finder;
 mod forgetting;
 pub mod kept;
+mod last_letters;
 pub mod laws;
 pub mod matches;
 mod merging;

@@ -4,7 +4,8 @@ use Rattle.std.proofs.lemmas.Bool.Decides.{Decides-eqb}
 use Rattle.std.proofs.lemmas.Slice.Eq.{ends_is}
 use Rattle.lic_norm.specs.Tokens.{TokenValue}
 use Rattle.lic_keys.specs.Tails.{EndsWith}
-use Rattle.lic_find.proofs.TailLemmas.{bytes-more, bytes_end, bytes_up_to, front_ends, nothing_ends, one_back, part_ends, tail_ends}
+use Rattle.lic_find.proofs.TailLemmas.{bytes-more, bytes_end, front_ends, nothing_ends, one_back, part_ends, tail_ends}
+use Rattle.lic_find.specs.LastLetters.{bytes_up_to}
 use Rattle.lic_find.proofs.tail.tail_stands.Goals as goal
 
 pub loop-number-init : goal.loop-number-init

@@ -1,6 +1,6 @@
 use Rattle.std.proofs.Common.{◌+◌, ◌≤◌}
 use Rattle.lic_keys.specs.Tails.{EndsWith}
-use Rattle.lic_find.proofs.TailLemmas.{bytes_up_to}
+use Rattle.lic_find.specs.LastLetters.{bytes_up_to}
 use Rattle.lic_find.proofs.tail.tail_stands.Given as goal
 
 abbrev pub invariant-loop-number : goal.invariant-loop-number
