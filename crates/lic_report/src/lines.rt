@@ -9,7 +9,7 @@ ghost use Rattle.lic_report.specs.Checking.{check_line};
 ghost use Rattle.lic_report.specs.Report.{match_line, token_line, place_fields, value_line, no_known, no_token};
 
 use lic_auto::set::Set;
-use lic_fields::{add_number, add_text};
+use lic_fields::{add_last_numbers, add_number, add_text};
 use lic_find::triple::Triple;
 use lic_norm::text::Text;
 use lic_norm::token::{Span, Token};
@@ -56,10 +56,9 @@ pub fn add_match(
 {
     lines.extend_from_slice(file)?;
     add_text(lines, id_at(set, triple.template).as_bytes(), b'\t')?;
-    add_number(lines, triple.first as u64, b'\t')?;
-    add_number(lines, triple.last as u64, b'\t')?;
-    add_number(lines, span_at(text, triple.first).start as u64, b'\t')?;
-    add_number(lines, span_at(text, triple.last).end as u64, b'\n')
+    let start = span_at(text, triple.first).start as u64;
+    let end = span_at(text, triple.last).end as u64;
+    add_last_numbers(lines, triple.first as u64, triple.last as u64, start, end)
 }
 
 /// Adds the line of a token: the file, as `add_file` has written its name, the first byte of the token and its end, and its
