@@ -7,7 +7,7 @@ import shutil
 import sys
 import tempfile
 
-from proving import Proving, copy_crates, minutes, run_gate, say
+from proving import Hearing, Proving, copy_crates, keeps_proofs, minutes, run_gate, say
 
 PROGRAM = "licscan"
 
@@ -29,11 +29,13 @@ def is_current(top):
     return os.access(program, os.X_OK) and os.path.getmtime(program) >= newest_source(f"{top}/crates")
 
 
-def built(top, names, to):
-    """Has the proved program built, takes it over, and says whether it is there."""
+def built(top, names, to, hear):
+    """Has the program proved and built, takes it over, and says whether it is there. `hear` is called with each line of what is said."""
     with tempfile.TemporaryDirectory(prefix="licscan-build-") as room:
         copy_crates(top, names, room)
-        status, _ = run_gate(room, 0)
+        status, said = run_gate(room, 0, hear)
+        with open(f"{to}/build.log", "ab") as log:
+            log.write(said)
         program = f"{room}/crates/{PROGRAM}/out/{PROGRAM}"
         if status or not os.access(program, os.X_OK):
             return False
@@ -47,9 +49,14 @@ def built(top, names, to):
 def build(top):
     """Proves all, builds the program, and returns the exit status."""
     to = f"{top}/crates/{PROGRAM}/out"
+    open(f"{to}/build.log", "wb").close()
     proving = Proving(top, [PROGRAM], f"{to}/build.log")
-    say(f"proving {len(proving.all)} crates and building the program: half an hour on four quick cores, fifty minutes on slow ones, and no time for a crate that was proved before")
-    if not proving.run() or not built(top, proving.all, to):
+    say(f"proving {len(proving.all)} crates and building the program: half an hour on four quick cores, fifty minutes on slow ones")
+    if keeps_proofs(top):
+        is_built = proving.run() and built(top, proving.all, to, lambda line: None)
+    else:
+        is_built = built(top, proving.all, to, Hearing(len(proving.all)))
+    if not is_built:
         say(f"the program could not be proved and built (log: crates/{PROGRAM}/out/build.log)")
         return 2
     say(f"proved and built in {minutes(proving.start)}")

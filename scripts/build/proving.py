@@ -1,8 +1,8 @@
 """Proves crates of this repository by the gate's command, `rt ci`, on copies of them without must-fail edits.
 
 The longest chain of crates that stand on each other decides how long all take. So its crates are proved in turn, each on all cores, and the
-others beside them on what the chain leaves. What was proved is kept by rt for each later run over the same files, so it is proved once, whether
-by the first command or by the gate."""
+others beside them on what the chain leaves. That is for a kit whose `rt ci` keeps what it proved for each later run over the same files, so that it
+is proved once, whether by the first command or by the gate. With another kit all crates are proved in one run."""
 import os
 import re
 import shutil
@@ -18,6 +18,9 @@ from listed import from_the_ground, read_crates
 # what a proof reads of a crate, and what rt runs a program on
 PARTS = ("src", "specs", "proofs", "stdin", "stdout", "args", "status", "data")
 FUNCTIONS = re.compile(rb"logic=proved functions=(\d+)")
+PROVED = re.compile(rb"rt: (\w+) proved$")
+# where `rt ci` keeps what it proved, with a kit that does
+KEPT = "/opt/rattle-kept"
 
 
 def say(text):
@@ -43,14 +46,44 @@ def copy_crates(top, names, to):
                 shutil.copyfile(path, copy)
 
 
-def run_gate(folder, nice):
-    """Runs the gate's command there, and returns its status and what it says."""
+def run_gate(folder, nice, hear=lambda line: None):
+    """Runs the gate's command there, and returns its status and what it says. `hear` is called with each line of that."""
     # a fixed number of jobs would be one for each crate
     environment = {name: value for name, value in os.environ.items() if name != "RT_JOBS"}
-    done = subprocess.run(
-        ["nice", "-n", str(nice), "rt", "ci"], cwd=folder, env=environment, stdin=subprocess.DEVNULL, stdout=subprocess.PIPE, stderr=subprocess.STDOUT, check=False
-    )
-    return done.returncode, done.stdout
+    command, said = ["nice", "-n", str(nice), "rt", "ci"], []
+    with subprocess.Popen(command, cwd=folder, env=environment, stdin=subprocess.DEVNULL, stdout=subprocess.PIPE, stderr=subprocess.STDOUT) as gate:
+        for line in gate.stdout:
+            said.append(line)
+            hear(line)
+    return gate.returncode, b"".join(said)
+
+
+def prove_apart(top, crates, name, nice):
+    """Proves a crate and those below it in a folder of their own, and returns the status and what is said."""
+    with tempfile.TemporaryDirectory(prefix="licscan-proof-") as room:
+        copy_crates(top, from_the_ground(crates, [name]), room)
+        return run_gate(room, nice)
+
+
+def keeps_proofs(top):
+    """Whether `rt ci` keeps what it proved. Where that does not show yet, the smallest crate that stands on no other is proved first."""
+    if not os.path.isdir(KEPT):
+        crates = read_crates(top)
+        prove_apart(top, crates, min((name for name in crates if not crates[name]), key=lambda name: lines_of(top, name)), 0)
+    return os.path.isdir(KEPT)
+
+
+class Hearing:
+    """Says when each of so many crates is proved, from what the gate's command says."""
+
+    def __init__(self, count):
+        self.count, self.proved, self.functions, self.start = count, 0, 0, time.monotonic()
+
+    def __call__(self, line):
+        self.functions += int((FUNCTIONS.findall(line) or [0])[0])
+        if found := PROVED.match(line.rstrip(b"\n")):
+            self.proved += 1
+            say(f"{self.proved} of {self.count} crates proved ({found[1].decode()}; {self.functions} functions so far; {minutes(self.start)})")
 
 
 def lines_of(top, name):
@@ -96,9 +129,7 @@ class Proving:
             return None
 
     def prove(self, name, nice):
-        with tempfile.TemporaryDirectory(prefix="licscan-proof-") as room:
-            copy_crates(self.top, from_the_ground(self.crates, [name]), room)
-            status, said = run_gate(room, nice)
+        status, said = prove_apart(self.top, self.crates, name, nice)
         with self.change:
             with open(self.log, "ab") as file:
                 file.write(said)
