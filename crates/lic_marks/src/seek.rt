@@ -417,6 +417,8 @@ impl<'a> Seeker<'a> {
         ensures stands { (entered : ℕ → Bool) (e : Expression) (ts : List (List ℕ)) → SeeksAt entered self.old e ts
             → IsTrue result → (IsTrue (entered (length ts)) → NoneBegins e (in_order is_turned (chars token.now)))
             → SeeksAt entered self.new e (ts ++ in_order is_turned (chars token.now) ∷ []) }
+        ensures no_end { (entered : ℕ → Bool) (e : Expression) (ts : List (List ℕ)) → SeeksAt entered self.new e ts → IsTrue result
+            → ¬ (DescribesEndAt entered e ts) }
         ensures tree { tree_of self.new ≡ tree_of self.old }
     {
         let bytes = token.as_bytes();
