@@ -409,8 +409,8 @@ impl<'a> Seeker<'a> {
     }
 
     /// Takes a token, read from its end or from its first letter on, at which it is not entered, where one mark stands alone in a
-    /// text that goes on with a blank and the token's letters, all of ASCII. The token is compared with the text as it is. Otherwise
-    /// nothing is done.
+    /// text that goes on with the token's letters, all of ASCII, behind a blank or, where no gap is needed, at once. The token is
+    /// compared with the text as it is. Otherwise nothing is done.
     #[inline]
     pub fn goes_on(&mut self, token: &str, is_turned: bool) -> bool
         ensures none { result ≡ false → self.new ≡ self.old }
@@ -426,7 +426,7 @@ impl<'a> Seeker<'a> {
             return false;
         };
         let stretch = text.stretch;
-        let Some(place) = stretch.over_bytes(text.place, bytes, is_turned) else {
+        let Some(place) = stretch.over_bytes(text.place, bytes, is_turned, self.last) else {
             return false;
         };
         if !none_ends(stretch, place) {

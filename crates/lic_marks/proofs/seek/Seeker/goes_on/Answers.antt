@@ -33,7 +33,7 @@ returns-clause-stands c = λ entered e ts s _ none.
     let end = c.in-Some-over_bytes.place in
     let same : in_order c.args.is_turned (chars c.as_bytes-bytes.result.now) ≡ t =
     ap (λ bytes. in_order c.args.is_turned (chars bytes)) c.as_bytes-bytes.ensures.value in
-    let way = subst (λ row. LeadsOver r c.in-Some.text.place (gapped_from last true row) end) same (c.in-Some-over_bytes.ensures.way r last stretch) in
+    let way = subst (λ row. LeadsOver r c.in-Some.text.place (gapped_from last true row) end) same (c.in-Some-over_bytes.ensures.way r stretch) in
     let ends_in : last_letter last t ≡ c.from-self.result = ap (last_letter last) (sym same) ∙ c.in-Some-over_bytes.ensures.last last ∙ sym c.byte_at.ensures ∙ sym c.from-self.ensures in
     let lone = subst (λ l. StandsFor r l self.state s.lists) c.in-Some.ensures s.taken in
     let lists = each_with (gapped_from last true t) s.lists in
