@@ -214,6 +214,7 @@ impl<'a> Seeker<'a> {
         ensures tree { tree_of self.new ≡ tree_of self.old }
     {
         self.known.unmark();
+        self.stretch = self.state.stretch_of(self.tree, self.stretch);
         self.lone = Alone::of(self.tree, &self.state, self.stretch);
     }
 
@@ -353,11 +354,14 @@ impl<'a> Seeker<'a> {
             self.last = plain.last;
             return true;
         };
-        if !none_ends(stretch, place) {
-            return false;
-        }
-        self.lone = Some(Alone::Text(InText { place, stretch }));
         self.last = plain.last;
+        if none_ends(stretch, place) {
+            self.lone = Some(Alone::Text(InText { place, stretch }));
+            return true;
+        }
+        self.lone = None;
+        self.stretch = stretch;
+        self.state.mark_alone(self.tree, stretch, place);
         true
     }
 
