@@ -14,6 +14,7 @@ pub mod Children
 pub mod LetterSets
 pub mod Joining
 pub mod PlainBytes
+pub mod PlainLetters
 pub mod TokenBytes
 pub mod Steady
 pub mod StateLemmas

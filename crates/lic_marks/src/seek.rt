@@ -21,7 +21,7 @@ use crate::alone::{Alone, Tally};
 use crate::front::Front;
 use crate::known::Known;
 use crate::node::Node;
-use crate::over::{none_ends, over_plain};
+use crate::over::{none_ends, over_known, over_plain};
 use crate::plain::Plain;
 use crate::row::Row;
 use crate::state::State;
@@ -366,9 +366,36 @@ impl<'a> Seeker<'a> {
     }
 
     // Takes a plain token where one mark alone counts letters, and it is known where the token's letters lead from there. Otherwise
-    // nothing is done.
-    #[inline(never)]
+    // nothing is done. Mostly that is known already.
+    #[inline]
     fn counts_on(&mut self, plain: &Plain) -> bool
+        ensures none { (entered : ℕ → Bool) (e : Expression) (ts : List (List ℕ)) → SeeksAt entered self.old e ts
+            → result ≡ false → SeeksAt entered self.new e ts }
+        ensures stands { (entered : ℕ → Bool) (e : Expression) (ts : List (List ℕ)) (token : List ℕ)
+            → SeeksAt entered self.old e ts → IsTrue result
+            → IsPlain plain.now token → (IsTrue (entered (length ts)) → NoneBegins e token)
+            → SeeksAt entered self.new e (ts ++ token ∷ []) }
+        ensures tree { tree_of self.new ≡ tree_of self.old }
+    {
+        let Some(tally) = self.tally() else {
+            return false;
+        };
+        let counts = tally.counts;
+        let Some(place) = over_known(counts, tally.place, plain, self.last, &self.known) else {
+            return self.probes_on(plain);
+        };
+        self.lone = Some(Alone::Count(Tally {
+            place,
+            counts,
+            ends: tally.ends,
+        }));
+        self.last = plain.last;
+        true
+    }
+
+    // The same, where more may have to be learned of the last count.
+    #[inline(never)]
+    fn probes_on(&mut self, plain: &Plain) -> bool
         ensures none { (entered : ℕ → Bool) (e : Expression) (ts : List (List ℕ)) → SeeksAt entered self.old e ts
             → result ≡ false → SeeksAt entered self.new e ts }
         ensures stands { (entered : ℕ → Bool) (e : Expression) (ts : List (List ℕ)) (token : List ℕ)
