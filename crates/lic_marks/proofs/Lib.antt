@@ -45,6 +45,7 @@ pub mod TextEnds
 pub mod LetterSlices
 pub mod TextMarks
 pub mod AloneMarks
+pub mod BothMarks
 pub mod Moved
 pub mod ThreadRows
 pub mod MarkedRows
