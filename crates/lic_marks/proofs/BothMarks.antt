@@ -1,12 +1,11 @@
 -- Marks that stand alone, one in a text and one that counts letters, together or each by itself.
-use Rattle.std.proofs.Common.{◌≡◌, ℕ, ◌+◌, ◌<◌, ◌≤◌, ◌↔◌, ◌⊎◌, true, false, IsTrue, List, [], Option, Some, None, length, get_or, inl, inr, refl, ap, subst, arith}
+use Rattle.std.proofs.Common.{◌≡◌, ℕ, ◌+◌, ◌<◌, ◌≤◌, ◌↔◌, ◌⊎◌, true, false, List, [], Option, Some, None, length, get_or, inl, inr, refl, ap, subst}
 use Rattle.std.specs.Option.{ForSome}
 use Rattle.lic_words.specs.Words.{Word, blanks}
 use Rattle.lic_words.specs.Spelling.{Gap}
-use Rattle.lic_marks.specs.Alone.{CountsLetters, HasBehind, IsFree, IsTally, StandsBeside, StandsFor, StandsInText, alone_of, place_of}
+use Rattle.lic_marks.specs.Alone.{HasBehind, IsFree, IsTally, StandsBeside, StandsFor, StandsInText, alone_of}
 use Rattle.lic_marks.specs.Cores.{Core, WordsOf}
 use Rattle.lic_marks.specs.Fronts.{GoesOnAt}
-use Rattle.lic_marks.specs.Known.{IsMarked}
 use Rattle.lic_marks.specs.Lone.{Behind, BehindSome, LeadFromBoth, MovesTo}
 use Rattle.lic_marks.specs.Rests.{GoesOn}
 use Rattle.lic_marks.specs.Rows.{weight, marks_of}

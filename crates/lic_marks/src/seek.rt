@@ -33,8 +33,8 @@ use std::alloc::{AllocError, Global};
 
 /// A run of a compiled expression that is entered at tokens of the caller's choice: it says whether the expression describes an end of
 /// the list that begins with one of them. It keeps no token, and takes memory in `new` alone. What is not entered, and has nothing
-/// marked, costs nothing; one mark alone in a text costs no more than to compare the token with the text, and one alone that counts
-/// letters no more than to look at these; nor do the two together.
+/// marked, costs nothing; one mark alone in a text costs no more than to compare the token with the text, one alone that counts
+/// letters no more than to look at these, and the two together no more than both.
 #[derive(Drop, Debug)]
 pub struct Seeker<'a> {
     tree: &'a Node,
