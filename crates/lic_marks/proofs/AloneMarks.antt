@@ -1,37 +1,28 @@
--- A mark that stands alone where letters are counted, outside of a state's rows.
-use Rattle.std.proofs.Common.{◌≡◌, ℕ, ◌+◌, ◌-◌, ◌<◌, ◌≤◌, ◌↔◌, ◌⊎◌, Bool, true, false, IsTrue, List, Some, None, length, get_or, inl, inr, refl, subst, arith}
+-- A mark that stands alone where letters are counted, outside of a state's rows, and one in a text beside it.
+use Rattle.std.proofs.Common.{◌≡◌, ℕ, ◌+◌, ◌-◌, ◌<◌, ◌≤◌, ◌↔◌, ◌⊎◌, Bool, true, false, IsTrue, List, Option, Some, None, get_or, inl, inr, refl, subst, arith}
 use Rattle.std.specs.Option.{ForSome}
 use Rattle.lic_words.specs.Words.{Word, blanks}
 use Rattle.lic_words.specs.Spelling.{Gap}
 use Rattle.lic_marks.specs.Alone.{IsTally, StandsFor, StandsInText, ends_at}
 use Rattle.lic_marks.specs.Cores.{Core, WordsOf}
 use Rattle.lic_marks.specs.Fronts.{GoesOnAt}
-use Rattle.lic_marks.specs.Lone.{Behind, LeadFromBoth, MovesTo}
+use Rattle.lic_marks.specs.Lone.{Behind, BehindSome, LeadFromBoth, MovesTo}
 use Rattle.lic_marks.specs.Nodes.{passes}
-use Rattle.lic_marks.specs.Rests.{GoesOn}
-use Rattle.lic_marks.specs.Rows.{weight, marks_of}
+use Rattle.lic_marks.specs.Rows.{weight}
 use Rattle.lic_marks.specs.Standing.{AfterAny, each_with}
-use Rattle.lic_marks.specs.States.{HasTakenAny}
 use Rattle.lic_marks.specs.Threads.{AreCounts}
 use Rattle.lic_marks.specs.Ways.{LeadsNowhere}
 use Rattle.lic_marks.specs.declared.alone.Alone.{Alone}
-use Rattle.lic_marks.specs.declared.alone.Alone.TheVariants.{Text, Count}
+use Rattle.lic_marks.specs.declared.alone.Alone.TheVariants.{Text, Count, Both}
 use Rattle.lic_marks.specs.declared.alone.Tally.{Tally}
 use Rattle.lic_marks.specs.declared.counts.Counts.{Counts}
 use Rattle.lic_marks.specs.declared.state.State.{State}
 use Rattle.lic_marks.proofs.Counting.{counts_leave}
 use Rattle.lic_marks.proofs.Lists.{After-map, AfterAny-append, append-AfterAny}
 use Rattle.lic_marks.proofs.StateLemmas.{nothing_kept}
-use Rattle.lic_marks.proofs.ThreadRows.{covers_none, covers_more, sound_more, all_covered, later_among}
+use Rattle.lic_marks.proofs.ThreadRows.{AreSound, Covers, covers_none, covers_more, sound_more, later_among}
 
 -- ---- which mark it is
-
--- it stands in no text
-pub not_in_text : (r : Core) (tally : Tally) → StandsInText r (Some (Count tally))
-not_in_text r tally text is = absurd (let never : Some (Count tally) ≡ Some (Text text) = is in cc)
-
-pub nowhere_in_text : (r : Core) → StandsInText r None
-nowhere_in_text r text is = absurd (let never : None ≡ Some (Text text) = is in cc)
 
 -- it is a position, beside no other
 pub within_counts : (r : Core) (tally : Tally) → IsTally r tally → ForSome (Some tally.place) (λ k. k < weight r)
@@ -65,19 +56,28 @@ module _ (r : Core) (counts : Counts) where
 
 -- a word ends at the mark alone just where it ends behind the lists for which it stands
 module _ (r : Core) (place : ℕ) (lists : List (List (Gap × ℕ))) (goes : GoesOnAt r place lists) (ends : Bool) where
-  pub ends_out : (IsTrue ends ↔ ((n : ℕ) × AfterAny (WordsOf r) lists (blanks n))) → (IsTrue ends ↔ ((n : ℕ) × Behind r place (blanks n)))
-  ends_out h = (
-    λ is. let t = h.0 is in (t.0, goes.complete (blanks t.0) t.1),
-    λ t. h.1 (t.0, goes.sound (blanks t.0) t.1),
-  )
-
   pub ends_in : (IsTrue ends ↔ ((n : ℕ) × Behind r place (blanks n))) → (IsTrue ends ↔ ((n : ℕ) × AfterAny (WordsOf r) lists (blanks n)))
   ends_in h = (
     λ is. let t = h.0 is in (t.0, goes.sound (blanks t.0) t.1),
     λ t. h.1 (t.0, goes.complete (blanks t.0) t.1),
   )
 
--- what is told of the mark alone is so
+-- beside a mark behind which none ends it ends just where it does behind the other
+module _ (r : Core) (other : Option ℕ) (place : ℕ) (lists : List (List (Gap × ℕ))) (none : (n : ℕ) → BehindSome r other (blanks n) → ⊥)
+    (lead : LeadFromBoth r other (Some place) (AfterAny (WordsOf r) lists)) (ends : Bool) where
+  pub both_out : (IsTrue ends ↔ ((n : ℕ) × AfterAny (WordsOf r) lists (blanks n))) → (IsTrue ends ↔ ((n : ℕ) × Behind r place (blanks n)))
+  both_out h = (
+    λ is. let t = h.0 is in elim (lead.complete (blanks t.0) t.1) [ inl p ↦ absurd (none t.0 p) | inr p ↦ (t.0, p) ],
+    λ t. h.1 (t.0, lead.sound (blanks t.0) (inr t.1)),
+  )
+
+  pub both_in : (IsTrue ends ↔ ((n : ℕ) × Behind r place (blanks n))) → (IsTrue ends ↔ ((n : ℕ) × AfterAny (WordsOf r) lists (blanks n)))
+  both_in h = (
+    λ is. let t = h.0 is in (t.0, lead.sound (blanks t.0) (inr t.1)),
+    λ t. elim (lead.complete (blanks t.0) t.1) [ inl p ↦ absurd (none t.0 p) | inr p ↦ h.1 (t.0, p) ],
+  )
+
+-- what is told of the mark alone is so, or of two
 pub alone_ends : (r : Core) (lone : Alone) (state : State) (lists : List (List (Gap × ℕ))) → StandsInText r (Some lone) →
     StandsFor r (Some lone) state lists → (IsTrue (ends_at lone) ↔ ((n : ℕ) × AfterAny (WordsOf r) lists (blanks n)))
 alone_ends r (Text text) state lists it s = (
@@ -85,32 +85,26 @@ alone_ends r (Text text) state lists it s = (
   λ t. absurd ((it text refl).none_ends t.0 (s.1.complete (blanks t.0) t.1)),
 )
 alone_ends r (Count tally) state lists it s = ends_in r tally.place lists s.1 tally.ends s.0.ends
+alone_ends r (Both text tally) state lists it s =
+    both_in r (Some text.place) tally.place lists s.0.none_ends s.2 tally.ends s.1.ends
 
 -- ---- out of the marks of a state, and back
 
-module _ (r : Core) (state : State) (counts : Counts) (place end : ℕ) (are : AreCounts r counts place) (room : weight r ≤ length state.at_once)
-    (begun : state.entry ≡ false) (flag : get_or state.at_once place false ≡ true)
-    (before : (i : ℕ) → 0 ≤ i → i < place → get_or state.at_once i false ≡ false) (far : end ≡ counts.first + counts.most + 1)
-    (behind : (i : ℕ) → end ≤ i → i < length state.at_once → get_or state.at_once i false ≡ false) where
+module _ (r : Core) (state : State) (counts : Counts) (place end : ℕ) (are : AreCounts r counts place)
+    (flag : get_or state.at_once place false ≡ true)
+    (before : (i : ℕ) → 0 ≤ i → i < place → get_or state.at_once i false ≡ false) (far : end ≡ counts.first + counts.most + 1) where
   only : (v : Word) → Behind r place v ↔ (⊥ ⊎ Behind r place v)
   only v = (λ h. inr h, λ h. elim h [ inl p ↦ absurd p | inr p ↦ p ])
 
-  within : place < weight r
-  within = omega (arith, are.positions.1.within, are.among.high)
+  -- what goes on behind the marks up to the last that counts goes on behind the first
+  pub counts_cover : Covers r state.at_once (Behind r place) end
+  counts_cover = covers_more r state.at_once (λ v. ⊥) (Behind r place) 0 place end only (covers_none r state.at_once (λ v. ⊥)) (omega arith) before
+      (λ k low high. later_among r counts place k are low (omega (arith, high, far)))
 
-  marks : (v : Word) → Behind r place v ↔ GoesOn r false state.entry (marks_of r state.at_once) v
-  marks = all_covered r state.at_once state.entry (Behind r place) end begun room
-      (covers_more r state.at_once (λ v. ⊥) (Behind r place) 0 place end only (covers_none r state.at_once (λ v. ⊥)) (omega arith) before
-      (λ k low high. later_among r counts place k are low (omega (arith, high, far))))
-      behind
-      (sound_more r state.at_once (λ v. ⊥) (Behind r place) 0 place end only (λ v h. absurd h) within flag)
-
-  -- where all of them count letters, the first stands for what they all stand for
-  pub counted_out : (lists : List (List (Gap × ℕ))) → HasTakenAny r state lists → GoesOnAt r place lists
-  counted_out lists s = record {
-    sound = λ v h. s.leads.now.sound v ((marks v).0 h);
-    complete = λ v h. (marks v).1 (s.leads.now.complete v h);
-  }
+  pub counts_sound : AreSound r state.at_once (Behind r place)
+  counts_sound =
+      let within : place < weight r = omega (arith, are.positions.1.within, are.among.high) in
+      sound_more r state.at_once (λ v. ⊥) (Behind r place) 0 place end only (λ v h. absurd h) within flag
 
 -- alone beside no other
 pub lead_alone : (r : Core) (place : ℕ) (lists : List (List (Gap × ℕ))) → GoesOnAt r place lists → LeadFromBoth r (Some place) None (AfterAny (WordsOf r) lists)

@@ -14,6 +14,7 @@ pub mod Children
 pub mod LetterSets
 pub mod Joining
 pub mod PlainBytes
+pub mod PlainLetters
 pub mod TokenBytes
 pub mod Steady
 pub mod StateLemmas
@@ -44,6 +45,7 @@ pub mod TextEnds
 pub mod LetterSlices
 pub mod TextMarks
 pub mod AloneMarks
+pub mod BothMarks
 pub mod Moved
 pub mod ThreadRows
 pub mod MarkedRows

@@ -58,7 +58,7 @@ first_letter l m (c ∷ xs) p rest e = by_letter (λ f. first_letter l m xs p re
           last_letter-letter l true c xs h ∙ sym (last_letter-letter m true c xs h),
         )
 
-gap_apart : (a b w : Bool) → gap_of a b ≡ gap_of true w → a ≡ true
+pub gap_apart : (a b w : Bool) → gap_of a b ≡ gap_of true w → a ≡ true
 gap_apart true b w e = refl
 gap_apart false b true e = cc
 gap_apart false b false e = cc

@@ -1,12 +1,12 @@
 -- A token whose bytes are letters of ASCII, compared with the letters of a text.
-use Rattle.std.proofs.Common.{◌≡◌, ℕ, suc, ◌+◌, ◌-◌, ◌<◌, ◌≤◌, Bool, true, false, ◌&&◌, List, [], ◌∷◌, length, get_or, inl, refl, sym, ap, ◌∙◌, subst, arith}
+use Rattle.std.proofs.Common.{◌≡◌, ℕ, suc, ◌+◌, ◌-◌, ◌<◌, ◌≤◌, true, false, ◌&&◌, List, [], ◌∷◌, length, get_or, inl, inr, refl, sym, ap, ◌∙◌, subst, arith}
 use Rattle.std.specs.Str.{IsAscii}
 use Rattle.std.proofs.Math.Logic.{⊎_elim}
 use Rattle.std.proofs.lemmas.Bool.{cases_lt, ne_eqb}
 use Rattle.std.proofs.lemmas.List.{get_or_past}
 use Rattle.lic_words.specs.Words.{blank}
 use Rattle.lic_words.specs.Letters.{is_word}
-use Rattle.lic_words.specs.Spelling.{Gap, no_gap, gap_of, gapped_from, last_letter}
+use Rattle.lic_words.specs.Spelling.{Gap, no_gap, free, gap_of, gapped_from, last_letter}
 use Rattle.lic_words.proofs.Rows.{gapped_from-letter, last_letter-letter}
 use Rattle.lic_marks.specs.Cores.{Core}
 use Rattle.lic_marks.specs.Letters.{IsLetter}
@@ -51,28 +51,64 @@ leads_joined r k (c ∷ cs) h goes =
     subst (λ n. LeadsTo r n (get_or cs i 0)) next (goes (suc i) (omega (arith, inside))) in
     (refl, letter_first c cs h, first, leads_joined r (suc k) cs (plain_rest c cs h) rest)
 
--- over a blank of the text, and the letters
-module _ (r : Core) (k : ℕ) (over : LeadsTo r k blank) (last end : ℕ) where
-  pub over_row : (row : List ℕ) → 0 < length row → HasNoBlank row → ((i : ℕ) → i < length row → LeadsTo r (suc k + i) (get_or row i 0))
-      → end ≡ k + (length row + 1) → LeadsOver r k (gapped_from last true row) end
-  over_row [] some h goes is = absurd (omega (arith, some))
-  over_row (c ∷ cs) some h goes is =
-      let words : Bool = is_word last && is_word c in
-      let split : gapped_from last true (c ∷ cs) ≡ (gap_of true words, c) ∷ joined cs =
-      gapped_from-letter last true c cs (ne_eqb c blank (letter_first c cs h))
-      ∙ ap {B = List (Gap × ℕ)} (λ x. (gap_of true words, c) ∷ x) (letters_joined c cs (plain_rest c cs h)) in
-      let same : suc k + 0 ≡ suc k = omega arith in
-      let first : LeadsTo r (suc k) c = subst (λ n. LeadsTo r n c) same (goes 0 (omega arith)) in
-      let rest : (i : ℕ) → i < length cs → LeadsTo r (suc (suc k) + i) (get_or cs i 0) = λ i inside.
-      let next : suc k + suc i ≡ suc (suc k) + i = omega arith in
-      subst (λ n. LeadsTo r n (get_or cs i 0)) next (goes (suc i) (omega (arith, inside))) in
-      let along = leads_joined r (suc (suc k)) cs (plain_rest c cs h) rest in
+-- a row of letters, the first behind a gap
+split_row : (last c : ℕ) (cs : List ℕ) → HasNoBlank (c ∷ cs) →
+    gapped_from last true (c ∷ cs) ≡ (gap_of true (is_word last && is_word c), c) ∷ joined cs
+split_row last c cs h =
+    gapped_from-letter last true c cs (ne_eqb c blank (letter_first c cs h))
+    ∙ ap {B = List (Gap × ℕ)} (λ x. (gap_of true (is_word last && is_word c), c) ∷ x) (letters_joined c cs (plain_rest c cs h))
+
+-- each letter leads on from the position before it
+abbrev pub LeadInRow : Core → ℕ → List ℕ → Type 0
+LeadInRow r k row = (i : ℕ) → i < length row → LeadsTo r (k + i) (get_or row i 0)
+
+-- the letters behind the first lead on from the next position
+rest_leads : (r : Core) (k c : ℕ) (cs : List ℕ) → HasNoBlank (c ∷ cs) → LeadInRow r k (c ∷ cs) → LeadsAlong r (suc k) (joined cs)
+rest_leads r k c cs h goes =
+    leads_joined r (suc k) cs (plain_rest c cs h) (λ i inside.
+    let next : k + suc i ≡ suc k + i = omega arith in
+    subst (λ n. LeadsTo r n (get_or cs i 0)) next (goes (suc i) (omega (arith, inside))))
+
+first_leads : (r : Core) (k c : ℕ) (cs : List ℕ) → LeadInRow r k (c ∷ cs) → LeadsTo r k c
+first_leads r k c cs goes = let same : k + 0 ≡ k = omega arith in subst (λ n. LeadsTo r n c) same (goes 0 (omega arith))
+
+module _ (r : Core) (k last end : ℕ) where
+  -- over a blank of the text, and the letters
+  pub over_row : LeadsTo r k blank → (row : List ℕ) → 0 < length row → HasNoBlank row → LeadInRow r (suc k) row → end ≡ k + (length row + 1)
+      → LeadsOver r k (gapped_from last true row) end
+  over_row over [] some h goes is = absurd (omega (arith, some))
+  over_row over (c ∷ cs) some h goes is =
       let size = length-joined cs in
       let far : end ≡ suc (suc k) + length (joined cs) = omega (arith, is, size) in
-      subst (λ l. LeadsOver r k l end) (sym split) (suc (suc k), words, refl, letter_first c cs h, inl (over, first, refl), along, far)
+      subst (λ l. LeadsOver r k l end) (sym (split_row last c cs h)) (
+        suc (suc k),
+        is_word last && is_word c,
+        refl,
+        letter_first c cs h,
+        inl (over, first_leads r (suc k) c cs goes, refl),
+        rest_leads r (suc k) c cs h goes,
+        far,
+      )
 
--- the row is as the text behind its first letter
-module _ (row text : List ℕ) (same : (i : ℕ) → i < length row → IsLetter (get_or row i 0) (get_or text (i + 1) 0)) where
+  -- at once over the letters, where the gap may be none
+  pub along_row : (row : List ℕ) → 0 < length row → HasNoBlank row → gap_of true (is_word last && is_word (get_or row 0 0)) ≡ free → LeadInRow r k row
+      → end ≡ k + length row → LeadsOver r k (gapped_from last true row) end
+  along_row [] some h may goes is = absurd (omega (arith, some))
+  along_row (c ∷ cs) some h may goes is =
+      let size = length-joined cs in
+      let far : end ≡ suc k + length (joined cs) = omega (arith, is, size) in
+      subst (λ l. LeadsOver r k l end) (sym (split_row last c cs h)) (
+        suc k,
+        is_word last && is_word c,
+        refl,
+        letter_first c cs h,
+        inr (may, first_leads r k c cs goes, refl),
+        rest_leads r k c cs h goes,
+        far,
+      )
+
+-- the row is as the text behind its gap
+module _ (row text : List ℕ) (gap : ℕ) (same : (i : ℕ) → i < length row → IsLetter (get_or row i 0) (get_or text (i + gap) 0)) where
   pub no_blank : HasNoBlank row
   no_blank = λ i inside. (same i inside).is_letter
 

@@ -141,6 +141,23 @@ impl Known {
         is_quiet
     }
 
+    /// Whether it is known that no word goes on from the position with the letter, at once or behind blanks.
+    #[inline]
+    pub fn is_known_quiet_behind_blanks(&self, letter: char) -> bool
+        ensures { (r : Core) → IsKnown r self.now → IsTrue result
+            → IsQuietBehindBlanks r self.now.place letter }
+    {
+        self.behind_blanks.has(letter)
+    }
+
+    /// Whether this is what is known of that position.
+    #[inline]
+    pub fn is_of(&self, place: usize) -> bool
+        ensures { IsTrue result → self.now.place ≡ place }
+    {
+        self.place == place
+    }
+
     // Whether no word ends behind the position, but for blanks.
     fn none_ends(&mut self, tree: &Node, probe: &mut State) -> bool
         requires measured { IsTrue (is_measured tree.now) }

@@ -89,6 +89,38 @@ pub fn over_counts(
     }
 }
 
+/// The place to which the letters of a plain token, behind the letter `last`, lead from a place that counts any letter, where all that
+/// has to be known of the last count is known already: they lead on by their number at once.
+#[inline]
+pub fn over_known(
+    counts: Counts<'_>,
+    place: usize,
+    plain: &Plain,
+    last: char,
+    known: &Known,
+) -> Option<usize>
+    ensures { IfSome result (λ end. (r : Core) (token : List ℕ) → IsKnown r known.now → IsPlain plain.now token
+        → AreCounts r counts.entry place
+        → MovesTo r (Some place) (gapped_from last true token) (Some end) × IsAmongCounts counts.entry end) }
+{
+    if !known.is_of(counts.last) {
+        return None;
+    }
+    if !known.are_quiet(plain.others) {
+        return None;
+    }
+    if !known.is_known_quiet_behind_blanks(plain.first) {
+        return None;
+    }
+    if !counts.test.is_any() {
+        return None;
+    }
+    let first = plain.first_behind(last);
+    let step = if first.are_words { 2 } else { 1 };
+    let next = next_count(counts, place, step)?;
+    next_count(counts, next, plain.rest().len())
+}
+
 /// Where the letters of a plain token, behind the letter `last`, lead from a place that counts letters, if that is known. Those behind
 /// the first are gone over at once, where any letter is counted and of each of them that is known which has to be.
 pub fn over_plain(
@@ -218,6 +250,7 @@ fn over_gap(
 }
 
 // The place by so many letters on, if it is one of the counts.
+#[inline]
 fn next_count(counts: Counts<'_>, place: usize, step: usize) -> Option<usize>
     ensures { result ≡ (if nat_lt (counts.entry.first + counts.entry.most) (place + step) then None
         else Some (place + step)) }

@@ -13,33 +13,34 @@ ghost use Rattle.lic_marks.specs.Plain.{IsPlain, in_order};
 ghost use Rattle.lic_marks.specs.States.{HasFirstBlanks, has_gap, room_of};
 ghost use Rattle.lic_marks.specs.Fronts.{IsFrontOf};
 ghost use Rattle.lic_marks.specs.Stretches.{IsStretchOf};
-ghost use Rattle.lic_marks.specs.Alone.{IsFree, StandsInText};
+ghost use Rattle.lic_marks.specs.Alone.{IsFree, StandsBeside, StandsInText};
 ghost use Rattle.lic_marks.specs.Known.{IsKnown};
-ghost use Rattle.lic_marks.specs.declared.alone.Alone.TheVariants.{Count, Text};
+ghost use Rattle.lic_marks.specs.declared.alone.Alone.TheVariants.{Both, Count, Text};
 
 use crate::alone::{Alone, Tally};
 use crate::front::Front;
 use crate::known::Known;
 use crate::node::Node;
-use crate::over::{none_ends, over_plain};
+use crate::over::{none_ends, over_known, over_plain};
 use crate::plain::Plain;
 use crate::row::Row;
 use crate::state::State;
 use crate::stretch::{Stretch, Way};
-use crate::threads::InText;
+use crate::threads::{InText, text_over};
 use lic_words::letters::Letters;
 use lic_words::turned_letters::TurnedLetters;
 use std::alloc::{AllocError, Global};
 
 /// A run of a compiled expression that is entered at tokens of the caller's choice: it says whether the expression describes an end of
 /// the list that begins with one of them. It keeps no token, and takes memory in `new` alone. What is not entered, and has nothing
-/// marked, costs nothing; one mark alone in a text costs no more than to compare the token with the text, and one alone that counts
-/// letters no more than to look at these.
+/// marked, costs nothing; one mark alone in a text costs no more than to compare the token with the text, one alone that counts
+/// letters no more than to look at these, and the two together no more than both.
 #[derive(Drop, Debug)]
 pub struct Seeker<'a> {
     tree: &'a Node,
     state: State,
-    /// One mark alone, in place of all those of the state: it stands in a text, and no word ends there, or it counts letters.
+    /// One mark alone, in place of all those of the state: it stands in a text, and no word ends there, or it counts letters; or one of
+    /// each.
     lone: Option<Alone<'a>>,
     /// What is known of the last place of those that count letters, where the lone mark was one of them.
     known: Known,
@@ -57,6 +58,7 @@ pub struct Seeker<'a> {
     ghost size: { length first ≡ room_of state },
     ghost stretched: { IsStretchOf (core_of tree.now) stretch },
     ghost in_text: { StandsInText (core_of tree.now) lone },
+    ghost beside: { StandsBeside (core_of tree.now) lone },
     ghost learned: { IsKnown (core_of tree.now) known },
     ghost free: { IsFree (core_of tree.now) lone known state },
     ghost fronted: { ForSome front (IsFrontOf (core_of tree.now)) },
@@ -162,7 +164,7 @@ impl<'a> Seeker<'a> {
         self.take_out();
     }
 
-    // Puts the mark that stands alone back among those of the state.
+    // Puts the marks that stand alone back among those of the state.
     fn put_back(&mut self)
         ensures stands { (entered : ℕ → Bool) (e : Expression) (ts : List (List ℕ)) → SeeksAt entered self.old e ts → SeeksAt entered self.new e ts }
         ensures tree { tree_of self.new ≡ tree_of self.old }
@@ -181,6 +183,11 @@ impl<'a> Seeker<'a> {
             Alone::Count(tally) => {
                 self.state.clear();
                 self.state.mark_both(self.tree, Some(tally.place), None);
+            }
+            Alone::Both(text, tally) => {
+                self.state.clear();
+                self.state
+                    .mark_both(self.tree, Some(text.place), Some(tally.place));
             }
         }
     }
@@ -207,13 +214,25 @@ impl<'a> Seeker<'a> {
         }
     }
 
-    // Takes the mark out of the state, where it stands alone in a text and no word ends there, or counts letters.
+    // The two marks that stand alone, one in a text and one that counts letters.
+    #[inline(always)]
+    fn both(&self) -> Option<(InText<'a>, Tally<'a>)>
+        ensures { IfSome result (λ both. self.now.lone ≡ Some (Both both.0 both.1)) }
+    {
+        match self.lone {
+            Some(Alone::Both(text, tally)) => Some((text, tally)),
+            _ => None,
+        }
+    }
+
+    // Takes the marks out of the state, where one stands alone in a text and no word ends there, or counts letters, or one does each.
     fn take_out(&mut self)
         requires { self.old.lone ≡ None }
         ensures stands { (entered : ℕ → Bool) (e : Expression) (ts : List (List ℕ)) → SeeksAt entered self.old e ts → SeeksAt entered self.new e ts }
         ensures tree { tree_of self.new ≡ tree_of self.old }
     {
         self.known.unmark();
+        self.stretch = self.state.stretch_of(self.tree, self.stretch);
         self.lone = Alone::of(self.tree, &self.state, self.stretch);
     }
 
@@ -235,7 +254,8 @@ impl<'a> Seeker<'a> {
 
     /// As `push_turned`, of a token of which the caller may know that it is plain: then it is not read again where its letters are
     /// known to leave the marks as they are, nor where one mark alone stands in a text, or none does and all words begin with a text:
-    /// its letters are compared with that; nor where one mark alone counts letters, and it is known that these lead on from there.
+    /// its letters are compared with that; nor where one mark alone counts letters, and it is known that these lead on from there; nor
+    /// where there is one of each.
     #[inline]
     pub fn push_known(&mut self, token: &str, known: Option<&Plain>, may_begin: bool)
         requires letters { 0 < letters_in (chars token.now) }
@@ -353,18 +373,48 @@ impl<'a> Seeker<'a> {
             self.last = plain.last;
             return true;
         };
-        if !none_ends(stretch, place) {
-            return false;
-        }
-        self.lone = Some(Alone::Text(InText { place, stretch }));
         self.last = plain.last;
+        if none_ends(stretch, place) {
+            self.lone = Some(Alone::Text(InText { place, stretch }));
+            return true;
+        }
+        self.lone = None;
+        self.stretch = stretch;
+        self.state.mark_alone(self.tree, stretch, place);
         true
     }
 
     // Takes a plain token where one mark alone counts letters, and it is known where the token's letters lead from there. Otherwise
-    // nothing is done.
-    #[inline(never)]
+    // nothing is done. Mostly that is known already.
+    #[inline]
     fn counts_on(&mut self, plain: &Plain) -> bool
+        ensures none { (entered : ℕ → Bool) (e : Expression) (ts : List (List ℕ)) → SeeksAt entered self.old e ts
+            → result ≡ false → SeeksAt entered self.new e ts }
+        ensures stands { (entered : ℕ → Bool) (e : Expression) (ts : List (List ℕ)) (token : List ℕ)
+            → SeeksAt entered self.old e ts → IsTrue result
+            → IsPlain plain.now token → (IsTrue (entered (length ts)) → NoneBegins e token)
+            → SeeksAt entered self.new e (ts ++ token ∷ []) }
+        ensures tree { tree_of self.new ≡ tree_of self.old }
+    {
+        let Some(tally) = self.tally() else {
+            return false;
+        };
+        let counts = tally.counts;
+        let Some(place) = over_known(counts, tally.place, plain, self.last, &self.known) else {
+            return self.probes_on(plain);
+        };
+        self.lone = Some(Alone::Count(Tally {
+            place,
+            counts,
+            ends: tally.ends,
+        }));
+        self.last = plain.last;
+        true
+    }
+
+    // The same, where more may have to be learned of the last count.
+    #[inline(never)]
+    fn probes_on(&mut self, plain: &Plain) -> bool
         ensures none { (entered : ℕ → Bool) (e : Expression) (ts : List (List ℕ)) → SeeksAt entered self.old e ts
             → result ≡ false → SeeksAt entered self.new e ts }
         ensures stands { (entered : ℕ → Bool) (e : Expression) (ts : List (List ℕ)) (token : List ℕ)
@@ -408,15 +458,55 @@ impl<'a> Seeker<'a> {
         }
     }
 
+    // Takes a plain token where two marks stand alone, one in a text and one that counts letters, and it is known where the token's
+    // letters lead from each. Otherwise nothing is done.
+    #[inline(never)]
+    fn both_on(&mut self, plain: &Plain) -> bool
+        ensures none { (entered : ℕ → Bool) (e : Expression) (ts : List (List ℕ)) → SeeksAt entered self.old e ts
+            → result ≡ false → SeeksAt entered self.new e ts }
+        ensures stands { (entered : ℕ → Bool) (e : Expression) (ts : List (List ℕ)) (token : List ℕ)
+            → SeeksAt entered self.old e ts → IsTrue result
+            → IsPlain plain.now token → (IsTrue (entered (length ts)) → NoneBegins e token)
+            → SeeksAt entered self.new e (ts ++ token ∷ []) }
+        ensures tree { tree_of self.new ≡ tree_of self.old }
+    {
+        let Some((text, tally)) = self.both() else {
+            return false;
+        };
+        let first = plain.first_behind(self.last);
+        let Some(text) = text_over(Some(text), first, plain.rest()) else {
+            return false;
+        };
+        let Some(counted) = tally.over(
+            self.tree,
+            plain,
+            self.last,
+            &mut self.known,
+            &mut self.state,
+        ) else {
+            return false;
+        };
+        self.last = plain.last;
+        let Some(tally) = counted else {
+            self.state.clear();
+            self.lone = Alone::with(text, None);
+            return true;
+        };
+        self.lone = Alone::with(text, Some(tally));
+        true
+    }
+
     /// Takes a token, read from its end or from its first letter on, at which it is not entered, where one mark stands alone in a
-    /// text that goes on with a blank and the token's letters, all of ASCII. The token is compared with the text as it is. Otherwise
-    /// nothing is done.
+    /// text that goes on with the token's letters, all of ASCII, behind a blank or, where no gap is needed, at once. The token is
+    /// compared with the text as it is. Otherwise nothing is done.
     #[inline]
     pub fn goes_on(&mut self, token: &str, is_turned: bool) -> bool
         ensures none { result ≡ false → self.new ≡ self.old }
         ensures stands { (entered : ℕ → Bool) (e : Expression) (ts : List (List ℕ)) → SeeksAt entered self.old e ts
             → IsTrue result → (IsTrue (entered (length ts)) → NoneBegins e (in_order is_turned (chars token.now)))
             → SeeksAt entered self.new e (ts ++ in_order is_turned (chars token.now) ∷ []) }
+        ensures no_end { (entered : ℕ → Bool) (e : Expression) (ts : List (List ℕ)) → SeeksAt entered self.new e ts → IsTrue result
+            → ¬ (DescribesEndAt entered e ts) }
         ensures tree { tree_of self.new ≡ tree_of self.old }
     {
         let bytes = token.as_bytes();
@@ -424,7 +514,7 @@ impl<'a> Seeker<'a> {
             return false;
         };
         let stretch = text.stretch;
-        let Some(place) = stretch.over_bytes(text.place, bytes, is_turned) else {
+        let Some(place) = stretch.over_bytes(text.place, bytes, is_turned, self.last) else {
             return false;
         };
         if !none_ends(stretch, place) {
@@ -459,6 +549,9 @@ impl<'a> Seeker<'a> {
         }
         let None = self.lone else {
             if self.counts_on(plain) {
+                return true;
+            }
+            if self.both_on(plain) {
                 return true;
             }
             return self.follows(plain);

@@ -1,17 +1,20 @@
 //! Stretches of text in a compiled expression: literals, in which a lone mark moves on letter by letter.
 
-ghost use Rattle.std.specs.Prelude.{◌≡◌, ◌<◌, ◌-◌, ◌∷◌, ℕ, true, IfSome, IsTrue, length, map, slice_index};
+ghost use Rattle.std.specs.Prelude.{◌≡◌, ◌<◌, ◌≤◌, ◌-◌, ◌&&◌, ◌∷◌, ◌⊎◌, ℕ, true, IfSome, IsTrue, length, map, slice_index};
 ghost use Rattle.std.specs.List.{list_all};
 ghost use Rattle.lic_marks.specs.Cores.{cat_all, alt_all};
 ghost use Rattle.lic_marks.specs.Nodes.{core_of, is_measured};
 ghost use Rattle.lic_marks.specs.Stretches.{IsStretch};
 ghost use Rattle.std.specs.Str.{chars};
 ghost use Rattle.lic_marks.specs.Letters.{IsLetter};
-ghost use Rattle.lic_words.specs.Spelling.{gap_of, gapped_from, last_letter};
+ghost use Rattle.lic_words.specs.Letters.{is_word};
+ghost use Rattle.lic_words.specs.Spelling.{free, gap_of, gapped_from, last_letter};
 ghost use Rattle.lic_words.specs.Reading.{gapped_letter};
+ghost use Rattle.lic_words.specs.Words.{blank};
 
 use crate::node::Node;
 use crate::plain::Plain;
+use lic_kind::is_word;
 use lic_words::letters::Letter;
 
 /// The letters behind a place of a compiled expression in its stretch of text: from a mark at that place alone they lead on one by one.
@@ -127,15 +130,21 @@ impl<'a> Stretch<'a> {
         }
     }
 
-    /// Where a token leads from a place of the stretch on, read from its end or from its beginning, if its bytes are letters of ASCII and
-    /// the text goes on with a blank and with these letters.
+    /// Where a token behind the letter `last` leads from a place of the stretch on, read from its end or from its beginning, if its bytes
+    /// are letters of ASCII and the text goes on with these letters: behind a blank, or at once where no gap is needed.
     #[inline]
-    pub fn over_bytes(self, place: usize, bytes: &[u8], is_turned: bool) -> Option<usize>
-        ensures way { IfSome result (λ end. (r : Core) (last : ℕ) → IsStretchOf r self.entry
+    pub fn over_bytes(
+        self,
+        place: usize,
+        bytes: &[u8],
+        is_turned: bool,
+        last: char,
+    ) -> Option<usize>
+        ensures way { IfSome result (λ end. (r : Core) → IsStretchOf r self.entry
             → IsWay r place (gapped_from last true (in_order is_turned (chars bytes.now))) (To end)) }
         ensures some { IfSome result (λ end. 0 < length bytes.now) }
-        ensures last { IfSome result (λ end. (last : ℕ)
-            → last_letter last (in_order is_turned (chars bytes.now))
+        ensures last { IfSome result (λ end. (before : ℕ)
+            → last_letter before (in_order is_turned (chars bytes.now))
             ≡ slice_index (in_order is_turned bytes.now) (length bytes.now - 1)) }
     {
         let text = self.letters_from(place)?;
@@ -146,16 +155,14 @@ impl<'a> Stretch<'a> {
         if count >= text.len() {
             return None;
         }
-        if text[0] != ' ' {
-            return None;
-        }
+        let gap = gap_length(text[0], last, Plain::byte_at(bytes, 0, is_turned))?;
         for i in 0..count {
             let byte = Plain::byte_at(bytes, i, is_turned);
-            if !is_letter(byte, text[i + 1]) {
+            if !is_letter(byte, text[i + gap]) {
                 return None;
             }
         }
-        let end = place.checked_add(count + 1)?;
+        let end = place.checked_add(count + gap)?;
         Some(end)
     }
 
@@ -181,6 +188,24 @@ impl<'a> Stretch<'a> {
         }
         let end = place.checked_add(count)?;
         Some(Way::To { place: end })
+    }
+}
+
+// How many letters of a text that goes on with `next` stand for the gap between the letter `last` and a token's first: one blank, or
+// none where none is needed.
+#[inline]
+fn gap_length(next: char, last: char, first: u8) -> Option<usize>
+    ensures gap { IfSome result (λ count. ((count ≡ 1) × (next ≡ blank))
+        ⊎ ((count ≡ 0) × (gap_of true (is_word last && is_word first) ≡ free))) }
+    ensures most { IfSome result (λ count. count ≤ 1) }
+{
+    if next == ' ' {
+        return Some(1);
+    }
+    if is_word(last) & is_word(char::from(first)) {
+        None
+    } else {
+        Some(0)
     }
 }
 

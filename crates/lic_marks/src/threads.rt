@@ -207,8 +207,8 @@ impl<'a> Threads<'a> {
     }
 }
 
-// Where the letters lead from a mark in a text, if there is one, and if that is known.
-fn text_over<'a>(
+/// Where the letters lead from a mark in a text, if there is one, and if that is known.
+pub fn text_over<'a>(
     text: Option<InText<'a>>,
     first: Letter,
     others: &[Letter],

@@ -1,8 +1,7 @@
-use Rattle.std.proofs.Common.{◌≡◌, ◌∷◌, [], ◌+◌, ◌&&◌, ℕ, List, true, Some, None, length, map, refl, sym, ap, ◌∙◌, subst}
+use Rattle.std.proofs.Common.{◌≡◌, ◌∷◌, [], ◌+◌, ℕ, List, true, Some, None, length, map, refl, sym, ap, ◌∙◌, subst}
 use Rattle.std.specs.Option.{ForSome}
 use Rattle.std.proofs.lemmas.List.{length-map}
-use Rattle.lic_words.specs.Letters.{is_word}
-use Rattle.lic_words.specs.Spelling.{Gap, gap_of, gapped_from}
+use Rattle.lic_words.specs.Spelling.{gapped_from}
 use Rattle.lic_words.specs.Reading.{gapped_letter}
 use Rattle.lic_marks.specs.Counts.{IsQuiet}
 use Rattle.lic_marks.specs.Lone.{MovesTo}
@@ -10,15 +9,10 @@ use Rattle.lic_marks.specs.Memories.{has}
 use Rattle.lic_marks.specs.Nodes.{core_of}
 use Rattle.lic_marks.specs.Plain.{IsPlain, others_in}
 use Rattle.lic_marks.specs.Threads.{AreCounts, IsAmongCounts}
-use Rattle.lic_marks.specs.declared.plain.Plain.{Plain}
 use Rattle.lic_marks.proofs.Moved.{moves_along, moves_more, moves_nowhere, next_among, next_of}
+use Rattle.lic_marks.proofs.PlainLetters.{spelled}
 use Rattle.lic_marks.proofs.ThreadRows.{some_so}
 use Rattle.lic_marks.proofs.over.over_plain.Goals as goal
-
--- the letters of the token
-spelled : (plain : Plain) (last : ℕ) (token : List ℕ) (first : Gap × ℕ) (others : List (Gap × ℕ)) → IsPlain plain token → first ≡ (gap_of true (is_word last && is_word plain.first), plain.first) →
-    others ≡ others_in plain → first ∷ others ≡ gapped_from last true token
-spelled plain last token first others known is rest = let whole = known.letters last in cc
 
 pub returns-then-are_quiet-clause-moves : goal.returns-then-are_quiet-clause-moves
 returns-then-are_quiet-clause-moves c = λ token known are.

@@ -1,13 +1,17 @@
-use Rattle.std.proofs.Common.{◌≡◌, ℕ, List, [], ◌∷◌, ◌++◌, true, sym, ap, ◌∙◌, subst}
+use Rattle.std.proofs.Common.{◌≡◌, ℕ, List, [], ◌∷◌, ◌++◌, true, Some, sym, ap, ◌∙◌, subst}
 use Rattle.std.specs.Str.{chars}
 use Rattle.lic_words.specs.Spelling.{gapped_from, last_letter}
 use Rattle.lic_marks.specs.Nodes.{core_of}
 use Rattle.lic_marks.specs.Plain.{in_order}
 use Rattle.lic_marks.specs.Standing.{each_with}
 use Rattle.lic_marks.specs.Stretches.{LeadsOver}
-use Rattle.lic_marks.specs.Alone.{StandsFor}
+use Rattle.lic_marks.specs.Alone.{StandsFor, StandsInText}
 use Rattle.lic_marks.specs.Seeks.{GoOnAsEnds}
-use Rattle.lic_marks.proofs.Seeking.{passed}
+use Rattle.lic_marks.specs.declared.alone.Alone.TheVariants.{Text}
+use Rattle.lic_marks.specs.declared.threads.InText.{InText}
+use Rattle.lic_marks.proofs.AloneMarks.{alone_ends}
+use Rattle.lic_marks.proofs.Seeking.{answer_complete, passed}
+use Rattle.lic_marks.proofs.StateLemmas.{nothing_kept}
 use Rattle.lic_marks.proofs.TextMarks.{in_text, goes_on_to}
 use Rattle.lic_marks.proofs.seek.Seeker.goes_on.Goals as goal
 
@@ -29,7 +33,7 @@ returns-clause-stands c = λ entered e ts s _ none.
     let end = c.in-Some-over_bytes.place in
     let same : in_order c.args.is_turned (chars c.as_bytes-bytes.result.now) ≡ t =
     ap (λ bytes. in_order c.args.is_turned (chars bytes)) c.as_bytes-bytes.ensures.value in
-    let way = subst (λ row. LeadsOver r c.in-Some.text.place (gapped_from last true row) end) same (c.in-Some-over_bytes.ensures.way r last stretch) in
+    let way = subst (λ row. LeadsOver r c.in-Some.text.place (gapped_from last true row) end) same (c.in-Some-over_bytes.ensures.way r stretch) in
     let ends_in : last_letter last t ≡ c.from-self.result = ap (last_letter last) (sym same) ∙ c.in-Some-over_bytes.ensures.last last ∙ sym c.byte_at.ensures ∙ sym c.from-self.ensures in
     let lone = subst (λ l. StandsFor r l self.state s.lists) c.in-Some.ensures s.taken in
     let lists = each_with (gapped_from last true t) s.lists in
@@ -39,3 +43,15 @@ returns-clause-stands c = λ entered e ts s _ none.
       taken = (lone.0, goes_on_to r c.in-Some.text.place s.lists end (gapped_from last true t) lone.1 way);
       ends = subst (λ l. GoOnAsEnds entered e r l lists (ts ++ t ∷ [])) ends_in (passed entered e r last s.lists ts s.ends t none);
     }
+
+-- no word ends at the mark
+pub returns-clause-no_end : goal.returns-clause-no_end
+returns-clause-no_end c = λ entered e ts s _ described.
+    let self = c.args.self.now in
+    let r = core_of self.tree.now in
+    let stretch = (self.in_text c.in-Some.text c.in-Some.ensures).stretch in
+    let ends = c.none_ends.ensures r stretch c.if-not-none_ends.false in
+    let text : InText = record { place = c.in-Some-over_bytes.place; stretch = c.in-Some.text.stretch } in
+    let it : StandsInText r (Some (Text text)) = in_text r text record { stretch = stretch; within = ends.0; none_ends = ends.1 } in
+    let answer = alone_ends r (Text text) self.state s.lists it s.taken in
+    nothing_kept (answer.1 (answer_complete entered e _ _ s.lists ts s.ends s.words described))

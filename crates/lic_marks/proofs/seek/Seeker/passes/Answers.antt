@@ -23,18 +23,24 @@ returns-then-may_begin-clause-stands c = λ entered e ts t s h known begins none
     c.turns_to.ensures.stands entered e ts t (c.enters.ensures.none entered e ts s c.if-enters.false) h (rw c.in-Some.is at known)
     (begins c.if-may_begin.true)
 
--- a mark stands alone
+-- a mark stands alone, or two
 pub returns-then-counts_on-clause-stands : goal.returns-then-counts_on-clause-stands
 returns-then-counts_on-clause-stands c = λ entered e ts t s _ known enters none.
     c.counts_on.ensures.stands entered e ts t s c.if-counts_on.true (rw c.in-Some.is at known) (none c.if-may_begin.false)
 
+pub returns-then-both_on-clause-stands : goal.returns-then-both_on-clause-stands
+returns-then-both_on-clause-stands c = λ entered e ts t s _ known enters none.
+    c.both_on.ensures.stands entered e ts t (c.counts_on.ensures.none entered e ts s c.if-counts_on.false) c.if-both_on.true (rw c.in-Some.is at known)
+    (none c.if-may_begin.false)
+
 pub returns-in_default-lone-clause-none : goal.returns-in_default-lone-clause-none
 returns-in_default-lone-clause-none c = λ entered e ts s is.
-    c.follows.ensures.none entered e ts (c.counts_on.ensures.none entered e ts s c.if-counts_on.false) is
+    c.follows.ensures.none entered e ts (c.both_on.ensures.none entered e ts (c.counts_on.ensures.none entered e ts s c.if-counts_on.false) c.if-both_on.false) is
 
 pub returns-in_default-lone-clause-stands : goal.returns-in_default-lone-clause-stands
 returns-in_default-lone-clause-stands c = λ entered e ts t s h known enters none.
-    c.follows.ensures.stands entered e ts t (c.counts_on.ensures.none entered e ts s c.if-counts_on.false) h (rw c.in-Some.is at known) (none c.if-may_begin.false)
+    let before = c.both_on.ensures.none entered e ts (c.counts_on.ensures.none entered e ts s c.if-counts_on.false) c.if-both_on.false in
+    c.follows.ensures.stands entered e ts t before h (rw c.in-Some.is at known) (none c.if-may_begin.false)
 
 pub returns-then-not-follow-clause-none : goal.returns-then-not-follow-clause-none
 returns-then-not-follow-clause-none c = λ entered e ts s is.
