@@ -196,3 +196,13 @@ module _ (set : List Known) (numbers : List ℕ) (rising : IsRising numbers (len
         (contains_or_not places k);
     ordered = λ behind ordered. (done.ordered behind ordered).0;
   }
+
+-- where no match ends with the token, none need be
+pub AreEntered-none : (set : List Known) (numbers : List ℕ) (tokens : List TokenValue) (last : ℕ) (old : List Trail) →
+    ((t : Triple) → IsMatch set tokens t → Contains numbers t.template → ¬ (t.last ≡ last)) → AreEntered set numbers tokens last old old
+AreEntered-none set numbers tokens last old none = record {
+  trails = λ bound room are. are;
+  kept = λ template end on. on;
+  all = λ bound room are t m among here. absurd (none t m among here);
+  ordered = λ behind ordered. ordered;
+}

@@ -27,3 +27,4 @@ pub mod GivingLemmas
 pub mod Passing
 pub mod TailLemmas
 pub mod LastLetterLemmas
+pub mod CodeLemmas

@@ -1,5 +1,5 @@
 -- The last letters of a text as one number.
-use Rattle.std.specs.Prelude.{◌≡◌, ℕ, zero, suc, ◌+◌, ◌-◌, ◌*◌, ◌%◌, ◌^◌, bit_or, List, Option, Some, encode_utf8_all, length, slice_index_or, take}
+use Rattle.std.specs.Prelude.{◌≡◌, ℕ, zero, suc, ◌+◌, ◌-◌, ◌*◌, ◌%◌, ◌^◌, bit_or, Bool, true, false, List, Option, Some, IfSome, encode_utf8_all, length, slice_index_or, take}
 use Rattle.std.specs.List.{slice_get}
 use Rattle.lic_norm.specs.Tokens.{TokenValue}
 use Rattle.lic_auto.specs.Sets.{Known}
@@ -29,3 +29,13 @@ HasCode set number code = (tokens : List TokenValue) (t : Triple) → IsMatch se
 abbrev pub AreCodes : List Known → List ℕ → List (Option ℕ) → Type 0
 AreCodes set numbers codes = (place number code : ℕ) → slice_get numbers place ≡ Some number → slice_get codes place ≡ Some (Some code)
     → HasCode set number code
+
+-- no match of the template of this number ends where this is the number of the last eight letters, if that is known
+abbrev pub EndsOtherwise : List Known → ℕ → Option ℕ → Type 0
+EndsOtherwise set number code = (tokens : List TokenValue) (t : Triple) → IsMatch set tokens t → t.template ≡ number
+    → ¬ (IfSome code (λ code. code ≡ code_at (bytes_up_to tokens (t.last + 1)) 8))
+
+-- of each number that a template may have the flag is set: its own, or any where it has none
+abbrev pub AreFlagged : List (Option ℕ) → List Bool → Type 0
+AreFlagged codes flags = (place : ℕ) (own : Option ℕ) (code : ℕ) → slice_get codes place ≡ Some own → IfSome own (λ own. own ≡ code)
+    → slice_index_or flags (code % 4093) false ≡ true

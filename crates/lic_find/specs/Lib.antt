@@ -9,6 +9,7 @@ pub mod Walks
 pub mod Trails
 pub mod TrailEnds
 pub mod LastLetters
+pub mod Codes
 pub mod Entrances
 pub mod Walked
 pub mod Counts

@@ -1,17 +1,17 @@
 //! Where templates are entered on a walk towards the front of a text.
 
-ghost use Rattle.std.specs.Prelude.{◌≡◌, ◌<◌, ◌+◌, ℕ, List, Some, false, length, slice_index, IfOk, IfSome, IsTrue, OnOk};
-ghost use Rattle.std.specs.List.{slice_get};
+ghost use Rattle.std.specs.Prelude.{◌≡◌, ◌<◌, ◌+◌, false, length, slice_index, IfOk, IfSome, OnOk};
 ghost use Rattle.lic_keys.specs.Rising.{IsRising};
 ghost use Rattle.lic_auto.specs.Choices.{numbers_chosen, set_chosen};
 ghost use Rattle.lic_auto.specs.declared.direction.Direction.TheVariants.{Backward};
-ghost use Rattle.lic_find.specs.LastLetters.{AreCodes, bytes_up_to, code_at};
+ghost use Rattle.lic_find.specs.Codes.{HoldsCodes};
+ghost use Rattle.lic_find.specs.LastLetters.{bytes_up_to, code_at};
 ghost use Rattle.lic_find.specs.Matches.{IsMatch};
-ghost use Rattle.lic_norm.specs.Tokens.{TokenValue};
 ghost use Rattle.lic_find.specs.Trails.{AreEntered, IsEntered};
 ghost use Rattle.lic_find.specs.declared.triple.Triple.{Triple};
 
-use crate::last_letters::{code_up_to, codes_of};
+use crate::codes::Codes;
+use crate::last_letters::code_up_to;
 use crate::tail::may_end;
 use crate::trail::Trail;
 use crate::trails::newest_of_most;
@@ -28,9 +28,8 @@ pub struct Entrances<'s> {
     chosen: Chosen<'s>,
     // how many trails a template may have, one at least
     most: usize,
-    // of each template at its place the number of the last letters of its matches, where it is known
-    codes: Vec<Option<u64>>,
-    ghost coded: { AreCodes set.now (numbers_chosen chosen) codes.items },
+    codes: Codes,
+    ghost coded: { HoldsCodes (set_chosen chosen) (numbers_chosen chosen) codes },
     ghost same: { set_chosen chosen ≡ set.now },
     ghost backward: { chosen.direction ≡ Backward },
 }
@@ -49,7 +48,7 @@ impl<'s> Entrances<'s> {
         ensures set { IfOk result (λ entrances. set_entered entrances ≡ set.now) }
         ensures numbers { IfOk result (λ entrances. numbers_entered entrances ≡ numbers.items) }
     {
-        let codes = codes_of(alloc, set, &numbers)?;
+        let codes = Codes::of(alloc, set, &numbers)?;
         let chosen = Chosen::new(alloc, set, numbers, Direction::Backward)?;
         Ok(Entrances {
             set,
@@ -72,12 +71,12 @@ impl<'s> Entrances<'s> {
         ensures { OnOk result (AreEntered (set_entered self.now) (numbers_entered self.now)
             text.now.tokens last trails.old.items trails.new.items) }
     {
-        let token = text.token(last).text;
-        let places = self.chosen.entered_by(token);
-        if places.is_empty() {
+        let code = code_up_to(text, last);
+        if self.codes.all_end_otherwise(code) {
             return Ok(());
         }
-        let code = code_up_to(text, last);
+        let token = text.token(last).text;
+        let places = self.chosen.entered_by(token);
         for i in (0..places.len()).rev() {
             let place = places[i];
             if self.may_end(place, text, last, code) {
@@ -96,29 +95,13 @@ impl<'s> Entrances<'s> {
         ensures { result ≡ false → (t : Triple) → IsMatch (set_entered self.now) text.now.tokens t
             → t.template ≡ slice_index (numbers_entered self.now) place → ¬ (t.last ≡ last) }
     {
-        if self.ends_otherwise(place, code) {
+        if self.codes.ends_otherwise(place, code) {
             return false;
         }
         if !may_end(self.set, text, self.chosen.number(place), last) {
             return false;
         }
         self.chosen.may_enter(place, text.token(last).text)
-    }
-
-    // Whether the template at a place ends with other letters than those whose number this is.
-    #[inline]
-    fn ends_otherwise(&self, place: usize, code: Option<u64>) -> bool
-        ensures { IsTrue result → (number : ℕ) → slice_get (numbers_entered self.now) place ≡ Some number
-            → (tokens : List TokenValue) (t : Triple) → IsMatch (set_entered self.now) tokens t → t.template ≡ number
-            → ¬ (IfSome code (λ code. code ≡ code_at (bytes_up_to tokens (t.last + 1)) 8)) }
-    {
-        let Some(code) = code else {
-            return false;
-        };
-        match self.codes.get(place) {
-            Some(Some(own)) => *own != code,
-            _ => false,
-        }
     }
 
     // The template at a place is entered at this token: with a trail of its own, or where it has as many as it may, with its newest one.

@@ -1,12 +1,10 @@
 //! The last letters of a text as one number, so that two texts are told apart at one glance.
 
-ghost use Rattle.std.specs.Prelude.{◌≡◌, ◌<◌, ◌≤◌, ◌+◌, ◌++◌, ℕ, List, IfOk, IfSome, IsTrue, length};
-ghost use Rattle.lic_keys.specs.Rising.{IsRising};
-ghost use Rattle.lic_find.specs.LastLetters.{AreCodes, HasCode, bytes_up_to, code_at, with_letter};
+ghost use Rattle.std.specs.Prelude.{◌≡◌, ◌<◌, ◌≤◌, ◌+◌, ◌++◌, ℕ, List, IfSome, IsTrue, length, slice_index};
+ghost use Rattle.lic_find.specs.LastLetters.{HasCode, bytes_up_to, code_at, with_letter};
 
 use lic_auto::set::Set;
 use lic_norm::text::Text;
-use std::alloc::{AllocError, Global};
 
 /// How many letters the number is made of.
 const MOST_LETTERS: usize = 8;
@@ -27,17 +25,19 @@ impl LastLetters {
         LastLetters { code: 0, count: 0 }
     }
 
-    /// Takes the bytes that stand before those that were taken, from the last one back, until eight are taken. True only where it took
-    /// all of them.
+    /// Takes the bytes that stand before those that were taken, from the last one back, until eight are taken or one is a blank. True only
+    /// where it took all of them.
     fn take(&mut self, bytes: &[u8]) -> bool
         ensures code { (front behind : List ℕ) → length behind ≡ self.old.count
             → self.old.code ≡ code_at (front ++ (bytes.now ++ behind)) self.old.count
             → self.new.code ≡ code_at (front ++ (bytes.now ++ behind)) self.new.count }
         ensures count { self.new.count ≤ self.old.count + length bytes.now }
+        ensures letters { (place : ℕ) → place < length bytes.now
+            → self.old.count + length bytes.now ≤ place + self.new.count → ¬ (slice_index bytes.now place ≡ 32) }
         ensures all { IsTrue result → self.new.count ≡ self.old.count + length bytes.now }
     {
         for place in (0..bytes.len()).rev() {
-            if self.count >= MOST_LETTERS {
+            if self.count >= MOST_LETTERS || bytes[place] == b' ' {
                 return false;
             }
             self.code = add_letter(self.code, bytes[place]);
@@ -65,8 +65,8 @@ fn add_letter(code: u64, byte: u8) -> u64
     code << 8 | byte as u64
 }
 
-/// The number of the last letters of the tokens up to this one, the blanks aside, if they are enough and no token among them has a blank
-/// in it.
+/// The number of the last letters of the tokens up to this one, the blanks aside, if they are enough and no blank stands in a token among
+/// them.
 pub fn code_up_to(text: &Text, last: usize) -> Option<u64>
     requires { last < length text.now.tokens }
     ensures { IfSome result (λ code. code ≡ code_at (bytes_up_to text.now.tokens (last + 1)) 8) }
@@ -76,9 +76,6 @@ pub fn code_up_to(text: &Text, last: usize) -> Option<u64>
     prove!(last < count);
     for number in (0..last + 1).rev() {
         let token = text.token(number).text.as_bytes();
-        if token.contains(&b' ') {
-            return None;
-        }
         if !letters.take(token) {
             return letters.whole();
         }
@@ -86,20 +83,8 @@ pub fn code_up_to(text: &Text, last: usize) -> Option<u64>
     letters.whole()
 }
 
-/// The numbers of the last letters of these templates: of each where its tail is long enough.
-pub fn codes_of(alloc: Global, set: &Set, numbers: &[usize]) -> Result<Vec<Option<u64>>, AllocError>
-    requires { IsRising numbers.now (length set.now) }
-    ensures { IfOk result (λ codes. AreCodes set.now numbers.now codes.items) }
-{
-    let mut codes = Vec::with_capacity(alloc, numbers.len())?;
-    for number in numbers {
-        codes.push(code_of(set, *number))?;
-    }
-    Ok(codes)
-}
-
-// The number of the last letters with which all that a template describes ends.
-fn code_of(set: &Set, number: usize) -> Option<u64>
+/// The number of the last letters with which all that a template describes ends, if its tail is long enough.
+pub fn code_of(set: &Set, number: usize) -> Option<u64>
     requires { number < length set.now }
     ensures { IfSome result (HasCode set.now number) }
 {

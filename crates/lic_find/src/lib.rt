@@ -2,6 +2,7 @@
 #![tactic(auto)]
 
 pub mod ask;
+mod codes;
 pub mod end;
 mod entrances;
 pub mod finder;

@@ -1,10 +1,10 @@
-use Rattle.std.proofs.Common.{◌≡◌, ◌+◌, [], ◌++◌, Some, length, sym, ap, ◌∙◌, subst, arith, append-nil}
+use Rattle.std.proofs.Common.{◌≡◌, ◌+◌, [], ◌++◌, Some, sym, ap, ◌∙◌, subst, arith, append-nil}
 use Rattle.std.specs.List.{slice_get}
 use Rattle.std.specs.Str.{chars}
 use Rattle.std.proofs.lemmas.Option.{IfSome_then}
 use Rattle.lic_keys.specs.Keys.{letters_of}
 use Rattle.lic_keys.specs.Tails.{EndsWith}
-use Rattle.lic_find.specs.LastLetters.{HasCode, bytes_up_to, code_at}
+use Rattle.lic_find.specs.LastLetters.{bytes_up_to, code_at}
 use Rattle.lic_find.specs.Matches.{letters_between}
 use Rattle.lic_find.proofs.LastLetterLemmas.{code_at-ends}
 use Rattle.lic_find.proofs.TailLemmas.{bytes_end, range_ends}

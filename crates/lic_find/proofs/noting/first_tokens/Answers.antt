@@ -1,4 +1,4 @@
-use Rattle.std.proofs.Common.{◌≡◌, ◌+◌, ◌^◌, ◌-◌, ◌<◌, ◌≤◌, [], ℕ, length, drop, sym, ap, ◌∙◌, subst, arith}
+use Rattle.std.proofs.Common.{◌≡◌, ◌+◌, ◌-◌, ◌≤◌, [], ℕ, length, drop, sym, ap, ◌∙◌, subst, arith}
 use Rattle.std.proofs.Math.Seq.{drop-length}
 use Rattle.lic_keys.specs.Looks.{OthersDescribeNoRange}
 use Rattle.lic_auto.specs.Compiled.{parts_of}
@@ -7,7 +7,7 @@ use Rattle.lic_find.specs.Firsts.{AreFirstsFrom}
 use Rattle.lic_find.specs.Ends.{AreKnown}
 use Rattle.lic_find.specs.Matches.{all_letters}
 use Rattle.lic_find.specs.Starts.{starts_in}
-use Rattle.lic_find.specs.Walked.{HasWalked, KnowsEnds, ends_walked, numbers_walked, set_walked, steps_walked, unclear_walked}
+use Rattle.lic_find.specs.Walked.{HasWalked, KnowsEnds, ends_walked, numbers_walked, set_walked}
 use Rattle.lic_find.proofs.FirstLemmas.{AreKnown-walked, NoneBeginFrom-end}
 use Rattle.lic_find.proofs.LetterLemmas.{letters_of-none, letters_of-drop_le}
 use Rattle.lic_find.proofs.noting.first_tokens.Goals as goal

@@ -1,22 +1,18 @@
-use Rattle.std.proofs.Common.{◌≡◌, ◌+◌, ◌-◌, ◌<◌, length, sym, ◌∙◌, subst, arith, eqb-true}
+use Rattle.std.proofs.Common.{◌≡◌, ◌+◌, ◌-◌, ◌<◌, length, refl, sym, subst, arith}
+use Rattle.std.specs.Option.{IfSome}
 use Rattle.lic_norm.specs.Tokens.{TokenValue}
 use Rattle.lic_find.specs.Entrances.{numbers_entered, set_entered}
-use Rattle.lic_find.proofs.Entering.{AreEnteredFrom, AreEntered-all, AreEnteredFrom-more, AreEnteredFrom-none, AreEnteredFrom-passed, none_listed, place_within}
+use Rattle.lic_find.specs.LastLetters.{bytes_up_to, code_at}
+use Rattle.lic_find.proofs.Entering.{AreEnteredFrom, AreEntered-all, AreEntered-none, AreEnteredFrom-more, AreEnteredFrom-none, AreEnteredFrom-passed, none_listed, place_within}
 use Rattle.lic_find.proofs.entrances.Entrances.enter.Goals as goal
 
-pub returns-then-is_empty : goal.returns-then-is_empty
-returns-then-is_empty c =
+pub returns-then-all_end_otherwise : goal.returns-then-all_end_otherwise
+returns-then-all_end_otherwise c =
     let e = c.args.self.now in
-    let set = set_entered e in
     let tokens = c.args.text.now.tokens in
-    let places = c.entered_by-places.result.now in
-    let old = c.args.trails.now.items in
-    let none : length places ≡ 0 = eqb-true (length places) 0 (sym c.is_empty.ensures ∙ c.if-is_empty.true) in
-    let token : TokenValue = record { text = c.token.result.text.now; span = c.token.result.span } in
-    AreEntered-all set (numbers_entered e) e.chosen.rising tokens c.args.last c.requires places c.entered_by-places.ensures.rising old old
-    (subst (λ n. AreEnteredFrom set (numbers_entered e) tokens c.args.last places n old old) none
-    (AreEnteredFrom-none set (numbers_entered e) e.chosen.rising tokens c.args.last c.requires places c.entered_by-places.ensures.rising old))
-    (none_listed e tokens c.args.last token c.token.result.text.now (c.token.ensures.text token) places c.entered_by-places.ensures.rest)
+    AreEntered-none (set_entered e) (numbers_entered e) tokens c.args.last c.args.trails.now.items (λ t match among here.
+    c.all_end_otherwise.ensures c.if-all_end_otherwise.true (set_entered e) (numbers_entered e) e.coded t.template among tokens t match refl
+    (subst (λ last. IfSome c.code_up_to-code.result (λ code. code ≡ code_at (bytes_up_to tokens (last + 1)) 8)) (sym here) c.code_up_to-code.ensures))
 
 pub loop-i-init : goal.loop-i-init
 loop-i-init c =

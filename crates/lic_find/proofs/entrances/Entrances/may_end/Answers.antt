@@ -4,7 +4,7 @@ use Rattle.std.specs.Option.{IfSome}
 use Rattle.std.proofs.lemmas.Option.{slice_get-get_or}
 use Rattle.lic_norm.specs.Tokens.{TokenValue}
 use Rattle.lic_auto.proofs.PickedLemmas.{length-picked}
-use Rattle.lic_find.specs.Entrances.{numbers_entered}
+use Rattle.lic_find.specs.Entrances.{numbers_entered, set_entered}
 use Rattle.lic_find.specs.LastLetters.{bytes_up_to, code_at}
 use Rattle.lic_find.specs.Matches.{IsMatch}
 use Rattle.lic_find.proofs.Entering.{none_there}
@@ -19,7 +19,7 @@ returns-then-ends_otherwise c = λ _ t m is here.
     let tokens = c.args.text.now.tokens in
     let number = get_or (numbers_entered e) c.args.place 0 in
     let at : slice_get (numbers_entered e) c.args.place ≡ Some number = slice_get-get_or (numbers_entered e) c.args.place 0 c.requires.place in
-    c.ends_otherwise.ensures c.if-ends_otherwise.true number at tokens t m is
+    c.ends_otherwise.ensures c.if-ends_otherwise.true (set_entered e) (numbers_entered e) e.coded number at tokens t m is
     (subst (λ last. IfSome c.args.code (λ code. code ≡ code_at (bytes_up_to tokens (last + 1)) 8)) (sym here) c.requires.code)
 
 pub returns-then-not-may_end : goal.returns-then-not-may_end

@@ -1,11 +1,11 @@
-use Rattle.std.proofs.Common.{◌≡◌, ℕ, ◌+◌, ◌<◌, ◌++◌, ◌∷◌, [], List, Option, Some, length, get_or, sym, ap, ◌∙◌, subst, arith}
+use Rattle.std.proofs.Common.{◌≡◌, ℕ, [], List, Option, Some, length, get_or, sym, ap, ◌∙◌, subst, arith}
 use Rattle.std.specs.List.{slice_get}
 use Rattle.std.specs.Option.{IfSome}
 use Rattle.std.proofs.lemmas.Option.{get_or_from_slice_get, slice_get_within}
 use Rattle.std.proofs.Math.Logic.{⊎_elim}
 use Rattle.lic_auto.proofs.Walking.{slice_get-push}
 use Rattle.lic_find.specs.LastLetters.{HasCode}
-use Rattle.lic_find.proofs.last_letters.codes_of.Goals as goal
+use Rattle.lic_find.proofs.codes.codes_of.Goals as goal
 
 pub loop-number-init : goal.loop-number-init
 loop-number-init c = record {
@@ -39,5 +39,8 @@ loop-number-preserved c =
           (slice_get-push items code place (Some one) (ap (λ xs. slice_get xs place) (sym c.in_ok-push.ensures.items) ∙ there));
     }
 
-pub returns : goal.returns
-returns c = c.loop-number.invariant.coded
+pub returns-clause-count : goal.returns-clause-count
+returns-clause-count c = omega (arith, c.loop-number.invariant.count, c.loop-number-test.false, c.loop-number.auto.number-index-end)
+
+pub returns-clause-coded : goal.returns-clause-coded
+returns-clause-coded c = c.loop-number.invariant.coded

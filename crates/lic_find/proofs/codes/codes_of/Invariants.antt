@@ -1,6 +1,6 @@
 use Rattle.std.proofs.Common.{◌≡◌, vec_len}
 use Rattle.lic_find.specs.LastLetters.{AreCodes}
-use Rattle.lic_find.proofs.last_letters.codes_of.Given as goal
+use Rattle.lic_find.proofs.codes.codes_of.Given as goal
 
 abbrev pub invariant-loop-number : goal.invariant-loop-number
 invariant-loop-number l = record {
