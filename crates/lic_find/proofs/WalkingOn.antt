@@ -10,11 +10,13 @@ use Rattle.lic_auto.specs.Sets.{Known}
 use Rattle.lic_find.specs.Ends.{AreFalling}
 use Rattle.lic_find.specs.Listing.{triple_at}
 use Rattle.lic_find.specs.Matches.{IsMatch}
+use Rattle.lic_find.specs.Resting.{AllGoFor}
 use Rattle.lic_find.specs.TrailEnds.{AreEndsOf, end_at, latest_of}
 use Rattle.lic_find.specs.Trails.{AreEntered, AreOnTheirWay, AreTrails, AreWithoutDead, Fails, HaveGoneOn, IsDead, IsOnTrail, IsTrailOf}
 use Rattle.lic_find.specs.declared.end.End.{End}
 use Rattle.lic_find.specs.declared.trail.Trail.{Trail}
 use Rattle.lic_find.specs.declared.triple.Triple.{Triple}
+use Rattle.lic_find.proofs.RestingLemmas.{AllGoFor-trails}
 use Rattle.lic_find.proofs.Trailing.{accepted_match, dead_match, fails_match}
 use Rattle.lic_find.proofs.TrailLists.{AreAhead-gone, AreInOrder-gone, AreTrails-gone, IsOnTrail-gone, IsOnTrail-there}
 
@@ -29,6 +31,9 @@ module _ (set : List Known) (numbers : List ℕ) (tokens : List TokenValue) (bou
 
   gone_trails : AreTrails set numbers tokens bound first gone
   gone_trails = AreTrails-gone set tokens first d mid gone on numbers bound mid_trails
+
+  pub AllGoFor-on : AllGoFor set gone
+  AllGoFor-on = AllGoFor-trails set numbers tokens bound first gone gone_trails
 
   -- the end of each match that does not begin behind the token
   on_trail : (t : Triple) → IsMatch set tokens t → Contains numbers t.template → t.first ≤ first → first ≤ t.last → t.last < bound t.template

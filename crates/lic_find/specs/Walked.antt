@@ -6,6 +6,7 @@ use Rattle.lic_find.specs.Ends.{AreFalling}
 use Rattle.lic_find.specs.Entrances.{numbers_entered, set_entered}
 use Rattle.lic_find.specs.Listing.{triple_at}
 use Rattle.lic_find.specs.Matches.{IsMatch}
+use Rattle.lic_find.specs.Resting.{AreResting}
 use Rattle.lic_find.specs.TrailEnds.{end_at}
 use Rattle.lic_find.specs.Trails.{AreOnTheirWay, AreSingle}
 use Rattle.lic_find.specs.declared.end.End.{End}
@@ -38,6 +39,7 @@ steps_walked walk = walk.steps
 -- The walk has taken the tokens from the first one on. It is asked for the matches that end before the bound of their template.
 pub record HasWalked (tokens : List TokenValue) (bound : ℕ → ℕ) (first : ℕ) (walk : Walk) : Type 0 where
   pub trails : AreOnTheirWay (set_walked walk) (numbers_walked walk) tokens bound first (trails_walked walk)
+  pub resting : AreResting (set_walked walk) walk.resting
 
 -- a match of this template begins with the first token, and ends with the last one, before the bound
 abbrev pub EndsAt : Walk → List TokenValue → (ℕ → ℕ) → ℕ → ℕ → ℕ → Type 0

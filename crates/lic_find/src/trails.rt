@@ -1,15 +1,18 @@
 //! Lists of trails, the latest ends first.
 
-ghost use Rattle.std.specs.Prelude.{◌≡◌, ◌↔◌, false, reverse, IfSome, IsTrue, OnOk, Some};
+ghost use Rattle.std.specs.Prelude.{◌≡◌, ◌↔◌, false, reverse, IfSome, IsTrue, List, OnOk, Some};
 ghost use Rattle.std.specs.List.{slice_get};
 ghost use Rattle.std.specs.Str.{chars};
 ghost use Rattle.lic_phrases.specs.TokenTexts.{IsTokenText};
+ghost use Rattle.lic_auto.specs.Sets.{Known};
 ghost use Rattle.lic_marks.specs.Plain.{IsPlain};
+ghost use Rattle.lic_find.specs.Resting.{AllGoFor, AreResting};
 ghost use Rattle.lic_find.specs.TrailEnds.{AddsEnd, AreEndsOf};
 ghost use Rattle.lic_find.specs.Trails.{Accepts, AreSingle, AreWithoutDead, HaveGoneOn, IsDead};
 ghost use Rattle.lic_find.specs.declared.trail.Trail.{Trail};
 
 use crate::end::End;
+use crate::resting::Resting;
 use crate::trail::Trail;
 use lic_auto::direction::{Direction, known_of};
 use lic_auto::seek::Plain;
@@ -80,11 +83,16 @@ fn read_once(token: &str, plain: &mut Plain, read: &mut Option<bool>) -> bool
     is_plain
 }
 
-/// Drops the trails that are dead.
-pub fn drop_dead(trails: &mut Vec<Trail<'_>>)
-    ensures { AreWithoutDead trails.old.items trails.new.items }
+/// Puts the trails aside that are dead.
+pub fn drop_dead<'s>(trails: &mut Vec<Trail<'s>>, resting: &mut Resting<'s>)
+    ensures left { AreWithoutDead trails.old.items trails.new.items }
+    ensures resting { (set : List Known) → AllGoFor set trails.old.items → AreResting set resting.old → AreResting set resting.new }
 {
-    trails.retain(|trail| !trail.is_dead());
+    for place in (0..trails.len()).rev() {
+        if trails[place].is_dead() {
+            resting.put(trails.remove(place));
+        }
+    }
 }
 
 /// The ends of the matches that begin with the token that the trails took last, in place of those before. Where a trail has several ends,

@@ -10,6 +10,7 @@ use crate::end::End;
 use crate::entrances::Entrances;
 use crate::forgetting::{forget_ends, forget_number, forget_trails};
 use crate::merging::merge;
+use crate::resting::Resting;
 use crate::steps::count_steps;
 use crate::trail::Trail;
 use crate::trails::{are_single, drop_dead, gather_ends, take_token};
@@ -25,6 +26,7 @@ use std::alloc::{AllocError, Global};
 pub struct Walk<'s> {
     entrances: Entrances<'s>,
     trails: Vec<Trail<'s>>,
+    resting: Resting<'s>,
     // what is said of the token that was taken last
     plain: Plain,
     ends: Vec<End>,
@@ -52,10 +54,12 @@ impl<'s> Walk<'s> {
         ensures unclear { IfOk result (λ walk. unclear_walked walk ≡ []) }
         ensures steps { IfOk result (λ walk. steps_walked walk ≡ 0) }
     {
+        let resting = Resting::of(alloc, kept.len())?;
         let entrances = Entrances::of(alloc, set, kept, most)?;
         Ok(Walk {
             entrances,
             trails: Vec::new(alloc),
+            resting,
             plain: Plain::none(),
             ends: Vec::new(alloc),
             unclear: Vec::new(alloc),
@@ -84,9 +88,10 @@ impl<'s> Walk<'s> {
     {
         let token = text.token(first).text;
         self.steps = count_steps(self.steps, token);
-        self.entrances.enter(alloc, text, first, &mut self.trails)?;
+        self.entrances
+            .enter(alloc, text, first, &mut self.trails, &mut self.resting)?;
         take_token(&mut self.trails, token, &mut self.plain);
-        drop_dead(&mut self.trails);
+        drop_dead(&mut self.trails, &mut self.resting);
         gather_ends(&self.trails, &mut self.ends, &mut self.unclear)
     }
 

@@ -4,8 +4,8 @@ use Rattle.lic_find.specs.Entrances.{numbers_entered, set_entered}
 use Rattle.lic_find.proofs.Entering.{AreEnteredFrom, AreEntered-all, AreEnteredFrom-more, AreEnteredFrom-none, AreEnteredFrom-passed, none_listed, place_within}
 use Rattle.lic_find.proofs.entrances.Entrances.enter.Goals as goal
 
-pub returns-then-is_empty : goal.returns-then-is_empty
-returns-then-is_empty c =
+pub returns-then-is_empty-clause-entered : goal.returns-then-is_empty-clause-entered
+returns-then-is_empty-clause-entered c =
     let e = c.args.self.now in
     let set = set_entered e in
     let tokens = c.args.text.now.tokens in
@@ -13,6 +13,7 @@ returns-then-is_empty c =
     let old = c.args.trails.now.items in
     let none : length places ≡ 0 = eqb-true (length places) 0 (sym c.is_empty.ensures ∙ c.if-is_empty.true) in
     let token : TokenValue = record { text = c.token.result.text.now; span = c.token.result.span } in
+    λ rests.
     AreEntered-all set (numbers_entered e) e.chosen.rising tokens c.args.last c.requires places c.entered_by-places.ensures.rising old old
     (subst (λ n. AreEnteredFrom set (numbers_entered e) tokens c.args.last places n old old) none
     (AreEnteredFrom-none set (numbers_entered e) e.chosen.rising tokens c.args.last c.requires places c.entered_by-places.ensures.rising old))
@@ -24,8 +25,9 @@ loop-i-init c =
     let places = c.entered_by-places.result.now in
     record {
       from = omega arith;
-      entered = AreEnteredFrom-none (set_entered e) (numbers_entered e) e.chosen.rising c.args.text.now.tokens c.args.last c.requires places
+      entered = λ rests. AreEnteredFrom-none (set_entered e) (numbers_entered e) e.chosen.rising c.args.text.now.tokens c.args.last c.requires places
           c.entered_by-places.ensures.rising c.args.trails.now.items;
+      resting = λ rests. rests;
     }
 
 pub may_end-requires-clause-place : goal.may_end-requires-clause-place
@@ -51,10 +53,11 @@ loop-i-preserved c =
     let next : c.loop-i.i ≡ (c.loop-i.i - 1) + 1 = omega (arith, c.loop-i-test.true) in
     record {
       from = omega (arith, c.loop-i.invariant.from);
-      entered = AreEnteredFrom-passed (set_entered e) (numbers_entered e) e.chosen.rising tokens c.args.last c.requires places
+      entered = λ rests. AreEnteredFrom-passed (set_entered e) (numbers_entered e) e.chosen.rising tokens c.args.last c.requires places
           c.entered_by-places.ensures.rising (c.loop-i.i - 1) inside old new
-          (subst (λ n. AreEnteredFrom (set_entered e) (numbers_entered e) tokens c.args.last places n old new) next c.loop-i.invariant.entered)
+          (subst (λ n. AreEnteredFrom (set_entered e) (numbers_entered e) tokens c.args.last places n old new) next (c.loop-i.invariant.entered rests))
           (c.may_end.ensures c.if-may_end.false);
+      resting = c.loop-i.invariant.resting;
     }
 
 pub loop-i-preserved-in-Continue-1 : goal.loop-i-preserved-in-Continue-1
@@ -68,14 +71,15 @@ loop-i-preserved-in-Continue-1 c =
     let next : c.loop-i.i ≡ (c.loop-i.i - 1) + 1 = omega (arith, c.loop-i-test.true) in
     record {
       from = omega (arith, c.loop-i.invariant.from);
-      entered = AreEnteredFrom-more (set_entered e) (numbers_entered e) e.chosen.rising tokens c.args.last c.requires places
+      entered = λ rests. AreEnteredFrom-more (set_entered e) (numbers_entered e) e.chosen.rising tokens c.args.last c.requires places
           c.entered_by-places.ensures.rising (c.loop-i.i - 1) inside old new
-          (subst (λ n. AreEnteredFrom (set_entered e) (numbers_entered e) tokens c.args.last places n old new) next c.loop-i.invariant.entered)
-          c.enter_one.new.trails.items c.in_ok-enter_one.ensures;
+          (subst (λ n. AreEnteredFrom (set_entered e) (numbers_entered e) tokens c.args.last places n old new) next (c.loop-i.invariant.entered rests))
+          c.enter_one.new.trails.items (c.in_ok-enter_one.ensures.entered (c.loop-i.invariant.resting rests));
+      resting = λ rests. c.in_ok-enter_one.ensures.resting (c.loop-i.invariant.resting rests);
     }
 
-pub returns : goal.returns
-returns c =
+pub returns-clause-entered : goal.returns-clause-entered
+returns-clause-entered c =
     let e = c.args.self.now in
     let tokens = c.args.text.now.tokens in
     let places = c.entered_by-places.result.now in
@@ -83,6 +87,7 @@ returns c =
     let new = c.loop-i.trails.items in
     let none : c.loop-i.i ≡ 0 = omega (arith, c.loop-i-test.false) in
     let token : TokenValue = record { text = c.token.result.text.now; span = c.token.result.span } in
+    λ rests.
     AreEntered-all (set_entered e) (numbers_entered e) e.chosen.rising tokens c.args.last c.requires places c.entered_by-places.ensures.rising old new
-    (subst (λ n. AreEnteredFrom (set_entered e) (numbers_entered e) tokens c.args.last places n old new) none c.loop-i.invariant.entered)
+    (subst (λ n. AreEnteredFrom (set_entered e) (numbers_entered e) tokens c.args.last places n old new) none (c.loop-i.invariant.entered rests))
     (none_listed e tokens c.args.last token c.token.result.text.now (c.token.ensures.text token) places c.entered_by-places.ensures.rest)

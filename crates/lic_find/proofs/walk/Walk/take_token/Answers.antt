@@ -1,13 +1,14 @@
-use Rattle.std.proofs.Common.{◌≡◌, chars, get_or, subst, arith}
+use Rattle.std.proofs.Common.{◌≡◌, chars, get_or, sym, subst, arith}
 use Rattle.std.specs.Vec.{with_items}
 use Rattle.std.proofs.lemmas.List.{with_items_is}
 use Rattle.std.proofs.lemmas.Result.{IfOk-weaker}
 use Rattle.lic_norm.specs.Tokens.{TokenValue}
+use Rattle.lic_find.specs.Resting.{AllGoFor}
 use Rattle.lic_find.specs.TrailEnds.{AreEndsOf}
 use Rattle.lic_find.specs.Trails.{AreEntered, AreWithoutDead, HaveGoneOn}
 use Rattle.lic_find.specs.Walked.{numbers_walked, set_walked}
 use Rattle.lic_find.proofs.LetterLemmas.{counted_least, counted_most}
-use Rattle.lic_find.proofs.WalkingOn.{AreOnTheirWay-on, all_told, ends_fall, ends_sound, unclear_live}
+use Rattle.lic_find.proofs.WalkingOn.{AllGoFor-on, AreOnTheirWay-on, all_told, ends_fall, ends_sound, unclear_live}
 use Rattle.lic_find.proofs.walk.Walk.take_token.Goals as goal
 
 pub returns-in_err-enter-clause-most : goal.returns-in_err-enter-clause-most
@@ -43,16 +44,21 @@ returns-clause-walked c =
     let unclear = c.gather_ends.new.unclear.items in
     let set = set_walked old in
     let numbers = numbers_walked old in
-    let entered : AreEntered set numbers tokens first old.trails.items mid = c.in_ok-enter.ensures in
     let on : HaveGoneOn (chars (get_or tokens first token).text) mid gone =
     subst (λ text. HaveGoneOn (chars text) mid gone) (c.token.ensures.text token)
     (subst (λ ts. HaveGoneOn (chars c.token.result.text.now) ts gone) c.deref_mut.ensures.value c.take_token.ensures) in
     let items : (with_items c.enter.new.trails gone).items ≡ gone = with_items_is c.enter.new.trails gone (omega (arith, on.count)) in
-    let left : AreWithoutDead gone new = subst (λ ts. AreWithoutDead ts new) items c.drop_dead.ensures in
+    let left : AreWithoutDead gone new = subst (λ ts. AreWithoutDead ts new) items c.drop_dead.ensures.left in
     IfOk-weaker c.gather_ends.result _ _
     (λ done told bound had.
+    let entered : AreEntered set numbers tokens first old.trails.items mid = c.in_ok-enter.ensures.entered had.resting in
     let are : AreEndsOf new ends unclear = subst (λ ts. AreEndsOf ts ends unclear) c.deref.ensures.value told in (
-      record { trails = AreOnTheirWay-on set numbers tokens bound first token old.trails.items mid gone new entered on left had.trails },
+      record {
+        trails = AreOnTheirWay-on set numbers tokens bound first token old.trails.items mid gone new entered on left had.trails;
+        resting = c.drop_dead.ensures.resting set
+            (subst (AllGoFor set) (sym items) (AllGoFor-on set numbers tokens bound first token old.trails.items mid gone new entered on left had.trails))
+            (c.in_ok-enter.ensures.resting had.resting);
+      },
       record {
         sound = ends_sound set numbers tokens bound first token old.trails.items mid gone new entered on left had.trails ends unclear are;
         live = unclear_live set numbers tokens bound first token old.trails.items mid gone new entered on left had.trails ends unclear are;
