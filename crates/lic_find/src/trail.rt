@@ -68,10 +68,12 @@ impl<'s> Trail<'s> {
         self.joins = true;
     }
 
-    /// Takes a token that is none of its ends, where it goes on within a text of its template. Otherwise nothing is done.
+    /// Takes a token that is none of its ends, where it goes on within a text of its template: no match begins there that has one of its
+    /// ends. Otherwise nothing is done.
     #[inline]
     pub fn goes_on(&mut self, token: &str) -> bool
         ensures taken { IsTrue result → HasGoneOn (chars token.now) self.old self.new }
+        ensures fails { IsTrue result → Fails self.new }
         ensures none { result ≡ false → self.new ≡ self.old }
     {
         if self.joins {
