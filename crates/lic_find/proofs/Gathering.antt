@@ -6,7 +6,7 @@ use Rattle.std.proofs.lemmas.Option.{slice_get_within}
 use Rattle.std.proofs.Math.Logic.{⊎_elim}
 use Rattle.lic_auto.proofs.Walking.{slice_get-push}
 use Rattle.lic_find.specs.Ends.{AreFalling, EndsBefore}
-use Rattle.lic_find.specs.TrailEnds.{AddsEnd, AreEndsOf, latest_of}
+use Rattle.lic_find.specs.TrailEnds.{AddsEnd, AreEndsOf, TellsEnd, latest_of}
 use Rattle.lic_find.specs.Trails.{Accepts, AreInOrder, Fails}
 use Rattle.lic_find.specs.declared.end.End.{End}
 use Rattle.lic_find.specs.declared.trail.Trail.{Trail}
@@ -108,3 +108,12 @@ module _ (front : List Trail) (trail : Trail) (ends : List End) (unclear : List 
         falling = λ ordered. are.falling (before ordered);
       })))
       adds
+
+  pub AreEndsOf-told : (more : List End) (others : List ℕ) → TellsEnd trail ends unclear more others → AreEndsOf (front ++ trail ∷ []) more others
+  AreEndsOf-told more others tells =
+      ⊎_elim
+      (λ (accepted : Accepts trail × AddsEnd trail ends unclear more others). AreEndsOf-more accepted.0 more others accepted.1)
+      (λ (failed : Fails trail × (more ≡ ends) × (others ≡ unclear)).
+      subst (λ es. AreEndsOf (front ++ trail ∷ []) es others) (sym failed.1)
+      (subst (AreEndsOf (front ++ trail ∷ []) ends) (sym failed.2) (AreEndsOf-failed failed.0)))
+      tells

@@ -10,6 +10,7 @@ pub mod Trailing
 pub mod TrailLists
 pub mod TrailRuns
 pub mod Dropping
+pub mod RestingLemmas
 pub mod Gathering
 pub mod Entering
 pub mod WalkingOn

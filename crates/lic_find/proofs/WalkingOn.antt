@@ -10,16 +10,18 @@ use Rattle.lic_auto.specs.Sets.{Known}
 use Rattle.lic_find.specs.Ends.{AreFalling}
 use Rattle.lic_find.specs.Listing.{triple_at}
 use Rattle.lic_find.specs.Matches.{IsMatch}
+use Rattle.lic_find.specs.Resting.{AllGoFor}
 use Rattle.lic_find.specs.TrailEnds.{AreEndsOf, end_at, latest_of}
-use Rattle.lic_find.specs.Trails.{AreEntered, AreOnTheirWay, AreTrails, AreWithoutDead, Fails, HaveGoneOn, IsDead, IsOnTrail, IsTrailOf}
+use Rattle.lic_find.specs.Trails.{AreEntered, AreInOrder, AreOnTheirWay, AreTrails, AreWithoutDead, Fails, HaveGoneOn, IsDead, IsOnTrail, IsTrailOf}
 use Rattle.lic_find.specs.declared.end.End.{End}
 use Rattle.lic_find.specs.declared.trail.Trail.{Trail}
 use Rattle.lic_find.specs.declared.triple.Triple.{Triple}
+use Rattle.lic_find.proofs.RestingLemmas.{AllGoFor-trails}
 use Rattle.lic_find.proofs.Trailing.{accepted_match, dead_match, fails_match}
 use Rattle.lic_find.proofs.TrailLists.{AreAhead-gone, AreInOrder-gone, AreTrails-gone, IsOnTrail-gone, IsOnTrail-there}
 
-module _ (set : List Known) (numbers : List ℕ) (tokens : List TokenValue) (bound : ℕ → ℕ) (first : ℕ) (d : TokenValue) (old mid gone new : List Trail)
-    (entered : AreEntered set numbers tokens first old mid) (on : HaveGoneOn (chars (get_or tokens first d).text) mid gone) (left : AreWithoutDead gone new)
+module _ (set : List Known) (numbers : List ℕ) (tokens : List TokenValue) (bound : ℕ → ℕ) (first : ℕ) (d : TokenValue) (old mid gone : List Trail)
+    (entered : AreEntered set numbers tokens first old mid) (on : HaveGoneOn (chars (get_or tokens first d).text) mid gone)
     (was : AreOnTheirWay set numbers tokens bound (first + 1) old) where
   near : (k : ℕ) → first < bound k
   near k = omega (arith, (was.room k).0)
@@ -29,6 +31,13 @@ module _ (set : List Known) (numbers : List ℕ) (tokens : List TokenValue) (bou
 
   gone_trails : AreTrails set numbers tokens bound first gone
   gone_trails = AreTrails-gone set tokens first d mid gone on numbers bound mid_trails
+
+  pub AllGoFor-on : AllGoFor set gone
+  AllGoFor-on = AllGoFor-trails set numbers tokens bound first gone gone_trails
+
+  gone_ordered : AreInOrder gone
+  gone_ordered =
+      AreInOrder-gone (chars (get_or tokens first d).text) mid gone on (entered.ordered (λ i trail there. omega (arith, was.ahead i trail there)) was.ordered)
 
   -- the end of each match that does not begin behind the token
   on_trail : (t : Triple) → IsMatch set tokens t → Contains numbers t.template → t.first ≤ first → first ≤ t.last → t.last < bound t.template
@@ -52,8 +61,9 @@ module _ (set : List Known) (numbers : List ℕ) (tokens : List TokenValue) (bou
       (λ (next : IsTrue at.trail.joins × (t.last + 1 ≡ first)). absurd (omega (arith, next.1, reaches)))
       at.stands
 
-  pub AreOnTheirWay-on : AreOnTheirWay set numbers tokens bound first new
-  AreOnTheirWay-on = record {
+  -- they are on their way without those that are dead
+  pub AreOnTheirWay-on : (new : List Trail) → AreWithoutDead gone new → AreOnTheirWay set numbers tokens bound first new
+  AreOnTheirWay-on new left = record {
     room = λ k. let (low, high) = was.room k in (omega (arith, low), high);
     trails = λ i trail there. let (j, here) = left.within i trail there in gone_trails j trail here;
     all = λ t m among before reaches ends.
@@ -66,14 +76,14 @@ module _ (set : List Known) (numbers : List ℕ) (tokens : List TokenValue) (bou
         (left.kept at.place at.trail at.there);
     ahead = λ i trail there.
         let (j, here) = left.within i trail there in AreAhead-gone set tokens first d mid gone on numbers bound mid_trails j trail here;
-    ordered = left.ordered (AreInOrder-gone (chars (get_or tokens first d).text) mid gone on (entered.ordered (λ i trail there. omega (arith, was.ahead i trail there)) was.ordered));
+    ordered = left.ordered gone_ordered;
   }
 
-  module _ (ends : List End) (unclear : List ℕ) (are : AreEndsOf new ends unclear) where
+  module _ (ends : List End) (unclear : List ℕ) (are : AreEndsOf gone ends unclear) where
     pub ends_sound : (e : End) → Contains ends e → IsMatch set tokens (triple_at first e.last e.template) × (e.last < bound e.template) × Contains numbers e.template
     ends_sound e inside =
         let (i, trail, there, accepts, single, is) = are.sound e inside in
-        let of : IsTrailOf set numbers tokens bound first trail = AreOnTheirWay-on.trails i trail there in
+        let of : IsTrailOf set numbers tokens bound first trail = gone_trails i trail there in
         let (n, last, entry, sum, m) = accepted_match tokens set first of.known trail of.entered of.number of.goes accepts in
         let low = (of.goes.ends n entry).0 in
         let here : last ≡ trail.high = omega (arith, low, single, sum) in
@@ -85,7 +95,7 @@ module _ (set : List Known) (numbers : List ℕ) (tokens : List TokenValue) (bou
     pub unclear_live : (k : ℕ) → Contains unclear k → (last : ℕ) × (IsMatch set tokens (triple_at first last k) × (last < bound k) × Contains numbers k)
     unclear_live k inside =
         let (i, trail, there, accepts, is) = are.live k inside in
-        let of : IsTrailOf set numbers tokens bound first trail = AreOnTheirWay-on.trails i trail there in
+        let of : IsTrailOf set numbers tokens bound first trail = gone_trails i trail there in
         let (n, last, entry, sum, m) = accepted_match tokens set first of.known trail of.entered of.number of.goes accepts in
         let near : trail.high < bound trail.template = of.near in
         subst (λ j. (last : ℕ) × (IsMatch set tokens (triple_at first last j) × (last < bound j) × Contains numbers j)) is
@@ -101,17 +111,13 @@ module _ (set : List Known) (numbers : List ℕ) (tokens : List TokenValue) (bou
         let number : slice_get set at.trail.template ≡ Some at.known = ap (slice_get set) at.same ∙ at.number in
         let none : ¬ (Fails at.trail) = λ fails. fails_match tokens set first at.known at.trail at.entered number at.goes t m at.same n is sum fails here in
         ⊎_elim
-        (λ (stays : (j : ℕ) × (slice_get new j ≡ Some at.trail)).
-        ⊎_elim
         (λ (told : Contains ends (latest_of at.trail) × (at.trail.low ≡ at.trail.high)).
         let last : at.trail.high ≡ t.last = omega (arith, told.1, low, sum) in
         inl (subst (λ k. Contains ends (end_at t.last k)) at.same (subst (λ k. Contains ends (end_at k at.trail.template)) last told.0)))
         (λ (other : Contains unclear at.trail.template ⊎ Fails at.trail).
         ⊎_elim (λ (open_end : Contains unclear at.trail.template). inr (subst (Contains unclear) at.same open_end))
         (λ (fails : Fails at.trail). absurd (none fails)) other)
-        (are.all stays.0 at.trail stays.1))
-        (λ (dead : IsDead at.trail). absurd (none dead.fails))
-        (left.kept at.place at.trail at.there)
+        (are.all at.place at.trail at.there)
 
     pub ends_fall : AreFalling ends
-    ends_fall = are.falling AreOnTheirWay-on.ordered
+    ends_fall = are.falling gone_ordered

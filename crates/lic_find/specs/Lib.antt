@@ -7,6 +7,7 @@ pub mod Starts
 pub mod Rises
 pub mod Walks
 pub mod Trails
+pub mod Resting
 pub mod TrailEnds
 pub mod LastLetters
 pub mod Codes

@@ -30,6 +30,11 @@ AddsEnd trail ends unclear more_ends more_unclear =
     ((trail.low ≡ trail.high) × (more_ends ≡ ends ++ latest_of trail ∷ []) × (more_unclear ≡ unclear))
     ⊎ ((more_ends ≡ ends) × (more_unclear ≡ unclear ++ trail.template ∷ []))
 
+-- where the trail accepts, its end or its template is added, and else it fails
+abbrev pub TellsEnd : Trail → List End → List ℕ → List End → List ℕ → Type 0
+TellsEnd trail ends unclear more_ends more_unclear =
+    (Accepts trail × AddsEnd trail ends unclear more_ends more_unclear) ⊎ (Fails trail × (more_ends ≡ ends) × (more_unclear ≡ unclear))
+
 -- the ends of a template that do not lie before a token are left out
 abbrev pub ends_before : ℕ → ℕ → List End → List End
 ends_before template end ends = filter (λ (e : End). is_before template end e.template e.last) ends

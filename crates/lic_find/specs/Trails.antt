@@ -97,6 +97,14 @@ pub record Joins (end : ℕ) (old new : Trail) : Type 0 where
   pub low : new.low ≡ end
   pub joins : new.joins ≡ true
 
+-- It has its end alone there.
+pub record BeginsAnew (end : ℕ) (old new : Trail) : Type 0 where
+  pub seeker : new.seeker ≡ old.seeker
+  pub template : new.template ≡ old.template
+  pub high : new.high ≡ end
+  pub low : new.low ≡ end
+  pub joins : new.joins ≡ true
+
 -- one trail of the template joins with the next token: one of those that were there, or a new one behind them
 abbrev pub IsEntered : List Known → ℕ → ℕ → List Trail → List Trail → Type 0
 IsEntered set template end old new =
@@ -136,10 +144,11 @@ Accepts trail = (entered : ℕ → Bool) (e : Expression) (ts : List (List ℕ))
 abbrev pub Fails : Trail → Type 0
 Fails trail = (entered : ℕ → Bool) (e : Expression) (ts : List (List ℕ)) → SeeksAt entered trail.seeker e ts → ¬ (DescribesEndAt entered e ts)
 
--- and no list that goes on from one of them
+-- and no list that goes on from one of them: its seeker stands for the empty list, too
 pub record IsDead (trail : Trail) : Type 0 where
   pub fails : Fails trail
   pub ends : (entered : ℕ → Bool) (e : Expression) (ts : List (List ℕ)) → SeeksAt entered trail.seeker e ts → NoneGoesOnAt entered e ts
+  pub anew : (entered others : ℕ → Bool) (e : Expression) (ts : List (List ℕ)) → SeeksAt entered trail.seeker e ts → SeeksAt others trail.seeker e []
 
 -- of the trails those are left, in their order, that are not dead, and perhaps others
 pub record AreWithoutDead (old new : List Trail) : Type 0 where

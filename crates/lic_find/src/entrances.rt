@@ -7,11 +7,13 @@ ghost use Rattle.lic_auto.specs.declared.direction.Direction.TheVariants.{Backwa
 ghost use Rattle.lic_find.specs.Codes.{HoldsCodes};
 ghost use Rattle.lic_find.specs.LastLetters.{bytes_up_to, code_at};
 ghost use Rattle.lic_find.specs.Matches.{IsMatch};
-ghost use Rattle.lic_find.specs.Trails.{AreEntered, IsEntered};
+ghost use Rattle.lic_find.specs.Resting.{AreResting};
+ghost use Rattle.lic_find.specs.Trails.{AreEntered, IsEntered, IsNew};
 ghost use Rattle.lic_find.specs.declared.triple.Triple.{Triple};
 
 use crate::codes::Codes;
 use crate::last_letters::code_up_to;
+use crate::resting::Resting;
 use crate::tail::may_end;
 use crate::trail::Trail;
 use crate::trails::newest_of_most;
@@ -66,10 +68,13 @@ impl<'s> Entrances<'s> {
         text: &Text,
         last: usize,
         trails: &mut Vec<Trail<'s>>,
+        resting: &mut Resting<'s>,
     ) -> Result<(), AllocError>
         requires { last < length text.now.tokens }
-        ensures { OnOk result (AreEntered (set_entered self.now) (numbers_entered self.now)
-            text.now.tokens last trails.old.items trails.new.items) }
+        ensures entered { OnOk result (AreResting (set_entered self.now) resting.old → AreEntered (set_entered self.now)
+            (numbers_entered self.now) text.now.tokens last trails.old.items trails.new.items) }
+        ensures resting { OnOk result (AreResting (set_entered self.now) resting.old
+            → AreResting (set_entered self.now) resting.new) }
     {
         let code = code_up_to(text, last);
         if self.codes.all_end_otherwise(code) {
@@ -80,7 +85,7 @@ impl<'s> Entrances<'s> {
         for i in (0..places.len()).rev() {
             let place = places[i];
             if self.may_end(place, text, last, code) {
-                self.enter_one(alloc, place, last, trails)?;
+                self.enter_one(alloc, place, last, trails, resting)?;
             }
         }
         Ok(())
@@ -111,10 +116,13 @@ impl<'s> Entrances<'s> {
         place: usize,
         end: usize,
         trails: &mut Vec<Trail<'s>>,
+        resting: &mut Resting<'s>,
     ) -> Result<(), AllocError>
         requires { place < length (numbers_entered self.now) }
-        ensures { OnOk result (IsEntered (set_entered self.now)
+        ensures entered { OnOk result (AreResting (set_entered self.now) resting.old → IsEntered (set_entered self.now)
             (slice_index (numbers_entered self.now) place) end trails.old.items trails.new.items) }
+        ensures resting { OnOk result (AreResting (set_entered self.now) resting.old
+            → AreResting (set_entered self.now) resting.new) }
     {
         let template = self.chosen.number(place);
         if let Some(newest) = newest_of_most(trails, template, self.most) {
@@ -122,8 +130,28 @@ impl<'s> Entrances<'s> {
             trail.join(end);
             return Ok(());
         }
-        let trail = Trail::new(alloc, self.chosen.tree(place), template, end)?;
+        let trail = self.trail_from(alloc, place, end, resting)?;
         trails.push(trail)?;
         Ok(())
+    }
+
+    // A trail of the template at a place from this token on: one that rests, or else a new one.
+    fn trail_from(
+        &self,
+        alloc: Global,
+        place: usize,
+        end: usize,
+        resting: &mut Resting<'s>,
+    ) -> Result<Trail<'s>, AllocError>
+        requires { place < length (numbers_entered self.now) }
+        ensures begun { AreResting (set_entered self.now) resting.old → IfOk result (IsNew (set_entered self.now)
+            (slice_index (numbers_entered self.now) place) end) }
+        ensures resting { AreResting (set_entered self.now) resting.old → AreResting (set_entered self.now) resting.new }
+    {
+        let template = self.chosen.number(place);
+        if let Some(trail) = resting.take(place, template, end) {
+            return Ok(trail);
+        }
+        Trail::new(alloc, self.chosen.tree(place), place, template, end)
     }
 }

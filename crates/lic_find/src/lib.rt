@@ -13,6 +13,7 @@ pub mod laws;
 pub mod matches;
 mod merging;
 mod noting;
+mod resting;
 mod starts;
 mod steps;
 mod tail;

@@ -8,7 +8,7 @@ ghost use Rattle.lic_marks.specs.Cores.{HasWordsOf};
 ghost use Rattle.lic_marks.specs.Nodes.{core_of, is_measured};
 ghost use Rattle.lic_marks.specs.Plain.{IsPlain};
 ghost use Rattle.lic_marks.specs.Seeks.{DescribesEndAt, SeeksAt};
-ghost use Rattle.lic_find.specs.Trails.{Accepts, ComesBehind, Fails, HasGoneOn, IsDead, IsFresh, Joins};
+ghost use Rattle.lic_find.specs.Trails.{Accepts, BeginsAnew, ComesBehind, Fails, HasGoneOn, IsDead, IsFresh, Joins};
 
 use lic_auto::seek::{Node, Plain, Seeker};
 use std::alloc::{AllocError, Global};
@@ -17,6 +17,8 @@ use std::alloc::{AllocError, Global};
 #[derive(Debug, Drop)]
 pub struct Trail<'s> {
     seeker: Seeker<'s>,
+    /// The place of its template among those that are entered, where it may rest.
+    pub place: usize,
     /// The number of its template.
     pub template: usize,
     /// Its latest end.
@@ -28,10 +30,11 @@ pub struct Trail<'s> {
 }
 
 impl<'s> Trail<'s> {
-    /// A trail of a template, whose tree this is, from the token that it takes next. Fails if memory runs out.
+    /// A trail of a template, whose place and tree these are, from the token on that it takes next. Fails if memory runs out.
     pub fn new(
         alloc: Global,
         tree: &'s Node,
+        place: usize,
         template: usize,
         end: usize,
     ) -> Result<Trail<'s>, AllocError>
@@ -41,11 +44,20 @@ impl<'s> Trail<'s> {
         let seeker = Seeker::new(alloc, tree)?;
         Ok(Trail {
             seeker,
+            place,
             template,
             high: end,
             low: end,
             joins: true,
         })
+    }
+
+    /// The token that it takes next is its only end.
+    pub fn begin_anew(&mut self, end: usize)
+        ensures { BeginsAnew end self.old self.new }
+    {
+        self.high = end;
+        self.join(end);
     }
 
     /// The token that it takes next is one of its ends too.
@@ -56,10 +68,12 @@ impl<'s> Trail<'s> {
         self.joins = true;
     }
 
-    /// Takes a token that is none of its ends, where it goes on within a text of its template. Otherwise nothing is done.
+    /// Takes a token that is none of its ends, where it goes on within a text of its template: no match begins there that has one of its
+    /// ends. Otherwise nothing is done.
     #[inline]
     pub fn goes_on(&mut self, token: &str) -> bool
         ensures taken { IsTrue result → HasGoneOn (chars token.now) self.old self.new }
+        ensures fails { IsTrue result → Fails self.new }
         ensures none { result ≡ false → self.new ≡ self.old }
     {
         if self.joins {
@@ -88,7 +102,7 @@ impl<'s> Trail<'s> {
         self.seeker.accepts()
     }
 
-    /// True where no match of its template goes from there, or from before, up to one of its ends.
+    /// True where no match of its template goes from there, or from before, up to one of its ends. Then it may begin anew.
     #[inline]
     pub fn is_dead(&self) -> bool
         ensures { IsTrue result → IsDead self.now }

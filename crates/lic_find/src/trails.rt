@@ -1,15 +1,18 @@
 //! Lists of trails, the latest ends first.
 
-ghost use Rattle.std.specs.Prelude.{◌≡◌, ◌↔◌, false, reverse, IfSome, IsTrue, OnOk, Some};
+ghost use Rattle.std.specs.Prelude.{◌≡◌, ◌↔◌, false, reverse, IfSome, IsTrue, List, OnOk, Some};
 ghost use Rattle.std.specs.List.{slice_get};
 ghost use Rattle.std.specs.Str.{chars};
 ghost use Rattle.lic_phrases.specs.TokenTexts.{IsTokenText};
+ghost use Rattle.lic_auto.specs.Sets.{Known};
 ghost use Rattle.lic_marks.specs.Plain.{IsPlain};
-ghost use Rattle.lic_find.specs.TrailEnds.{AddsEnd, AreEndsOf};
+ghost use Rattle.lic_find.specs.Resting.{AllGoFor, AreResting};
+ghost use Rattle.lic_find.specs.TrailEnds.{AddsEnd, AreEndsOf, TellsEnd};
 ghost use Rattle.lic_find.specs.Trails.{Accepts, AreSingle, AreWithoutDead, HaveGoneOn, IsDead};
 ghost use Rattle.lic_find.specs.declared.trail.Trail.{Trail};
 
 use crate::end::End;
+use crate::resting::Resting;
 use crate::trail::Trail;
 use lic_auto::direction::{Direction, known_of};
 use lic_auto::seek::Plain;
@@ -49,19 +52,32 @@ pub fn are_single(trails: &[Trail<'_>], template: usize) -> bool
     true
 }
 
-/// All trails take a token.
-pub fn take_token(trails: &mut [Trail<'_>], token: &str, plain: &mut Plain)
+/// All trails take a token. The ends of the matches that begin with it are told in place of those before; where a trail has several ends,
+/// its template alone is. Says whether some trails are dead now. Fails if memory runs out.
+pub fn take_token(
+    trails: &mut [Trail<'_>],
+    token: &str,
+    plain: &mut Plain,
+    ends: &mut Vec<End>,
+    unclear: &mut Vec<usize>,
+) -> Result<bool, AllocError>
     requires { IsTokenText token.now }
-    ensures { HaveGoneOn (chars token.now) trails.old trails.new }
+    ensures taken { OnOk result (HaveGoneOn (chars token.now) trails.old trails.new) }
+    ensures told { OnOk result (AreEndsOf trails.new ends.new.items unclear.new.items) }
 {
+    ends.clear();
+    unclear.clear();
     let mut read = None;
+    let mut some_died = false;
     for place in 0..trails.len() {
         let trail = &mut trails[place];
         if !trail.goes_on(token) {
             let is_plain = read_once(token, plain, &mut read);
             trail.take(token, known_of(plain, is_plain));
+            some_died |= tell(trail, ends, unclear)?;
         }
     }
+    Ok(some_died)
 }
 
 // Reads a token's letters from its end, if that was not done before, and says whether they are plain.
@@ -80,30 +96,19 @@ fn read_once(token: &str, plain: &mut Plain, read: &mut Option<bool>) -> bool
     is_plain
 }
 
-/// Drops the trails that are dead.
-pub fn drop_dead(trails: &mut Vec<Trail<'_>>)
-    ensures { AreWithoutDead trails.old.items trails.new.items }
-{
-    trails.retain(|trail| !trail.is_dead());
-}
-
-/// The ends of the matches that begin with the token that the trails took last, in place of those before. Where a trail has several ends,
-/// its template alone is told. Fails if memory runs out.
-pub fn gather_ends(
-    trails: &[Trail<'_>],
+// Adds the end of a trail that accepts, or its template. Otherwise says whether the trail is dead.
+fn tell(
+    trail: &Trail<'_>,
     ends: &mut Vec<End>,
     unclear: &mut Vec<usize>,
-) -> Result<(), AllocError>
-    ensures { OnOk result (AreEndsOf trails.now ends.new.items unclear.new.items) }
+) -> Result<bool, AllocError>
+    ensures { OnOk result (TellsEnd trail.now ends.old.items unclear.old.items ends.new.items unclear.new.items) }
 {
-    ends.clear();
-    unclear.clear();
-    for trail in trails {
-        if trail.accepts() {
-            add_end(trail, ends, unclear)?;
-        }
+    if trail.accepts() {
+        add_end(trail, ends, unclear)?;
+        return Ok(false);
     }
-    Ok(())
+    Ok(trail.is_dead())
 }
 
 // Adds the end of a trail, or its template where it has several ends.
@@ -123,4 +128,16 @@ fn add_end(
     }
     unclear.push(trail.template)?;
     Ok(())
+}
+
+/// Puts the trails aside that are dead.
+pub fn drop_dead<'s>(trails: &mut Vec<Trail<'s>>, resting: &mut Resting<'s>)
+    ensures left { AreWithoutDead trails.old.items trails.new.items }
+    ensures resting { (set : List Known) → AllGoFor set trails.old.items → AreResting set resting.old → AreResting set resting.new }
+{
+    for place in (0..trails.len()).rev() {
+        if trails[place].is_dead() {
+            resting.put(trails.remove(place));
+        }
+    }
 }

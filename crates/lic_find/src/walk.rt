@@ -1,7 +1,9 @@
 //! A walk over a text towards its front, which says where the matches end that begin with the token it has come to.
 
 ghost use Rattle.std.specs.Prelude.{◌≡◌, ◌↔◌, ◌<◌, ◌≤◌, ◌+◌, ◌-◌, ◌^◌, ◌∷◌, [], ℕ, List, Contains, IsTrue, length, drop, IfOk, OnOk};
+ghost use Rattle.std.specs.Str.{chars};
 ghost use Rattle.lic_keys.specs.Rising.{IsRising};
+ghost use Rattle.lic_phrases.specs.TokenTexts.{IsTokenText};
 ghost use Rattle.lic_norm.specs.Tokens.{TokenValue};
 ghost use Rattle.lic_find.specs.Bounds.{letters_of};
 ghost use Rattle.lic_find.specs.TrailEnds.{end_at};
@@ -10,9 +12,10 @@ use crate::end::End;
 use crate::entrances::Entrances;
 use crate::forgetting::{forget_ends, forget_number, forget_trails};
 use crate::merging::merge;
+use crate::resting::Resting;
 use crate::steps::count_steps;
 use crate::trail::Trail;
-use crate::trails::{are_single, drop_dead, gather_ends, take_token};
+use crate::trails::{are_single, drop_dead, take_token};
 use lic_auto::seek::Plain;
 use lic_auto::set::Set;
 use lic_norm::text::Text;
@@ -25,6 +28,7 @@ use std::alloc::{AllocError, Global};
 pub struct Walk<'s> {
     entrances: Entrances<'s>,
     trails: Vec<Trail<'s>>,
+    resting: Resting<'s>,
     // what is said of the token that was taken last
     plain: Plain,
     ends: Vec<End>,
@@ -33,7 +37,7 @@ pub struct Walk<'s> {
 }
 
 impl<'s> Walk<'s> {
-    ghost use Rattle.lic_find.specs.Walked.{HasWalked, IsSingle, KnowsEnds, NoneEndsBefore, changed_at, ends_walked, numbers_walked, set_walked, steps_walked, unclear_walked};
+    ghost use Rattle.lic_find.specs.Walked.{HasMoved, HasWalked, IsSingle, KnowsEnds, NoneEndsBefore, changed_at, ends_walked, numbers_walked, set_walked, steps_walked, unclear_walked};
 
     /// A walk over the templates of these numbers that has taken no token. Each has so many trails at most, or one. Fails if memory runs
     /// out.
@@ -52,10 +56,12 @@ impl<'s> Walk<'s> {
         ensures unclear { IfOk result (λ walk. unclear_walked walk ≡ []) }
         ensures steps { IfOk result (λ walk. steps_walked walk ≡ 0) }
     {
+        let resting = Resting::of(alloc, kept.len())?;
         let entrances = Entrances::of(alloc, set, kept, most)?;
         Ok(Walk {
             entrances,
             trails: Vec::new(alloc),
+            resting,
             plain: Plain::none(),
             ends: Vec::new(alloc),
             unclear: Vec::new(alloc),
@@ -84,10 +90,29 @@ impl<'s> Walk<'s> {
     {
         let token = text.token(first).text;
         self.steps = count_steps(self.steps, token);
-        self.entrances.enter(alloc, text, first, &mut self.trails)?;
-        take_token(&mut self.trails, token, &mut self.plain);
-        drop_dead(&mut self.trails);
-        gather_ends(&self.trails, &mut self.ends, &mut self.unclear)
+        self.entrances
+            .enter(alloc, text, first, &mut self.trails, &mut self.resting)?;
+        self.move_trails(token)
+    }
+
+    // All trails take a token. Then it tells the ends of those that accept, and what is dead rests. Fails if memory runs out.
+    fn move_trails(&mut self, token: &str) -> Result<(), AllocError>
+        requires { IsTokenText token.now }
+        ensures moved { OnOk result (HasMoved (chars token.now) self.old self.new) }
+        ensures entrances { self.new.entrances ≡ self.old.entrances }
+        ensures steps { self.new.steps ≡ self.old.steps }
+    {
+        let some_died = take_token(
+            &mut self.trails,
+            token,
+            &mut self.plain,
+            &mut self.ends,
+            &mut self.unclear,
+        )?;
+        if some_died {
+            drop_dead(&mut self.trails, &mut self.resting);
+        }
+        Ok(())
     }
 
     /// The ends that are known of matches that begin with the token that was taken last: by falling last tokens, then by falling numbers

@@ -9,3 +9,6 @@ returns-clause-taken c = λ h. record {
   joins = c.if-self.false;
   seeks = λ entered e ts s inside outside. c.goes_on.ensures.stands entered e ts s h (λ entry. absurd (outside c.if-self.false entry));
 }
+
+pub returns-clause-fails : goal.returns-clause-fails
+returns-clause-fails c = λ h entered e ts s. c.goes_on.ensures.no_end entered e ts s h

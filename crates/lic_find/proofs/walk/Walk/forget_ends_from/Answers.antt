@@ -10,6 +10,7 @@ returns-clause-walked c = λ tokens bound first had single low high.
     record {
       trails = subst (AreOnTheirWay (set_walked old) (numbers_walked old) tokens (changed_at bound c.args.template c.args.end) first) (sym c.forget_trails.ensures)
           (AreOnTheirWay-before (set_walked old) (numbers_walked old) tokens bound first old.trails.items had.trails c.args.template c.args.end single low high);
+      resting = had.resting;
     }
 
 pub returns-clause-known : goal.returns-clause-known

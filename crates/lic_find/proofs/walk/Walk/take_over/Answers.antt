@@ -18,6 +18,7 @@ returns-clause-walked c =
           (subst (λ ns. AreOnTheirWay (set_walked other) ns tokens other_bound first other.trails.items) alone also.trails))
           c.requires refl
           (subst (λ ts. AreMerged ts other.trails.items c.merge.new.trails.items) c.forget_trails.ensures merged);
+      resting = had.resting;
     })
     c.merge.ensures
 
