@@ -23,16 +23,20 @@ one_valued set tokens law x y e h k =
     let same : x.values ≡ y.values = law set tokens y.triple x.values y.values moved k in
     λ i. record { triple = e i; values = same i }
 
--- the lines of a match by assigners of the set
-pub valued_by : (name : List ℕ) (own set : List Known) (source : List ℕ) (tokens : List TokenValue) (gathered more : List ℕ) (t : Triple) → own ≡ set
+-- the lines of a match under the name of the file, by assigners of the set
+pub valued_by : (own_name name : List ℕ) (own set : List Known) (source : List ℕ) (tokens : List TokenValue) (gathered more : List ℕ) (t : Triple)
+    → own_name ≡ name → own ≡ set
     → ((values : List Assigned) × AreValues own tokens t values
-    × (more ≡ gathered ++ valued_lines name own source tokens (record { triple = t; values = values })))
+    × (more ≡ gathered ++ valued_lines own_name own source tokens (record { triple = t; values = values })))
     → (values : List Assigned) × AreValues set tokens t values
     × (more ≡ gathered ++ valued_lines name set source tokens (record { triple = t; values = values }))
-valued_by name own set source tokens gathered more t same line =
-    subst (λ (s : List Known). (values : List Assigned) × AreValues s tokens t values
-    × (more ≡ gathered ++ valued_lines name s source tokens (record { triple = t; values = values })))
-    same line
+valued_by own_name name own set source tokens gathered more t named same line =
+    subst (λ (n : List ℕ). (values : List Assigned) × AreValues set tokens t values
+    × (more ≡ gathered ++ valued_lines n set source tokens (record { triple = t; values = values })))
+    named
+    (subst (λ (s : List Known). (values : List Assigned) × AreValues s tokens t values
+    × (more ≡ gathered ++ valued_lines own_name s source tokens (record { triple = t; values = values })))
+    same line)
 
 -- the lines of one match more are gathered
 pub valued_more : (name : List ℕ) (set : List Known) (source : List ℕ) (tokens : List TokenValue) (a b : Option (List ℕ)) (gathered more : List ℕ)

@@ -18,7 +18,8 @@ use lic_kind::Rules;
 use lic_norm::fault::TextFault;
 use lic_norm::text::Text;
 use lic_norm::words::Words;
-use lic_report::lines::{add_file, add_match, add_token};
+use lic_report::lines::{add_file, add_token};
+use lic_report::match_lines::MatchLines;
 use lic_report::wanted::Wanted;
 use lic_stream::stream::{Sink, Source};
 use lic_stream::transfer::{put_all, put_gathered};
@@ -43,13 +44,12 @@ fn report_all<W: Sink>(
     ensures writes { CountsWrites result (W.failed out.old) (W.failed out.new) }
     ensures faults { IsOfWriting result }
 {
-    let mut file = Vec::new(alloc);
-    add_file(&mut file, name)?;
+    let mut match_lines = MatchLines::new(alloc, name)?;
     let wanted = Wanted::new(alloc, set, text, ask)?;
     let mut lines = Vec::new(alloc);
     let mut some = false;
     for triple in wanted {
-        add_match(&mut lines, &file, set, text, triple)?;
+        match_lines.add(&mut lines, set, text, triple)?;
         put_gathered(out, &mut lines)?;
         some = true;
     }

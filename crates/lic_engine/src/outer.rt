@@ -13,7 +13,7 @@ use lic_auto::set::Set;
 use lic_find::triple::Triple;
 use lic_norm::text::Text;
 use lic_report::assigners::Assigners;
-use lic_report::lines::add_file;
+use lic_report::match_lines::MatchLines;
 use lic_report::outer::{add_valued, outer_matches};
 use lic_stream::stream::Sink;
 use lic_stream::transfer::{put_all, put_gathered};
@@ -42,12 +42,18 @@ fn put_valued<W: Sink>(
     ensures faults { IsOfWriting result }
 {
     values_are_one_list();
-    let mut file = Vec::new(alloc);
-    add_file(&mut file, name)?;
+    let mut match_lines = MatchLines::new(alloc, name)?;
     let mut assigners = Assigners::new(alloc, set);
     let mut lines = Vec::new(alloc);
     for triple in triples {
-        add_valued(alloc, &mut lines, &file, &mut assigners, text, *triple)?;
+        add_valued(
+            alloc,
+            &mut lines,
+            &mut match_lines,
+            &mut assigners,
+            text,
+            *triple,
+        )?;
         put_gathered(out, &mut lines)?;
     }
     put_all(out, lines.as_slice())?;

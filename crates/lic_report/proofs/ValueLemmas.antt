@@ -3,7 +3,6 @@ use Rattle.std.proofs.Common.{◌≡◌, ℕ, zero, suc, ◌<◌, ◌≤◌, Lis
 use Rattle.std.specs.List.{All, Contains, flat_map}
 use Rattle.std.proofs.lemmas.List.{length-map, get_or-map, get_or_default}
 use Rattle.std.proofs.lemmas.List.Elements.{Contains-get_or}
-use Rattle.lic_fields.specs.Fields.{escaped, field}
 use Rattle.lic_norm.specs.Spans.{AreRising, AreSpans}
 use Rattle.lic_norm.specs.Tokens.{TokenValue}
 use Rattle.lic_norm.specs.declared.token.Span.{Span}
@@ -85,18 +84,18 @@ outer_are_matches set tokens found triples outer tight matches e = λ k d lt.
     ((matches.exact (get_or triples k d)).0 among).0
 
 -- the line of a match and the lines of its values are its lines
-pub valued_line : {E A : Type 0} (r : Result A E) (file : List ℕ) (set : List Known) (source : List ℕ)
+pub valued_line : {E A : Type 0} (r : Result A E) (name : List ℕ) (set : List Known) (source : List ℕ)
     (tokens : List TokenValue) (t : Triple) (old mid new : List ℕ)
     (values : List Value) (given : List Value)
     → given ≡ values → AreValues set tokens t (map value_of values)
-    → ((name : List ℕ) → file ≡ field (escaped name) 0x09 → mid ≡ old ++ match_line name set tokens t)
+    → mid ≡ old ++ match_line name set tokens t
     → IfOk r (λ _. new ≡ mid ++ flat_map (value_line source) (map value_of given))
-    → IfOk r (λ _. (name : List ℕ) → file ≡ field (escaped name) 0x09
-    → (vs : List Assigned) × AreValues set tokens t vs × (new ≡ old ++ valued_lines name set source tokens (record { triple = t; values = vs })))
-valued_line (Ok x) file set source tokens t old mid new values given e are line more = λ name same. (
+    → IfOk r (λ _. (vs : List Assigned) × AreValues set tokens t vs
+    × (new ≡ old ++ valued_lines name set source tokens (record { triple = t; values = vs })))
+valued_line (Ok x) name set source tokens t old mid new values given e are line more = (
   map value_of values,
   are,
-  more ∙ ap (λ l. mid ++ flat_map (value_line source) (map value_of l)) e ∙ ap (λ l. l ++ flat_map (value_line source) (map value_of values)) (line name same)
+  more ∙ ap (λ l. mid ++ flat_map (value_line source) (map value_of l)) e ∙ ap (λ l. l ++ flat_map (value_line source) (map value_of values)) line
       ∙ append_assoc old (match_line name set tokens t) (flat_map (value_line source) (map value_of values)),
 )
-valued_line (Err x) file set source tokens t old mid new values given e are line more = tt
+valued_line (Err x) name set source tokens t old mid new values given e are line more = tt

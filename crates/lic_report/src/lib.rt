@@ -3,5 +3,6 @@
 
 pub mod assigners;
 pub mod lines;
+pub mod match_lines;
 pub mod outer;
 pub mod wanted;

@@ -1,4 +1,4 @@
-//! Lines of a report.
+//! Lines of a report, but those of matches.
 
 ghost use Rattle.std.specs.Prelude.{◌≡◌, ◌<◌, ◌≤◌, ◌++◌, ℕ, List, length, OnOk, Some};
 ghost use Rattle.std.specs.List.{slice_index_or};
@@ -6,59 +6,20 @@ ghost use Rattle.lic_fields.specs.Fields.{escaped, field};
 ghost use Rattle.lic_norm.specs.declared.token.Span.{Span};
 ghost use Rattle.lic_vars.specs.Views.{value_of};
 ghost use Rattle.lic_report.specs.Checking.{check_line};
-ghost use Rattle.lic_report.specs.Report.{match_line, token_line, place_fields, value_line, no_known, no_token};
+ghost use Rattle.lic_report.specs.Report.{token_line, place_fields, value_line, no_known};
 
 use lic_auto::set::Set;
-use lic_fields::{add_last_numbers, add_number, add_text};
-use lic_find::triple::Triple;
+use lic_fields::{add_number, add_text};
 use lic_norm::text::Text;
 use lic_norm::token::{Span, Token};
 use lic_vars::values::Value;
 use std::alloc::AllocError;
-
-/// The identifier of a template, or nothing.
-fn id_at(set: &Set, k: usize) -> &str
-    ensures { result.now ≡ (slice_index_or set.now k no_known).id }
-{
-    if k < set.len() { set.id(k) } else { "" }
-}
-
-/// The span of a token, or an empty one.
-fn span_at(text: &Text, i: usize) -> Span
-    ensures { result ≡ (slice_index_or text.now.tokens i no_token).span }
-{
-    if i < text.len() {
-        text.token(i).span
-    } else {
-        Span { start: 0, end: 0 }
-    }
-}
 
 /// Adds the file's name, which stands first in each line.
 pub fn add_file(lines: &mut Vec<u8>, name: &str) -> Result<(), AllocError>
     ensures { OnOk result (lines.new.items ≡ lines.old.items ++ field (escaped name.now) 0x09) }
 {
     add_text(lines, name.as_bytes(), b'\t')
-}
-
-/// Adds the line of a match: the file, as `add_file` has written its name, the identifier, the numbers of the first and last
-/// token, the first byte of the one and the end of the other.
-pub fn add_match(
-    lines: &mut Vec<u8>,
-    file: &[u8],
-    set: &Set,
-    text: &Text,
-    triple: Triple,
-) -> Result<(), AllocError>
-    ensures { OnOk result ((name : List ℕ) → file.now ≡ field (escaped name) 0x09
-        → lines.new.items
-        ≡ lines.old.items ++ match_line name set.now text.now.tokens triple) }
-{
-    lines.extend_from_slice(file)?;
-    add_text(lines, id_at(set, triple.template).as_bytes(), b'\t')?;
-    let start = span_at(text, triple.first).start as u64;
-    let end = span_at(text, triple.last).end as u64;
-    add_last_numbers(lines, triple.first as u64, triple.last as u64, start, end)
 }
 
 /// Adds the line of a token: the file, as `add_file` has written its name, the first byte of the token and its end, and its

@@ -2,7 +2,6 @@
 
 ghost use Rattle.std.specs.Prelude.{◌≡◌, ◌≤◌, ◌++◌, ℕ, List, All, length, map, IfOk, OnOk, Some, None};
 ghost use Rattle.std.specs.List.{flat_map};
-ghost use Rattle.lic_fields.specs.Fields.{escaped, field};
 ghost use Rattle.lic_find.specs.Matches.{AreMatches, IsMatch};
 ghost use Rattle.lic_norm.specs.declared.token.Span.{Span};
 ghost use Rattle.lic_filters.specs.Filters.{outer_of};
@@ -11,7 +10,8 @@ ghost use Rattle.lic_vars.specs.Views.{value_of};
 ghost use Rattle.lic_report.specs.Report.{value_line, valued_lines};
 
 use crate::assigners::Assigners;
-use crate::lines::{add_match, add_value};
+use crate::lines::add_value;
+use crate::match_lines::MatchLines;
 use lic_auto::set::Set;
 use lic_filters::filters::outer;
 use lic_filters::laws::{outer_ones_are_tight, tight_ones_are_tight};
@@ -52,24 +52,25 @@ fn add_values(lines: &mut Vec<u8>, text: &Text, values: &[Value<'_>]) -> Result<
     Ok(())
 }
 
-/// Adds the line of a match, with the file as `add_file` has written its name, and those of its variables.
+/// Adds the line of a match, and those of its variables.
 pub fn add_valued(
     alloc: Global,
     lines: &mut Vec<u8>,
-    file: &[u8],
+    match_lines: &mut MatchLines<'_>,
     assigners: &mut Assigners<'_>,
     text: &Text,
     triple: Triple,
 ) -> Result<(), AllocError>
     requires { IsMatch assigners.old text.now.tokens triple }
+    ensures name { match_lines.new ≡ match_lines.old }
     ensures set { assigners.new ≡ assigners.old }
-    ensures lines { OnOk result ((name : List ℕ) → file.now ≡ field (escaped name) 0x09
-        → (values : List Assigned) × AreValues assigners.old text.now.tokens triple values
+    ensures lines { OnOk result ((values : List Assigned)
+        × AreValues assigners.old text.now.tokens triple values
         × (lines.new.items ≡ lines.old.items
-        ++ valued_lines name assigners.old text.now.source text.now.tokens
+        ++ valued_lines match_lines.old assigners.old text.now.source text.now.tokens
         (record { triple = triple; values = values }))) }
 {
-    add_match(lines, file, assigners.set(), text, triple)?;
+    match_lines.add(lines, assigners.set(), text, triple)?;
     let values = assigners.assign(alloc, text, triple)?;
     values_run_over_tokens();
     tokens_have_spans(text);

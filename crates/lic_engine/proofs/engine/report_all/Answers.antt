@@ -2,7 +2,6 @@ use Rattle.std.proofs.Common.{rules, ◌≡◌, ◌∙◌, ap, ◌++◌, sym, ap
 use Rattle.std.specs.List.{flat_map}
 use Rattle.std.specs.Io.KnownBytes.{Appends}
 use Rattle.lic_stream.specs.Stream.{BeginsWith}
-use Rattle.lic_fields.specs.Fields.{escaped, field}
 use Rattle.lic_report.specs.Report.{match_line}
 use Rattle.lic_report.specs.Wanted.{wanted_of}
 use Rattle.lic_stream.proofs.Written.{IsPut, begins_empty, put_begins, put_begins_within, put_line, put_more, put_nothing, put_whole}
@@ -14,6 +13,7 @@ loop-triple-init g c =
     record {
       can = tt;
       finite = tt;
+      named = c.in_ok-match_lines.ensures;
       all = refl;
       put = subst (λ l. IsPut (g.W.Sink.taken c.args.out.now) (g.W.Sink.taken c.args.out.now) l [])
           (sym c.new-lines.ensures.items) (put_nothing (g.W.Sink.taken c.args.out.now));
@@ -21,8 +21,8 @@ loop-triple-init g c =
       sound = refl;
     }
 
-pub returns-in_err-add_match-clause-part : goal.returns-in_err-add_match-clause-part
-returns-in_err-add_match-clause-part g c =
+pub returns-in_err-add-clause-part : goal.returns-in_err-add-clause-part
+returns-in_err-add-clause-part g c =
     let same : c.into_iter-triple-iterator.result ≡ c.in_ok-wanted.wanted = search rules in
     let all : wanted_of c.in_ok-wanted.wanted ≡ c.loop-triple.yielded ++ wanted_of c.loop-triple.triple-iterator =
     ap wanted_of (sym same) ∙ c.loop-triple.invariant.all in
@@ -36,25 +36,28 @@ returns-in_err-put_gathered-clause-part g c =
     let all : wanted_of c.in_ok-wanted.wanted ≡ (c.loop-triple.yielded ++ c.in-Some.triple ∷ []) ++ wanted_of c.next.new.self =
     ap wanted_of (sym same) ∙ c.loop-triple.invariant.all ∙ ap (λ l. c.loop-triple.yielded ++ l) c.in-Some.ensures.steps
     ∙ sym (append_assoc c.loop-triple.yielded (c.in-Some.triple ∷ []) (wanted_of c.next.new.self)) in
-    let file : c.deref.result.now ≡ field (escaped c.args.name.now) 0x09 =
-    c.deref.ensures.value ∙ c.in_ok-add_file.ensures ∙ ap (λ l. l ++ field (escaped c.args.name.now) 0x09) c.new-file.ensures.items in
-    let put : IsPut _ (g.W.Sink.taken c.loop-triple.out) c.add_match.new.lines.items _ =
-    put_line (match_line c.args.name.now c.args.set.now c.args.text.now.tokens) c.loop-triple.yielded c.in-Some.triple _ _ _ _ c.loop-triple.invariant.put (c.in_ok-add_match.ensures c.args.name.now file) in
+    let line : c.add.new.lines.items ≡ c.loop-triple.lines.items ++ match_line c.args.name.now c.args.set.now c.args.text.now.tokens c.in-Some.triple =
+    c.in_ok-add.ensures.line
+    ∙ ap (λ name. c.loop-triple.lines.items ++ match_line name c.args.set.now c.args.text.now.tokens c.in-Some.triple) c.loop-triple.invariant.named in
+    let put : IsPut _ (g.W.Sink.taken c.loop-triple.out) c.add.new.lines.items _ =
+    put_line (match_line c.args.name.now c.args.set.now c.args.text.now.tokens) c.loop-triple.yielded c.in-Some.triple _ _ _ _ c.loop-triple.invariant.put line in
     begins_report c.args.name.now c.args.set.now c.args.ask.now c.args.text.now.tokens (wanted_of c.in_ok-wanted.wanted) _ _ _ c.in_ok-wanted.ensures.only
     (put_begins_within (match_line c.args.name.now c.args.set.now c.args.text.now.tokens) _ _
     (wanted_of c.next.new.self) _ _ _ _ put c.in_err-put_gathered.ensures.part all)
 
 pub loop-triple-preserved : goal.loop-triple-preserved
 loop-triple-preserved g c =
-    let file : c.deref.result.now ≡ field (escaped c.args.name.now) 0x09 =
-    c.deref.ensures.value ∙ c.in_ok-add_file.ensures ∙ ap (λ l. l ++ field (escaped c.args.name.now) 0x09) c.new-file.ensures.items in
+    let line : c.add.new.lines.items ≡ c.loop-triple.lines.items ++ match_line c.args.name.now c.args.set.now c.args.text.now.tokens c.in-Some.triple =
+    c.in_ok-add.ensures.line
+    ∙ ap (λ name. c.loop-triple.lines.items ++ match_line name c.args.set.now c.args.text.now.tokens c.in-Some.triple) c.loop-triple.invariant.named in
     record {
       can = tt;
       finite = tt;
+      named = c.add.ensures.name ∙ c.loop-triple.invariant.named;
       all = c.loop-triple.invariant.all ∙ ap (λ l. c.loop-triple.yielded ++ l) c.in-Some.ensures.steps
           ∙ sym (append_assoc c.loop-triple.yielded (c.in-Some.triple ∷ []) (wanted_of c.next.new.self));
       put = put_more _ (g.W.Sink.taken c.loop-triple.out) _ _ _ _
-          (put_line (match_line c.args.name.now c.args.set.now c.args.text.now.tokens) c.loop-triple.yielded c.in-Some.triple _ _ _ _ c.loop-triple.invariant.put (c.in_ok-add_match.ensures c.args.name.now file))
+          (put_line (match_line c.args.name.now c.args.set.now c.args.text.now.tokens) c.loop-triple.yielded c.in-Some.triple _ _ _ _ c.loop-triple.invariant.put line)
           c.in_ok-put_gathered.ensures.ok;
       some = some_more c.loop-triple.yielded c.in-Some.triple;
       sound = search rules;
@@ -89,8 +92,8 @@ returns-clause-written g c =
     (put_whole _ (g.W.Sink.taken c.loop-triple.out) _ _ _ c.loop-triple.invariant.put put))
     (c.loop-triple.invariant.some ∙ ap (λ l. nat_lt 0 (length l)) all)
 
-pub returns-in_err-add_file-clause-part : goal.returns-in_err-add_file-clause-part
-returns-in_err-add_file-clause-part g c = on_error _ c.from_residual.result (λ lines are. begins_empty (g.W.Sink.taken c.args.out.now) lines)
+pub returns-in_err-match_lines-clause-part : goal.returns-in_err-match_lines-clause-part
+returns-in_err-match_lines-clause-part g c = on_error _ c.from_residual.result (λ lines are. begins_empty (g.W.Sink.taken c.args.out.now) lines)
 
 pub returns-in_err-wanted-clause-part : goal.returns-in_err-wanted-clause-part
 returns-in_err-wanted-clause-part g c = on_error _ c.from_residual-in_err-wanted.result (λ lines are. begins_empty (g.W.Sink.taken c.args.out.now) lines)

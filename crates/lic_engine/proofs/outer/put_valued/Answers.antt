@@ -1,11 +1,11 @@
-use Rattle.std.proofs.Common.{rules, ◌≡◌, ◌<◌, ◌+◌, ◌++◌, [], length, take, drop, get_or, refl, sym, ap, subst, ◌∙◌}
-use Rattle.std.proofs.lemmas.List.{take-append-drop}
-use Rattle.lic_fields.specs.Fields.{escaped, field}
+use Rattle.std.proofs.Common.{rules, ◌≡◌, ◌<◌, ◌≤◌, ◌+◌, [], length, take, drop, get_or, refl, sym, subst, ◌∙◌, arith}
+use Rattle.std.specs.Io.KnownBytes.{Appends}
+use Rattle.std.proofs.lemmas.List.{take-append-drop, take_all}
 use Rattle.lic_find.specs.Matches.{IsMatch}
 use Rattle.lic_find.specs.declared.triple.Triple.{Triple}
 use Rattle.lic_report.specs.Report.{HasItsValues, Valued, triple_of, valued_lines}
 use Rattle.lic_stream.specs.Stream.{BeginsWith}
-use Rattle.lic_engine.proofs.DoneLemmas.{AreDone, done_nothing, done_put, err_begins, err_begins_within}
+use Rattle.lic_engine.proofs.DoneLemmas.{AreDone, done_nothing, done_put, done_whole, err_begins, err_begins_within}
 use Rattle.lic_engine.proofs.OuterLemmas.{one_valued, valued_by, valued_more}
 use Rattle.lic_engine.proofs.outer.put_valued.Goals as goal
 
@@ -18,6 +18,7 @@ loop-triple-init g c =
     let tokens = c.args.text.now.tokens in
     let lines = valued_lines c.args.name.now set c.args.text.now.source tokens in
     record {
+      named = c.in_ok-match_lines.ensures;
       assigners = c.new-assigners.ensures;
       done = subst (λ l. AreDone Triple Valued triple_of (HasItsValues set tokens) lines (g.W.Sink.taken c.args.out.now) (g.W.Sink.taken c.args.out.now) l [])
           (sym c.new-lines.ensures.items) (done_nothing Triple Valued triple_of (HasItsValues set tokens) lines (g.W.Sink.taken c.args.out.now));
@@ -48,15 +49,16 @@ returns-in_err-put_gathered-clause-part g c =
     let tokens = c.args.text.now.tokens in
     let lines = valued_lines c.args.name.now set source tokens in
     let i = c.loop-triple.triple-index in
-    let file : c.deref.result.now ≡ field (escaped c.args.name.now) 0x09 =
-    c.deref.ensures.value ∙ c.in_ok-add_file.ensures ∙ ap (λ l. l ++ field (escaped c.args.name.now) 0x09) c.new-file.ensures.items in
     let within : i < length c.args.triples.now = search rules in
+    let by_set =
+    valued_by c.loop-triple.match_lines c.args.name.now c.loop-triple.assigners set source tokens c.loop-triple.lines.items c.add_valued.new.lines.items
+    (get_or c.args.triples.now i nowhere) c.loop-triple.invariant.named c.loop-triple.invariant.assigners c.in_ok-add_valued.ensures.lines in
     err_begins_within Triple Valued triple_of (HasItsValues set tokens) lines (one_valued set tokens c.values_are_one_list.ensures)
     c.from_residual-in_err-put_gathered.result (g.W.Sink.taken c.args.out.now) (g.W.Sink.taken c.loop-triple.out)
     (g.W.Sink.taken c.put_gathered.new.out) c.add_valued.new.lines.items
     (take (i + 1) c.args.triples.now) (drop (i + 1) c.args.triples.now) c.args.triples.now
     (valued_more c.args.name.now set source tokens (g.W.Sink.taken c.args.out.now)
-    (g.W.Sink.taken c.loop-triple.out) c.loop-triple.lines.items c.add_valued.new.lines.items c.args.triples.now i nowhere c.loop-triple.invariant.done within (valued_by c.args.name.now c.loop-triple.assigners set source tokens c.loop-triple.lines.items c.add_valued.new.lines.items (get_or c.args.triples.now i nowhere) c.loop-triple.invariant.assigners (c.in_ok-add_valued.ensures.lines c.args.name.now file)))
+    (g.W.Sink.taken c.loop-triple.out) c.loop-triple.lines.items c.add_valued.new.lines.items c.args.triples.now i nowhere c.loop-triple.invariant.done within by_set)
     c.in_err-put_gathered.ensures.part (sym (take-append-drop (i + 1) c.args.triples.now))
 
 pub loop-triple-preserved : goal.loop-triple-preserved
@@ -66,13 +68,15 @@ loop-triple-preserved g c =
     let tokens = c.args.text.now.tokens in
     let lines = valued_lines c.args.name.now set source tokens in
     let i = c.loop-triple.triple-index in
-    let file : c.deref.result.now ≡ field (escaped c.args.name.now) 0x09 =
-    c.deref.ensures.value ∙ c.in_ok-add_file.ensures ∙ ap (λ l. l ++ field (escaped c.args.name.now) 0x09) c.new-file.ensures.items in
     let within : i < length c.args.triples.now = search rules in
+    let by_set =
+    valued_by c.loop-triple.match_lines c.args.name.now c.loop-triple.assigners set source tokens c.loop-triple.lines.items c.add_valued.new.lines.items
+    (get_or c.args.triples.now i nowhere) c.loop-triple.invariant.named c.loop-triple.invariant.assigners c.in_ok-add_valued.ensures.lines in
     record {
+      named = c.add_valued.ensures.name ∙ c.loop-triple.invariant.named;
       assigners = c.add_valued.ensures.set ∙ c.loop-triple.invariant.assigners;
       done = done_put Triple Valued triple_of (HasItsValues set tokens) lines _ (g.W.Sink.taken c.loop-triple.out) _ _ _ (take (i + 1) c.args.triples.now)
-          (valued_more c.args.name.now set source tokens _ _ _ _ c.args.triples.now i nowhere c.loop-triple.invariant.done within (valued_by c.args.name.now c.loop-triple.assigners set source tokens c.loop-triple.lines.items c.add_valued.new.lines.items (get_or c.args.triples.now i nowhere) c.loop-triple.invariant.assigners (c.in_ok-add_valued.ensures.lines c.args.name.now file)))
+          (valued_more c.args.name.now set source tokens _ _ _ _ c.args.triples.now i nowhere c.loop-triple.invariant.done within by_set)
           c.in_ok-put_gathered.ensures.ok;
       sound = search rules;
     }
@@ -91,3 +95,17 @@ returns-in_err-put_all-clause-part g c =
     (g.W.Sink.taken c.put_all.new.out) c.loop-triple.lines.items
     (take i c.args.triples.now) (drop i c.args.triples.now) c.args.triples.now c.loop-triple.invariant.done part
     (sym (take-append-drop i c.args.triples.now))
+
+pub returns-clause-written : goal.returns-clause-written
+returns-clause-written g c =
+    let set = c.args.set.now in
+    let tokens = c.args.text.now.tokens in
+    let lines = valued_lines c.args.name.now set c.args.text.now.source tokens in
+    let i = c.loop-triple.triple-index in
+    let here : c.as_slice.result.now ≡ c.loop-triple.lines.items = search rules in
+    let put : Appends (g.W.Sink.taken c.loop-triple.out) (g.W.Sink.taken c.put_all.new.out) c.loop-triple.lines.items =
+    subst (λ l. Appends (g.W.Sink.taken c.loop-triple.out) (g.W.Sink.taken c.put_all.new.out) l) here c.in_ok-put_all.ensures.ok in
+    let end : length c.args.triples.now ≤ i = first_of (omega arith, search rules) in
+    let whole = done_whole Triple Valued triple_of (HasItsValues set tokens) lines (g.W.Sink.taken c.args.out.now) (g.W.Sink.taken c.loop-triple.out)
+    (g.W.Sink.taken c.put_all.new.out) c.loop-triple.lines.items (take i c.args.triples.now) c.loop-triple.invariant.done put in
+    (whole.0, whole.1 ∙ take_all i c.args.triples.now end, whole.2, whole.3)

@@ -1,6 +1,6 @@
 use Rattle.std.proofs.Common.{rules, ◌≡◌, ℕ, List, ◌++◌, ◌∙◌, Some, ap, subst, sym}
 use Rattle.std.specs.List.{All}
-use Rattle.lic_fields.specs.Fields.{escaped, field}
+use Rattle.lic_norm.specs.Tokens.{TokenValue}
 use Rattle.lic_norm.specs.declared.token.Span.{Span}
 use Rattle.lic_report.specs.Report.{match_line}
 use Rattle.lic_report.proofs.ValueLemmas.{Fits, values_fit, valued_line}
@@ -16,9 +16,10 @@ add_values-requires c =
 pub returns-clause-lines : goal.returns-clause-lines
 returns-clause-lines c =
     let here : c.deref.result.now ≡ c.in_ok-values.values.items = search rules in
-    let line = λ (name : List ℕ) (file : c.args.file.now ≡ field (escaped name) 0x09). c.in_ok-add_match.ensures name file
-    ∙ ap (λ set. c.args.lines.now.items
-    ++ match_line name set c.args.text.now.tokens c.args.triple) c.set.ensures in
-    valued_line c.add_values.result c.args.file.now c.args.assigners.now c.args.text.now.source c.args.text.now.tokens c.args.triple
-    c.args.lines.now.items c.add_match.new.lines.items c.add_values.new.lines.items c.in_ok-values.values.items c.deref.result.now here c.in_ok-values.ensures.values
-    line c.add_values.ensures
+    let name : List ℕ = c.args.match_lines.now in
+    let tokens : List TokenValue = c.args.text.now.tokens in
+    let line : c.add.new.lines.items ≡ c.args.lines.now.items ++ match_line name c.args.assigners.now tokens c.args.triple =
+    c.in_ok-add.ensures.line ∙ ap (λ set. c.args.lines.now.items ++ match_line name set tokens c.args.triple) c.set.ensures in
+    valued_line c.add_values.result name c.args.assigners.now c.args.text.now.source tokens c.args.triple
+    c.args.lines.now.items c.add.new.lines.items c.add_values.new.lines.items c.in_ok-values.values.items c.deref.result.now here
+    c.in_ok-values.ensures.values line c.add_values.ensures
