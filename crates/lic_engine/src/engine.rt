@@ -44,12 +44,12 @@ fn report_all<W: Sink>(
     ensures writes { CountsWrites result (W.failed out.old) (W.failed out.new) }
     ensures faults { IsOfWriting result }
 {
-    let mut match_lines = MatchLines::new(alloc, name)?;
+    let mut match_lines = MatchLines::new(alloc, name, set);
     let wanted = Wanted::new(alloc, set, text, ask)?;
     let mut lines = Vec::new(alloc);
     let mut some = false;
     for triple in wanted {
-        match_lines.add(&mut lines, set, text, triple)?;
+        match_lines.add(alloc, &mut lines, text, triple)?;
         put_gathered(out, &mut lines)?;
         some = true;
     }

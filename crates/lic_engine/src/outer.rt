@@ -42,7 +42,7 @@ fn put_valued<W: Sink>(
     ensures faults { IsOfWriting result }
 {
     values_are_one_list();
-    let mut match_lines = MatchLines::new(alloc, name)?;
+    let mut match_lines = MatchLines::new(alloc, name, set);
     let mut assigners = Assigners::new(alloc, set);
     let mut lines = Vec::new(alloc);
     for triple in triples {

@@ -1,12 +1,10 @@
 //! Fields of a line that is written: texts with some bytes escaped, and numbers.
 #![tactic(auto)]
 
-ghost use Rattle.std.specs.Prelude.{◌≡◌, ◌++◌, [], ◌∷◌, false, OnOk, MatchOption, decimal};
+ghost use Rattle.std.specs.Prelude.{◌≡◌, ◌≤◌, ◌+◌, ◌++◌, [], ◌∷◌, false, OnOk, MatchOption, decimal, drop, length};
 ghost use Rattle.lic_fields.specs.Fields.{escaped_byte, escaped, field};
 
-pub mod numerals;
-
-use itoa::Buffer;
+use itoa::{Buffer, write_digits};
 use std::alloc::AllocError;
 use std::fmt;
 
@@ -95,6 +93,40 @@ pub fn add_number(line: &mut Vec<u8>, n: u64, mark: u8) -> Result<(), AllocError
     line.extend_from_slice(buffer.format(n).as_bytes())?;
     line.push(mark)?;
     Ok(())
+}
+
+/// Writes a number and the mark behind it so that they end at `end`, and answers where they start.
+#[inline(always)]
+fn write_number(buffer: &mut [u8], end: usize, n: u64, mark: u8) -> usize
+    requires { (21 ≤ end) × (end ≤ length buffer.old) }
+    ensures start { (end ≤ result + 21) × (result ≤ end) }
+    ensures written { drop result buffer.new ≡ field (decimal n) mark ++ drop end buffer.old }
+    ensures len { length buffer.new ≡ length buffer.old }
+{
+    buffer[end - 1] = mark;
+    write_digits(n, buffer, end - 1)
+}
+
+/// Adds four numbers as the last fields of a line, and the line end. They are written from the last to the first, and added at
+/// once.
+pub fn add_last_numbers(
+    line: &mut Vec<u8>,
+    first: u64,
+    second: u64,
+    third: u64,
+    fourth: u64,
+) -> Result<(), AllocError>
+    ensures { OnOk result (line.new.items ≡ line.old.items
+        ++ (field (decimal first) 0x09 ++ (field (decimal second) 0x09
+        ++ (field (decimal third) 0x09 ++ field (decimal fourth) 0x0A)))) }
+{
+    // a number has at most 20 digits, and a mark behind it
+    let mut buffer = [0; 84];
+    let at = write_number(&mut buffer, 84, fourth, b'\n');
+    let at = write_number(&mut buffer, at, third, b'\t');
+    let at = write_number(&mut buffer, at, second, b'\t');
+    let at = write_number(&mut buffer, at, first, b'\t');
+    line.extend_from_slice(&buffer[at..])
 }
 
 /// A name as it is shown in messages: written as in a field.

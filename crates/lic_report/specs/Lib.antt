@@ -2,6 +2,7 @@ pub mod Report
 pub mod Checking
 pub mod Wanted
 pub mod Assigners
+pub mod Fronts
 pub use Rattle.lic_vars.specs.Values
 pub use Rattle.lic_vars.specs.Views
 pub use Rattle.lic_filters.specs.Filters

@@ -21,6 +21,10 @@ no_token = record { text = []; span = record { start = 0; end = 0 } }
 
 -- ---- matches
 
+-- what the lines of a template's matches begin with: the file's name and the template's identifier
+abbrev pub match_front : List ℕ → List Known → ℕ → List ℕ
+match_front name set k = field (escaped name) 0x09 ++ field (escaped (slice_index_or set k no_known).id) 0x09
+
 -- the line of a match: the file's name, the template's identifier, the numbers of its first and last token,
 -- the first byte of the one and the end of the other
 abbrev pub match_line : List ℕ → List Known → List TokenValue → Triple → List ℕ

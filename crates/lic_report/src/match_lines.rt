@@ -2,72 +2,99 @@
 
 ghost use Rattle.std.specs.Prelude.{◌≡◌, ◌++◌, IfOk, OnOk};
 ghost use Rattle.std.specs.List.{slice_index_or};
-ghost use Rattle.lic_report.specs.Report.{match_line, no_known, no_token};
+ghost use Rattle.lic_report.specs.Report.{match_front, match_line, no_known, no_token};
 
 use crate::lines::add_file;
 use lic_auto::set::Set;
-use lic_fields::add_text;
-use lic_fields::numerals::Numerals;
+use lic_fields::{add_last_numbers, add_text};
 use lic_find::triple::Triple;
 use lic_norm::text::Text;
 use lic_norm::token::Span;
 use std::alloc::{AllocError, Global};
+use std::collections::HashMap;
 use std::marker::Model;
 
-/// Writes the lines of matches in one file. Lines near each other have the same numbers, so the digits of these are kept.
+/// Writes the lines of matches in one file. What stands first in each line of a template is made with its first line, and kept
+/// for the others.
 #[derive(Debug, Drop)]
-pub struct MatchLines<'n> {
-    name: &'n str,
-    // the field of the name, which stands first in each line
-    file: Vec<u8>,
-    numerals: Numerals,
+pub struct MatchLines<'a> {
+    name: &'a str,
+    set: &'a Set,
+    // by the numbers of their templates
+    fronts: HashMap<usize, Vec<u8>>,
 }
 
-impl<'n> Model for MatchLines<'n> {
-    ghost use Rattle.std.specs.Prelude.{◌≡◌, ℕ, List};
-    ghost use Rattle.lic_fields.specs.Fields.{escaped, field};
+impl<'a> Model for MatchLines<'a> {
+    ghost use Rattle.std.specs.Prelude.{List, ℕ};
+    ghost use Rattle.std.specs.Coded.{codes};
+    ghost use Rattle.lic_markup.specs.contracts.part.Part as e;
+    ghost use Rattle.lic_report.specs.Fronts.{AreFronts, Named};
 
-    ghost Value = { List ℕ };
+    ghost Value = { Named };
 
-    ghost view = { λ lines. lines.name.now };
+    ghost coded = { Prim.hlevel (codes, e.the_row.coded) };
 
-    ghost invariant = { λ lines. lines.file.items ≡ field (escaped lines.name.now) 0x09 };
+    ghost view = { λ lines. record { name = lines.name.now; set = lines.set.now } };
+
+    ghost invariant = { λ lines. AreFronts (λ front. front.items) lines.name.now lines.set.now lines.fronts };
 }
 
-impl<'n> MatchLines<'n> {
-    /// The lines begin with this name of the file.
-    pub fn new(alloc: Global, name: &'n str) -> Result<MatchLines<'n>, AllocError>
-        ensures { IfOk result (λ lines. lines ≡ name.now) }
+impl<'a> MatchLines<'a> {
+    /// The lines of this set's templates in the file of this name.
+    pub fn new(alloc: Global, name: &'a str, set: &'a Set) -> MatchLines<'a>
+        ensures { result ≡ record { name = name.now; set = set.now } }
     {
-        let mut file = Vec::new(alloc);
-        add_file(&mut file, name)?;
-        Ok(MatchLines {
+        MatchLines {
             name,
-            file,
-            numerals: Numerals::new(),
-        })
+            set,
+            fronts: HashMap::new(alloc),
+        }
     }
 
     /// Adds the line of a match: the file's name, the identifier, the numbers of the first and last token, the first byte of the
     /// one and the end of the other.
     pub fn add(
         &mut self,
+        alloc: Global,
         lines: &mut Vec<u8>,
-        set: &Set,
         text: &Text,
         triple: Triple,
     ) -> Result<(), AllocError>
-        ensures name { self.new ≡ self.old }
+        ensures of { self.new ≡ self.old }
         ensures line { OnOk result (lines.new.items
-            ≡ lines.old.items ++ match_line self.old set.now text.now.tokens triple) }
+            ≡ lines.old.items ++ match_line self.old.name self.old.set text.now.tokens triple) }
     {
-        lines.extend_from_slice(&self.file)?;
-        add_text(lines, id_at(set, triple.template).as_bytes(), b'\t')?;
+        self.add_front(alloc, lines, triple.template)?;
         let start = span_at(text, triple.first).start as u64;
         let end = span_at(text, triple.last).end as u64;
-        self.numerals
-            .add_last_numbers(lines, triple.first as u64, triple.last as u64, start, end)
+        add_last_numbers(lines, triple.first as u64, triple.last as u64, start, end)
     }
+
+    /// Adds what stands first in the lines of a template.
+    fn add_front(&mut self, alloc: Global, lines: &mut Vec<u8>, k: usize) -> Result<(), AllocError>
+        ensures of { self.new ≡ self.old }
+        ensures front { OnOk result (lines.new.items
+            ≡ lines.old.items ++ match_front self.old.name self.old.set k) }
+    {
+        if let Some(front) = self.fronts.get(&k) {
+            return lines.extend_from_slice(front);
+        }
+        let front = front_of(alloc, self.name, self.set, k)?;
+        lines.extend_from_slice(&front)?;
+        self.fronts.insert(k, front)?;
+        Ok(())
+    }
+}
+
+/// What stands first in the lines of a template: the fields of the file's name and of its identifier.
+#[inline(never)]
+fn front_of(alloc: Global, name: &str, set: &Set, k: usize) -> Result<Vec<u8>, AllocError>
+    ensures { IfOk result (λ front. front.items ≡ match_front name.now set.now k) }
+{
+    let mut front = Vec::new(alloc);
+    add_file(&mut front, name)?;
+    add_text(&mut front, id_at(set, k).as_bytes(), b'\t')?;
+    Ok(front)
 }
 
 /// The identifier of a template, or nothing.

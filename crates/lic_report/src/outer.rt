@@ -52,7 +52,7 @@ fn add_values(lines: &mut Vec<u8>, text: &Text, values: &[Value<'_>]) -> Result<
     Ok(())
 }
 
-/// Adds the line of a match, and those of its variables.
+/// Adds the line of a match, and those of its variables. Both are of the same set.
 pub fn add_valued(
     alloc: Global,
     lines: &mut Vec<u8>,
@@ -62,15 +62,15 @@ pub fn add_valued(
     triple: Triple,
 ) -> Result<(), AllocError>
     requires { IsMatch assigners.old text.now.tokens triple }
-    ensures name { match_lines.new ≡ match_lines.old }
+    ensures of { match_lines.new ≡ match_lines.old }
     ensures set { assigners.new ≡ assigners.old }
-    ensures lines { OnOk result ((values : List Assigned)
+    ensures lines { match_lines.old.set ≡ assigners.old → OnOk result ((values : List Assigned)
         × AreValues assigners.old text.now.tokens triple values
         × (lines.new.items ≡ lines.old.items
-        ++ valued_lines match_lines.old assigners.old text.now.source text.now.tokens
+        ++ valued_lines match_lines.old.name assigners.old text.now.source text.now.tokens
         (record { triple = triple; values = values }))) }
 {
-    match_lines.add(lines, assigners.set(), text, triple)?;
+    match_lines.add(alloc, lines, text, triple)?;
     let values = assigners.assign(alloc, text, triple)?;
     values_run_over_tokens();
     tokens_have_spans(text);

@@ -2,6 +2,7 @@ use Rattle.std.proofs.Common.{rules, ◌≡◌, ◌∙◌, ap, ◌++◌, sym, ap
 use Rattle.std.specs.List.{flat_map}
 use Rattle.std.specs.Io.KnownBytes.{Appends}
 use Rattle.lic_stream.specs.Stream.{BeginsWith}
+use Rattle.lic_report.specs.Fronts.{Named}
 use Rattle.lic_report.specs.Report.{match_line}
 use Rattle.lic_report.specs.Wanted.{wanted_of}
 use Rattle.lic_stream.proofs.Written.{IsPut, begins_empty, put_begins, put_begins_within, put_line, put_more, put_nothing, put_whole}
@@ -13,7 +14,7 @@ loop-triple-init g c =
     record {
       can = tt;
       finite = tt;
-      named = c.in_ok-match_lines.ensures;
+      of = c.new-match_lines.ensures;
       all = refl;
       put = subst (λ l. IsPut (g.W.Sink.taken c.args.out.now) (g.W.Sink.taken c.args.out.now) l [])
           (sym c.new-lines.ensures.items) (put_nothing (g.W.Sink.taken c.args.out.now));
@@ -38,7 +39,7 @@ returns-in_err-put_gathered-clause-part g c =
     ∙ sym (append_assoc c.loop-triple.yielded (c.in-Some.triple ∷ []) (wanted_of c.next.new.self)) in
     let line : c.add.new.lines.items ≡ c.loop-triple.lines.items ++ match_line c.args.name.now c.args.set.now c.args.text.now.tokens c.in-Some.triple =
     c.in_ok-add.ensures.line
-    ∙ ap (λ name. c.loop-triple.lines.items ++ match_line name c.args.set.now c.args.text.now.tokens c.in-Some.triple) c.loop-triple.invariant.named in
+    ∙ ap (λ (of : Named). c.loop-triple.lines.items ++ match_line of.name of.set c.args.text.now.tokens c.in-Some.triple) c.loop-triple.invariant.of in
     let put : IsPut _ (g.W.Sink.taken c.loop-triple.out) c.add.new.lines.items _ =
     put_line (match_line c.args.name.now c.args.set.now c.args.text.now.tokens) c.loop-triple.yielded c.in-Some.triple _ _ _ _ c.loop-triple.invariant.put line in
     begins_report c.args.name.now c.args.set.now c.args.ask.now c.args.text.now.tokens (wanted_of c.in_ok-wanted.wanted) _ _ _ c.in_ok-wanted.ensures.only
@@ -49,11 +50,11 @@ pub loop-triple-preserved : goal.loop-triple-preserved
 loop-triple-preserved g c =
     let line : c.add.new.lines.items ≡ c.loop-triple.lines.items ++ match_line c.args.name.now c.args.set.now c.args.text.now.tokens c.in-Some.triple =
     c.in_ok-add.ensures.line
-    ∙ ap (λ name. c.loop-triple.lines.items ++ match_line name c.args.set.now c.args.text.now.tokens c.in-Some.triple) c.loop-triple.invariant.named in
+    ∙ ap (λ (of : Named). c.loop-triple.lines.items ++ match_line of.name of.set c.args.text.now.tokens c.in-Some.triple) c.loop-triple.invariant.of in
     record {
       can = tt;
       finite = tt;
-      named = c.add.ensures.name ∙ c.loop-triple.invariant.named;
+      of = c.add.ensures.of ∙ c.loop-triple.invariant.of;
       all = c.loop-triple.invariant.all ∙ ap (λ l. c.loop-triple.yielded ++ l) c.in-Some.ensures.steps
           ∙ sym (append_assoc c.loop-triple.yielded (c.in-Some.triple ∷ []) (wanted_of c.next.new.self));
       put = put_more _ (g.W.Sink.taken c.loop-triple.out) _ _ _ _
@@ -92,8 +93,5 @@ returns-clause-written g c =
     (put_whole _ (g.W.Sink.taken c.loop-triple.out) _ _ _ c.loop-triple.invariant.put put))
     (c.loop-triple.invariant.some ∙ ap (λ l. nat_lt 0 (length l)) all)
 
-pub returns-in_err-match_lines-clause-part : goal.returns-in_err-match_lines-clause-part
-returns-in_err-match_lines-clause-part g c = on_error _ c.from_residual.result (λ lines are. begins_empty (g.W.Sink.taken c.args.out.now) lines)
-
 pub returns-in_err-wanted-clause-part : goal.returns-in_err-wanted-clause-part
-returns-in_err-wanted-clause-part g c = on_error _ c.from_residual-in_err-wanted.result (λ lines are. begins_empty (g.W.Sink.taken c.args.out.now) lines)
+returns-in_err-wanted-clause-part g c = on_error _ c.from_residual.result (λ lines are. begins_empty (g.W.Sink.taken c.args.out.now) lines)

@@ -10,7 +10,7 @@ invariant-loop-triple g l =
     record {
       can : (goal.iterator-loop-triple g).can_next l.triple-iterator;
       finite : (goal.iterator-loop-triple g).is_finite l.triple-iterator;
-      named : l.match_lines ≡ l.name;
+      of : l.match_lines ≡ record { name = l.name; set = l.set };
       all : wanted_of l.initial.triple-iterator ≡ l.yielded ++ wanted_of l.triple-iterator;
       put : IsPut (g.W.Sink.taken l.initial.out) (g.W.Sink.taken l.out) l.lines.items (flat_map (match_line l.name l.set l.text.tokens) l.yielded);
       some : l.some ≡ nat_lt 0 (length l.yielded);

@@ -1,8 +1,9 @@
-use Rattle.std.proofs.Common.{rules, ◌≡◌, ◌<◌, ◌≤◌, ◌+◌, [], length, take, drop, get_or, refl, sym, subst, ◌∙◌, arith}
+use Rattle.std.proofs.Common.{rules, ◌≡◌, ◌<◌, ◌≤◌, ◌+◌, [], length, take, drop, get_or, refl, sym, ap, subst, ◌∙◌, arith}
 use Rattle.std.specs.Io.KnownBytes.{Appends}
 use Rattle.std.proofs.lemmas.List.{take-append-drop, take_all}
 use Rattle.lic_find.specs.Matches.{IsMatch}
 use Rattle.lic_find.specs.declared.triple.Triple.{Triple}
+use Rattle.lic_report.specs.Fronts.{Named}
 use Rattle.lic_report.specs.Report.{HasItsValues, Valued, triple_of, valued_lines}
 use Rattle.lic_stream.specs.Stream.{BeginsWith}
 use Rattle.lic_engine.proofs.DoneLemmas.{AreDone, done_nothing, done_put, done_whole, err_begins, err_begins_within}
@@ -18,7 +19,7 @@ loop-triple-init g c =
     let tokens = c.args.text.now.tokens in
     let lines = valued_lines c.args.name.now set c.args.text.now.source tokens in
     record {
-      named = c.in_ok-match_lines.ensures;
+      of = c.new-match_lines.ensures;
       assigners = c.new-assigners.ensures;
       done = subst (λ l. AreDone Triple Valued triple_of (HasItsValues set tokens) lines (g.W.Sink.taken c.args.out.now) (g.W.Sink.taken c.args.out.now) l [])
           (sym c.new-lines.ensures.items) (done_nothing Triple Valued triple_of (HasItsValues set tokens) lines (g.W.Sink.taken c.args.out.now));
@@ -39,7 +40,7 @@ returns-in_err-add_valued-clause-part g c =
     let lines = valued_lines c.args.name.now set c.args.text.now.source tokens in
     let i = c.loop-triple.triple-index in
     err_begins Triple Valued triple_of (HasItsValues set tokens) lines (one_valued set tokens c.values_are_one_list.ensures)
-    c.from_residual-in_err-add_valued.result (g.W.Sink.taken c.args.out.now) (g.W.Sink.taken c.loop-triple.out) c.loop-triple.lines.items
+    c.from_residual.result (g.W.Sink.taken c.args.out.now) (g.W.Sink.taken c.loop-triple.out) c.loop-triple.lines.items
     (take i c.args.triples.now) (drop i c.args.triples.now) c.args.triples.now c.loop-triple.invariant.done (sym (take-append-drop i c.args.triples.now))
 
 pub returns-in_err-put_gathered-clause-part : goal.returns-in_err-put_gathered-clause-part
@@ -51,8 +52,9 @@ returns-in_err-put_gathered-clause-part g c =
     let i = c.loop-triple.triple-index in
     let within : i < length c.args.triples.now = search rules in
     let by_set =
-    valued_by c.loop-triple.match_lines c.args.name.now c.loop-triple.assigners set source tokens c.loop-triple.lines.items c.add_valued.new.lines.items
-    (get_or c.args.triples.now i nowhere) c.loop-triple.invariant.named c.loop-triple.invariant.assigners c.in_ok-add_valued.ensures.lines in
+    valued_by c.loop-triple.match_lines.name c.args.name.now c.loop-triple.assigners set source tokens c.loop-triple.lines.items c.add_valued.new.lines.items
+    (get_or c.args.triples.now i nowhere) (ap (λ (of : Named). of.name) c.loop-triple.invariant.of) c.loop-triple.invariant.assigners
+    (c.in_ok-add_valued.ensures.lines (ap (λ (of : Named). of.set) c.loop-triple.invariant.of ∙ sym c.loop-triple.invariant.assigners)) in
     err_begins_within Triple Valued triple_of (HasItsValues set tokens) lines (one_valued set tokens c.values_are_one_list.ensures)
     c.from_residual-in_err-put_gathered.result (g.W.Sink.taken c.args.out.now) (g.W.Sink.taken c.loop-triple.out)
     (g.W.Sink.taken c.put_gathered.new.out) c.add_valued.new.lines.items
@@ -70,10 +72,11 @@ loop-triple-preserved g c =
     let i = c.loop-triple.triple-index in
     let within : i < length c.args.triples.now = search rules in
     let by_set =
-    valued_by c.loop-triple.match_lines c.args.name.now c.loop-triple.assigners set source tokens c.loop-triple.lines.items c.add_valued.new.lines.items
-    (get_or c.args.triples.now i nowhere) c.loop-triple.invariant.named c.loop-triple.invariant.assigners c.in_ok-add_valued.ensures.lines in
+    valued_by c.loop-triple.match_lines.name c.args.name.now c.loop-triple.assigners set source tokens c.loop-triple.lines.items c.add_valued.new.lines.items
+    (get_or c.args.triples.now i nowhere) (ap (λ (of : Named). of.name) c.loop-triple.invariant.of) c.loop-triple.invariant.assigners
+    (c.in_ok-add_valued.ensures.lines (ap (λ (of : Named). of.set) c.loop-triple.invariant.of ∙ sym c.loop-triple.invariant.assigners)) in
     record {
-      named = c.add_valued.ensures.name ∙ c.loop-triple.invariant.named;
+      of = c.add_valued.ensures.of ∙ c.loop-triple.invariant.of;
       assigners = c.add_valued.ensures.set ∙ c.loop-triple.invariant.assigners;
       done = done_put Triple Valued triple_of (HasItsValues set tokens) lines _ (g.W.Sink.taken c.loop-triple.out) _ _ _ (take (i + 1) c.args.triples.now)
           (valued_more c.args.name.now set source tokens _ _ _ _ c.args.triples.now i nowhere c.loop-triple.invariant.done within by_set)
