@@ -3,6 +3,7 @@ pub mod Listing
 pub mod Bounds
 pub mod Ends
 pub mod Firsts
+pub mod Rows
 pub mod Starts
 pub mod Rises
 pub mod Walks

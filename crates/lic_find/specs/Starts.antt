@@ -1,21 +1,16 @@
 -- The first tokens that are noted.
-use Rattle.std.specs.Prelude.{◌≡◌, ℕ, ◌<◌, ◌⊎◌, Bool, false, List, [], ◌∷◌, IsTrue, length, map, take, drop, reverse}
-use Rattle.lic_find.specs.Ends.{match_from, matches_from}
+use Rattle.std.specs.Prelude.{◌≡◌, ℕ, ◌<◌, ◌⊎◌, Bool, false, List, [], ◌∷◌, IsTrue, length, reverse}
+use Rattle.std.specs.List.{flat_map}
+use Rattle.lic_find.specs.Ends.{matches_from}
 use Rattle.lic_find.specs.Firsts.{NotedFirst, noted_at}
+use Rattle.lic_find.specs.Rows.{noted_in}
 use Rattle.lic_find.specs.declared.end.End.{End}
-use Rattle.lic_find.specs.declared.starts.Entry.{Entry}
 use Rattle.lic_find.specs.declared.starts.Starts.{Starts}
 use Rattle.lic_find.specs.declared.triple.Triple.{Triple}
 
--- each with the matches that have its ends; those of the entries behind it stand behind them
-abbrev pub noted_in : List Entry → List End → List NotedFirst
-noted_in [] ends = []
-noted_in (entry ∷ more) ends =
-    noted_at entry.first (map (match_from entry.first) (take entry.count ends)) ∷ noted_in more (drop entry.count ends)
-
--- the first tokens that are left, in rising order
+-- the first tokens that are left, in rising order: those of each row, which are kept in falling order
 unfoldable pub starts_in : Starts → List NotedFirst
-starts_in starts = noted_in (reverse starts.entries.items) (reverse starts.ends.items)
+starts_in starts = flat_map (noted_in starts.ends.items) (reverse starts.rows.items)
 
 -- a first token with the matches that have these ends, or with none
 abbrev pub IsNotedWith : ℕ → List End → NotedFirst → Type 0

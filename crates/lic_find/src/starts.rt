@@ -1,30 +1,39 @@
 //! The first tokens of matches, noted before a walk begins with any of them.
 
-ghost use Rattle.std.specs.Prelude.{◌≡◌, ◌↔◌, ◌≤◌, ◌+◌, ◌-◌, ◌*◌, ◌^◌, ◌∷◌, [], IfSome, IfNone, IsTrue, OnOk, length, min, sum_by};
+ghost use Rattle.std.specs.Prelude.{◌≡◌, ◌↔◌, ◌<◌, ◌≤◌, ◌+◌, ◌-◌, ◌*◌, ◌^◌, ◌∷◌, [], All, IfSome, IfNone, IsTrue, List, OnOk, length, min, ℕ};
 ghost use Rattle.lic_find.specs.Ends.{matches_from};
 ghost use Rattle.lic_find.specs.Firsts.{NotedFirst, noted_at};
-ghost use Rattle.lic_find.specs.declared.starts.Entry.{Entry};
+ghost use Rattle.lic_find.specs.Rows.{GoesOn, IsWithin, noted_in, noted_with};
+ghost use Rattle.lic_find.specs.declared.end.End.{End};
 
 use crate::end::End;
 use crate::triple::Triple;
 use std::alloc::{AllocError, Global};
 
-/// A first token, and how many ends are kept for it: none where they are not known.
+/// First tokens in a row with the same ends: none where these are not known.
 #[derive(Clone, Copy, Debug)]
-pub struct Entry {
-    first: usize,
+pub struct Firsts {
+    least: usize,
+    greatest: usize,
+    // the place of their first end, and how many they are
+    from: usize,
     count: usize,
+    // how many of them have not been taken with the least first token
+    left: usize,
 }
 
 /// First tokens of matches, each with the ends of all matches from there, or with none where these are not known or too many.
-/// Together they keep at most eight ends for each.
+/// First tokens in a row with the same ends keep them once. So the ends that are kept grow where they change from one first token to
+/// the next, and are at most eight for each first token that was noted.
 #[derive(Debug, Drop)]
 pub struct Starts {
     // in falling order, as they are found
-    entries: Vec<Entry>,
-    // of each entry, in falling order, in the order of the entries
+    rows: Vec<Firsts>,
+    // of each row, in falling order, in the order of the rows
     ends: Vec<End>,
-    ghost room: { sum_by (λ (entry : Entry). entry.count) entries.items ≤ length ends.items },
+    // how many first tokens were noted
+    noted: usize,
+    ghost within: { All (IsWithin (length ends.items)) rows.items },
 }
 
 impl Starts {
@@ -35,8 +44,9 @@ impl Starts {
         ensures { starts_in result ≡ [] }
     {
         Starts {
-            entries: Vec::new(alloc),
+            rows: Vec::new(alloc),
             ends: Vec::new(alloc),
+            noted: 0,
         }
     }
 
@@ -46,31 +56,52 @@ impl Starts {
         ensures { OnOk result ((one : NotedFirst) × IsNotedWith first ends.now one
             × (starts_in self.new ≡ one ∷ starts_in self.old)) }
     {
-        if self.has_room(ends.len()) {
-            return self.add_with(first, ends);
+        self.noted = self.noted.saturating_add(1);
+        if let Some(place) = self.row_behind(first, ends) {
+            self.rows[place].least = first;
+            return Ok(());
         }
-        self.add_with(first, &[])
+        if self.has_room(ends.len()) {
+            return self.add_row(first, ends);
+        }
+        self.add_row(first, &[])
     }
 
-    // Notes a first token before all others, with these ends.
-    fn add_with(&mut self, first: usize, ends: &[End]) -> Result<(), AllocError>
+    // The place of the last row, where it begins with the token behind this one and has these ends, of which none was taken.
+    fn row_behind(&self, first: usize, ends: &[End]) -> Option<usize>
+        ensures { IfSome result (λ place. GoesOn self.now.rows.items self.now.ends.items first ends.now place) }
+    {
+        let row = *self.rows.last()?;
+        let own = &self.ends[row.from..row.from + row.count];
+        if row.begins_behind(first) && are_same(own, ends) {
+            return Some(self.rows.len() - 1);
+        }
+        None
+    }
+
+    // Notes a first token before all others, with these ends, in a row of its own.
+    fn add_row(&mut self, first: usize, ends: &[End]) -> Result<(), AllocError>
         ensures { OnOk result (starts_in self.new
             ≡ noted_at first (matches_from first ends.now) ∷ starts_in self.old) }
     {
-        self.ends.extend_from_slice(ends)?;
-        self.entries.push(Entry {
-            first,
+        let row = Firsts {
+            least: first,
+            greatest: first,
+            from: self.ends.len(),
             count: ends.len(),
-        })?;
+            left: ends.len(),
+        };
+        self.ends.extend_from_slice(ends)?;
+        self.rows.push(row)?;
         Ok(())
     }
 
     // Whether so many ends more are no more than eight for each first token.
     fn has_room(&self, count: usize) -> bool
         ensures { IsTrue result ↔ (min (length self.now.ends.items + count) (2 ^ 64 - 1)
-            ≤ min (8 * (length self.now.entries.items + 1)) (2 ^ 64 - 1)) }
+            ≤ min (8 * self.now.noted) (2 ^ 64 - 1)) }
     {
-        let most = self.entries.len().saturating_add(1).saturating_mul(8);
+        let most = self.noted.saturating_mul(8);
         self.ends.len().saturating_add(count) <= most
     }
 
@@ -81,21 +112,20 @@ impl Starts {
             TakesMatch (starts_in self.old) taken.0 taken.1 (starts_in self.new)) }
         ensures none { IfNone result (self.new ≡ self.old) }
     {
-        let entry = *self.entries.last()?;
-        let end = *self.ends.last()?;
-        if entry.count == 0 {
+        let row = *self.rows.last()?;
+        if row.left == 0 {
             return None;
         }
-        self.ends.pop();
-        let is_last = entry.count == 1;
+        let end = self.ends[row.from + row.left - 1];
+        let is_last = row.left == 1;
         if is_last {
-            self.entries.pop();
+            self.remove_least();
         } else {
-            let place = self.entries.len() - 1;
-            self.entries[place].count = entry.count - 1;
+            let place = self.rows.len() - 1;
+            self.rows[place].left = row.left - 1;
         }
         let triple = Triple {
-            first: entry.first,
+            first: row.least,
             last: end.last,
             template: end.template,
         };
@@ -108,10 +138,51 @@ impl Starts {
             × (starts_in self.old ≡ noted ∷ starts_in self.new) × (noted.first ≡ first)) }
         ensures none { IfNone result ((starts_in self.old ≡ []) × (self.new ≡ self.old)) }
     {
-        let entry = *self.entries.last()?;
-        self.entries.pop();
-        let left = self.ends.len() - entry.count;
-        self.ends.truncate(left);
-        Some(entry.first)
+        let row = *self.rows.last()?;
+        if row.least < row.greatest {
+            let place = self.rows.len() - 1;
+            self.rows[place] = row.without_least();
+        } else {
+            self.rows.pop();
+        }
+        Some(row.least)
     }
+}
+
+impl Firsts {
+    // Whether they begin with the token behind this one, and no match of theirs was taken.
+    fn begins_behind(&self, first: usize) -> bool
+        ensures { IsTrue result ↔ ((self.now.least ≡ first + 1) × (self.now.left ≡ self.now.count)) }
+    {
+        first < self.least && self.least - first == 1 && self.left == self.count
+    }
+
+    // Those behind the least one.
+    fn without_least(&self) -> Firsts
+        requires { self.now.least < self.now.greatest }
+        ensures noted { (ends : List End) → noted_in ends self.now
+            ≡ noted_with ends self.now self.now.left self.now.least ∷ noted_in ends result }
+        ensures within { (room : ℕ) → IsWithin room self.now → IsWithin room result }
+    {
+        Firsts {
+            least: self.least + 1,
+            left: self.count,
+            ..*self
+        }
+    }
+}
+
+// Whether these are the same ends.
+fn are_same(own: &[End], ends: &[End]) -> bool
+    ensures { IsTrue result ↔ (own.now ≡ ends.now) }
+{
+    if own.len() != ends.len() {
+        return false;
+    }
+    for place in 0..own.len() {
+        if own[place] != ends[place] {
+            return false;
+        }
+    }
+    true
 }
