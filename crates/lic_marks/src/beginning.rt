@@ -1,6 +1,6 @@
 //! How words begin: a quick look at a compiled expression, which may always say that any letter comes first.
 
-ghost use Rattle.std.specs.Prelude.{◌≡◌, ◌⊎◌, ◌++◌, ℕ, suc, Bool, [], IsTrue, map};
+ghost use Rattle.std.specs.Prelude.{◌≡◌, ◌↔◌, ◌⊎◌, ◌++◌, ℕ, suc, Bool, [], IsTrue, map};
 ghost use Rattle.std.specs.List.{list_all};
 ghost use Rattle.lic_words.specs.Words.{Word};
 ghost use Rattle.lic_marks.specs.Cores.{WordsOf, alt_all, cat_all};
@@ -196,7 +196,7 @@ impl Beginning {
 
 // Whether it is the last of so many places.
 fn is_last(place: usize, count: usize) -> bool
-    ensures { IsTrue result → suc place ≡ count }
+    ensures { IsTrue result ↔ (suc place ≡ count) }
 {
     place < count && count - place == 1
 }

@@ -39,13 +39,13 @@ behind-returns-in-Letters t c =
 
 pub behind-returns-in-UpTo : goal.behind-returns-in-UpTo
 behind-returns-in-UpTo t c =
-    let last : suc c.args.place ≡ c.in-UpTo.count = c.if-is_last.ensures refl in
+    let last : suc c.args.place ≡ c.in-UpTo.count = c.if-is_last.ensures.0 refl in
     rw (c.in-UpTo.is, core_of-UpTo) (λ after w h. subst (BeginsSo c.empty.result)
     (sym (behind_front (passes c.in-UpTo.test) after w c.args.place c.in-UpTo.count last h)) c.empty.ensures)
 
 pub behind-returns-in-Copies : goal.behind-returns-in-Copies
 behind-returns-in-Copies t c =
-    let last : suc c.args.place ≡ c.in-Copies.count = c.if-is_last-2.ensures refl in
+    let last : suc c.args.place ≡ c.in-Copies.count = c.if-is_last-2.ensures.0 refl in
     rw (c.in-Copies.is, core_of-Copies) (λ after w h. subst (BeginsSo c.empty-in-Copies.result)
     (sym (behind_copies (passes c.in-Copies.test) after w c.args.place c.in-Copies.count last h)) c.empty-in-Copies.ensures)
 
