@@ -29,10 +29,12 @@ pub measured_at : (children : List Node) (i : ℕ) (child : Node) → list_all i
 measured_at children i child h inside is = subst (λ n. is_measured n ≡ true) (sym is) (measured_get children i child h inside)
 
 -- one letter more
+pub rest_more : (text : List ℕ) (i d : ℕ) → i < length text → d ≡ get_or text i d → drop i text ≡ d ∷ drop (i + 1) text
+rest_more text i d inside is = drop_more text i d inside ∙ ap (λ x. x ∷ drop (i + 1) text) (sym is)
+
 pub letters_more : (text : List ℕ) (i d : ℕ) → i < length text → d ≡ get_or text i d →
     letter_cores (drop i text) ≡ one (λ c. c == d) ∷ letter_cores (drop (i + 1) text)
-letters_more text i d inside is =
-    ap letter_cores (drop_more text i d inside ∙ ap (λ x. x ∷ drop (i + 1) text) (sym is))
+letters_more text i d inside is = ap letter_cores (rest_more text i d inside is)
 
 -- no letter more
 pub letters_done : (text : List ℕ) (i : ℕ) → length text ≤ i → letter_cores (drop i text) ≡ []

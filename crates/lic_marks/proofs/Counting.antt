@@ -30,7 +30,7 @@ sooner (plus a) m v (u, w, p, q, e) = (u, w, sooner a m u p, q, e)
 sooner (tidy a) m v h = (sooner a m v h.0, tidy_sooner v h.1)
 
 -- what goes on where none may begin
-only_marked : (r : Core) (after : Bool) (m : Marks r) (v : Word) → GoesOn r after false m v → Completes r after m v
+pub only_marked : (r : Core) (after : Bool) (m : Marks r) (v : Word) → GoesOn r after false m v → Completes r after m v
 only_marked r after m v (inl h) = h
 only_marked r after m v (inr h) = absurd (let e = h.0 in cc)
 

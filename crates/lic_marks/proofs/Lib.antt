@@ -12,6 +12,7 @@ pub mod JoinedRows
 pub mod Counted
 pub mod Children
 pub mod LetterSets
+pub mod Beginnings
 pub mod Joining
 pub mod PlainBytes
 pub mod PlainLetters
@@ -39,7 +40,7 @@ pub mod Superposing
 pub mod Closing
 pub mod Entering
 pub mod Seeking
-pub mod Beginning
+pub mod EnteredAlone
 mod DescribedExamples
 pub mod TextEnds
 pub mod LetterSlices

@@ -14,6 +14,7 @@ pub mod Ways
 pub mod Fronts
 pub mod Nodes
 pub mod Memories
+pub mod Beginnings
 pub mod Plain
 pub mod Letters
 pub mod States

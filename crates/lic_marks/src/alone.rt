@@ -56,7 +56,7 @@ impl<'a> Tally<'a> {
             × ForSome found (IsTally (core_of tree.now))) }
     {
         let counts = self.counts;
-        known.bring(counts.last);
+        known.bring(tree, counts.last);
         match over_plain(counts, self.place, tree, plain, last, known, probe)? {
             Some(place) => Some(Some(Tally {
                 place,

@@ -9,6 +9,7 @@ ghost use Rattle.lic_marks.specs.Lone.{MovesTo, NoneEnds};
 ghost use Rattle.lic_marks.specs.Memories.{has};
 ghost use Rattle.lic_marks.specs.Nodes.{core_of, is_measured};
 
+use crate::beginning::Beginning;
 use crate::counts::{Counts, has_counts};
 use crate::letter_set::LetterSet;
 use crate::node::Node;
@@ -49,6 +50,27 @@ impl Known {
             behind_blanks: LetterSet::none(),
             loud: LetterSet::none(),
             none_ends: false,
+            is_marked: false,
+        }
+    }
+
+    // What the expression tells of the position, with no question to a probe.
+    fn of(tree: &Node, place: usize) -> Known
+        requires { IsTrue (is_measured tree.now) }
+        ensures known { IsKnown (core_of tree.now) result }
+        ensures place { result.place ≡ place }
+        ensures marked { result.is_marked ≡ false }
+    {
+        let next = Beginning::behind(tree, place);
+        let mut letters = next.letters;
+        letters.add(' ');
+        let quiet = letters.others();
+        Known {
+            place,
+            at_once: quiet,
+            behind_blanks: quiet,
+            loud: LetterSet::none(),
+            none_ends: !next.may_be_blank,
             is_marked: false,
         }
     }
@@ -178,14 +200,15 @@ impl Known {
         self.none_ends
     }
 
-    /// What is known of this position: nothing, where another was asked for before.
-    pub fn bring(&mut self, place: usize)
-        ensures known { (r : Core) → IsKnown r self.old → IsKnown r self.new }
+    /// What is known of this position: what the expression tells, where another was asked for before.
+    pub fn bring(&mut self, tree: &Node, place: usize)
+        requires { IsTrue (is_measured tree.now) }
+        ensures known { IsKnown (core_of tree.now) self.old → IsKnown (core_of tree.now) self.new }
         ensures probe { (r : Core) (probe : State) → IsProbe r self.old probe → IsProbe r self.new probe }
         ensures place { self.new.place ≡ place }
     {
         if self.place != place {
-            *self = Known::none(place);
+            *self = Known::of(tree, place);
         }
     }
 }
@@ -241,7 +264,7 @@ impl Knowledge {
             → MovesTo (core_of tree.now) (Some place) (gapped_letter first ∷ map gapped_letter others.now) found
             × ForSome found (IsAmongCounts counts.entry)) }
     {
-        self.bring(counts.last);
+        self.bring(tree, counts.last);
         match &mut self.probe {
             Some(probe) => over_counts(counts, place, tree, first, others, &mut self.first, probe),
             None => None,
@@ -255,16 +278,17 @@ impl Knowledge {
         ensures knowledge { IsKnowledge (core_of tree.now) self.new }
         ensures none { IsTrue result → NoneEnds (core_of tree.now) place }
     {
-        self.bring(place);
+        self.bring(tree, place);
         match &mut self.probe {
             Some(probe) => self.first.none_ends(tree, probe),
             None => false,
         }
     }
 
-    // Brings what is known of the position to the front; where nothing is, it takes the place of the other.
-    fn bring(&mut self, place: usize)
-        ensures knowledge { (r : Core) → IsKnowledge r self.old → IsKnowledge r self.new }
+    // Brings what is known of the position to the front; what is not kept takes the place of the other.
+    fn bring(&mut self, tree: &Node, place: usize)
+        requires { IsTrue (is_measured tree.now) }
+        ensures knowledge { IsKnowledge (core_of tree.now) self.old → IsKnowledge (core_of tree.now) self.new }
         ensures place { self.new.first.place ≡ place }
     {
         if self.first.place != place {
@@ -272,7 +296,7 @@ impl Knowledge {
             self.second = self.first;
             self.first = other;
             self.first.unmark();
-            self.first.bring(place);
+            self.first.bring(tree, place);
         }
     }
 }

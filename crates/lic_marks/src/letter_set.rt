@@ -1,6 +1,6 @@
 //! Sets of ASCII letters.
 
-ghost use Rattle.std.specs.Prelude.{◌≡◌, ◌⊎◌, ℕ, true, false, IsTrue};
+ghost use Rattle.std.specs.Prelude.{◌≡◌, ◌&&◌, ◌||◌, ◌⊎◌, ℕ, true, false, not, IsTrue};
 ghost use Rattle.std.specs.Char.{is_ascii};
 
 /// A set of ASCII letters: a bit for each.
@@ -17,6 +17,31 @@ impl LetterSet {
         ensures { (c : ℕ) → has result c ≡ false }
     {
         LetterSet { bits: 0 }
+    }
+
+    /// All letters of ASCII.
+    pub fn all() -> LetterSet
+        ensures { (c : ℕ) → has result c ≡ is_ascii c }
+    {
+        LetterSet { bits: u128::MAX }
+    }
+
+    /// The letters of this set and of the other.
+    pub fn with(self, other: LetterSet) -> LetterSet
+        ensures { (c : ℕ) → has result c ≡ (has self c || has other c) }
+    {
+        LetterSet {
+            bits: self.bits | other.bits,
+        }
+    }
+
+    /// The letters of ASCII that it has not.
+    pub fn others(self) -> LetterSet
+        ensures { (c : ℕ) → has result c ≡ (is_ascii c && not (has self c)) }
+    {
+        LetterSet {
+            bits: self.bits ^ u128::MAX,
+        }
     }
 
     /// Adds the letter, if it is one of ASCII.

@@ -3,6 +3,7 @@
 #![tactic(auto)]
 
 mod alone;
+mod beginning;
 pub mod build;
 mod counts;
 mod front;

@@ -427,7 +427,7 @@ impl<'a> Seeker<'a> {
             return false;
         };
         let counts = tally.counts;
-        self.known.bring(counts.last);
+        self.known.bring(self.tree, counts.last);
         let Some(found) = over_plain(
             counts,
             tally.place,

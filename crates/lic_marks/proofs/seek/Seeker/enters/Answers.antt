@@ -10,7 +10,7 @@ use Rattle.lic_marks.specs.Seeks.{GoOnAsEnds}
 use Rattle.lic_marks.specs.States.{HasTakenAny}
 use Rattle.lic_marks.specs.Standing.{AfterAny}
 use Rattle.lic_marks.specs.declared.stretch.Way.TheVariants.{To, Nowhere}
-use Rattle.lic_marks.proofs.Beginning.{alone, goes_on_at, none_entered, older_dead, still_none}
+use Rattle.lic_marks.proofs.EnteredAlone.{alone, goes_on_at, none_entered, older_dead, still_none}
 use Rattle.lic_marks.proofs.Seeking.{any_last, token_entered, with_token}
 use Rattle.lic_marks.proofs.TextMarks.{in_text}
 use Rattle.lic_marks.proofs.seek.Seeker.enters.Goals as goal

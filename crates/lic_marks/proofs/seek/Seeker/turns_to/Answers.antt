@@ -8,7 +8,7 @@ use Rattle.lic_marks.specs.Alone.{StandsFor}
 use Rattle.lic_marks.specs.Seeks.{GoOnAsEnds}
 use Rattle.lic_marks.specs.Ways.{IsWay}
 use Rattle.lic_marks.specs.declared.stretch.Way.TheVariants.{To, Nowhere}
-use Rattle.lic_marks.proofs.Beginning.{alone, goes_on_at}
+use Rattle.lic_marks.proofs.EnteredAlone.{alone, goes_on_at}
 use Rattle.lic_marks.proofs.Seeking.{token_entered, with_token}
 use Rattle.lic_marks.proofs.TextMarks.{in_text, goes_nowhere}
 use Rattle.lic_marks.proofs.seek.Seeker.turns_to.Goals as goal
