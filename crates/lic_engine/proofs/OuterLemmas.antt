@@ -10,6 +10,7 @@ use Rattle.lic_find.specs.declared.triple.Triple.{Triple}
 use Rattle.lic_filters.specs.Filters.{outer_of}
 use Rattle.lic_vars.specs.Values.{Assigned, AreValues}
 use Rattle.lic_stream.specs.Stream.{BeginsWith}
+use Rattle.lic_report.specs.Fronts.{Named}
 use Rattle.lic_report.specs.Report.{AreOuterLines, HasItsValues, Valued, match_line, triple_of, value_line, valued_lines}
 use Rattle.lic_engine.proofs.DoneLemmas.{AreDone, done_more}
 use Rattle.lic_engine.proofs.ReportLemmas.{line_long, some_lines}
@@ -23,20 +24,17 @@ one_valued set tokens law x y e h k =
     let same : x.values ≡ y.values = law set tokens y.triple x.values y.values moved k in
     λ i. record { triple = e i; values = same i }
 
--- the lines of a match under the name of the file, by assigners of the set
-pub valued_by : (own_name name : List ℕ) (own set : List Known) (source : List ℕ) (tokens : List TokenValue) (gathered more : List ℕ) (t : Triple)
-    → own_name ≡ name → own ≡ set
-    → ((values : List Assigned) × AreValues own tokens t values
-    × (more ≡ gathered ++ valued_lines own_name own source tokens (record { triple = t; values = values })))
+-- the lines of a match under this name and by this set
+pub valued_by : (of : Named) (name : List ℕ) (set : List Known) (source : List ℕ) (tokens : List TokenValue) (gathered more : List ℕ) (t : Triple)
+    → of ≡ record { name = name; set = set }
+    → ((values : List Assigned) × AreValues of.set tokens t values
+    × (more ≡ gathered ++ valued_lines of.name of.set source tokens (record { triple = t; values = values })))
     → (values : List Assigned) × AreValues set tokens t values
     × (more ≡ gathered ++ valued_lines name set source tokens (record { triple = t; values = values }))
-valued_by own_name name own set source tokens gathered more t named same line =
-    subst (λ (n : List ℕ). (values : List Assigned) × AreValues set tokens t values
-    × (more ≡ gathered ++ valued_lines n set source tokens (record { triple = t; values = values })))
-    named
-    (subst (λ (s : List Known). (values : List Assigned) × AreValues s tokens t values
-    × (more ≡ gathered ++ valued_lines own_name s source tokens (record { triple = t; values = values })))
-    same line)
+valued_by of name set source tokens gathered more t same line =
+    subst (λ (o : Named). (values : List Assigned) × AreValues o.set tokens t values
+    × (more ≡ gathered ++ valued_lines o.name o.set source tokens (record { triple = t; values = values })))
+    same line
 
 -- the lines of one match more are gathered
 pub valued_more : (name : List ℕ) (set : List Known) (source : List ℕ) (tokens : List TokenValue) (a b : Option (List ℕ)) (gathered more : List ℕ)

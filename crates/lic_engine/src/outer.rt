@@ -12,9 +12,8 @@ use crate::fault::RunFault;
 use lic_auto::set::Set;
 use lic_find::triple::Triple;
 use lic_norm::text::Text;
-use lic_report::assigners::Assigners;
-use lic_report::match_lines::MatchLines;
-use lic_report::outer::{add_valued, outer_matches};
+use lic_report::outer::outer_matches;
+use lic_report::valued_lines::ValuedLines;
 use lic_stream::stream::Sink;
 use lic_stream::transfer::{put_all, put_gathered};
 use lic_vars::laws::values_are_one_list;
@@ -42,18 +41,10 @@ fn put_valued<W: Sink>(
     ensures faults { IsOfWriting result }
 {
     values_are_one_list();
-    let mut match_lines = MatchLines::new(alloc, name, set);
-    let mut assigners = Assigners::new(alloc, set);
+    let mut valued = ValuedLines::new(alloc, name, set);
     let mut lines = Vec::new(alloc);
     for triple in triples {
-        add_valued(
-            alloc,
-            &mut lines,
-            &mut match_lines,
-            &mut assigners,
-            text,
-            *triple,
-        )?;
+        valued.add(alloc, &mut lines, text, *triple)?;
         put_gathered(out, &mut lines)?;
     }
     put_all(out, lines.as_slice())?;

@@ -5,4 +5,5 @@ pub mod assigners;
 pub mod lines;
 pub mod match_lines;
 pub mod outer;
+pub mod valued_lines;
 pub mod wanted;

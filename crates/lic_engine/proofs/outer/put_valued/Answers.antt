@@ -1,4 +1,4 @@
-use Rattle.std.proofs.Common.{rules, ◌≡◌, ◌<◌, ◌≤◌, ◌+◌, [], length, take, drop, get_or, refl, sym, ap, subst, ◌∙◌, arith}
+use Rattle.std.proofs.Common.{rules, ◌≡◌, ◌<◌, ◌≤◌, ◌+◌, [], length, take, drop, get_or, refl, sym, subst, ◌∙◌, arith}
 use Rattle.std.specs.Io.KnownBytes.{Appends}
 use Rattle.std.proofs.lemmas.List.{take-append-drop, take_all}
 use Rattle.lic_find.specs.Matches.{IsMatch}
@@ -19,22 +19,21 @@ loop-triple-init g c =
     let tokens = c.args.text.now.tokens in
     let lines = valued_lines c.args.name.now set c.args.text.now.source tokens in
     record {
-      of = c.new-match_lines.ensures;
-      assigners = c.new-assigners.ensures;
+      of = c.new-valued.ensures;
       done = subst (λ l. AreDone Triple Valued triple_of (HasItsValues set tokens) lines (g.W.Sink.taken c.args.out.now) (g.W.Sink.taken c.args.out.now) l [])
           (sym c.new-lines.ensures.items) (done_nothing Triple Valued triple_of (HasItsValues set tokens) lines (g.W.Sink.taken c.args.out.now));
       sound = refl;
     }
 
-pub add_valued-requires : goal.add_valued-requires
-add_valued-requires g c =
+pub add-requires : goal.add-requires
+add-requires g c =
     let i = c.loop-triple.triple-index in
     let within : i < length c.args.triples.now = search rules in
-    subst (λ own. IsMatch own c.args.text.now.tokens (get_or c.args.triples.now i nowhere))
-    (sym c.loop-triple.invariant.assigners) (c.requires i nowhere within)
+    subst (λ (own : Named). IsMatch own.set c.args.text.now.tokens (get_or c.args.triples.now i nowhere))
+    (sym c.loop-triple.invariant.of) (c.requires i nowhere within)
 
-pub returns-in_err-add_valued-clause-part : goal.returns-in_err-add_valued-clause-part
-returns-in_err-add_valued-clause-part g c =
+pub returns-in_err-add-clause-part : goal.returns-in_err-add-clause-part
+returns-in_err-add-clause-part g c =
     let set = c.args.set.now in
     let tokens = c.args.text.now.tokens in
     let lines = valued_lines c.args.name.now set c.args.text.now.source tokens in
@@ -52,15 +51,14 @@ returns-in_err-put_gathered-clause-part g c =
     let i = c.loop-triple.triple-index in
     let within : i < length c.args.triples.now = search rules in
     let by_set =
-    valued_by c.loop-triple.match_lines.name c.args.name.now c.loop-triple.assigners set source tokens c.loop-triple.lines.items c.add_valued.new.lines.items
-    (get_or c.args.triples.now i nowhere) (ap (λ (of : Named). of.name) c.loop-triple.invariant.of) c.loop-triple.invariant.assigners
-    (c.in_ok-add_valued.ensures.lines (ap (λ (of : Named). of.set) c.loop-triple.invariant.of ∙ sym c.loop-triple.invariant.assigners)) in
+    valued_by c.loop-triple.valued c.args.name.now set source tokens c.loop-triple.lines.items c.add.new.lines.items
+    (get_or c.args.triples.now i nowhere) c.loop-triple.invariant.of c.in_ok-add.ensures.lines in
     err_begins_within Triple Valued triple_of (HasItsValues set tokens) lines (one_valued set tokens c.values_are_one_list.ensures)
     c.from_residual-in_err-put_gathered.result (g.W.Sink.taken c.args.out.now) (g.W.Sink.taken c.loop-triple.out)
-    (g.W.Sink.taken c.put_gathered.new.out) c.add_valued.new.lines.items
+    (g.W.Sink.taken c.put_gathered.new.out) c.add.new.lines.items
     (take (i + 1) c.args.triples.now) (drop (i + 1) c.args.triples.now) c.args.triples.now
     (valued_more c.args.name.now set source tokens (g.W.Sink.taken c.args.out.now)
-    (g.W.Sink.taken c.loop-triple.out) c.loop-triple.lines.items c.add_valued.new.lines.items c.args.triples.now i nowhere c.loop-triple.invariant.done within by_set)
+    (g.W.Sink.taken c.loop-triple.out) c.loop-triple.lines.items c.add.new.lines.items c.args.triples.now i nowhere c.loop-triple.invariant.done within by_set)
     c.in_err-put_gathered.ensures.part (sym (take-append-drop (i + 1) c.args.triples.now))
 
 pub loop-triple-preserved : goal.loop-triple-preserved
@@ -72,12 +70,10 @@ loop-triple-preserved g c =
     let i = c.loop-triple.triple-index in
     let within : i < length c.args.triples.now = search rules in
     let by_set =
-    valued_by c.loop-triple.match_lines.name c.args.name.now c.loop-triple.assigners set source tokens c.loop-triple.lines.items c.add_valued.new.lines.items
-    (get_or c.args.triples.now i nowhere) (ap (λ (of : Named). of.name) c.loop-triple.invariant.of) c.loop-triple.invariant.assigners
-    (c.in_ok-add_valued.ensures.lines (ap (λ (of : Named). of.set) c.loop-triple.invariant.of ∙ sym c.loop-triple.invariant.assigners)) in
+    valued_by c.loop-triple.valued c.args.name.now set source tokens c.loop-triple.lines.items c.add.new.lines.items
+    (get_or c.args.triples.now i nowhere) c.loop-triple.invariant.of c.in_ok-add.ensures.lines in
     record {
-      of = c.add_valued.ensures.of ∙ c.loop-triple.invariant.of;
-      assigners = c.add_valued.ensures.set ∙ c.loop-triple.invariant.assigners;
+      of = c.add.ensures.of ∙ c.loop-triple.invariant.of;
       done = done_put Triple Valued triple_of (HasItsValues set tokens) lines _ (g.W.Sink.taken c.loop-triple.out) _ _ _ (take (i + 1) c.args.triples.now)
           (valued_more c.args.name.now set source tokens _ _ _ _ c.args.triples.now i nowhere c.loop-triple.invariant.done within by_set)
           c.in_ok-put_gathered.ensures.ok;
