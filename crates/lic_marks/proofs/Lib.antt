@@ -13,9 +13,10 @@ pub mod Counted
 pub mod Children
 pub mod LetterSets
 pub mod Joining
+pub mod Heads
 pub mod PlainBytes
 pub mod PlainLetters
-pub mod TokenBytes
+pub mod PlainText
 pub mod Steady
 pub mod StateLemmas
 pub mod Lists

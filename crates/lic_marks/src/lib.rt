@@ -6,6 +6,7 @@ mod alone;
 pub mod build;
 mod counts;
 mod front;
+mod head;
 mod known;
 pub mod laws;
 pub mod letter_set;
