@@ -2,7 +2,7 @@
 
 ghost use Rattle.std.specs.Prelude.{◌≡◌, ℕ, List, IfSome, IsTrue};
 ghost use Rattle.std.specs.Str.{chars};
-ghost use Rattle.lic_marks.specs.Plain.{IsPlain, in_order};
+ghost use Rattle.lic_marks.specs.Plain.{IsPlain};
 ghost use Rattle.lic_auto.specs.Directions.{ordered};
 
 use lic_marks::plain::Plain;
@@ -24,17 +24,6 @@ impl Direction {
         match self {
             Direction::Forward => {}
             Direction::Backward => row.reverse(),
-        }
-    }
-
-    /// Whether words are read from their ends.
-    #[inline]
-    pub fn is_backward(self) -> bool
-        ensures { (row : List ℕ) → in_order result row ≡ ordered self row }
-    {
-        match self {
-            Direction::Forward => false,
-            Direction::Backward => true,
         }
     }
 

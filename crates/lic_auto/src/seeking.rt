@@ -96,21 +96,22 @@ pub fn take_tokens(
         (TakesEntered direction entered.now (chars token.now)) places.now seekers.old seekers.new }
     ensures kept { AreKeptOf IsQuiet places.now (take result kept.new) seekers.new }
 {
-    if take_in_text(seekers, places, entered, token, direction, kept) {
+    let is_plain = read_taken(token, direction, !places.is_empty(), plain);
+    let known = known_of(plain, is_plain);
+    if take_in_text(seekers, places, entered, known, kept) {
         return 1;
     }
-    take_each(seekers, places, entered, token, direction, kept, plain)
+    take_each(seekers, places, entered, token, direction, kept, known)
 }
 
-// One alone, which is not entered, takes a token where its mark stands alone in a text that goes on with the token. Otherwise nothing is
-// done.
+// One alone, which is not entered, takes a token that is known to be plain, where its mark stands alone in a text that goes on with the
+// token. Otherwise nothing is done.
 #[inline]
 fn take_in_text(
     seekers: &mut [Seeker<'_>],
     places: &[usize],
     entered: &[usize],
-    token: &str,
-    direction: Direction,
+    known: Option<&Plain>,
     kept: &mut [usize],
 ) -> bool
     requires rising { IsRising places.now (length seekers.old) }
@@ -120,10 +121,14 @@ fn take_in_text(
     ensures room { length kept.new ≡ length kept.old }
     ensures count { IsTrue result → 1 ≤ length kept.new }
     ensures rising { IsTrue result → IsRising (take 1 kept.new) (length seekers.new) }
-    ensures taken { IsTrue result → HaveMoved
-        (TakesEntered direction entered.now (chars token.now)) places.now seekers.old seekers.new }
+    ensures taken { IsTrue result → (direction : Direction) (token : List ℕ)
+        → IfSome known.entry (λ plain. IsPlain plain.now (ordered direction token))
+        → HaveMoved (TakesEntered direction entered.now token) places.now seekers.old seekers.new }
     ensures kept { IsTrue result → AreKeptOf IsQuiet places.now (take 1 kept.new) seekers.new }
 {
+    let Some(plain) = known else {
+        return false;
+    };
     let count = places.len();
     if count != 1 {
         return false;
@@ -133,14 +138,14 @@ fn take_in_text(
         return false;
     }
     let seeker = &mut seekers[place];
-    if !seeker.goes_on(token, direction.is_backward()) {
+    if !seeker.goes_on(plain) {
         return false;
     }
     kept[0] = place;
     true
 }
 
-// Those at these places take a token, as `take_tokens` says.
+// Those at these places take a token, as `take_tokens` says, of which the caller may know that it is plain.
 fn take_each(
     seekers: &mut [Seeker<'_>],
     places: &[usize],
@@ -148,12 +153,13 @@ fn take_each(
     token: &str,
     direction: Direction,
     kept: &mut [usize],
-    plain: &mut Plain,
+    known: Option<&Plain>,
 ) -> usize
     requires rising { IsRising places.now (length seekers.old) }
     requires room { length places.now ≤ length kept.old }
     requires entered { IsRising entered.now (length seekers.old) }
     requires letters { 0 < letters_in (chars token.now) }
+    requires known { IfSome known (λ plain. IsPlain plain.now (ordered direction (chars token.now))) }
     ensures count { result ≤ length kept.new }
     ensures room { length kept.new ≡ length kept.old }
     ensures rising { IsRising (take result kept.new) (length seekers.new) }
@@ -161,8 +167,6 @@ fn take_each(
         (TakesEntered direction entered.now (chars token.now)) places.now seekers.old seekers.new }
     ensures kept { AreKeptOf IsQuiet places.now (take result kept.new) seekers.new }
 {
-    let is_plain = read_taken(token, direction, !places.is_empty(), plain);
-    let known = known_of(plain, is_plain);
     let mut count = 0;
     for place in places {
         let place = *place;

@@ -68,18 +68,18 @@ impl<'s> Trail<'s> {
         self.joins = true;
     }
 
-    /// Takes a token that is none of its ends, where it goes on within a text of its template: no match begins there that has one of its
-    /// ends. Otherwise nothing is done.
+    /// Takes a plain token that is none of its ends, where it goes on within a text of its template: no match begins there that has one of
+    /// its ends. Otherwise nothing is done.
     #[inline]
-    pub fn goes_on(&mut self, token: &str) -> bool
-        ensures taken { IsTrue result → HasGoneOn (chars token.now) self.old self.new }
+    pub fn goes_on(&mut self, plain: &Plain) -> bool
+        ensures taken { IsTrue result → (token : List ℕ) → IsPlain plain.now (reverse token) → HasGoneOn token self.old self.new }
         ensures fails { IsTrue result → Fails self.new }
         ensures none { result ≡ false → self.new ≡ self.old }
     {
         if self.joins {
             return false;
         }
-        self.seeker.goes_on(token, true)
+        self.seeker.goes_on(plain)
     }
 
     /// Takes a token, of which the caller may know that it is plain.

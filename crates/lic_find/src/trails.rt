@@ -1,6 +1,6 @@
 //! Lists of trails, the latest ends first.
 
-ghost use Rattle.std.specs.Prelude.{◌≡◌, ◌↔◌, false, reverse, IfSome, IsTrue, List, OnOk, Some};
+ghost use Rattle.std.specs.Prelude.{◌≡◌, ◌↔◌, ℕ, false, reverse, IfSome, IsTrue, List, OnOk, Some};
 ghost use Rattle.std.specs.List.{slice_get};
 ghost use Rattle.std.specs.Str.{chars};
 ghost use Rattle.lic_phrases.specs.TokenTexts.{IsTokenText};
@@ -8,7 +8,7 @@ ghost use Rattle.lic_auto.specs.Sets.{Known};
 ghost use Rattle.lic_marks.specs.Plain.{IsPlain};
 ghost use Rattle.lic_find.specs.Resting.{AllGoFor, AreResting};
 ghost use Rattle.lic_find.specs.TrailEnds.{AddsEnd, AreEndsOf, TellsEnd};
-ghost use Rattle.lic_find.specs.Trails.{Accepts, AreSingle, AreWithoutDead, HaveGoneOn, IsDead};
+ghost use Rattle.lic_find.specs.Trails.{Accepts, AreSingle, AreWithoutDead, Fails, HasGoneOn, HaveGoneOn, IsDead};
 ghost use Rattle.lic_find.specs.declared.trail.Trail.{Trail};
 
 use crate::end::End;
@@ -67,33 +67,34 @@ pub fn take_token(
 {
     ends.clear();
     unclear.clear();
-    let mut read = None;
+    if trails.is_empty() {
+        return Ok(false);
+    }
+    let is_plain = Direction::Backward.read(token, plain);
+    let known = known_of(plain, is_plain);
     let mut some_died = false;
     for place in 0..trails.len() {
         let trail = &mut trails[place];
-        if !trail.goes_on(token) {
-            let is_plain = read_once(token, plain, &mut read);
-            trail.take(token, known_of(plain, is_plain));
+        if !goes_on_in_text(trail, known) {
+            trail.take(token, known);
             some_died |= tell(trail, ends, unclear)?;
         }
     }
     Ok(some_died)
 }
 
-// Reads a token's letters from its end, if that was not done before, and says whether they are plain.
+// A trail takes a token that is known to be plain, where it goes on within a text of its template. Otherwise nothing is done.
 #[inline]
-fn read_once(token: &str, plain: &mut Plain, read: &mut Option<bool>) -> bool
-    ensures result { IfSome read.old (λ is. IsTrue is → IsPlain plain.old (reverse (chars token.now)))
-        → IsTrue result → IsPlain plain.new (reverse (chars token.now)) }
-    ensures kept { IfSome read.old (λ is. IsTrue is → IsPlain plain.old (reverse (chars token.now)))
-        → IfSome read.new (λ is. IsTrue is → IsPlain plain.new (reverse (chars token.now))) }
+fn goes_on_in_text(trail: &mut Trail<'_>, known: Option<&Plain>) -> bool
+    ensures taken { IsTrue result → (token : List ℕ) → IfSome known.entry (λ plain. IsPlain plain.now (reverse token))
+        → HasGoneOn token trail.old trail.new }
+    ensures fails { IsTrue result → Fails trail.new }
+    ensures none { result ≡ false → trail.new ≡ trail.old }
 {
-    if let Some(is_plain) = *read {
-        return is_plain;
+    match known {
+        Some(plain) => trail.goes_on(plain),
+        None => false,
     }
-    let is_plain = Direction::Backward.read(token, plain);
-    *read = Some(is_plain);
-    is_plain
 }
 
 // Adds the end of a trail that accepts, or its template. Otherwise says whether the trail is dead.

@@ -14,9 +14,10 @@ pub mod Children
 pub mod LetterSets
 pub mod Beginnings
 pub mod Joining
+pub mod Heads
 pub mod PlainBytes
 pub mod PlainLetters
-pub mod TokenBytes
+pub mod PlainText
 pub mod Steady
 pub mod StateLemmas
 pub mod Lists

@@ -10,13 +10,13 @@ pub mod Lone
 pub mod Known
 pub mod Threads
 pub mod Spelled
+pub mod Heads
 pub mod Ways
 pub mod Fronts
 pub mod Nodes
 pub mod Memories
 pub mod Beginnings
 pub mod Plain
-pub mod Letters
 pub mod States
 pub mod Runs
 pub mod Alone

@@ -5,7 +5,8 @@ use Rattle.lic_words.specs.Letters.{is_word}
 use Rattle.lic_words.specs.Spelling.{Gap, no_gap, gap_of, gapped_from, last_letter}
 use Rattle.lic_marks.specs.Memories.{has}
 use Rattle.lic_marks.specs.declared.letter_set.LetterSet.{LetterSet}
-use Rattle.lic_marks.specs.Spelled.{gapped_in}
+use Rattle.lic_marks.specs.Spelled.{gapped_in, letters_in}
+use Rattle.lic_marks.specs.Heads.{IsHeadOf}
 use Rattle.lic_marks.specs.declared.plain.Plain.{Plain}
 
 -- the letters come at once, and each is in the set
@@ -27,8 +28,14 @@ pub record IsJoined (byte : ℕ) (letter : Gap × ℕ) : Type 0 where
 abbrev pub others_in : Plain → List (Gap × ℕ)
 others_in plain = gapped_in plain.rest
 
--- The row of letters is what `plain` says of it, behind any letter: the first, then letters that come at once, up to the last.
+-- all letters, without gaps
+abbrev pub all_in : Plain → List ℕ
+all_in plain = plain.first ∷ letters_in plain.rest
+
+-- The row of letters is what `plain` says of it, behind any letter: the first, then letters that come at once, up to the last. The head
+-- is that of all of them.
 pub record IsPlain (plain : Plain) (row : List ℕ) : Type 0 where
   pub letters : (last : ℕ) → gapped_from last true row ≡ (gap_of true (is_word last && is_word plain.first), plain.first) ∷ others_in plain
   pub joined : ComeJoined plain.others (others_in plain)
   pub last : (last : ℕ) → last_letter last row ≡ plain.last
+  pub head : IsHeadOf plain.head (all_in plain)

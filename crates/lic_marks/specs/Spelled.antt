@@ -2,6 +2,7 @@
 use Rattle.std.specs.Prelude.{ℕ, List, map, take}
 use Rattle.lic_words.specs.Spelling.{Gap}
 use Rattle.lic_words.specs.Reading.{gapped_letter}
+use Rattle.lic_words.specs.declared.letters.Letter.{Letter}
 use Rattle.lic_marks.specs.declared.spelled.Spelled.{Spelled}
 
 -- so many letters from the first on, each with the gap before it
@@ -15,3 +16,7 @@ gapped_in s = gapped_front s s.count
 -- the last of them, or else the one behind which they were read
 abbrev pub last_in : Spelled → ℕ
 last_in s = s.last
+
+-- the letters alone
+abbrev pub letters_in : Spelled → List ℕ
+letters_in s = map (λ (letter : Letter). letter.letter) (take s.count s.letters)

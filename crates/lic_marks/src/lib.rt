@@ -7,6 +7,7 @@ mod beginning;
 pub mod build;
 mod counts;
 mod front;
+mod head;
 mod known;
 pub mod laws;
 pub mod letter_set;

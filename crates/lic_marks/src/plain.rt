@@ -1,12 +1,13 @@
 //! Tokens of plain letters, read once for all that take them.
 
-ghost use Rattle.std.specs.Prelude.{◌≡◌, ◌≢◌, ◌<◌, ◌&&◌, ◌∷◌, ◌++◌, [], true, IfSome, IsTrue, length, map, reverse, slice_index};
+ghost use Rattle.std.specs.Prelude.{◌≡◌, ◌≢◌, ◌<◌, ◌≤◌, ◌&&◌, ◌∷◌, ◌++◌, [], ℕ, List, true, IfSome, IsTrue, length, map, reverse, slice_index};
 ghost use Rattle.std.specs.Str.{chars};
 ghost use Rattle.lic_words.specs.Letters.{is_word};
 ghost use Rattle.lic_words.specs.Reading.{gapped_letter};
 ghost use Rattle.lic_words.specs.Spelling.{gap_of};
 ghost use Rattle.lic_words.specs.Words.{blank};
 
+use crate::head::Head;
 use crate::letter_set::LetterSet;
 use crate::spelled::Spelled;
 use lic_kind::is_word;
@@ -30,12 +31,15 @@ pub struct Plain {
     pub last: char,
     /// The others in order.
     rest: Spelled,
+    /// The first of all these.
+    head: Head,
     ghost is_letter: { first ≢ blank },
     ghost class: { is_of_word ≡ is_word first },
 }
 
 impl Plain {
-    ghost use Rattle.lic_marks.specs.Plain.{ComeJoined, IsJoined, IsPlain, in_order, others_in};
+    ghost use Rattle.lic_marks.specs.Heads.{StandsIn};
+    ghost use Rattle.lic_marks.specs.Plain.{ComeJoined, IsJoined, IsPlain, all_in, in_order, others_in};
 
     /// Room for what is said of a token.
     pub fn none() -> Plain
@@ -47,6 +51,7 @@ impl Plain {
             others: LetterSet::none(),
             last: 'a',
             rest: Spelled::none(' '),
+            head: Head::none(),
         }
     }
 
@@ -105,6 +110,7 @@ impl Plain {
             last = letter.letter;
         }
         self.rest.keep(behind);
+        self.head = Head::of(first.letter, &self.rest);
         self.first = first.letter;
         self.is_of_word = is_word(first.letter);
         self.others = others;
@@ -114,7 +120,7 @@ impl Plain {
 
     // The byte at a place, counted from the end or from the beginning.
     #[inline]
-    pub(crate) fn byte_at(bytes: &[u8], place: usize, is_turned: bool) -> u8
+    fn byte_at(bytes: &[u8], place: usize, is_turned: bool) -> u8
         requires { place < length bytes.now }
         ensures { result ≡ slice_index (in_order is_turned bytes.now) place }
     {
@@ -157,6 +163,7 @@ impl Plain {
             }
         }
         self.last = letters.last_letter();
+        self.head = Head::of(self.first, &self.rest);
         true
     }
 
@@ -176,6 +183,7 @@ impl Plain {
             }
         }
         self.last = letters.last_letter();
+        self.head = Head::of(self.first, &self.rest);
         true
     }
 
@@ -230,5 +238,43 @@ impl Plain {
         ensures { map gapped_letter result.now ≡ others_in self.now }
     {
         self.rest.letters()
+    }
+
+    /// How many letters it has.
+    #[inline]
+    pub fn count(&self) -> usize
+        ensures { result ≡ length (all_in self.now) }
+    {
+        self.rest.letters().len() + 1
+    }
+
+    /// Whether these letters stand in the text from its first place on. The first eight are compared at once, where the text has as many.
+    #[inline]
+    pub fn stands_in(&self, text: &[char]) -> bool
+        requires { length (all_in self.now) ≤ length text.now }
+        ensures { IsTrue result → (token : List ℕ) → IsPlain self.now token → (i : ℕ) → StandsIn text.now (all_in self.now) i }
+    {
+        if text.len() < 8 {
+            return text[0] == self.first && self.rest_stands(text, 0);
+        }
+        if !self.head.stands(text) {
+            return false;
+        }
+        self.count() <= 8 || self.rest_stands(text, 7)
+    }
+
+    // Whether the letters behind the first stand in the text behind its first place, from this one of them on.
+    #[inline(never)]
+    fn rest_stands(&self, text: &[char], from: usize) -> bool
+        requires { length (all_in self.now) ≤ length text.now }
+        ensures { IsTrue result → (i : ℕ) → from < i → StandsIn text.now (all_in self.now) i }
+    {
+        let rest = self.rest.letters();
+        for i in from..rest.len() {
+            if text[i + 1] != rest[i].letter {
+                return false;
+            }
+        }
+        true
     }
 }

@@ -9,7 +9,7 @@ ghost use Rattle.lic_words.specs.Expressions.{Expression};
 ghost use Rattle.lic_marks.specs.Cores.{HasWordsOf};
 ghost use Rattle.lic_marks.specs.Rows.{weight};
 ghost use Rattle.lic_marks.specs.Nodes.{core_of, is_measured};
-ghost use Rattle.lic_marks.specs.Plain.{IsPlain, in_order};
+ghost use Rattle.lic_marks.specs.Plain.{IsPlain};
 ghost use Rattle.lic_marks.specs.States.{HasFirstBlanks, has_gap, room_of};
 ghost use Rattle.lic_marks.specs.Fronts.{IsFrontOf};
 ghost use Rattle.lic_marks.specs.Stretches.{IsStretchOf};
@@ -496,32 +496,31 @@ impl<'a> Seeker<'a> {
         true
     }
 
-    /// Takes a token, read from its end or from its first letter on, at which it is not entered, where one mark stands alone in a
-    /// text that goes on with the token's letters, all of ASCII, behind a blank or, where no gap is needed, at once. The token is
-    /// compared with the text as it is. Otherwise nothing is done.
+    /// Takes a plain token at which it is not entered, where one mark stands alone in a text that goes on with the token's letters, behind
+    /// a blank or, where no gap is needed, at once, and no word ends there. Otherwise nothing is done.
     #[inline]
-    pub fn goes_on(&mut self, token: &str, is_turned: bool) -> bool
+    pub fn goes_on(&mut self, plain: &Plain) -> bool
         ensures none { result ≡ false → self.new ≡ self.old }
-        ensures stands { (entered : ℕ → Bool) (e : Expression) (ts : List (List ℕ)) → SeeksAt entered self.old e ts
-            → IsTrue result → (IsTrue (entered (length ts)) → NoneBegins e (in_order is_turned (chars token.now)))
-            → SeeksAt entered self.new e (ts ++ in_order is_turned (chars token.now) ∷ []) }
+        ensures stands { (entered : ℕ → Bool) (e : Expression) (ts : List (List ℕ)) (token : List ℕ)
+            → SeeksAt entered self.old e ts → IsTrue result
+            → IsPlain plain.now token → (IsTrue (entered (length ts)) → NoneBegins e token)
+            → SeeksAt entered self.new e (ts ++ token ∷ []) }
         ensures no_end { (entered : ℕ → Bool) (e : Expression) (ts : List (List ℕ)) → SeeksAt entered self.new e ts → IsTrue result
             → ¬ (DescribesEndAt entered e ts) }
         ensures tree { tree_of self.new ≡ tree_of self.old }
     {
-        let bytes = token.as_bytes();
         let Some(text) = self.text() else {
             return false;
         };
         let stretch = text.stretch;
-        let Some(place) = stretch.over_bytes(text.place, bytes, is_turned, self.last) else {
+        let Some(place) = stretch.over_plain(text.place, plain, self.last) else {
             return false;
         };
         if !none_ends(stretch, place) {
             return false;
         }
         self.lone = Some(Alone::Text(InText { place, stretch }));
-        self.last = char::from(Plain::byte_at(bytes, bytes.len() - 1, is_turned));
+        self.last = plain.last;
         true
     }
 

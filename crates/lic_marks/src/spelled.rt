@@ -1,6 +1,6 @@
 //! The letters of a token, read once for all that go over them.
 
-ghost use Rattle.std.specs.Prelude.{◌≡◌, ◌<◌, ◌≤◌, ◌+◌, ◌∷◌, ◌++◌, [], true, IfSome, IsTrue, map};
+ghost use Rattle.std.specs.Prelude.{◌≡◌, ◌<◌, ◌≤◌, ◌+◌, ◌∷◌, ◌++◌, [], true, IfSome, IsTrue, length, map, slice_index};
 ghost use Rattle.std.specs.Str.{chars};
 ghost use Rattle.lic_words.specs.Spelling.{gapped_from, last_letter};
 ghost use Rattle.lic_words.specs.Reading.{gapped_letter};
@@ -19,7 +19,7 @@ pub struct Spelled {
 }
 
 impl Spelled {
-    ghost use Rattle.lic_marks.specs.Spelled.{gapped_in, last_in, gapped_front};
+    ghost use Rattle.lic_marks.specs.Spelled.{gapped_in, last_in, gapped_front, letters_in};
 
     /// The letters of a token behind the letter `last` and a gap, unless there are too many.
     pub fn of(token: &str, last: char) -> Option<Spelled>
@@ -43,6 +43,15 @@ impl Spelled {
         ensures { map gapped_letter result.now ≡ gapped_in self.now }
     {
         &self.letters[..self.count]
+    }
+
+    /// The letter at this place; any letter where there are no more so many.
+    #[inline]
+    pub fn letter_at(&self, place: usize) -> char
+        requires { place < 24 }
+        ensures { place < length (letters_in self.now) → result ≡ slice_index (letters_in self.now) place }
+    {
+        self.letters[place].letter
     }
 
     /// The last letter of the token, or else the one behind which it was read.

@@ -1,14 +1,12 @@
 //! Stretches of text in a compiled expression: literals, in which a lone mark moves on letter by letter.
 
-ghost use Rattle.std.specs.Prelude.{◌≡◌, ◌<◌, ◌≤◌, ◌-◌, ◌&&◌, ◌∷◌, ◌⊎◌, ℕ, true, IfSome, IsTrue, length, map, slice_index};
+ghost use Rattle.std.specs.Prelude.{◌≡◌, ◌≤◌, ◌&&◌, ◌∷◌, ◌⊎◌, ℕ, List, true, IfSome, IsTrue, map};
 ghost use Rattle.std.specs.List.{list_all};
 ghost use Rattle.lic_marks.specs.Cores.{cat_all, alt_all};
 ghost use Rattle.lic_marks.specs.Nodes.{core_of, is_measured};
 ghost use Rattle.lic_marks.specs.Stretches.{IsStretch};
-ghost use Rattle.std.specs.Str.{chars};
-ghost use Rattle.lic_marks.specs.Letters.{IsLetter};
 ghost use Rattle.lic_words.specs.Letters.{is_word};
-ghost use Rattle.lic_words.specs.Spelling.{free, gap_of, gapped_from, last_letter};
+ghost use Rattle.lic_words.specs.Spelling.{free, gap_of, gapped_from};
 ghost use Rattle.lic_words.specs.Reading.{gapped_letter};
 ghost use Rattle.lic_words.specs.Words.{blank};
 
@@ -37,7 +35,7 @@ impl<'a> Stretch<'a> {
     ghost use Rattle.lic_marks.specs.Cores.{Core};
     ghost use Rattle.lic_marks.specs.Stretches.{LeadOn, LeadsTo, IsStretchOf};
     ghost use Rattle.lic_marks.specs.Ways.{IsGapWay, IsWay, IsWayAlong};
-    ghost use Rattle.lic_marks.specs.Plain.{in_order};
+    ghost use Rattle.lic_marks.specs.Plain.{IsPlain};
     ghost use Rattle.lic_marks.specs.declared.stretch.Way.TheVariants.{To};
 
     /// No letters.
@@ -130,37 +128,21 @@ impl<'a> Stretch<'a> {
         }
     }
 
-    /// Where a token behind the letter `last` leads from a place of the stretch on, read from its end or from its beginning, if its bytes
-    /// are letters of ASCII and the text goes on with these letters: behind a blank, or at once where no gap is needed.
+    /// Where a plain token behind the letter `last` leads from a place of the stretch on, if the text goes on with its letters: behind a
+    /// blank, or at once where no gap is needed.
     #[inline]
-    pub fn over_bytes(
-        self,
-        place: usize,
-        bytes: &[u8],
-        is_turned: bool,
-        last: char,
-    ) -> Option<usize>
-        ensures way { IfSome result (λ end. (r : Core) → IsStretchOf r self.entry
-            → IsWay r place (gapped_from last true (in_order is_turned (chars bytes.now))) (To end)) }
-        ensures some { IfSome result (λ end. 0 < length bytes.now) }
-        ensures last { IfSome result (λ end. (before : ℕ)
-            → last_letter before (in_order is_turned (chars bytes.now))
-            ≡ slice_index (in_order is_turned bytes.now) (length bytes.now - 1)) }
+    pub fn over_plain(self, place: usize, plain: &Plain, last: char) -> Option<usize>
+        ensures { IfSome result (λ end. (r : Core) → IsStretchOf r self.entry
+            → (token : List ℕ) → IsPlain plain.now token → IsWay r place (gapped_from last true token) (To end)) }
     {
         let text = self.letters_from(place)?;
-        let count = bytes.len();
-        if count == 0 {
-            return None;
-        }
+        let count = plain.count();
         if count >= text.len() {
             return None;
         }
-        let gap = gap_length(text[0], last, Plain::byte_at(bytes, 0, is_turned))?;
-        for i in 0..count {
-            let byte = Plain::byte_at(bytes, i, is_turned);
-            if !is_letter(byte, text[i + gap]) {
-                return None;
-            }
+        let gap = gap_length(text[0], last, plain.first)?;
+        if !plain.stands_in(&text[gap..]) {
+            return None;
         }
         let end = place.checked_add(count + gap)?;
         Some(end)
@@ -194,7 +176,7 @@ impl<'a> Stretch<'a> {
 // How many letters of a text that goes on with `next` stand for the gap between the letter `last` and a token's first: one blank, or
 // none where none is needed.
 #[inline]
-fn gap_length(next: char, last: char, first: u8) -> Option<usize>
+fn gap_length(next: char, last: char, first: char) -> Option<usize>
     ensures gap { IfSome result (λ count. ((count ≡ 1) × (next ≡ blank))
         ⊎ ((count ≡ 0) × (gap_of true (is_word last && is_word first) ≡ free))) }
     ensures most { IfSome result (λ count. count ≤ 1) }
@@ -202,25 +184,11 @@ fn gap_length(next: char, last: char, first: u8) -> Option<usize>
     if next == ' ' {
         return Some(1);
     }
-    if is_word(last) & is_word(char::from(first)) {
+    if is_word(last) & is_word(first) {
         None
     } else {
         Some(0)
     }
-}
-
-// Whether a byte is one of ASCII, no blank, and this letter.
-#[inline]
-fn is_letter(byte: u8, letter: char) -> bool
-    ensures { IsTrue result → IsLetter byte letter }
-{
-    if !byte.is_ascii() {
-        return false;
-    }
-    if byte == b' ' {
-        return false;
-    }
-    char::from(byte) == letter
 }
 
 /// The letters behind a position in its stretch of text, where it stands in one.

@@ -7,14 +7,10 @@ use Rattle.lic_marks.specs.Seeks.{at_every, tree_of}
 use Rattle.lic_keys.specs.Rising.{IsRising}
 use Rattle.lic_keys.proofs.RisingLemmas.{fresh_before, less_before, IsRising-push, IsRising-more}
 use Rattle.lic_auto.specs.Changes.{AreKeptOf}
-use Rattle.lic_auto.specs.Directions.{ordered}
 use Rattle.lic_auto.specs.Seeking.{HaveMoved, IsQuiet, TakesEntered}
 use Rattle.lic_auto.proofs.Changing.{Changed-more, Kept-kept, Kept-dropped}
 use Rattle.lic_auto.proofs.seeking.take_each.Goals as goal
 use Rattle.lic_auto.proofs.seeking.take_each.Goals.{then-not-is_dead, else-not-is_dead}
-
-pub push-requires-clause-known : goal.push-requires-clause-known
-push-requires-clause-known c = c.known_of-known.ensures (ordered c.args.direction (chars c.args.token.now)) c.read_taken-is_plain.ensures
 
 pub loop-place-preserved : goal.loop-place-preserved
 loop-place-preserved c =

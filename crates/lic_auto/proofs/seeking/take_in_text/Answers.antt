@@ -1,10 +1,9 @@
-use Rattle.std.proofs.Common.{◌≡◌, ℕ, ◌<◌, [], ◌∷◌, ◌++◌, List, length, get_or, take, Some, refl, sym, ap, ◌∙◌, subst, arith, chars}
+use Rattle.std.proofs.Common.{◌≡◌, ℕ, ◌<◌, [], ◌∷◌, List, length, get_or, take, Some, refl, sym, ap, ◌∙◌, subst, arith}
 use Rattle.std.specs.List.{slice_get, Contains}
 use Rattle.std.proofs.Math.ListN.{set}
 use Rattle.std.proofs.lemmas.List.{drop_all, drop_more, take_more_set, length-set, set-get_or}
 use Rattle.std.proofs.lemmas.Option.{same_Some, slice_get-get_or}
-use Rattle.lic_marks.specs.Plain.{in_order}
-use Rattle.lic_marks.specs.Seeks.{at_every, NoneBegins, Seeks, tree_of}
+use Rattle.lic_marks.specs.Seeks.{at_every, tree_of}
 use Rattle.lic_marks.specs.declared.seek.Seeker.{Seeker}
 use Rattle.lic_keys.specs.Rising.{IsRising}
 use Rattle.lic_auto.specs.Directions.{ordered}
@@ -49,24 +48,20 @@ returns-clause-rising c = λ _.
     subst (λ xs. IsRising xs (length (set seekers n c.goes_on.new.self))) (sym same) (subst (IsRising places) (sym size) c.requires.rising)
 
 pub returns-clause-taken : goal.returns-clause-taken
-returns-clause-taken c = λ _.
+returns-clause-taken c = λ _ direction token plain.
     let places = c.args.places.now in
     let seekers = c.args.seekers.now in
     let n : ℕ = get_or places 0 0 in
-    let token = chars c.args.token.now in
-    let direction = c.args.direction in
     let a = get_or seekers n c.index-seekers-place.result in
     let b = c.goes_on.new.self in
     let one : length places ≡ 1 = c.if-count-ne1.false in
     let within : n < length seekers = omega (arith, c.requires.rising.below 0 (omega (arith, one))) in
     let here : slice_get seekers n ≡ Some a = slice_get-get_or seekers n c.index-seekers-place.result within in
     let changes = TakesEntered direction c.args.entered.now token in
-    let read : in_order c.is_backward.result token ≡ ordered direction token = c.is_backward.ensures token in
     let moved : HaveMoved changes (n ∷ []) seekers (set seekers n b) =
     Changed-more tree_of changes [] n seekers seekers a b (unmoved changes seekers) (none_in n) here c.goes_on.ensures.tree
-    (λ e ts stands rest. subst (λ row. Seeks b e (ts ++ row ∷ [])) read
-    (c.goes_on.ensures.stands at_every e ts stands c.if-not-goes_on.false
-    (λ is_end. subst (NoneBegins e) (sym read) (rest (c.has.ensures.gone c.if-has.false))))) in
+    (λ e ts stands rest. c.goes_on.ensures.stands at_every e ts (ordered direction token) stands c.if-not-goes_on.false (rw c.in-Some.is at plain)
+    (λ is_end. rest (c.has.ensures.gone c.if-has.false))) in
     subst (λ ps. HaveMoved changes ps seekers (set seekers n b)) (sym (alone places one)) moved
 
 pub returns-clause-kept : goal.returns-clause-kept

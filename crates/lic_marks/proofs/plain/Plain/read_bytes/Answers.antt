@@ -52,4 +52,5 @@ returns c = λ _.
       joined = read.joined;
       last = λ last. ap (λ cs. last_letter last (in_order turned cs)) letters
           ∙ last-read row (place + 1) first.letter _ _ _ first.is_letter some all read last;
+      head = c.of-self.ensures;
     }

@@ -50,4 +50,5 @@ returns c = λ _.
           ∙ ap {B = List (Gap × ℕ)} (λ d. (gap_of true (is_word last && is_word d), d) ∷ others) first;
       joined = inv.joined;
       last = λ last. sym (first_letter blank last cs p rest split).2 ∙ sym end;
+      head = c.of-self.ensures;
     }
