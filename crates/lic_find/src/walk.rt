@@ -56,12 +56,11 @@ impl<'s> Walk<'s> {
         ensures unclear { IfOk result (λ walk. unclear_walked walk ≡ []) }
         ensures steps { IfOk result (λ walk. steps_walked walk ≡ 0) }
     {
-        let resting = Resting::of(alloc, kept.len())?;
         let entrances = Entrances::of(alloc, set, kept, most)?;
         Ok(Walk {
             entrances,
             trails: Vec::new(alloc),
-            resting,
+            resting: Resting::none(alloc),
             plain: Plain::none(),
             ends: Vec::new(alloc),
             unclear: Vec::new(alloc),
@@ -110,7 +109,7 @@ impl<'s> Walk<'s> {
             &mut self.unclear,
         )?;
         if some_died {
-            drop_dead(&mut self.trails, &mut self.resting);
+            drop_dead(&mut self.trails, &mut self.resting)?;
         }
         Ok(())
     }

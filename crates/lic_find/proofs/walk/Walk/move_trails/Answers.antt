@@ -7,8 +7,8 @@ use Rattle.lic_find.specs.Trails.{AreWithoutDead, HaveGoneOn}
 use Rattle.lic_find.proofs.Dropping.{AreWithoutDead-none}
 use Rattle.lic_find.proofs.walk.Walk.move_trails.Goals as goal
 
-pub returns-then-some_died-clause-moved : goal.returns-then-some_died-clause-moved
-returns-then-some_died-clause-moved c =
+pub returns-in_ok-drop_dead-clause-moved : goal.returns-in_ok-drop_dead-clause-moved
+returns-in_ok-drop_dead-clause-moved c =
     let trails = c.args.self.now.trails in
     let gone = c.take_token.new.trails in
     let on : HaveGoneOn (chars c.args.token.now) trails.items gone =
@@ -18,8 +18,8 @@ returns-then-some_died-clause-moved c =
       gone = gone;
       on = on;
       told = c.in_ok-some_died.ensures.told;
-      left = subst (λ ts. AreWithoutDead ts c.drop_dead.new.trails.items) items c.drop_dead.ensures.left;
-      resting = λ set goes. c.drop_dead.ensures.resting set (subst (AllGoFor set) (sym items) goes);
+      left = subst (λ ts. AreWithoutDead ts c.drop_dead.new.trails.items) items c.in_ok-drop_dead.ensures.left;
+      resting = λ set goes. c.in_ok-drop_dead.ensures.resting set (subst (AllGoFor set) (sym items) goes);
     }
 
 pub returns-else-some_died-clause-moved : goal.returns-else-some_died-clause-moved
