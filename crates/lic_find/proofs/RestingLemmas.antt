@@ -1,16 +1,13 @@
 -- Trails that are put aside and taken again.
-use Rattle.std.proofs.Common.{◌≡◌, ◌≢◌, ℕ, Bool, ◌+◌, ◌<◌, List, [], length, Option, Some, None, sym, ap, ◌∙◌, subst, arith}
-use Rattle.std.specs.List.{slice_get, slice_set}
-use Rattle.std.proofs.lemmas.Bool.{cases_eq}
-use Rattle.std.proofs.lemmas.List.{length-set}
-use Rattle.std.proofs.lemmas.Option.{same_Some, slice_get_within}
+use Rattle.std.proofs.Common.{◌≡◌, ◌≢◌, ℕ, Bool, false, ◌+◌, nat_eq, List, [], Option, Some, sym, ap, ◌∙◌, subst}
+use Rattle.std.proofs.lemmas.Bool.{cases_eq, ne_eqb}
+use Rattle.std.proofs.lemmas.Option.{same_Some}
 use Rattle.std.proofs.Math.Logic.{⊎_elim, ∥∥₁_map}
 use Rattle.lic_norm.specs.Tokens.{TokenValue}
 use Rattle.lic_words.specs.Mirrors.{mirrored, turned}
 use Rattle.lic_auto.specs.Sets.{Known, words_of}
-use Rattle.lic_auto.proofs.Changing.{slice_get-set_same, slice_get-set_other}
 use Rattle.lic_marks.specs.Seeks.{SeeksAt}
-use Rattle.lic_find.specs.Resting.{AllGoFor, AllRest, GoesFor, Rests}
+use Rattle.lic_find.specs.Resting.{AllGoFor, GoesFor, Rests}
 use Rattle.lic_find.specs.Trails.{AreTrails, BeginsAnew, IsDead, IsNew, IsTrailOf}
 use Rattle.lic_find.specs.Walks.{letters_up_to}
 use Rattle.lic_find.specs.declared.trail.Trail.{Trail}
@@ -46,23 +43,15 @@ IsNew-rested set end old new rests begins = record {
       subst (λ s. ∥ SeeksAt entered s (mirrored (words_of known)) [] ∥₁) (sym begins.seeker) (rests known number entered);
 }
 
-module _ (set : List Known) (trails : List (Option Trail)) (place : ℕ) (all : AllRest set trails) where
-  inside : (change : Option Trail) (x : Option Trail) → slice_get (slice_set trails place change) place ≡ Some x → change ≡ x
-  inside change x there =
-      let within : place < length trails = omega (arith, slice_get_within (slice_set trails place change) place x there, length-set trails place change) in
-      same_Some change x (sym (slice_get-set_same trails place change within) ∙ there)
+-- under each number rests a trail of the template of this number
+abbrev AllRestUnder : List Known → (ℕ → Option Trail) → Type 0
+AllRestUnder set under = (k : ℕ) (trail : Trail) → under k ≡ Some trail → (trail.template ≡ k) × Rests set trail
 
-  others : (change : Option Trail) → ((x : Trail) → change ≡ Some x → Rests set x) → AllRest set (slice_set trails place change)
-  others change rests = λ i x there.
-      ⊎_elim
-      (λ (same : i ≡ place). rests x (inside change (Some x) (ap (slice_get (slice_set trails place change)) (sym same) ∙ there)))
-      (λ (apart : i ≢ place). all i x (sym (slice_get-set_other trails place i change apart) ∙ there))
-      (cases_eq i place)
-
-  -- a trail was put aside
-  pub AllRest-put : (trail : Trail) → Rests set trail → AllRest set (slice_set trails place (Some trail))
-  AllRest-put trail rests = others (Some trail) (λ x same. subst (Rests set) (same_Some trail x same) rests)
-
-  -- one was taken
-  pub AllRest-taken : AllRest set (slice_set trails place None)
-  AllRest-taken = others None (λ x same. absurd (cc))
+-- one number changed what stands under it
+pub AllRestUnder-changed : (set : List Known) (old new : ℕ → Option Trail) (number : ℕ) → ((k : ℕ) → nat_eq number k ≡ false → new k ≡ old k)
+    → AllRestUnder set old → ((trail : Trail) → new number ≡ Some trail → (trail.template ≡ number) × Rests set trail) → AllRestUnder set new
+AllRestUnder-changed set old new number others all own = λ k trail there.
+    ⊎_elim
+    (λ (same : k ≡ number). subst (λ n. (trail.template ≡ n) × Rests set trail) (sym same) (own trail (ap new (sym same) ∙ there)))
+    (λ (apart : k ≢ number). all k trail (sym (others k (ne_eqb number k (λ same. apart (sym same)))) ∙ there))
+    (cases_eq k number)

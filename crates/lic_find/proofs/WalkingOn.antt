@@ -10,12 +10,14 @@ use Rattle.lic_auto.specs.Sets.{Known}
 use Rattle.lic_find.specs.Ends.{AreFalling}
 use Rattle.lic_find.specs.Listing.{triple_at}
 use Rattle.lic_find.specs.Matches.{IsMatch}
-use Rattle.lic_find.specs.Resting.{AllGoFor}
+use Rattle.lic_find.specs.Resting.{AllGoFor, AreResting}
 use Rattle.lic_find.specs.TrailEnds.{AreEndsOf, end_at, latest_of}
 use Rattle.lic_find.specs.Trails.{AreEntered, AreInOrder, AreOnTheirWay, AreTrails, AreWithoutDead, Fails, HaveGoneOn, IsDead, IsOnTrail, IsTrailOf}
+use Rattle.lic_find.specs.Walked.{HasWalked, KnowsEnds, ends_walked, numbers_walked, set_walked, trails_walked, unclear_walked}
 use Rattle.lic_find.specs.declared.end.End.{End}
 use Rattle.lic_find.specs.declared.trail.Trail.{Trail}
 use Rattle.lic_find.specs.declared.triple.Triple.{Triple}
+use Rattle.lic_find.specs.declared.walk.Walk.{Walk}
 use Rattle.lic_find.proofs.RestingLemmas.{AllGoFor-trails}
 use Rattle.lic_find.proofs.Trailing.{accepted_match, dead_match, fails_match}
 use Rattle.lic_find.proofs.TrailLists.{AreAhead-gone, AreInOrder-gone, AreTrails-gone, IsOnTrail-gone, IsOnTrail-there}
@@ -62,7 +64,7 @@ module _ (set : List Known) (numbers : List ℕ) (tokens : List TokenValue) (bou
       at.stands
 
   -- they are on their way without those that are dead
-  pub AreOnTheirWay-on : (new : List Trail) → AreWithoutDead gone new → AreOnTheirWay set numbers tokens bound first new
+  AreOnTheirWay-on : (new : List Trail) → AreWithoutDead gone new → AreOnTheirWay set numbers tokens bound first new
   AreOnTheirWay-on new left = record {
     room = λ k. let (low, high) = was.room k in (omega (arith, low), high);
     trails = λ i trail there. let (j, here) = left.within i trail there in gone_trails j trail here;
@@ -80,7 +82,7 @@ module _ (set : List Known) (numbers : List ℕ) (tokens : List TokenValue) (bou
   }
 
   module _ (ends : List End) (unclear : List ℕ) (are : AreEndsOf gone ends unclear) where
-    pub ends_sound : (e : End) → Contains ends e → IsMatch set tokens (triple_at first e.last e.template) × (e.last < bound e.template) × Contains numbers e.template
+    ends_sound : (e : End) → Contains ends e → IsMatch set tokens (triple_at first e.last e.template) × (e.last < bound e.template) × Contains numbers e.template
     ends_sound e inside =
         let (i, trail, there, accepts, single, is) = are.sound e inside in
         let of : IsTrailOf set numbers tokens bound first trail = gone_trails i trail there in
@@ -92,7 +94,7 @@ module _ (set : List Known) (numbers : List ℕ) (tokens : List TokenValue) (bou
         subst (λ (x : End). IsMatch set tokens (triple_at first x.last x.template) × (x.last < bound x.template) × Contains numbers x.template) is
         (found, near, of.among)
 
-    pub unclear_live : (k : ℕ) → Contains unclear k → (last : ℕ) × (IsMatch set tokens (triple_at first last k) × (last < bound k) × Contains numbers k)
+    unclear_live : (k : ℕ) → Contains unclear k → (last : ℕ) × (IsMatch set tokens (triple_at first last k) × (last < bound k) × Contains numbers k)
     unclear_live k inside =
         let (i, trail, there, accepts, is) = are.live k inside in
         let of : IsTrailOf set numbers tokens bound first trail = gone_trails i trail there in
@@ -101,7 +103,7 @@ module _ (set : List Known) (numbers : List ℕ) (tokens : List TokenValue) (bou
         subst (λ j. (last : ℕ) × (IsMatch set tokens (triple_at first last j) × (last < bound j) × Contains numbers j)) is
         (last, (m, omega (arith, near, sum), of.among))
 
-    pub all_told : (t : Triple) → IsMatch set tokens t → Contains numbers t.template → t.first ≡ first → t.last < bound t.template
+    all_told : (t : Triple) → IsMatch set tokens t → Contains numbers t.template → t.first ≡ first → t.last < bound t.template
         → Contains ends (end_at t.last t.template) ⊎ Contains unclear t.template
     all_told t m among here near =
         let order = m.order in
@@ -119,5 +121,30 @@ module _ (set : List Known) (numbers : List ℕ) (tokens : List TokenValue) (bou
         (λ (fails : Fails at.trail). absurd (none fails)) other)
         (are.all at.place at.trail at.there)
 
-    pub ends_fall : AreFalling ends
+    ends_fall : AreFalling ends
     ends_fall = are.falling gone_ordered
+
+module _ (tokens : List TokenValue) (bound : ℕ → ℕ) (first : ℕ) (d : TokenValue) (old mid gone : List Trail) (new : Walk)
+    (entered : AreEntered (set_walked new) (numbers_walked new) tokens first old mid)
+    (on : HaveGoneOn (chars (get_or tokens first d).text) mid gone)
+    (was : AreOnTheirWay (set_walked new) (numbers_walked new) tokens bound (first + 1) old) where
+  -- the walk has come to the token
+  pub HasWalked-on : AreWithoutDead gone (trails_walked new) → AreResting (set_walked new) new.resting → HasWalked tokens bound first new
+  HasWalked-on left rest = record {
+    trails = AreOnTheirWay-on (set_walked new) (numbers_walked new) tokens bound first d old mid gone entered on was (trails_walked new) left;
+    resting = rest;
+  }
+
+  -- it knows the ends of the matches that begin there
+  pub KnowsEnds-on : AreEndsOf gone (ends_walked new) (unclear_walked new) → KnowsEnds tokens bound first new
+  KnowsEnds-on told =
+      let set = set_walked new in
+      let numbers = numbers_walked new in
+      let ends = ends_walked new in
+      let unclear = unclear_walked new in
+      record {
+        sound = ends_sound set numbers tokens bound first d old mid gone entered on was ends unclear told;
+        live = unclear_live set numbers tokens bound first d old mid gone entered on was ends unclear told;
+        all = all_told set numbers tokens bound first d old mid gone entered on was ends unclear told;
+        falling = ends_fall set numbers tokens bound first d old mid gone entered on was ends unclear told;
+      }

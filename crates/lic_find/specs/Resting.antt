@@ -1,5 +1,6 @@
 -- Trails that rest, and what they stand for when they are taken again.
-use Rattle.std.specs.Prelude.{◌≡◌, ℕ, Bool, Option, List, [], Some}
+use Rattle.std.specs.Prelude.{◌≡◌, ℕ, Bool, List, [], Some, nat_eq}
+use Rattle.std.specs.HashMap.{get}
 use Rattle.std.specs.List.{slice_get}
 use Rattle.lic_words.specs.Mirrors.{mirrored}
 use Rattle.lic_auto.specs.Sets.{Known, words_of}
@@ -20,9 +21,6 @@ abbrev pub Rests : List Known → Trail → Type 0
 Rests set trail = (known : Known) → slice_get set trail.template ≡ Some known
     → (entered : ℕ → Bool) → ∥ SeeksAt entered trail.seeker (mirrored (words_of known)) [] ∥₁
 
-abbrev pub AllRest : List Known → List (Option Trail) → Type 0
-AllRest set trails = (i : ℕ) (trail : Trail) → slice_get trails i ≡ Some (Some trail) → Rests set trail
-
--- all those do that were put aside
+-- so does each trail that was put aside: it stands under the number of its template
 abbrev pub AreResting : List Known → Resting → Type 0
-AreResting set resting = AllRest set resting.trails.items
+AreResting set resting = (k : ℕ) (trail : Trail) → get nat_eq resting.trails k ≡ Some trail → (trail.template ≡ k) × Rests set trail

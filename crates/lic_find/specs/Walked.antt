@@ -6,9 +6,9 @@ use Rattle.lic_find.specs.Ends.{AreFalling}
 use Rattle.lic_find.specs.Entrances.{numbers_entered, set_entered}
 use Rattle.lic_find.specs.Listing.{triple_at}
 use Rattle.lic_find.specs.Matches.{IsMatch}
-use Rattle.lic_find.specs.Resting.{AllGoFor, AreResting}
-use Rattle.lic_find.specs.TrailEnds.{AreEndsOf, end_at}
-use Rattle.lic_find.specs.Trails.{AreOnTheirWay, AreSingle, AreWithoutDead, HaveGoneOn}
+use Rattle.lic_find.specs.Resting.{AreResting}
+use Rattle.lic_find.specs.TrailEnds.{end_at}
+use Rattle.lic_find.specs.Trails.{AreOnTheirWay, AreSingle}
 use Rattle.lic_find.specs.declared.end.End.{End}
 use Rattle.lic_find.specs.declared.trail.Trail.{Trail}
 use Rattle.lic_find.specs.declared.triple.Triple.{Triple}
@@ -40,14 +40,6 @@ steps_walked walk = walk.steps
 pub record HasWalked (tokens : List TokenValue) (bound : ℕ → ℕ) (first : ℕ) (walk : Walk) : Type 0 where
   pub trails : AreOnTheirWay (set_walked walk) (numbers_walked walk) tokens bound first (trails_walked walk)
   pub resting : AreResting (set_walked walk) walk.resting
-
--- The trails of the walk have taken a token. It tells their ends there, and is on those that are left; of the others some may rest.
-pub record HasMoved (token : List ℕ) (old new : Walk) : Type 0 where
-  pub gone : List Trail
-  pub on : HaveGoneOn token (trails_walked old) gone
-  pub told : AreEndsOf gone (ends_walked new) (unclear_walked new)
-  pub left : AreWithoutDead gone (trails_walked new)
-  pub resting : (set : List Known) → AllGoFor set gone → AreResting set old.resting → AreResting set new.resting
 
 -- a match of this template begins with the first token, and ends with the last one, before the bound
 abbrev pub EndsAt : Walk → List TokenValue → (ℕ → ℕ) → ℕ → ℕ → ℕ → Type 0

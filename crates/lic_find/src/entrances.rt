@@ -149,9 +149,9 @@ impl<'s> Entrances<'s> {
         ensures resting { AreResting (set_entered self.now) resting.old → AreResting (set_entered self.now) resting.new }
     {
         let template = self.chosen.number(place);
-        if let Some(trail) = resting.take(place, template, end) {
+        if let Some(trail) = resting.take(template, end) {
             return Ok(trail);
         }
-        Trail::new(alloc, self.chosen.tree(place), place, template, end)
+        Trail::new(alloc, self.chosen.tree(place), template, end)
     }
 }

@@ -17,8 +17,6 @@ use std::alloc::{AllocError, Global};
 #[derive(Debug, Drop)]
 pub struct Trail<'s> {
     seeker: Seeker<'s>,
-    /// The place of its template among those that are entered, where it may rest.
-    pub place: usize,
     /// The number of its template.
     pub template: usize,
     /// Its latest end.
@@ -30,11 +28,10 @@ pub struct Trail<'s> {
 }
 
 impl<'s> Trail<'s> {
-    /// A trail of a template, whose place and tree these are, from the token on that it takes next. Fails if memory runs out.
+    /// A trail of a template, whose tree this is, from the token on that it takes next. Fails if memory runs out.
     pub fn new(
         alloc: Global,
         tree: &'s Node,
-        place: usize,
         template: usize,
         end: usize,
     ) -> Result<Trail<'s>, AllocError>
@@ -44,7 +41,6 @@ impl<'s> Trail<'s> {
         let seeker = Seeker::new(alloc, tree)?;
         Ok(Trail {
             seeker,
-            place,
             template,
             high: end,
             low: end,

@@ -131,14 +131,19 @@ fn add_end(
     Ok(())
 }
 
-/// Puts the trails aside that are dead.
-pub fn drop_dead<'s>(trails: &mut Vec<Trail<'s>>, resting: &mut Resting<'s>)
-    ensures left { AreWithoutDead trails.old.items trails.new.items }
-    ensures resting { (set : List Known) → AllGoFor set trails.old.items → AreResting set resting.old → AreResting set resting.new }
+/// Puts the trails aside that are dead. Fails if memory runs out.
+pub fn drop_dead<'s>(
+    trails: &mut Vec<Trail<'s>>,
+    resting: &mut Resting<'s>,
+) -> Result<(), AllocError>
+    ensures left { OnOk result (AreWithoutDead trails.old.items trails.new.items) }
+    ensures resting { OnOk result ((set : List Known) → AllGoFor set trails.old.items
+        → AreResting set resting.old → AreResting set resting.new) }
 {
     for place in (0..trails.len()).rev() {
         if trails[place].is_dead() {
-            resting.put(trails.remove(place));
+            resting.put(trails.remove(place))?;
         }
     }
+    Ok(())
 }

@@ -1,9 +1,7 @@
 //! A walk over a text towards its front, which says where the matches end that begin with the token it has come to.
 
 ghost use Rattle.std.specs.Prelude.{◌≡◌, ◌↔◌, ◌<◌, ◌≤◌, ◌+◌, ◌-◌, ◌^◌, ◌∷◌, [], ℕ, List, Contains, IsTrue, length, drop, IfOk, OnOk};
-ghost use Rattle.std.specs.Str.{chars};
 ghost use Rattle.lic_keys.specs.Rising.{IsRising};
-ghost use Rattle.lic_phrases.specs.TokenTexts.{IsTokenText};
 ghost use Rattle.lic_norm.specs.Tokens.{TokenValue};
 ghost use Rattle.lic_find.specs.Bounds.{letters_of};
 ghost use Rattle.lic_find.specs.TrailEnds.{end_at};
@@ -37,7 +35,7 @@ pub struct Walk<'s> {
 }
 
 impl<'s> Walk<'s> {
-    ghost use Rattle.lic_find.specs.Walked.{HasMoved, HasWalked, IsSingle, KnowsEnds, NoneEndsBefore, changed_at, ends_walked, numbers_walked, set_walked, steps_walked, unclear_walked};
+    ghost use Rattle.lic_find.specs.Walked.{HasWalked, IsSingle, KnowsEnds, NoneEndsBefore, changed_at, ends_walked, numbers_walked, set_walked, steps_walked, unclear_walked};
 
     /// A walk over the templates of these numbers that has taken no token. Each has so many trails at most, or one. Fails if memory runs
     /// out.
@@ -56,12 +54,11 @@ impl<'s> Walk<'s> {
         ensures unclear { IfOk result (λ walk. unclear_walked walk ≡ []) }
         ensures steps { IfOk result (λ walk. steps_walked walk ≡ 0) }
     {
-        let resting = Resting::of(alloc, kept.len())?;
         let entrances = Entrances::of(alloc, set, kept, most)?;
         Ok(Walk {
             entrances,
             trails: Vec::new(alloc),
-            resting,
+            resting: Resting::none(alloc),
             plain: Plain::none(),
             ends: Vec::new(alloc),
             unclear: Vec::new(alloc),
@@ -90,27 +87,31 @@ impl<'s> Walk<'s> {
     {
         let token = text.token(first).text;
         self.steps = count_steps(self.steps, token);
-        self.entrances
-            .enter(alloc, text, first, &mut self.trails, &mut self.resting)?;
-        self.move_trails(token)
+        self.move_trails(alloc, text, first)
     }
 
-    // All trails take a token. Then it tells the ends of those that accept, and what is dead rests. Fails if memory runs out.
-    fn move_trails(&mut self, token: &str) -> Result<(), AllocError>
-        requires { IsTokenText token.now }
-        ensures moved { OnOk result (HasMoved (chars token.now) self.old self.new) }
+    // Templates are entered at the token with this number, and all trails take it. Then the ends of those that accept are known, and what
+    // is dead rests. Fails if memory runs out.
+    fn move_trails(&mut self, alloc: Global, text: &Text, first: usize) -> Result<(), AllocError>
+        requires { first < length text.now.tokens }
+        ensures walked { OnOk result ((bound : ℕ → ℕ)
+            → HasWalked text.now.tokens bound (first + 1) self.old
+            → HasWalked text.now.tokens bound first self.new
+            × KnowsEnds text.now.tokens bound first self.new) }
         ensures entrances { self.new.entrances ≡ self.old.entrances }
         ensures steps { self.new.steps ≡ self.old.steps }
     {
+        self.entrances
+            .enter(alloc, text, first, &mut self.trails, &mut self.resting)?;
         let some_died = take_token(
             &mut self.trails,
-            token,
+            text.token(first).text,
             &mut self.plain,
             &mut self.ends,
             &mut self.unclear,
         )?;
         if some_died {
-            drop_dead(&mut self.trails, &mut self.resting);
+            drop_dead(&mut self.trails, &mut self.resting)?;
         }
         Ok(())
     }

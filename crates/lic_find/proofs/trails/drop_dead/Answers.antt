@@ -21,8 +21,8 @@ loop-place-preserved c = record {
   resting = c.loop-place.invariant.resting;
 }
 
-pub loop-place-preserved-then-is_dead : goal.loop-place-preserved-then-is_dead
-loop-place-preserved-then-is_dead c =
+pub loop-place-preserved-in-Continue-1 : goal.loop-place-preserved-in-Continue-1
+loop-place-preserved-in-Continue-1 c =
     let old = c.args.trails.now.items in
     let trails = c.loop-place.trails.items in
     let place = c.loop-place.place - 1 in
@@ -37,5 +37,5 @@ loop-place-preserved-then-is_dead c =
       left = subst (AreWithoutDead old) (sym c.remove.ensures.items) (AreWithoutDead-removed trails place within old trail here dead had.left);
       resting = λ set goes rest.
           let (j, there) = had.left.within place trail here in
-          c.put.ensures set (had.resting set goes rest) (Rests-dead set trail (goes j trail there) dead);
+          c.in_ok-put.ensures set (had.resting set goes rest) (Rests-dead set trail (goes j trail there) dead);
     }

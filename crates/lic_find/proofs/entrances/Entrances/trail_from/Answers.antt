@@ -27,3 +27,6 @@ returns-clause-begun c = λ rests.
 
 pub returns-in-Some-clause-resting : goal.returns-in-Some-clause-resting
 returns-in-Some-clause-resting c = c.take.ensures.others (set_entered c.args.self.now)
+
+pub returns-clause-resting : goal.returns-clause-resting
+returns-clause-resting c = c.take.ensures.others (set_entered c.args.self.now)

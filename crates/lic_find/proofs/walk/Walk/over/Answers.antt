@@ -23,5 +23,5 @@ returns-clause-walked c = λ tokens end within.
     record {
       trails = subst (AreOnTheirWay (set_entered entrances) (numbers_entered entrances) tokens (λ k. end) end) (sym c.new.ensures.items)
           (AreOnTheirWay-none (set_entered entrances) (numbers_entered entrances) tokens end within);
-      resting = c.in_ok-resting.ensures (set_entered entrances);
+      resting = c.none.ensures (set_entered entrances);
     }
