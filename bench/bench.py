@@ -14,7 +14,7 @@ parts, all of them where none is named:
   live       what a token costs the default report beyond `tokens` while one template is on its way: one mark in a long text, `.{0,5000}` in front,
              `.+` between two words; and while twenty are
   rules      `tokens` of 10 MB by the profile's line rules and 256 texts, against the profile alone: texts that begin with a sign, and with a letter
-Each figure is the quickest of three runs, but for those of more than ten seconds, which are run once.
+Each figure is the quickest of three runs, of 25 where a run takes less than half a second, and of one where it takes more than ten seconds.
 """
 import glob, os, random, subprocess, sys, tempfile
 
@@ -85,9 +85,9 @@ def timed(arguments, files=()):
 
 def quickest(arguments, files=()):
     seconds, memory = timed(arguments, files)
-    if seconds < 10:
-        for _ in range(2):
-            seconds = min(seconds, timed(arguments, files)[0])
+    # a short run is soon disturbed by other work
+    for _ in range(0 if seconds >= 10 else 2 if seconds >= 0.5 else 24):
+        seconds = min(seconds, timed(arguments, files)[0])
     return seconds, memory
 
 
