@@ -9,6 +9,8 @@ pub mod LineLemmas
 pub mod MeaningLemmas
 pub mod SpelledLemmas
 pub mod PieceLemmas
+pub mod BlankLemmas
+pub mod PartTextLemmas
 pub mod PlaceLemmas
 pub mod PlainLemmas
 pub mod ReadingLemmas

@@ -6,7 +6,9 @@ pub mod Elements
 pub mod Lines
 pub mod Weights
 pub mod Parts
+pub mod PartTexts
 pub mod Reading
+pub mod ReadTexts
 pub mod Markup
 pub mod Templates
 pub mod FirstFaults

@@ -28,6 +28,8 @@ ghost use Rattle.lic_markup.specs.Texts.{are_spaces, begins_in_space, ends_in_sp
 ghost use Rattle.lic_markup.specs.Templates.{AreElements, IsTemplate, original_of};
 ghost use Rattle.lic_markup.specs.Meaning.{parts_words, part_words, piece_texts};
 
+pub use crate::part::{templates_give_a_token, templates_weigh_little, texts_are_those_of_pieces};
+
 /// Parts in a row stand for a word of the first of them and then one of the others.
 pub fn parts_in_a_row_stand_for_both()
     ensures { (xs ys : List Part) (w : List ℕ)

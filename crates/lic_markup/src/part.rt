@@ -1,4 +1,8 @@
 //! Parts of a template.
+ghost use Rattle.std.specs.Prelude.{◌≡◌, ◌≤◌, map};
+ghost use Rattle.std.specs.String.{string_bytes};
+ghost use Rattle.lic_markup.specs.Parts.{GiveToken, part_of, row, weight_of};
+ghost use Rattle.lic_markup.specs.PartTexts.{HavePieceTexts};
 
 use lic_ere::Ere;
 use std::marker::Model;
@@ -33,6 +37,7 @@ impl Model for Template {
     ghost use Rattle.std.specs.Coded.{codes};
     ghost use Rattle.lic_markup.specs.contracts.part.Part as e;
     ghost use Rattle.lic_markup.specs.Parts.{TemplateValue};
+    ghost use Rattle.lic_markup.specs.PartTexts.{IsKept};
 
     ghost Value = { TemplateValue };
 
@@ -43,14 +48,17 @@ impl Model for Template {
       weight = t.weight;
       original = string_bytes t.original;
     } };
+
+    ghost invariant = { λ t. IsKept t.parts.items t.weight };
 }
 
 impl Template {
-    ghost use Rattle.std.specs.Prelude.{◌≡◌};
-    ghost use Rattle.std.specs.String.{string_bytes};
-
     /// A template of these parts.
     pub(crate) fn new(parts: Vec<Part>, weight: u64, original: String) -> Template
+        requires texts { HavePieceTexts (row (map part_of parts.items)) }
+        requires weighed { weight ≡ weight_of parts.items }
+        requires light { weight ≤ 131072 }
+        requires some_token { GiveToken parts.items }
         ensures parts { result.parts ≡ parts.items }
         ensures weight { result.weight ≡ weight }
         ensures original { result.original ≡ string_bytes original }
@@ -84,4 +92,26 @@ impl Template {
     {
         &self.original
     }
+}
+
+/// The texts of a template's parts have letters, and blanks within them stand between letters of words.
+pub fn texts_are_those_of_pieces(template: &Template)
+    ensures { HavePieceTexts (row (map part_of template.now.parts)) }
+{
+    let _ = &template.parts;
+}
+
+/// A template weighs what its parts do, and at most the greatest weight.
+pub fn templates_weigh_little(template: &Template)
+    ensures light { template.now.weight ≤ 131072 }
+    ensures weighed { template.now.weight ≡ weight_of template.now.parts }
+{
+    let _ = &template.parts;
+}
+
+/// Some text of a template's parts has a letter that is no blank.
+pub fn templates_give_a_token(template: &Template)
+    ensures { GiveToken template.now.parts }
+{
+    let _ = &template.parts;
 }

@@ -4,7 +4,9 @@ ghost use Rattle.std.specs.String.{string_bytes};
 ghost use Rattle.lic_ere.specs.Reading as patterns;
 ghost use Rattle.lic_kind.specs.LineRules.{rules_of};
 ghost use Rattle.lic_markup.specs.Faults.{Gives, told};
-ghost use Rattle.lic_markup.specs.Parts.{GiveToken, part_of, template_of, weight_of};
+ghost use Rattle.lic_markup.specs.Parts.{GiveToken, part_of, row, template_of, weight_of};
+ghost use Rattle.lic_markup.specs.PartTexts.{HavePieceTexts};
+ghost use Rattle.lic_markup.specs.ReadTexts.{HasReadTexts};
 ghost use Rattle.lic_markup.specs.Reading as reading;
 ghost use Rattle.lic_markup.specs.Views.{element_of, level_of, state_of};
 
@@ -97,7 +99,8 @@ fn told_again(fault: MarkupFault) -> MarkupFault
 impl Reader {
     /// Before the first element.
     pub fn new(alloc: Global) -> Reader
-        ensures { state_of result ≡ reading.start }
+        ensures state { state_of result ≡ reading.start }
+        ensures texts { HasReadTexts (state_of result) }
     {
         Reader {
             level: Level::new(alloc, 0),
@@ -116,9 +119,11 @@ impl Reader {
         characters: &[(usize, char)],
         follows: Next,
     ) -> Result<(), AllocError>
-        ensures { OnOk result (state_of self.new
+        requires { HasReadTexts (state_of self.old) }
+        ensures state { OnOk result (state_of self.new
             ≡ reading.meet_text (rules_of rules.now) words.now characters.now follows
             (state_of self.old)) }
+        ensures texts { OnOk result (HasReadTexts (state_of self.new)) }
     {
         let next = if ends_line(characters) {
             Next::LineEnd
@@ -203,12 +208,14 @@ impl Reader {
         element: Element,
         follows: Next,
     ) -> Result<(), MarkupFault>
-        ensures { Gives (λ _. state_of self.new) result
+        requires { HasReadTexts (state_of self.old) }
+        ensures state { Gives (λ _. state_of self.new) result
             (reading.meet (rules_of rules.now) words.now (element_of element) follows
             (state_of self.old)) }
+        ensures texts { OnOk result (HasReadTexts (state_of self.new)) }
     {
         match element {
-            Element::Text(characters) => self.text(alloc, rules, words, &characters, follows)?,
+            Element::Text(characters) => Ok(self.text(alloc, rules, words, &characters, follows)?),
             Element::Rule(
                 Rule::Variable {
                     name,
@@ -216,16 +223,16 @@ impl Reader {
                     place,
                     pattern,
                 },
-            ) => self.variable(alloc, name, original, place, pattern)?,
-            Element::Rule(Rule::Begin(place)) => self.begin(alloc, place)?,
-            Element::Rule(Rule::End(place)) => self.end(place)?,
-            Element::Refused(fault) => return Err(told_again(fault)),
+            ) => self.variable(alloc, name, original, place, pattern),
+            Element::Rule(Rule::Begin(place)) => self.begin(alloc, place),
+            Element::Rule(Rule::End(place)) => self.end(place),
+            Element::Refused(fault) => Err(told_again(fault)),
         }
-        Ok(())
     }
 
     /// Behind the last element.
     pub fn finish(self) -> Result<Template, MarkupFault>
+        requires { HasReadTexts (state_of self) }
         ensures exact { Gives template_of result
             (reading.finish (state_of self).level (state_of self).outer (state_of self).original) }
         ensures weighed { IfOk result (λ t. t.weight ≡ weight_of t.parts) }
@@ -244,6 +251,7 @@ impl Reader {
 
 /// The template of these parts, unless it has no token or is too heavy.
 fn whole(parts: Vec<Part>, original: String) -> Result<Template, MarkupFault>
+    requires { HavePieceTexts (row (map part_of parts.items)) }
     ensures exact { Gives template_of result
         (reading.whole (map part_of parts.items) (string_bytes original)) }
     ensures weighed { IfOk result (λ t. t.weight ≡ weight_of t.parts) }

@@ -2,7 +2,7 @@ pub mod AnyBytes
 pub mod ValidFronts
 pub mod FrontChars
 pub mod Refused
-pub mod RowLemmas
+pub mod EntryLemmas
 pub mod LineCuts
 pub mod FirstLines
 pub mod NextChars
@@ -19,4 +19,5 @@ pub mod TextLemmas
 pub mod PieceLines
 pub mod EdgeLemmas
 pub mod SpellingPlaces
+pub mod PartedLemmas
 mod examples

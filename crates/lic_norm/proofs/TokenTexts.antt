@@ -1,12 +1,14 @@
 -- The texts of tokens.
-use Rattle.std.proofs.Common.{◌≡◌, ℕ, zero, suc, ◌+◌, ◌-◌, ◌<◌, ◌==◌, Bool, true, false, not, List, [], ◌∷◌, ◌++◌, map, length, take, drop, get_or, ◌&&◌, refl, sym, ap, subst, ◌∙◌, arith, All, inl, inr, eqb-true, length-append}
+use Rattle.std.proofs.Common.{◌≡◌, ℕ, zero, suc, ◌+◌, ◌-◌, ◌<◌, ◌==◌, Bool, true, false, not, List, [], ◌∷◌, ◌++◌, map, length, take, drop, get_or, ◌&&◌, refl, sym, ap, subst, ◌∙◌, arith, All, inl, inr, eqb-true, length-append, append-nil}
 use Rattle.std.specs.Prelude.{Option, Some, None, codes, encode_utf8_all, nat_le, nat_lt, if◌then◌else◌}
 use Rattle.std.specs.List.{flat_map, list_all}
 use Rattle.std.specs.Char.{is_whitespace}
 use Rattle.std.specs.Str.{NoCharPasses, NonePass}
-use Rattle.std.proofs.Math.Seq.{get_or-append_seam}
+use Rattle.std.specs.Str.{chars}
+use Rattle.std.proofs.Math.Seq.{drop-append_seam, get_or-append_seam, take-append_seam}
 use Rattle.std.proofs.lemmas.Bool.{cases_Bool, cond-true, cond-false, and_parts, true≢false, false_from_ne_true}
-use Rattle.std.proofs.lemmas.List.Elements.{All-nil, All-cons, All-head, All-tail, All-weaker}
+use Rattle.std.proofs.lemmas.List.Elements.{All-nil, All-cons, All-drop, All-head, All-map, All-tail, All-take, All-weaker}
+use Rattle.std.proofs.lemmas.List.{map-append}
 use Rattle.std.proofs.lemmas.Str.{length-le-encodes, NoCharPasses-byte}
 use Rattle.lic_kind.specs.Kinds.{kind_of, is_word_kind, is_mark_kind, spell}
 use Rattle.lic_kind.specs.declared.Kind.{Kind}
@@ -14,7 +16,7 @@ use Rattle.lic_kind.specs.declared.Kind.TheVariants.{Blank as BlankKind, Dropped
 use Rattle.lic_kind.proofs.KindLemmas.{is_word_kind-true, kind_of-white}
 use Rattle.lic_kind.proofs.LetterLemmas.{spell-Mark, mark_letters, word_letters_are_not_white, word_has_letters}
 use Rattle.lic_lines.specs.Texts.{groups}
-use Rattle.lic_lines.specs.Sources.{chars_of, without_dropped, lines_of}
+use Rattle.lic_lines.specs.Sources.{chars_of, without_dropped, lines_of, unplaced}
 use Rattle.lic_lines.specs.declared.source.SourceChar.{SourceChar}
 use Rattle.lic_lines.specs.declared.cell.Cell.{Cell}
 use Rattle.lic_lines.specs.declared.cell.Cell.TheVariants.{Blank, Mark, Word}
@@ -22,13 +24,17 @@ use Rattle.lic_lines.specs.declared.line_part.LinePart.{LinePart}
 use Rattle.lic_lines.specs.LineRules.{LineRules}
 use Rattle.lic_lines.specs.Lines.{whole_line, blank_for, cell_of, cut_of, cells_of, line_cells}
 use Rattle.lic_lines.specs.Runs.{same_mark, same_family, without_separator, without_separators, joined, runs_joined}
-use Rattle.lic_lines.specs.Tokens.{Token, both_words, letters_of, tokens_from, first_tokens, is_text, is_sign_in_parentheses, sign_from, as_sign, single_signs}
-use Rattle.lic_phrases.specs.Rewriting.{Phrase, both_signs, sign_of_row, sign_rows, begins_authority, https_as_http, stands, longer, longest_phrase, count_behind, first_as, phrases_behind, phrases_joined, spanned}
+use Rattle.lic_lines.specs.Tokens.{Token, both_words, letters_of, tokens_from, is_text, is_sign_in_parentheses, sign_from, as_sign, single_signs, text_tokens_after}
+use Rattle.lic_phrases.specs.Rewriting.{Phrase, both_signs, sign_of_row, sign_rows, begins_authority, https_as_http, stands, longer, longest_phrase, count_behind, first_as, phrases_behind, phrases_joined, spanned, rewritten, SpannedText}
+use Rattle.lic_phrases.specs.Settling.{Kept, Settles, left_of}
 use Rattle.lic_phrases.specs.TokenTexts.{IsTokenText, HaveTokenTexts}
 use Rattle.lic_norm.specs.Sources.{source_of}
-use Rattle.lic_norm.specs.Tokens.{reported, first_tokens_of, tokens_of}
-use Rattle.lic_norm.specs.Spans.{AreTokenTexts}
+use Rattle.lic_norm.specs.Tokens.{TokenValue, reported, first_tokens_of, tokens_of}
+use Rattle.lic_norm.specs.Pieces.{cells_of_lines, part_of, piece_cells, piece_tokens}
+use Rattle.lic_norm.specs.Spans.{AreTokenTexts, HaveTexts}
+use Rattle.lic_norm.specs.declared.pieces.Next.{Next}
 use Rattle.lic_norm.proofs.CellSpans.{parts_of_groups}
+use Rattle.lic_norm.proofs.SpellingPlaces.{texts_of-reported}
 
 -- ---- texts without a blank
 
@@ -195,9 +201,6 @@ no_space_letters (Word s ∷ cells) h =
 
 -- ---- first tokens
 
-abbrev HaveTexts : List Token → Type 0
-HaveTexts ts = All (λ t. IsTokenText t.text) ts
-
 none_have : HaveTexts []
 none_have = All-nil (λ t. IsTokenText t.text)
 
@@ -325,19 +328,84 @@ reported-texts [] h = All-nil (λ t. IsTokenText t.text)
 reported-texts (t ∷ ts) h = All-cons (λ u. IsTokenText u.text) (reported (spanned t)) (map reported (map spanned ts))
     (first_has t ts h) (reported-texts ts (rest_have t ts h))
 
+-- ---- of a text
+
+-- the texts of the tokens that cells give, where a blank stands before them or does not
+pub cells-texts : (rules : LineRules) (after_blank : Bool) (cells : List Cell) → KindsFit cells
+    → HaveTexts (single_signs (tokens_from after_blank (groups both_words (runs_joined rules cells))))
+cells-texts rules after_blank cells fit =
+    let joined = runs_joined rules cells in
+    single_signs-texts (tokens_from after_blank (groups both_words joined))
+    (tokens_from-texts after_blank (groups both_words joined)
+    (subst KindsFit (sym (parts_of_groups both_words joined)) (fit-runs_joined rules cells fit)))
+
+-- of characters of which nothing is taken
+pub after-texts : (rules : LineRules) (after_blank : Bool) (text : List SourceChar) → HaveTexts (text_tokens_after rules after_blank text)
+after-texts rules after_blank text = cells-texts rules after_blank (map cell_of text) (fit-cells text)
+
+-- of an input
+first-texts : (rules : LineRules) (input : List ℕ) → HaveTexts (first_tokens_of rules 0 input)
+unfolding first_tokens_of
+first-texts rules input =
+    cells-texts rules true (cells_of rules (source_of 0 input)) (fit-lines rules (lines_of (without_dropped (source_of 0 input))))
+
+fit-parts : (rules : LineRules) (has_front : Bool) (before : Next) (lines : List (List SourceChar)) → KindsFit (cells_of_lines rules has_front before lines)
+fit-parts rules has_front before [] = tt
+fit-parts rules has_front before (line ∷ lines) =
+    fit-append (line_cells rules (part_of has_front before line) line) (cells_of_lines rules true before lines)
+    (fit-line rules (part_of has_front before line) line) (fit-parts rules true before lines)
+
+-- of a piece
+pub piece-texts : (rules : LineRules) (at_line_start : Bool) (before : Next) (text : List ℕ) → HaveTexts (piece_tokens rules at_line_start before text)
+unfolding piece_tokens piece_cells
+piece-texts rules at_line_start before text =
+    let lines = lines_of (without_dropped (unplaced (chars text))) in
+    cells-texts rules true (cells_of_lines rules at_line_start before lines) (fit-parts rules at_line_start before lines)
+
+-- after the rewriting
+pub rewritten-texts : (words : List Phrase) (ts : List Token) → HaveTokenTexts words → HaveTexts ts → AreTokenTexts (map reported (rewritten words ts))
+rewritten-texts words ts known texts =
+    let rows : HaveTexts (sign_rows ts) =
+    rows-texts (groups both_signs ts) (subst HaveTexts (sym (parts_of_groups both_signs ts)) texts) in
+    let joined = https_as_http (sign_rows ts) in
+    reported-texts (phrases_joined words joined) (phrases-texts words 0 joined known (https-texts (sign_rows ts) rows))
+
+-- the texts alone
+pub rewritten-all : (words : List Phrase) (ts : List Token) → HaveTokenTexts words → HaveTexts ts
+    → All IsTokenText (map (λ t. t.text) (rewritten words ts))
+rewritten-all words ts known texts =
+    subst (λ (texts : List (List ℕ)). All IsTokenText texts) (texts_of-reported (rewritten words ts))
+    (All-map IsTokenText (λ t. t.text) (map reported (rewritten words ts)) (rewritten-texts words ts known texts))
+
 -- the texts of an input's tokens
 pub tokens_of-AreTokenTexts : (rules : LineRules) (words : List Phrase) (input : List ℕ) → HaveTokenTexts words → AreTokenTexts (tokens_of rules words input)
-unfolding first_tokens_of
-tokens_of-AreTokenTexts rules words input known =
-    let text = source_of 0 input in
-    let cells = runs_joined rules (cells_of rules text) in
-    let fit : KindsFit cells = fit-runs_joined rules (cells_of rules text) (fit-lines rules (lines_of (without_dropped text))) in
-    let first : HaveTexts (first_tokens cells) =
-    tokens_from-texts true (groups both_words cells)
-    (subst KindsFit (sym (parts_of_groups both_words cells)) fit) in
-    let signs : HaveTexts (single_signs (first_tokens cells)) = single_signs-texts (first_tokens cells) first in
-    let rows : HaveTexts (sign_rows (single_signs (first_tokens cells))) =
-    rows-texts (groups both_signs (single_signs (first_tokens cells)))
-    (subst HaveTexts (sym (parts_of_groups both_signs (single_signs (first_tokens cells)))) signs) in
-    let joined = https_as_http (sign_rows (single_signs (first_tokens cells))) in
-    reported-texts (phrases_joined words joined) (phrases-texts words 0 joined known (https-texts (sign_rows (single_signs (first_tokens cells))) rows))
+tokens_of-AreTokenTexts rules words input known = rewritten-texts words (first_tokens_of rules 0 input) known (first-texts rules input)
+
+-- ---- of tokens that are settled
+
+All-front : (xs ys : List TokenValue) → AreTokenTexts (xs ++ ys) → AreTokenTexts xs
+All-front xs ys texts = subst AreTokenTexts (take-append_seam xs ys) (All-take (λ t. IsTokenText t.text) (length xs) (xs ++ ys) texts)
+
+All-back : (xs ys : List TokenValue) → AreTokenTexts (xs ++ ys) → AreTokenTexts ys
+All-back xs ys texts = subst AreTokenTexts (drop-append_seam xs ys) (All-drop (λ t. IsTokenText t.text) (length xs) (xs ++ ys) texts)
+
+-- the texts of some more tokens of the rewriting
+pub given-texts : (words : List Phrase) (taken : List Token) (before given more : List SpannedText) → HaveTokenTexts words → HaveTexts taken
+    → rewritten words taken ≡ (before ++ given) ++ more → AreTokenTexts (map reported given)
+given-texts words taken before given more known texts are =
+    let all : AreTokenTexts ((map reported before ++ map reported given) ++ map reported more) =
+    subst AreTokenTexts
+    (ap (map reported) are ∙ map-append reported (before ++ given) more ∙ ap (λ l. l ++ map reported more) (map-append reported before given))
+    (rewritten-texts words taken known texts) in
+    All-back (map reported before) (map reported given) (All-front (map reported before ++ map reported given) (map reported more) all)
+
+-- those that were settled together
+pub settled-texts : (words : List Phrase) (taken : List Token) (before given : List SpannedText) (kept : Kept) → HaveTokenTexts words → HaveTexts taken
+    → Settles words taken (before ++ given) kept → AreTokenTexts (map reported given)
+settled-texts words taken before given kept known texts settles =
+    given-texts words taken before given (left_of words kept []) known texts
+    (ap (rewritten words) (sym (append-nil taken)) ∙ settles.goes_on [])
+
+-- the front of some tokens
+pub front-texts : (ts us : List Token) → HaveTexts (ts ++ us) → HaveTexts ts
+front-texts ts us texts = subst HaveTexts (take-append_seam ts us) (All-take (λ t. IsTokenText t.text) (length ts) (ts ++ us) texts)

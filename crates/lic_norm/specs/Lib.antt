@@ -7,4 +7,6 @@ pub mod Views
 pub mod Feeding
 pub mod Reading
 pub mod Pieces
+pub mod PieceTexts
+pub mod Places
 pub mod Edges

@@ -4,16 +4,26 @@ use Rattle.lic_lines.specs.LineRules.{rules_of}
 use Rattle.lic_lines.specs.Tokens.{Token}
 use Rattle.lic_phrases.specs.Rewriting.{SpannedText}
 use Rattle.lic_phrases.specs.Settling.{Settles}
+use Rattle.lic_phrases.specs.TokenTexts.{HaveTokenTexts}
+use Rattle.lic_norm.specs.Spans.{HaveTexts}
 use Rattle.lic_norm.specs.Tokens.{reported, first_tokens_of}
 use Rattle.lic_norm.specs.Feeding.{AreLines}
 use Rattle.lic_norm.specs.declared.rewriting.Rewriting.{Rewriting}
 use Rattle.lic_norm.specs.declared.reader.Reader.{Reader}
 
--- These tokens have been taken: those that are settled are listed, and the rewriter keeps the others.
+-- These tokens have been taken: those that are settled are listed, and the rewriter keeps the others. The texts of all are such as
+-- tokens have.
 pub record HasTaken (rewriting : Rewriting) (taken : List Token) : Type 0 where
   pub settled : List SpannedText
   pub settles : Settles rewriting.phrases.now.phrases taken settled rewriting.rewriter
   pub listed : rewriting.tokens ≡ map reported settled
+  pub known : HaveTokenTexts rewriting.phrases.now.phrases
+  pub texts : HaveTexts taken
+
+-- some tokens have been taken, or none yet
+pub record HasTakenSome (rewriting : Rewriting) : Type 0 where
+  pub taken : List Token
+  pub has : HasTaken rewriting taken
 
 -- the lines before the one that has not ended have been taken
 pub record HasRead (reader : Reader) : Type 0 where

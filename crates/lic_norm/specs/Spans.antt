@@ -1,6 +1,7 @@
 -- Where tokens lie in their source, and what their texts are.
 use Rattle.std.specs.Prelude.{◌≡◌, ℕ, ◌≤◌, ◌<◌, List, [], ◌∷◌, length, All, Contains}
 use Rattle.lic_lines.specs.declared.source.SourceChar.{SourceChar}
+use Rattle.lic_lines.specs.Tokens.{Token}
 pub use Rattle.lic_phrases.specs.TokenTexts.{IsTokenText}
 use Rattle.lic_norm.specs.Sources.{source_of}
 use Rattle.lic_norm.specs.Tokens.{TokenValue}
@@ -31,3 +32,7 @@ pub record AreSpans (source : List ℕ) (tokens : List TokenValue) : Type 0 wher
 -- the texts of tokens
 abbrev pub AreTokenTexts : List TokenValue → Type 0
 AreTokenTexts tokens = All (λ t. IsTokenText t.text) tokens
+
+-- and of tokens before the rewriting
+abbrev pub HaveTexts : List Token → Type 0
+HaveTexts tokens = All (λ t. IsTokenText t.text) tokens

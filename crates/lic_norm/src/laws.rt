@@ -1,3 +1,3 @@
 //! Laws of texts, each the contract of a function that does nothing.
 
-pub use crate::text::tokens_have_spans;
+pub use crate::text::{tokens_are_token_texts, tokens_are_utf8, tokens_have_spans};

@@ -11,7 +11,6 @@ pub mod pieces;
 mod reader;
 pub mod refusal;
 mod rewriting;
-mod spelling;
 pub mod text;
 pub mod token;
 mod token_list;

@@ -3,7 +3,7 @@
 ghost use Rattle.std.specs.Prelude.{◌≡◌, ◌+◌, ◌++◌, ◌<◌, ◌≤◌, ◌^◌, List, length, IfSome, OnOk, IsAscii, IsUtf8};
 ghost use Rattle.lic_lines.specs.LineRules.{rules_of};
 ghost use Rattle.lic_lines.specs.Tokens.{Token};
-ghost use Rattle.lic_norm.specs.Reading.{HasTaken};
+ghost use Rattle.lic_norm.specs.Reading.{HasTaken, HasTakenSome};
 ghost use Rattle.lic_norm.specs.Tokens.{line_tokens_of};
 
 use crate::characters::read_characters;
@@ -77,7 +77,8 @@ fn take_any_line(
     room: &mut LineRoom,
     rewriting: &mut Rewriting<'_>,
 ) -> Result<(), AllocError>
-    requires { at + length line.now < 2 ^ 32 }
+    requires fits { at + length line.now < 2 ^ 32 }
+    requires before { HasTakenSome rewriting.old }
     ensures taken { OnOk result ((taken : List Token) → HasTaken rewriting.old taken
         → HasTaken rewriting.new (taken ++ line_tokens_of (rules_of rules.now) at line.now)) }
     ensures phrases { rewriting.new.phrases.now ≡ rewriting.old.phrases.now }
@@ -104,7 +105,8 @@ pub(crate) fn take_line(
     room: &mut LineRoom,
     rewriting: &mut Rewriting<'_>,
 ) -> Result<(), AllocError>
-    requires { at + length line.now < 2 ^ 32 }
+    requires fits { at + length line.now < 2 ^ 32 }
+    requires before { HasTakenSome rewriting.old }
     ensures taken { OnOk result ((taken : List Token) → HasTaken rewriting.old taken
         → HasTaken rewriting.new (taken ++ line_tokens_of (rules_of rules.now) at line.now)) }
     ensures phrases { rewriting.new.phrases.now ≡ rewriting.old.phrases.now }

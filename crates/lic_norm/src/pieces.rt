@@ -1,22 +1,24 @@
 //! Pieces of a template's text.
-ghost use Rattle.std.specs.Prelude.{◌≡◌, true, List, [], ◌++◌, IfOk, OnOk, string_bytes};
+ghost use Rattle.std.specs.Prelude.{◌≡◌, true, List, [], ◌++◌, map, All, IfOk, OnOk, IsUtf8, string_bytes};
 ghost use Rattle.std.specs.List.{list_all};
 ghost use Rattle.lic_lines.specs.declared.cell.Cell.{Cell};
 ghost use Rattle.lic_lines.specs.LineRules.{rules_of};
 ghost use Rattle.lic_lines.specs.Lines.{line_cells};
 ghost use Rattle.lic_lines.specs.Runs.{runs_joined};
 ghost use Rattle.lic_lines.specs.Tokens.{line_tokens, tokens_in};
+ghost use Rattle.lic_phrases.specs.Rewriting.{rewritten};
+ghost use Rattle.lic_phrases.specs.TokenTexts.{IsTokenText};
 ghost use Rattle.lic_norm.specs.Edges.{HasEdges, is_empty};
 ghost use Rattle.lic_norm.specs.Pieces.{ends_in_feed, part_of, piece_cells, piece_tokens, is_blank, begins_in_blank, ends_in_blank, with_edges, piece_of};
 
 use crate::lines::text_line_end;
 use crate::rewriting::Rewriting;
-use crate::spelling::spelled;
 use crate::words::Words;
 use lic_lines::{
     Cell, FirstToken, LinePart, Room, Rules, SourceChar, cells_of_line, push_tokens_of_line,
     unplaced,
 };
+use lic_phrases::laws::spellings_are_token_texts;
 use std::alloc::{AllocError, Global};
 
 /// What follows a piece of a template's text in its line.
@@ -235,13 +237,19 @@ pub fn piece(
     words: &Words,
     rules: &Rules,
 ) -> Result<String, AllocError>
-    ensures { IfOk result (λ letters. string_bytes letters
+    ensures letters { IfOk result (λ letters. string_bytes letters
         ≡ piece_of (rules_of rules.now) words.now at_line_start before text.now) }
+    // The texts that the letters spell are texts of tokens, in UTF-8.
+    ensures token_texts { OnOk result (All IsTokenText (map (λ t. t.text)
+        (rewritten words.now (piece_tokens (rules_of rules.now) at_line_start before text.now)))) }
+    ensures utf8 { OnOk result (All IsUtf8 (map (λ t. t.text)
+        (rewritten words.now (piece_tokens (rules_of rules.now) at_line_start before text.now)))) }
 {
     let Left { edges, tokens } = left_of(alloc, rules, text, at_line_start, before)?;
+    spellings_are_token_texts(words);
     let mut rewriting = Rewriting::with_room(alloc, words.phrases(), tokens.len(), text.len())?;
     rewriting.take(tokens)?;
     let tokens = rewriting.finish()?;
-    let letters = spelled(alloc, &tokens, text.len())?;
-    with_edges(alloc, edges, letters.as_str())
+    tokens.texts_are_utf8();
+    with_edges(alloc, edges, tokens.spelled())
 }

@@ -13,6 +13,7 @@ use crate::rewriting::Rewriting;
 use crate::token_list::TokenList;
 use crate::words::Words;
 use lic_lines::Rules;
+use lic_phrases::laws::spellings_are_token_texts;
 use memchr::memchr;
 use std::alloc::{AllocError, Global};
 
@@ -44,6 +45,7 @@ impl<'w> Reader<'w> {
         ensures words { result.rewriting.phrases.now.phrases ≡ words.now }
         ensures rules { result.rules.now ≡ rules.now }
     {
+        spellings_are_token_texts(words);
         Reader {
             alloc,
             source,

@@ -7,7 +7,9 @@ ghost use Rattle.lic_lines.specs.Lines.{whole_line};
 ghost use Rattle.lic_lines.specs.Sources.{placed};
 ghost use Rattle.lic_lines.specs.Tokens.{Token, line_tokens, text_tokens_after, token_in, tokens_in};
 ghost use Rattle.lic_phrases.specs.Rewriting.{rewritten};
-ghost use Rattle.lic_norm.specs.Reading.{HasTaken};
+ghost use Rattle.lic_phrases.specs.TokenTexts.{HaveTokenTexts, IsTokenText};
+ghost use Rattle.lic_norm.specs.Reading.{HasTaken, HasTakenSome};
+ghost use Rattle.lic_norm.specs.Spans.{HaveTexts};
 ghost use Rattle.lic_norm.specs.Tokens.{reported};
 
 use crate::token_list::TokenList;
@@ -39,6 +41,7 @@ pub(crate) struct Rewriting<'w> {
 impl<'w> Rewriting<'w> {
     /// Nothing is taken yet.
     pub(crate) fn new(alloc: Global, phrases: &'w Phrases) -> Rewriting<'w>
+        requires { HaveTokenTexts phrases.now.phrases }
         ensures taken { HasTaken result [] }
         ensures tokens { result.tokens ≡ [] }
         ensures phrases { result.phrases.now ≡ phrases.now }
@@ -58,6 +61,7 @@ impl<'w> Rewriting<'w> {
         tokens: usize,
         bytes: usize,
     ) -> Result<Rewriting<'w>, AllocError>
+        requires { HaveTokenTexts phrases.now.phrases }
         ensures taken { IfOk result (λ r. HasTaken r []) }
         ensures phrases { IfOk result (λ r. r.phrases.now ≡ phrases.now) }
     {
@@ -72,7 +76,9 @@ impl<'w> Rewriting<'w> {
     /// Takes the next token, which need not pass, and lists those that are settled then.
     #[inline(never)]
     fn push(&mut self, token: FirstToken) -> Result<(), AllocError>
-        requires { self.old.settled.items ≡ [] }
+        requires emptied { self.old.settled.items ≡ [] }
+        requires before { HasTakenSome self.old }
+        requires text { IsTokenText (token_in token).text }
         ensures taken { OnOk result
             ((taken : List Token) → HasTaken self.old taken
             → HasTaken self.new (taken ++ token_in token ∷ [])) }
@@ -95,7 +101,9 @@ impl<'w> Rewriting<'w> {
         end: u32,
         after_blank: bool,
     ) -> Result<(), AllocError>
-        requires { self.old.settled.items ≡ [] }
+        requires emptied { self.old.settled.items ≡ [] }
+        requires before { HasTakenSome self.old }
+        requires text { IsTokenText text.now }
         ensures taken { OnOk result ((taken : List Token) → HasTaken self.old taken
             → HasTaken self.new (taken
             ++ (record {
@@ -121,7 +129,9 @@ impl<'w> Rewriting<'w> {
     /// Takes the next token, and lists those that are settled then: mostly itself, as it is.
     #[inline(always)]
     fn take_one(&mut self, token: FirstToken) -> Result<(), AllocError>
-        requires { self.old.settled.items ≡ [] }
+        requires emptied { self.old.settled.items ≡ [] }
+        requires before { HasTakenSome self.old }
+        requires text { IsTokenText (token_in token).text }
         ensures taken { OnOk result
             ((taken : List Token) → HasTaken self.old taken
             → HasTaken self.new (taken ++ token_in token ∷ [])) }
@@ -139,7 +149,9 @@ impl<'w> Rewriting<'w> {
     /// Takes these tokens, and lists those that are settled then.
     #[inline(always)]
     fn take_all(&mut self, alloc: Global, tokens: &[FirstToken]) -> Result<(), AllocError>
-        requires { self.old.settled.items ≡ [] }
+        requires emptied { self.old.settled.items ≡ [] }
+        requires before { HasTakenSome self.old }
+        requires texts { HaveTexts (tokens_in tokens.now) }
         ensures taken { OnOk result ((taken : List Token) → HasTaken self.old taken
             → HasTaken self.new (taken ++ tokens_in tokens.now)) }
         ensures phrases { self.new.phrases.now ≡ self.old.phrases.now }
@@ -165,6 +177,7 @@ impl<'w> Rewriting<'w> {
         room: &mut PartRoom,
     ) -> Result<FrontPart, AllocError>
         requires emptied { self.old.settled.items ≡ [] }
+        requires before { HasTakenSome self.old }
         requires some { 0 < length text.now }
         requires ascii { IsAscii text.now }
         requires fits { at + length text.now < 2 ^ 32 }
@@ -197,6 +210,7 @@ impl<'w> Rewriting<'w> {
         room: &mut PartRoom,
     ) -> Result<(), AllocError>
         requires emptied { self.old.settled.items ≡ [] }
+        requires before { HasTakenSome self.old }
         requires ascii { IsAscii text.now }
         requires fits { at + length text.now < 2 ^ 32 }
         requires lowered { lowered.now ≡ map to_ascii_lowercase text.now }
@@ -251,6 +265,7 @@ impl<'w> Rewriting<'w> {
         room: &mut PartRoom,
         lowered: &mut String,
     ) -> Result<(), AllocError>
+        requires before { HasTakenSome self.old }
         requires ascii { IsAscii line.now }
         requires fits { at + length line.now < 2 ^ 32 }
         ensures taken { OnOk result ((taken : List Token) → HasTaken self.old taken
@@ -277,6 +292,7 @@ impl<'w> Rewriting<'w> {
         room: &mut PartRoom,
     ) -> Result<FrontPart, AllocError>
         requires emptied { self.old.settled.items ≡ [] }
+        requires before { HasTakenSome self.old }
         requires some { 0 < length text.now }
         ensures some { IfOk result (λ part. 0 < part.length) }
         ensures within { IfOk result (λ part. part.length ≤ length text.now) }
@@ -304,6 +320,7 @@ impl<'w> Rewriting<'w> {
         letters: &mut String,
         room: &mut PartRoom,
     ) -> Result<(), AllocError>
+        requires before { HasTakenSome self.old }
         ensures taken { OnOk result ((taken : List Token) → HasTaken self.old taken
             → HasTaken self.new (taken ++ text_tokens_after (rules_of rules.now) true text.now)) }
         ensures phrases { self.new.phrases.now ≡ self.old.phrases.now }
@@ -337,6 +354,8 @@ impl<'w> Rewriting<'w> {
 
     /// Takes the next tokens, and lists those that are settled then.
     pub(crate) fn take(&mut self, tokens: Vec<FirstToken>) -> Result<(), AllocError>
+        requires before { HasTakenSome self.old }
+        requires texts { HaveTexts (tokens_in tokens.items) }
         ensures taken { OnOk result
             ((taken : List Token) → HasTaken self.old taken
             → HasTaken self.new (taken ++ tokens_in tokens.items)) }
@@ -358,6 +377,7 @@ impl<'w> Rewriting<'w> {
 
     /// The tokens of the whole text.
     pub(crate) fn finish(self) -> Result<TokenList, AllocError>
+        requires { HasTakenSome self }
         ensures { IfOk result (λ tokens. (taken : List Token) → HasTaken self.entry taken
             → tokens ≡ map reported (rewritten self.entry.phrases.now.phrases taken)) }
     {

@@ -1,7 +1,7 @@
 //! A source and its tokens.
 
-ghost use Rattle.std.specs.Prelude.{◌≡◌, ◌<◌, ◌≤◌, ◌≢◌, ◌^◌, length, slice_range, slice_index_or, IfOk, IfErr, OnOk, Some, None};
-ghost use Rattle.lic_norm.specs.Spans.{AreSpans};
+ghost use Rattle.std.specs.Prelude.{◌≡◌, ◌<◌, ◌≤◌, ◌≢◌, ◌^◌, All, IsUtf8, length, slice_range, slice_index_or, IfOk, IfErr, OnOk, Some, None};
+ghost use Rattle.lic_norm.specs.Spans.{AreSpans, AreTokenTexts};
 
 use crate::fault::TextFault;
 use crate::reader::Reader;
@@ -34,10 +34,12 @@ impl Model for Text {
 
 impl Text {
     ghost use Rattle.lic_lines.specs.LineRules.{rules_of};
+    ghost use Rattle.lic_norm.specs.Places.{place_end, place_start, texts_of};
     ghost use Rattle.lic_norm.specs.Reading.{HasReadLines};
     ghost use Rattle.lic_norm.specs.Refusal.{refusal_of};
     ghost use Rattle.lic_norm.specs.Tokens.{tokens_of};
     ghost use Rattle.lic_norm.specs.Spans.{AreSpans, AreTokenTexts, IsTokenText};
+    ghost use Rattle.lic_phrases.specs.Spelling.{spelled};
 
     /// Reads a source of at most 67,108,864 bytes, whatever they are.
     ///
@@ -105,6 +107,24 @@ impl Text {
         self.tokens.get(i)
     }
 
+    /// The texts of the tokens as one text in canonical spelling: one blank between two letters of kind Word that belong to
+    /// different tokens, and none elsewhere (SPDX 2.3 Annex B; this project's profile).
+    pub fn spelled(&self) -> &str
+        ensures { result.now ≡ spelled (texts_of self.now.tokens) }
+    {
+        self.tokens.spelled()
+    }
+
+    /// Where the text of the token number `i` stands in the canonical spelling (bytes).
+    #[inline(always)]
+    pub fn place(&self, i: usize) -> Span
+        requires { i < length self.now.tokens }
+        ensures start { result.start ≡ place_start self.now.tokens i }
+        ensures end { result.end ≡ place_end self.now.tokens i }
+    {
+        self.tokens.place(i)
+    }
+
     /// The bytes that were read.
     pub fn source(&self) -> &[u8]
         ensures { result.now ≡ self.now.source }
@@ -125,6 +145,20 @@ impl Text {
 /// The spans of a text's tokens lie one behind another within its source, and cut no source character.
 pub fn tokens_have_spans(text: &Text)
     ensures { AreSpans text.now.source text.now.tokens }
+{
+    let _ = &text.tokens;
+}
+
+/// The texts of a text's tokens are in UTF-8.
+pub fn tokens_are_utf8(text: &Text)
+    ensures { All (λ t. IsUtf8 t.text) text.now.tokens }
+{
+    text.tokens.texts_are_utf8();
+}
+
+/// The text of each token has a letter, and each blank in it stands between two letters of kind Word.
+pub fn tokens_are_token_texts(text: &Text)
+    ensures { AreTokenTexts text.now.tokens }
 {
     let _ = &text.tokens;
 }

@@ -1,6 +1,6 @@
 //! Tokens and their spans, as callers see them.
 
-/// Bytes of a source, from `start` up to `end`, which is left out.
+/// Bytes of a source or of a canonical spelling, from `start` up to `end`, which is left out.
 #[derive(Clone, Copy, Debug, PartialEq, Eq)]
 pub struct Span {
     pub start: usize,

@@ -1,49 +1,74 @@
 //! Tokens as they are kept.
-ghost use Rattle.std.specs.Prelude.{◌≡◌, ◌<◌, ◌++◌, ◌∷◌, [], length, map, slice_index_or, IfOk, OnOk};
+ghost use Rattle.std.specs.Prelude.{◌≡◌, ◌<◌, ◌++◌, ◌∷◌, [], All, IsUtf8, length, map, slice_index_or, IfOk, OnOk};
+ghost use Rattle.lic_phrases.specs.Spelling.{is_parted, spelled};
+ghost use Rattle.lic_phrases.specs.TokenTexts.{IsTokenText};
 ghost use Rattle.lic_phrases.specs.Waiting.{AreKnown, spanned_in};
 
 use crate::token::{Span, Token};
-use lic_phrases::{FinalToken, Phrases, TokenText};
+use lic_kind::is_word;
+use lic_phrases::{FinalToken, Phrases, begins_in_word, ends_in_word};
 use std::alloc::{AllocError, Global};
-use std::collections::HashMap;
 use std::marker::Model;
 
-/// How many bytes the texts may have. Those of the longest input have less than a tenth of that: its letters take
-/// at most five times its bytes, and the texts of classes stand there once.
-const MAX_TEXTS: usize = 0xFFFF_FFFF;
-
-/// A token as it is kept: where its text lies among the texts, and its bytes of the source.
+/// A token as it is kept: where its text ends in the canonical spelling, and its bytes of the source. Its text begins where
+/// the one before it ends, or after the blank that stands there, since no text begins with a blank.
 #[derive(Clone, Copy, Debug)]
-struct Row {
-    text_start: u32,
-    text_end: u32,
+struct Entry {
+    text_end: usize,
     start: u32,
     end: u32,
 }
 
-/// Tokens, with their texts in one string. What a class of words is written as stands there once.
+/// Tokens, with their texts in canonical spelling.
 #[derive(Debug, Drop)]
 pub(crate) struct TokenList {
-    texts: String,
-    rows: Vec<Row>,
-    /// For classes of words, a token that was written so.
-    written: HashMap<usize, usize>,
+    spelling: String,
+    entries: Vec<Entry>,
 }
 
 impl Model for TokenList {
-    ghost use Rattle.std.specs.Prelude.{List, All, map};
+    ghost use Rattle.std.specs.Prelude.{List};
     ghost use Rattle.std.specs.String.{string_bytes};
     ghost use Rattle.lic_norm.specs.Tokens.{TokenValue};
-    ghost use Rattle.lic_norm.specs.Views.{row_value, IsWithin};
+    ghost use Rattle.lic_norm.specs.Views.{entry_values, IsKept};
 
     ghost Value = { List TokenValue };
 
-    ghost view = { λ t. map (row_value (string_bytes t.texts)) t.rows.items };
+    ghost view = { λ t. entry_values (string_bytes t.spelling) 0 t.entries.items };
 
-    ghost invariant = { λ t. All (IsWithin (string_bytes t.texts)) t.rows.items };
+    ghost invariant = { λ t. IsKept (string_bytes t.spelling) t.entries.items
+        (entry_values (string_bytes t.spelling) 0 t.entries.items) };
+}
+
+/// Whether a blank stands in canonical spelling between these texts and the text of the next token.
+#[inline(never)]
+fn is_parted_beyond_ascii(spelling: &str, text: &str) -> bool
+    ensures { result ≡ is_parted spelling.now text.now }
+{
+    ends_in_word(spelling) & begins_in_word(text)
+}
+
+/// Whether a blank stands in canonical spelling between these texts and the text of the next token. Mostly the letters that
+/// meet there are of ASCII.
+#[inline(always)]
+fn is_parted(spelling: &str, text: &str) -> bool
+    ensures { result ≡ is_parted spelling.now text.now }
+{
+    let [.., last] = spelling.as_bytes() else {
+        return false;
+    };
+    let [first, ..] = text.as_bytes() else {
+        return false;
+    };
+    if !(last.is_ascii() & first.is_ascii()) {
+        return is_parted_beyond_ascii(spelling, text);
+    }
+    is_word(*last as char) & is_word(*first as char)
 }
 
 impl TokenList {
+    ghost use Rattle.lic_norm.specs.Places.{place_end, place_start, texts_of};
+    ghost use Rattle.lic_norm.specs.Spans.{AreTokenTexts};
     ghost use Rattle.lic_norm.specs.Tokens.{reported};
 
     /// No tokens.
@@ -51,9 +76,8 @@ impl TokenList {
         ensures { result ≡ [] }
     {
         TokenList {
-            texts: String::new(alloc),
-            rows: Vec::new(alloc),
-            written: HashMap::new(alloc),
+            spelling: String::new(alloc),
+            entries: Vec::new(alloc),
         }
     }
 
@@ -66,9 +90,8 @@ impl TokenList {
         ensures { IfOk result (λ list. list ≡ []) }
     {
         Ok(TokenList {
-            texts: String::with_capacity(alloc, bytes)?,
-            rows: Vec::with_capacity(alloc, tokens)?,
-            written: HashMap::new(alloc),
+            spelling: String::with_capacity(alloc, bytes)?,
+            entries: Vec::with_capacity(alloc, tokens)?,
         })
     }
 
@@ -76,64 +99,32 @@ impl TokenList {
     pub(crate) fn len(&self) -> usize
         ensures { result ≡ length self.now }
     {
-        self.rows.len()
+        self.entries.len()
     }
 
     /// Adds a token.
     #[inline(always)]
     pub(crate) fn push(&mut self, text: &str, start: u32, end: u32) -> Result<(), AllocError>
+        requires { IsTokenText text.now }
         ensures { OnOk result (self.new
             ≡ self.old ++ (record {
               text = text.now;
               span = record { start = start; end = end };
             }) ∷ []) }
     {
-        let text_start = self.texts.len();
-        self.texts.push_str(text)?;
-        let text_end = self.texts.len();
-        if text_end > MAX_TEXTS {
-            return Err(AllocError);
-        }
-        self.rows.push(Row {
-            text_start: text_start as u32,
-            text_end: text_end as u32,
+        let parted = is_parted(self.spelling.as_str(), text);
+        // Memory for the text comes first: once an entry is added, nothing fails.
+        self.spelling.reserve(text.len() + 1)?;
+        self.entries.push(Entry {
+            text_end: self.spelling.len() + usize::from(parted) + text.len(),
             start,
             end,
         })?;
-        Ok(())
-    }
-
-    /// Adds a token that is written as this class of words is, with the text of one before where it has that.
-    fn push_class(
-        &mut self,
-        class: usize,
-        text: &str,
-        start: u32,
-        end: u32,
-    ) -> Result<(), AllocError>
-        ensures { OnOk result (self.new
-            ≡ self.old ++ (record {
-              text = text.now;
-              span = record { start = start; end = end };
-            }) ∷ []) }
-    {
-        let written = self.written.get(&class).copied().unwrap_or(0);
-        if written < self.rows.len() && self.get(written).text == text {
-            let Row {
-                text_start,
-                text_end,
-                ..
-            } = self.rows[written];
-            self.rows.push(Row {
-                text_start,
-                text_end,
-                start,
-                end,
-            })?;
-            return Ok(());
+        if parted {
+            self.spelling.push(' ')?;
         }
-        self.written.insert(class, self.rows.len())?;
-        self.push(text, start, end)
+        self.spelling.push_str(text)?;
+        Ok(())
     }
 
     /// Adds tokens as the rewriting gives them.
@@ -143,18 +134,53 @@ impl TokenList {
         phrases: &Phrases,
         settled: &[FinalToken],
     ) -> Result<(), AllocError>
-        requires { AreKnown (length phrases.now.spellings) settled.now }
+        requires known { AreKnown (length phrases.now.spellings) settled.now }
+        requires texts { AreTokenTexts (map reported (map (spanned_in phrases.now.spellings) settled.now)) }
         ensures { OnOk result (self.new
             ≡ self.old ++ map reported (map (spanned_in phrases.now.spellings) settled.now)) }
     {
         for token in settled {
-            let text = phrases.text_of(token);
-            match token.text {
-                TokenText::Own(_) => self.push(text, token.start, token.end)?,
-                TokenText::Class(class) => self.push_class(class, text, token.start, token.end)?,
-            }
+            self.push(phrases.text_of(token), token.start, token.end)?;
         }
         Ok(())
+    }
+
+    /// The texts in canonical spelling: one blank between two letters of kind Word that belong to different tokens, and none
+    /// elsewhere.
+    pub(crate) fn spelled(&self) -> &str
+        ensures { result.now ≡ spelled (texts_of self.now) }
+    {
+        self.spelling.as_str()
+    }
+
+    /// Where the text of the token number `i` begins in the canonical spelling.
+    #[inline(always)]
+    fn text_start(&self, i: usize) -> usize
+        requires { i < length self.now }
+        ensures { result ≡ place_start self.now i }
+    {
+        if i == 0 {
+            return 0;
+        }
+        let end = self.entries[i - 1].text_end;
+        if self.spelling.as_bytes()[end] == b' ' {
+            end + 1
+        } else {
+            end
+        }
+    }
+
+    /// Where the text of the token number `i` stands in the canonical spelling (bytes).
+    #[inline(always)]
+    pub(crate) fn place(&self, i: usize) -> Span
+        requires { i < length self.now }
+        ensures start { result.start ≡ place_start self.now i }
+        ensures end { result.end ≡ place_end self.now i }
+    {
+        Span {
+            start: self.text_start(i),
+            end: self.entries[i].text_end,
+        }
     }
 
     /// The token number `i`, from 0.
@@ -163,13 +189,21 @@ impl TokenList {
         ensures text { (d : _) → result.text.now ≡ (slice_index_or self.now i d).text }
         ensures span { (d : _) → result.span ≡ (slice_index_or self.now i d).span }
     {
-        let row = self.rows[i];
+        let Span { start, end } = self.place(i);
+        let entry = self.entries[i];
         Token {
-            text: &self.texts.as_str()[row.text_start as usize..row.text_end as usize],
+            text: &self.spelling.as_str()[start..end],
             span: Span {
-                start: row.start as usize,
-                end: row.end as usize,
+                start: entry.start as usize,
+                end: entry.end as usize,
             },
         }
+    }
+
+    /// The texts of the tokens are in UTF-8.
+    pub(crate) fn texts_are_utf8(&self)
+        ensures { All (λ t. IsUtf8 t.text) self.now }
+    {
+        let _ = &self.entries;
     }
 }

@@ -12,14 +12,17 @@ returns-in_err-meet-clause-exact c =
     Gives-err _ _ _ _ _ c.from_residual.ensures.1
     (λ e is. read_refused (rules_of c.args.rules.now) c.args.words.now
     (state_of c.loop-element.reader) c.loop-element.elements.items c.pop.new.self.items
-    (c.in-Some.element, c.in-Some.follows) _ c.in-Some.ensures.items c.loop-element.invariant e is)
-    c.in_err-meet.ensures
+    (c.in-Some.element, c.in-Some.follows) _ c.in-Some.ensures.items c.loop-element.invariant.gives e is)
+    c.in_err-meet.ensures.state
 
 pub loop-element-preserved : goal.loop-element-preserved
-loop-element-preserved c =
-    read_taken (rules_of c.args.rules.now) c.args.words.now
-    (state_of c.loop-element.reader) c.loop-element.elements.items c.pop.new.self.items
-    (c.in-Some.element, c.in-Some.follows) _ c.in-Some.ensures.items c.loop-element.invariant _ c.in_ok-meet.ensures
+loop-element-preserved c = record {
+  gives =
+      read_taken (rules_of c.args.rules.now) c.args.words.now
+      (state_of c.loop-element.reader) c.loop-element.elements.items c.pop.new.self.items
+      (c.in-Some.element, c.in-Some.follows) _ c.in-Some.ensures.items c.loop-element.invariant.gives _ c.in_ok-meet.ensures.state;
+  texts = c.in_ok-meet.ensures.texts;
+}
 
 pub returns-clause-exact : goal.returns-clause-exact
 returns-clause-exact c =
@@ -27,4 +30,4 @@ returns-clause-exact c =
     Gives-same template_of c.finish.result _ _
     (sym (read_ends (rules_of c.args.rules.now) c.args.words.now
     (state_of c.loop-element.reader) c.loop-element.elements.items none)
-    ∙ c.loop-element.invariant) c.finish.ensures.exact
+    ∙ c.loop-element.invariant.gives) c.finish.ensures.exact

@@ -1,8 +1,19 @@
 use Rattle.std.proofs.Common.{◌≡◌, ◌++◌, ◌∷◌, [], List, ℕ, ap, sym, subst, take, ◌∙◌, append_assoc}
 use Rattle.std.proofs.lemmas.List.{map-append, take_more}
 use Rattle.lic_lines.specs.Tokens.{Token, token_in, tokens_in}
+use Rattle.lic_phrases.specs.TokenTexts.{IsTokenText}
 use Rattle.lic_norm.specs.Reading.{HasTaken}
+use Rattle.lic_norm.proofs.ReadingLemmas.{one_text}
 use Rattle.lic_norm.proofs.rewriting.Rewriting.take_all.Goals as goal
+
+pub take_text-requires-clause-before : goal.take_text-requires-clause-before
+take_text-requires-clause-before c =
+    record { taken = _; has = c.loop-token.invariant.taken c.requires.before.taken c.requires.before.has }
+
+pub take_text-requires-clause-text : goal.take_text-requires-clause-text
+take_text-requires-clause-text c =
+    subst IsTokenText (sym c.as_str-text.ensures)
+    (one_text c.args.tokens.now c.loop-token.token-index c.token-item.result c.token-item.is c.loop-token-test.true c.requires.texts)
 
 pub loop-token-preserved : goal.loop-token-preserved
 loop-token-preserved c =

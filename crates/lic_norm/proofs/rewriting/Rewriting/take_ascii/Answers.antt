@@ -2,14 +2,19 @@ use Rattle.std.proofs.Common.{◌≡◌, ◌+◌, ◌-◌, ◌++◌, ◌∷◌, 
 use Rattle.std.specs.Char.{to_ascii_lowercase}
 use Rattle.std.specs.Prelude.{IsAscii}
 use Rattle.std.proofs.lemmas.List.{drop-drop, take_rest, drop-map, length-map}
+use Rattle.std.proofs.lemmas.List.Elements.{All-head}
 use Rattle.std.proofs.lemmas.Str.{IsCharBoundary-from_ascii}
 use Rattle.std.proofs.lemmas.Str.Ascii.{IsAscii-map, lowercase_ascii}
 use Rattle.lic_lines.specs.AsciiFronts.{IsFront, ascii_tokens}
 use Rattle.lic_lines.specs.LineRules.{rules_of}
+use Rattle.lic_lines.specs.Sources.{placed}
 use Rattle.lic_lines.specs.Tokens.{Token}
 use Rattle.lic_lines.specs.declared.ascii_front.AsciiFront.TheVariants as front
+use Rattle.lic_phrases.specs.TokenTexts.{IsTokenText}
 use Rattle.lic_norm.specs.Reading.{HasTaken}
+use Rattle.lic_norm.specs.Spans.{HaveTexts}
 use Rattle.lic_norm.proofs.AsciiTexts.{next_blank, next_token, none_left}
+use Rattle.lic_norm.proofs.TokenTexts.{after-texts}
 use Rattle.lic_norm.proofs.rewriting.Rewriting.take_ascii.Goals as goal
 
 lowered_ascii : (text lowered : List _) → lowered ≡ map to_ascii_lowercase text → IsAscii text → IsAscii lowered
@@ -63,6 +68,27 @@ range-letters-requires-clause-end_boundary c =
     let told : IsFront (front.Token c.in-Token.length) (drop place text) = subst (IsFront (front.Token c.in-Token.length)) rest c.in-Token.ensures in
     IsCharBoundary-from_ascii c.args.lowered.now (place + c.in-Token.length) (lowered_ascii text c.args.lowered.now c.requires.lowered c.requires.ascii)
     (omega (arith, told.1, length-drop place text, ap length same, lowered_length text c.args.lowered.now c.requires.lowered))
+
+pub take_text-requires-clause-before : goal.take_text-requires-clause-before
+take_text-requires-clause-before c = record { taken = _; has = (c.loop-place.invariant.taken c.requires.before.taken c.requires.before.has).1 }
+
+pub take_text-requires-clause-text : goal.take_text-requires-clause-text
+take_text-requires-clause-text c =
+    let text = c.args.text.now in
+    let place = c.loop-place.place in
+    let n = c.in-Token.length in
+    let rules = rules_of c.args.rules.now in
+    let bytes = c.as_bytes-bytes.result.now in
+    let same : bytes ≡ text = c.as_bytes-bytes.ensures.value in
+    let rest : take (length bytes - place) (drop place bytes) ≡ drop place text = take_rest bytes place ∙ ap (drop place) same in
+    let told : IsFront (front.Token n) (drop place text) = subst (IsFront (front.Token n)) rest c.in-Token.ensures in
+    let letters = c.range-letters.ensures.value ∙ ap (λ l. take (place + n - place) (drop place l)) c.requires.lowered in
+    All-head (λ t. IsTokenText t.text) _ _
+    (subst HaveTexts (sym (next_token rules c.loop-place.after_blank c.args.at place n text c.range-letters.result.now told letters))
+    (after-texts rules c.loop-place.after_blank (placed (c.args.at + place) (drop place text))))
+
+pub take_part-requires-clause-before : goal.take_part-requires-clause-before
+take_part-requires-clause-before c = record { taken = _; has = (c.loop-place.invariant.taken c.requires.before.taken c.requires.before.has).1 }
 
 pub loop-place-preserved-in-Token : goal.loop-place-preserved-in-Token
 loop-place-preserved-in-Token c =

@@ -1,14 +1,37 @@
-use Rattle.std.proofs.Common.{◌≡◌, ℕ, ◌++◌, ◌∷◌, ◌+◌, ◌-◌, [], List, true, false, get_or, length, take, drop, ap, sym, subst, ◌∙◌, append_assoc, append-nil, length-drop, arith}
+use Rattle.std.proofs.Common.{◌≡◌, ℕ, ◌++◌, ◌∷◌, ◌-◌, [], List, true, false, get_or, length, take, drop, refl, ap, sym, subst, ◌∙◌, append_assoc, append-nil, length-drop, arith}
 use Rattle.std.specs.Prelude.{string_bytes}
 use Rattle.std.proofs.lemmas.List.{drop-drop, drop_all, take_rest}
+use Rattle.std.proofs.lemmas.List.Elements.{All-head}
 use Rattle.lic_lines.specs.LineRules.{rules_of}
 use Rattle.lic_lines.specs.TextFronts.{IsTextFront}
 use Rattle.lic_lines.specs.Tokens.{Token, single_signs, text_tokens_after}
 use Rattle.lic_lines.specs.declared.text_front.TextFront.TheVariants as front
 use Rattle.lic_lines.proofs.ItemLemmas.{none}
 use Rattle.lic_lines.proofs.TokenLemmas.{no_tokens_after}
+use Rattle.lic_phrases.specs.Settling.{Settles}
+use Rattle.lic_phrases.specs.TokenTexts.{IsTokenText}
 use Rattle.lic_norm.specs.Reading.{HasTaken}
+use Rattle.lic_norm.specs.Spans.{HaveTexts}
+use Rattle.lic_norm.proofs.TokenTexts.{after-texts}
 use Rattle.lic_norm.proofs.rewriting.Rewriting.take_characters.Goals as goal
+
+pub loop-place-init : goal.loop-place-init
+loop-place-init c = record {
+  within = omega arith;
+  taken = λ taken has. (
+    [],
+    record {
+      settled = has.settled;
+      settles = subst (λ ts. Settles c.args.self.now.phrases.now.phrases ts has.settled c.args.self.now.rewriter) (sym (append-nil taken)) has.settles;
+      listed = has.listed;
+      known = has.known;
+      texts = subst HaveTexts (sym (append-nil taken)) has.texts;
+    },
+    refl,
+  );
+  phrases = refl;
+  emptied = c.clear.ensures.items;
+}
 
 pub loop-place-preserved-in-Blank : goal.loop-place-preserved-in-Blank
 loop-place-preserved-in-Blank c =
@@ -34,6 +57,25 @@ loop-place-preserved-in-Blank c =
       phrases = known.phrases;
       emptied = known.emptied;
     }
+
+pub take_text-requires-clause-before : goal.take_text-requires-clause-before
+take_text-requires-clause-before c = record { taken = _; has = (c.loop-place.invariant.taken c.requires.before.taken c.requires.before.has).1 }
+
+pub take_text-requires-clause-text : goal.take_text-requires-clause-text
+take_text-requires-clause-text c =
+    let rules = rules_of c.args.rules.now in
+    let text = c.args.text.now in
+    let place = c.loop-place.place in
+    let n = c.in-Token.length in
+    let here = take (length text - place) (drop place text) in
+    let told : IsTextFront (front.Token n) (string_bytes c.front_of_text.new.letters) here =
+    subst (λ f. IsTextFront f (string_bytes c.front_of_text.new.letters) here) c.in-Token.is c.in_ok-front_of_text.ensures in
+    subst IsTokenText (sym c.as_str.ensures.value)
+    (All-head (λ t. IsTokenText t.text) _ _
+    (subst HaveTexts (sym (told.2 rules c.loop-place.after_blank none)) (after-texts rules c.loop-place.after_blank here)))
+
+pub take_front-requires-clause-before : goal.take_front-requires-clause-before
+take_front-requires-clause-before c = record { taken = _; has = (c.loop-place.invariant.taken c.requires.before.taken c.requires.before.has).1 }
 
 pub loop-place-preserved-in-Token : goal.loop-place-preserved-in-Token
 loop-place-preserved-in-Token c =

@@ -2,6 +2,8 @@ use Rattle.std.proofs.Common.{◌++◌, ◌∷◌, [], List, ap, ◌∙◌}
 use Rattle.std.proofs.lemmas.Result.{on_ok_weaker}
 use Rattle.lic_lines.specs.Tokens.{token_in}
 use Rattle.lic_phrases.specs.Rewriting.{SpannedText, spanned}
+use Rattle.std.proofs.lemmas.List.Elements.{All-push}
+use Rattle.lic_phrases.specs.TokenTexts.{IsTokenText}
 use Rattle.lic_norm.proofs.ReadingLemmas.{listed-more}
 use Rattle.lic_norm.proofs.rewriting.Rewriting.take_one.Goals as goal
 
@@ -17,5 +19,7 @@ returns-then-passes-clause-taken c =
           (added ∙ ap (λ text. self.tokens
           ++ record { text = text; span = record { start = c.args.token.start; end = c.args.token.end } }
           ∷ []) c.as_str.ensures);
+      known = has.known;
+      texts = All-push (λ t. IsTokenText t.text) taken (token_in c.args.token) has.texts c.requires.text;
     })
     c.push.ensures

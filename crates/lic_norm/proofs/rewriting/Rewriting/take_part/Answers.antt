@@ -1,8 +1,19 @@
-use Rattle.std.proofs.Common.{◌∙◌, ◌++◌, ◌+◌, ap, drop}
+use Rattle.std.proofs.Common.{◌∙◌, ◌++◌, sym, subst, ◌+◌, ap, drop}
 use Rattle.lic_lines.specs.AsciiFronts.{ascii_tokens}
 use Rattle.lic_lines.specs.LineRules.{rules_of}
+use Rattle.lic_lines.specs.Sources.{placed}
 use Rattle.lic_lines.specs.Tokens.{tokens_in}
+use Rattle.lic_norm.specs.Spans.{HaveTexts}
+use Rattle.lic_norm.proofs.TokenTexts.{after-texts, front-texts}
 use Rattle.lic_norm.proofs.rewriting.Rewriting.take_part.Goals as goal
+
+pub take_all-requires-clause-texts : goal.take_all-requires-clause-texts
+take_all-requires-clause-texts c =
+    let part = c.in_ok-part.part in
+    let rest = ascii_tokens (rules_of c.args.rules.now) part.blank_behind (c.args.at + part.length) (drop part.length c.args.text.now) in
+    subst (λ l. HaveTexts (tokens_in l)) (sym c.deref.ensures.value)
+    (front-texts _ rest
+    (subst HaveTexts (sym c.in_ok-part.ensures.tokens) (after-texts (rules_of c.args.rules.now) c.args.after_blank (placed c.args.at c.args.text.now))))
 
 pub returns-clause-taken : goal.returns-clause-taken
 returns-clause-taken c = λ taken has.

@@ -2,6 +2,8 @@ use Rattle.std.proofs.Common.{◌++◌, ◌∷◌, [], List, refl}
 use Rattle.std.proofs.lemmas.Result.{on_ok_weaker}
 use Rattle.lic_lines.specs.Tokens.{Token}
 use Rattle.lic_phrases.specs.Rewriting.{SpannedText, spanned}
+use Rattle.std.proofs.lemmas.List.Elements.{All-push}
+use Rattle.lic_phrases.specs.TokenTexts.{IsTokenText}
 use Rattle.lic_norm.proofs.ReadingLemmas.{listed-more}
 use Rattle.lic_norm.proofs.rewriting.Rewriting.take_text.Goals as goal
 
@@ -15,5 +17,7 @@ returns-then-lets_pass-clause-taken c =
       settled = has.settled ++ one;
       settles = c.lets_pass.ensures c.if-lets_pass.true has.settled taken token refl has.settles;
       listed = listed-more has.settled one self.tokens c.push.new.self has.listed added;
+      known = has.known;
+      texts = All-push (λ t. IsTokenText t.text) taken token has.texts c.requires.text;
     })
     c.push.ensures

@@ -1,5 +1,7 @@
 use Rattle.std.proofs.Common.{[], sym, subst}
+use Rattle.std.proofs.lemmas.List.Elements.{All-nil}
 use Rattle.lic_phrases.specs.Settling.{Settles}
+use Rattle.lic_phrases.specs.TokenTexts.{IsTokenText}
 use Rattle.lic_phrases.proofs.SettlingLemmas.{Settles-new}
 use Rattle.lic_norm.proofs.rewriting.Rewriting.with_room.Goals as goal
 
@@ -8,4 +10,6 @@ returns-clause-taken c = record {
   settled = [];
   settles = subst (λ kept. Settles c.args.phrases.now.phrases [] [] kept) (sym c.new.ensures) (Settles-new c.args.phrases.now.phrases);
   listed = c.in_ok-with_room.ensures;
+  known = c.requires;
+  texts = All-nil (λ t. IsTokenText t.text);
 }
