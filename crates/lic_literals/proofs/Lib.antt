@@ -1,0 +1,12 @@
+pub mod Standing
+pub mod Rising
+pub mod Lists
+pub mod GroupLemmas
+pub mod EndsLemmas
+pub mod MarkLemmas
+pub mod HitsLemmas
+pub mod GramLemmas
+pub mod TableLemmas
+pub mod WindowLemmas
+pub mod KeptLemmas
+pub mod KeysLemmas

@@ -1,0 +1,6 @@
+-- So many lists so far.
+use Rattle.std.proofs.Common.{◌≡◌, length}
+use Rattle.lic_literals.proofs.groups.empty_lists.Given as goal
+
+abbrev pub invariant-loop : goal.invariant-loop
+invariant-loop l = length l.lists.items ≡ l.counter

@@ -1,0 +1,45 @@
+-- The windows around one place more are noted.
+use Rattle.std.proofs.Common.{◌+◌, ◌≤◌, sym, ◌∙◌, subst, arith}
+use Rattle.std.proofs.lemmas.Bool.{false≢true}
+use Rattle.lic_literals.specs.Hashes.{gram_mark, hash_of}
+use Rattle.lic_literals.specs.Marks.{Has}
+use Rattle.lic_literals.specs.Sizes.{gram_at}
+use Rattle.lic_literals.specs.Tables.{NotesWhere}
+use Rattle.lic_literals.proofs.TableLemmas.{all_done, all_more, gram_marked, none_noted}
+use Rattle.lic_literals.proofs.table.Table.note_all.Goals as goal
+use Rattle.lic_literals.proofs.table.Table.note_all.Goals.{then-has+in_ok-note_around, else-has}
+
+pub loop-place-preserved : goal.loop-place-preserved
+loop-place-preserved g c =
+    let table = c.args.self.now in
+    let bytes = c.args.bytes.now in
+    let place = c.loop-place.place in
+    let old = c.loop-place.hits in
+    let more = all_more table bytes c.requires.sizes c.args.hits.now old in
+    record {
+      place = omega (arith, c.requires.sizes.few, c.requires.sizes.long);
+      notes =
+          elim c.if-has.branch [
+            | then-has+in_ok-note_around w ↦
+                subst (NotesWhere table bytes (λ p. p + g.row.STEP ≤ place + g.row.STEP) c.args.hits.now) (sym w.hits-is)
+                (more w.note_around.new.hits w.in_ok-note_around.ensures.kept place c.loop-place.invariant.notes
+                (λ v i p has occurs a b. w.in_ok-note_around.ensures.found v i p has occurs (a, b)))
+            | else-has w ↦
+                subst (NotesWhere table bytes (λ p. p + g.row.STEP ≤ place + g.row.STEP) c.args.hits.now) (sym w.hits-is)
+                (more old (λ i p h. h) place c.loop-place.invariant.notes
+                (λ v i p has occurs a b.
+                let marked : Has table.grams (gram_mark (hash_of (gram_at g.row.GRAM bytes place))) =
+                (gram_marked table bytes c.requires.sizes v i p place has occurs a b).anywhere in
+                let same : Has table.grams c.mark_of.result =
+                subst (Has table.grams) (sym c.mark_of.ensures.value)
+                (subst (λ h. Has table.grams (gram_mark h)) (sym c.hash-hash.ensures) marked) in
+                absurd (false≢true (sym w.if-has.false ∙ c.has.ensures.1 same))))
+          ];
+    }
+
+pub returns-then-is_empty : goal.returns-then-is_empty
+returns-then-is_empty g c = none_noted c.args.self.now c.args.bytes.now c.args.hits.now (c.is_empty.ensures.0 c.if-is_empty.true)
+
+pub returns : goal.returns
+returns g c =
+    all_done c.args.self.now c.args.bytes.now c.requires.sizes c.args.hits.now c.loop-place.hits c.loop-place.place c.loop-place-test.false c.loop-place.invariant.notes

@@ -1,0 +1,10 @@
+pub mod Ends
+pub mod Groups
+pub mod Hashes
+pub mod Hits
+pub mod Kept
+pub mod Keys
+pub mod Marks
+pub mod Sizes
+pub mod Tables
+pub mod Windows

@@ -1,0 +1,150 @@
+//! Where windows stand in bytes.
+
+ghost use Rattle.std.specs.Prelude.{◌≡◌, ◌<◌, ◌≤◌, ◌↔◌, ℕ, None, Some, [], IsTrue, OnOk, All, Contains, length, map, nat_eq, slice_index_or};
+ghost use Rattle.std.specs.HashMap.{get};
+ghost use Rattle.std.specs.List.{slice_get};
+ghost use Rattle.std.specs.List.Sorted.{IsStrictlyIncreasing};
+ghost use Rattle.std.proofs.Props.{props};
+
+use std::alloc::{AllocError, Global};
+use std::collections::HashMap;
+
+// The most places of all windows that are listed. Past it a window that stands somewhere counts as standing anywhere.
+const MOST_PLACES: usize = 262_144;
+
+/// A window that stands somewhere, by its number, and its places in rising order.
+#[derive(Debug, Drop)]
+pub struct Standing {
+    pub window: usize,
+    pub places: Vec<usize>,
+}
+
+/// Where windows stand.
+#[derive(Drop)]
+pub struct Hits {
+    standing: Vec<Standing>,
+    // where each window is among them
+    slots: HashMap<usize, usize>,
+    // how many places were listed
+    count: usize,
+    ghost rising: { All (λ s. IsStrictlyIncreasing s.places.items) standing.items },
+    ghost placed: { (i slot : ℕ) → get nat_eq slots i ≡ Some slot
+        → slice_get (map (λ s. s.window) standing.items) slot ≡ Some i },
+}
+
+impl Hits {
+    ghost use Rattle.lic_literals.specs.Hits.{NotesPlace, lists_of, places_of};
+
+    /// No windows.
+    pub fn new(alloc: Global) -> Hits
+        ensures { result.standing.items ≡ [] }
+    {
+        Hits {
+            standing: Vec::new(alloc),
+            slots: HashMap::new(alloc),
+            count: 0,
+        }
+    }
+
+    /// Notes that a window stands at a place.
+    pub fn note(&mut self, window: usize, place: usize) -> Result<(), AllocError>
+        ensures { OnOk result (NotesPlace window place self.old self.new) }
+    {
+        match self.slots.get(&window).copied() {
+            Some(slot) => self.note_more(slot, place),
+            None => self.note_first(window, place),
+        }
+    }
+
+    // Notes the first place of a window.
+    fn note_first(&mut self, window: usize, place: usize) -> Result<(), AllocError>
+        requires { get nat_eq self.old.slots window ≡ None }
+        ensures { OnOk result (NotesPlace window place self.old self.new) }
+    {
+        let slot = self.standing.len();
+        let places = Vec::from_array(*self.standing.allocator(), [place])?;
+        self.standing.push(Standing { window, places })?;
+        self.slots.insert(window, slot)?;
+        self.count = self.count.saturating_add(1);
+        Ok(())
+    }
+
+    // Notes another place of the window in this slot, unless there are too many.
+    fn note_more(&mut self, slot: usize, place: usize) -> Result<(), AllocError>
+        requires { slot < length self.old.standing.items }
+        ensures { OnOk result ((window : ℕ) → get nat_eq self.old.slots window ≡ Some slot
+            → NotesPlace window place self.old self.new) }
+    {
+        if self.is_full() {
+            return Ok(());
+        }
+        let one = &mut self.standing[slot];
+        insert(&mut one.places, place)?;
+        self.count = self.count.saturating_add(1);
+        Ok(())
+    }
+
+    /// Whether a window that stands somewhere counts as standing anywhere.
+    pub fn is_full(&self) -> bool
+        ensures { IsTrue result ↔ (262144 ≤ self.now.count) }
+    {
+        self.count >= MOST_PLACES
+    }
+
+    /// The windows that stand somewhere.
+    pub fn standing(&self) -> &[Standing]
+        ensures { result.now ≡ self.now.standing.items }
+    {
+        &self.standing
+    }
+
+    /// The places that are listed for a window.
+    pub fn places(&self, window: usize) -> &[usize]
+        ensures value { result.now ≡ places_of self.now window }
+        ensures rising { IsStrictlyIncreasing result.now }
+    {
+        match self.slots.get(&window).copied() {
+            Some(slot) => self.places_in(slot),
+            None => &[],
+        }
+    }
+
+    fn places_in(&self, slot: usize) -> &[usize]
+        requires { slot < length self.now.standing.items }
+        ensures value { result.now ≡ slice_index_or (lists_of self.now) slot [] }
+        ensures rising { IsStrictlyIncreasing result.now }
+    {
+        let one = &self.standing[slot];
+        &one.places
+    }
+}
+
+// Inserts a number among others in rising order, unless it is there. Most are greater than all others.
+fn insert(numbers: &mut Vec<usize>, number: usize) -> Result<(), AllocError>
+    requires { IsStrictlyIncreasing numbers.old.items }
+    ensures rising { IsStrictlyIncreasing numbers.new.items }
+    ensures inserted { OnOk result (Contains numbers.new.items number) }
+    ensures kept { (other : ℕ) → Contains numbers.old.items other → Contains numbers.new.items other }
+{
+    match numbers.last() {
+        Some(last) if *last >= number => insert_before(numbers, number),
+        _ => {
+            numbers.push(number)?;
+            Ok(())
+        }
+    }
+}
+
+// The same where it may be less than some of them.
+#[cold]
+fn insert_before(numbers: &mut Vec<usize>, number: usize) -> Result<(), AllocError>
+    requires { IsStrictlyIncreasing numbers.old.items }
+    ensures rising { IsStrictlyIncreasing numbers.new.items }
+    ensures inserted { OnOk result (Contains numbers.new.items number) }
+    ensures kept { (other : ℕ) → Contains numbers.old.items other → Contains numbers.new.items other }
+{
+    if let Err(at) = numbers.binary_search(&number) {
+        numbers.insert(at, number)?;
+    }
+    Ok(())
+}

@@ -1,0 +1,14 @@
+//! Where literals stand in bytes: each place at which one ends, and a prefilter over many at once.
+#![tactic(auto)]
+
+mod counts;
+pub mod ends;
+mod grams;
+mod groups;
+mod hits;
+pub mod kept;
+pub mod keys;
+pub mod laws;
+mod marks;
+mod table;
+mod tables;

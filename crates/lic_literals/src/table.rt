@@ -1,0 +1,132 @@
+//! Windows of one length, and where they stand in bytes.
+
+ghost use Rattle.std.specs.Prelude.{◌≡◌, ◌+◌, ◌<◌, ◌≤◌, ℕ, List, Some, length, IfOk, OnOk};
+ghost use Rattle.memchr.specs.Find.{OccursAt};
+ghost use Rattle.lic_literals.specs.Hashes.{hash_of};
+ghost use Rattle.lic_literals.specs.Sizes.{AreSizes, gram_at};
+
+use crate::grams::{hash, mark_of, start_mark_of};
+use crate::hits::Hits;
+use crate::marks::Marks;
+use std::alloc::{AllocError, Global};
+use std::collections::HashMap;
+
+/// Windows of one length in bytes, each with a number.
+///
+/// Every `STEP`-th place of the bytes is looked at: wherever a window stands, one of its first `STEP` grams begins there.
+#[derive(Drop)]
+pub struct Table<const LENGTH: usize, const GRAM: usize, const STEP: usize> {
+    // the marks of the first grams of the windows
+    grams: Marks,
+    // the marks of these grams together with where they begin in their windows
+    starts: Marks,
+    numbers: HashMap<[u8; LENGTH], usize>,
+}
+
+impl<const LENGTH: usize, const GRAM: usize, const STEP: usize> Table<LENGTH, GRAM, STEP> {
+    ghost use Rattle.lic_literals.specs.Tables.{AddsWindow, HasNone, MarksWindow, NotesWhere, number_of};
+
+    /// A table without windows.
+    pub fn new(alloc: Global) -> Result<Table<LENGTH, GRAM, STEP>, AllocError>
+        requires { AreSizes LENGTH GRAM STEP }
+        ensures { IfOk result (λ table. HasNone table) }
+    {
+        Ok(Table {
+            grams: Marks::new(alloc)?,
+            starts: Marks::new(alloc)?,
+            numbers: HashMap::new(alloc),
+        })
+    }
+
+    /// The number of the window; the one that is given, where the window is new.
+    pub fn add(&mut self, window: &[u8; LENGTH], number: usize) -> Result<usize, AllocError>
+        requires { AreSizes LENGTH GRAM STEP }
+        ensures { IfOk result (λ answer. AddsWindow window.now number answer self.old self.new) }
+    {
+        self.mark(window);
+        if let Some(known) = self.numbers.get(window).copied() {
+            return Ok(known);
+        }
+        self.numbers.insert(*window, number)?;
+        Ok(number)
+    }
+
+    // Marks the first grams of a window.
+    fn mark(&mut self, window: &[u8])
+        requires sizes { AreSizes LENGTH GRAM STEP }
+        requires length { length window.now ≡ LENGTH }
+        ensures { MarksWindow window.now self.old self.new }
+    {
+        for start in 0..STEP {
+            let hash = hash(&window[start..start + GRAM]);
+            self.grams.add(mark_of(hash));
+            self.starts.add(start_mark_of(hash, start));
+        }
+    }
+
+    /// Notes each place at which a window stands in the bytes.
+    pub fn note_all(&self, bytes: &[u8], hits: &mut Hits) -> Result<(), AllocError>
+        requires sizes { AreSizes LENGTH GRAM STEP }
+        ensures { OnOk result (NotesWhere self.now bytes.now (λ _. Unit {0}) hits.old hits.new) }
+    {
+        if self.numbers.is_empty() {
+            return Ok(());
+        }
+        let mut place = 0;
+        while place + GRAM <= bytes.len() {
+            let hash = hash(&bytes[place..place + GRAM]);
+            if self.grams.has(mark_of(hash)) {
+                self.note_around(bytes, place, hash, hits)?;
+            }
+            place += STEP;
+        }
+        Ok(())
+    }
+
+    // Notes each window that stands in the bytes so that one of its first grams is the one at this place, which has this hash.
+    #[inline(never)]
+    fn note_around(
+        &self,
+        bytes: &[u8],
+        place: usize,
+        hash: u64,
+        hits: &mut Hits,
+    ) -> Result<(), AllocError>
+        requires sizes { AreSizes LENGTH GRAM STEP }
+        requires place { place ≤ length bytes.now }
+        requires hash { hash ≡ hash_of (gram_at GRAM bytes.now place) }
+        ensures { OnOk result
+            (NotesWhere self.now bytes.now (λ p. (p ≤ place) × (place < p + STEP)) hits.old hits.new) }
+    {
+        for back in 0..STEP {
+            let start = STEP - 1 - back;
+            if start <= place && self.starts.has(start_mark_of(hash, start)) {
+                self.note_at(bytes, place - start, hits)?;
+            }
+        }
+        Ok(())
+    }
+
+    // Notes the window that stands in the bytes at this place, if there is one.
+    fn note_at(&self, bytes: &[u8], place: usize, hits: &mut Hits) -> Result<(), AllocError>
+        requires sizes { AreSizes LENGTH GRAM STEP }
+        requires place { place ≤ length bytes.now }
+        ensures { OnOk result (NotesWhere self.now bytes.now (λ p. p ≡ place) hits.old hits.new) }
+    {
+        if let Some(number) = self.number_at(bytes, place) {
+            hits.note(number, place)?;
+        }
+        Ok(())
+    }
+
+    // The number of the window that stands in the bytes at this place, if there is one.
+    fn number_at(&self, bytes: &[u8], place: usize) -> Option<usize>
+        requires sizes { AreSizes LENGTH GRAM STEP }
+        requires place { place ≤ length bytes.now }
+        ensures { (w : List ℕ) → length w ≡ LENGTH → OccursAt bytes.now w place
+            → result ≡ number_of self.now w }
+    {
+        let window = bytes[place..].first_chunk::<LENGTH>()?;
+        self.numbers.get(window).copied()
+    }
+}

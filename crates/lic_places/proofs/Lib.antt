@@ -1,0 +1,12 @@
+pub mod Spelled
+pub mod Standing
+pub mod TokenPlaces
+pub mod Reading
+pub mod TextReading
+pub mod TieReading
+pub mod TiePlaces
+pub mod TieLetters
+pub mod TieEnds
+pub mod TieTokens
+pub mod TieRange
+mod examples

@@ -1,0 +1,2 @@
+-- Computed equations: the check of what the definitions mean.
+mod PlaceExamples

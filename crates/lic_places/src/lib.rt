@@ -1,0 +1,4 @@
+//! Texts in canonical spelling by their places: which words spell what stands between two places of a text.
+#![tactic(auto)]
+
+pub mod laws;

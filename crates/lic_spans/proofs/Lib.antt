@@ -1,0 +1,8 @@
+pub mod Members
+pub mod Ranks
+pub mod Settling
+pub mod Advancing
+pub mod Heaps
+pub mod Sweeping
+pub mod Sorting
+pub mod Joining

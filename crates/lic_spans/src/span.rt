@@ -1,0 +1,39 @@
+//! Spans of places, each with the last token of a match that goes from there.
+
+ghost use Rattle.std.specs.Prelude.{◌≡◌, ◌↔◌, IsTrue};
+
+/// What the places of a span are.
+///
+/// The meaning of each kind belongs to the search; here only equality and order count.
+#[derive(Clone, Copy, Debug, PartialEq, Eq, PartialOrd, Ord)]
+pub enum Kind {
+    /// The end of its last token, where no letter was taken yet: one place.
+    End,
+    /// One place.
+    Place,
+    /// All places of the span at which a letter begins.
+    Letters,
+    /// The places to which one blank leads from those at which a letter begins.
+    Blanks,
+}
+
+impl Kind {
+    ghost use Rattle.lic_spans.specs.Spans.{gap_of};
+
+    /// Whether a span of the kind has one place.
+    pub fn is_single(self) -> bool
+        ensures { IsTrue result ↔ (gap_of self ≡ 0) }
+    {
+        matches!(self, Kind::End | Kind::Place)
+    }
+}
+
+/// Places from `low` to `high`, both included, in bytes of the text, from which the rest of a template goes on to the end
+/// of the token number `last`.
+#[derive(Clone, Copy, Debug, PartialEq, Eq)]
+pub struct PlaceSpan {
+    pub low: usize,
+    pub high: usize,
+    pub last: usize,
+    pub kind: Kind,
+}

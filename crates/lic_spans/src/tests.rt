@@ -1,0 +1,187 @@
+//! Worked lists, and long lists of spans that overlap each other.
+
+ghost use Rattle.std.specs.Prelude.{◌≤◌, ◌<◌, All, IfOk};
+
+use crate::join::joined;
+use crate::least::with_least_last;
+use crate::span::{Kind, PlaceSpan};
+use std::alloc::{AllocError, Global};
+use std::fmt::Write;
+use std::test::Fail;
+
+/// Spans as lists in a table write them: kind, low place, high place, last token.
+type Listed<'a> = &'a [(Kind, usize, usize, usize)];
+
+/// The spans of a table.
+fn spans(alloc: Global, listed: Listed) -> Result<Vec<PlaceSpan>, AllocError>
+    ensures ordered { IfOk result (λ all. All (λ s. s.low ≤ s.high) all.items) }
+    ensures bounded { IfOk result (λ all. All (λ s. s.high < usize.MAX) all.items) }
+{
+    let mut all = Vec::new(alloc);
+    for one in listed {
+        let (kind, low, high, last) = *one;
+        if low <= high && high < usize::MAX {
+            let span = PlaceSpan {
+                low,
+                high,
+                last,
+                kind,
+            };
+            all.push(span)?;
+        }
+    }
+    Ok(all)
+}
+
+fn shown(alloc: Global, spans: &[PlaceSpan]) -> Result<String, Fail> {
+    let mut shown = String::new(alloc);
+    for span in spans {
+        let kind = span.kind as u8;
+        write!(shown, "{kind}:{}-{}:{} ", span.low, span.high, span.last)?;
+    }
+    Ok(shown)
+}
+
+#[test]
+fn keeps_the_least_last_token_of_each_place(rt: HostRuntime) -> Result<(), Fail> {
+    let alloc = rt.alloc();
+    let table: &[(Listed, &str)] = &[
+        (&[], ""),
+        (&[(Kind::Letters, 3, 7, 1)], "2:3-7:1 "),
+        // single places in any order, with repeats
+        (
+            &[
+                (Kind::Place, 7, 7, 3),
+                (Kind::Place, 2, 2, 9),
+                (Kind::Place, 7, 7, 1),
+                (Kind::End, 7, 7, 4),
+            ],
+            "0:7-7:4 1:2-2:9 1:7-7:1 ",
+        ),
+        // a better one within, and a worse one that reaches further
+        (
+            &[(Kind::Letters, 0, 9, 5), (Kind::Letters, 3, 4, 2)],
+            "2:0-2:5 2:3-4:2 2:5-9:5 ",
+        ),
+        (
+            &[(Kind::Letters, 2, 8, 3), (Kind::Letters, 0, 5, 1)],
+            "2:0-5:1 2:6-8:3 ",
+        ),
+        // neighbours of one last token, with a worse one across
+        (
+            &[
+                (Kind::Letters, 0, 4, 2),
+                (Kind::Letters, 3, 6, 8),
+                (Kind::Letters, 5, 9, 2),
+            ],
+            "2:0-9:2 ",
+        ),
+        // single places next to each other stay single, also where a sweep is needed
+        (
+            &[
+                (Kind::Letters, 0, 9, 5),
+                (Kind::Place, 5, 5, 1),
+                (Kind::Letters, 3, 4, 2),
+                (Kind::Place, 4, 4, 1),
+            ],
+            "1:4-4:1 1:5-5:1 2:0-2:5 2:3-4:2 2:5-9:5 ",
+        ),
+        // kinds have nothing to do with each other
+        (
+            &[(Kind::Blanks, 0, 5, 1), (Kind::Letters, 0, 5, 2)],
+            "2:0-5:2 3:0-5:1 ",
+        ),
+    ];
+    for (listed, want) in table {
+        let least = with_least_last(alloc, spans(alloc, listed)?)?;
+        assert_eq!(rt; shown(alloc, &least)?.as_str(), *want);
+    }
+    Ok(())
+}
+
+#[test]
+fn joins_spans_of_one_kind_and_last_token(rt: HostRuntime) -> Result<(), Fail> {
+    let alloc = rt.alloc();
+    let table: &[(Listed, &str)] = &[
+        (&[], ""),
+        // overlapping, touching, within, and apart
+        (
+            &[
+                (Kind::Letters, 8, 9, 1),
+                (Kind::Letters, 0, 4, 1),
+                (Kind::Letters, 5, 6, 1),
+                (Kind::Letters, 1, 2, 1),
+            ],
+            "2:0-6:1 2:8-9:1 ",
+        ),
+        // single places next to each other
+        (
+            &[(Kind::Place, 5, 5, 1), (Kind::Place, 4, 4, 1)],
+            "1:4-4:1 1:5-5:1 ",
+        ),
+        // another last token, another kind, and a repeat
+        (
+            &[
+                (Kind::Place, 3, 3, 2),
+                (Kind::Place, 3, 3, 1),
+                (Kind::End, 3, 3, 1),
+                (Kind::Place, 3, 3, 2),
+            ],
+            "0:3-3:1 1:3-3:1 1:3-3:2 ",
+        ),
+    ];
+    for (listed, want) in table {
+        let all = joined(spans(alloc, listed)?);
+        assert_eq!(rt; shown(alloc, &all)?.as_str(), *want);
+    }
+    Ok(())
+}
+
+/// So many spans, each within the one before and of a lesser last token.
+fn nested(alloc: Global, count: u32) -> Result<Vec<PlaceSpan>, AllocError>
+    ensures ordered { IfOk result (λ all. All (λ s. s.low ≤ s.high) all.items) }
+    ensures bounded { IfOk result (λ all. All (λ s. s.high < usize.MAX) all.items) }
+{
+    let mut all = Vec::new(alloc);
+    for low in 0..count {
+        let below = (count - low) as usize;
+        let span = PlaceSpan {
+            low: low as usize,
+            high: count as usize + below,
+            last: below,
+            kind: Kind::Letters,
+        };
+        all.push(span)?;
+    }
+    Ok(all)
+}
+
+/// So many spans of one length, each a place after the one before and of a greater last token.
+fn shifted(alloc: Global, count: u32) -> Result<Vec<PlaceSpan>, AllocError>
+    ensures ordered { IfOk result (λ all. All (λ s. s.low ≤ s.high) all.items) }
+    ensures bounded { IfOk result (λ all. All (λ s. s.high < usize.MAX) all.items) }
+{
+    let mut all = Vec::new(alloc);
+    for low in 0..count {
+        let low = low as usize;
+        let span = PlaceSpan {
+            low,
+            high: low + count as usize,
+            last: low,
+            kind: Kind::Letters,
+        };
+        all.push(span)?;
+    }
+    Ok(all)
+}
+
+#[test]
+fn long_lists_end_soon(rt: HostRuntime) -> Result<(), Fail> {
+    let alloc = rt.alloc();
+    let count = 100_000;
+    let least = with_least_last(alloc, nested(alloc, count)?)?;
+    assert_eq!(rt; least.len(), 199_999);
+    let least = with_least_last(alloc, shifted(alloc, count)?)?;
+    assert_eq!(rt; least.len(), 100_000);
+    Ok(())
+}
