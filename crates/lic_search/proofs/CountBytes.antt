@@ -1,0 +1,113 @@
+-- Bytes that begin characters, and how many of them stand between two places.
+use Rattle.std.proofs.Common.{◌≡◌, ℕ, suc, ◌+◌, ◌-◌, ◌/◌, ◌%◌, ◌<◌, ◌≤◌, Bool, true, false, cond, ltb, List, [], ◌∷◌, ◌++◌, length, get_or, take, drop, refl, ap, ◌∙◌, arith, count_by, slice_range, length-take, drop-cons, take-add, ltb-true, mod-lt, lit<}
+use Rattle.std.proofs.lemmas.Bool.Decides.{nat_tests}
+use Rattle.std.proofs.lemmas.List.{drop-drop}
+use Rattle.std.proofs.lemmas.List.Sums.{sum_by-append, sum_by-cons, count_by-le-length}
+use Rattle.std.specs.Char.{encode_utf8}
+use Rattle.std.specs.Str.{encode_utf8_all}
+use Rattle.lic_search.specs.Counts.{begins_character, letters_between}
+
+-- ---- one byte
+
+pub begins-ascii : (b : ℕ) → b < 128 → begins_character b ≡ true
+begins-ascii b h = grind (arith, nat_tests)
+
+pub begins-lead : (b : ℕ) → 192 ≤ b → begins_character b ≡ true
+begins-lead b h = grind (arith, nat_tests)
+
+pub begins-within : (b : ℕ) → 128 ≤ b → b < 192 → begins_character b ≡ false
+begins-within b h k = grind (arith, nat_tests)
+
+next-false : (n : ℕ) → begins_character (128 + n % 64) ≡ false
+next-false n = let m : n % 64 < 64 = mod-lt n (lit< tt) in begins-within (128 + n % 64) (omega arith) (omega arith)
+
+-- ---- lists of bytes
+
+abbrev pub as_count : Bool → ℕ
+as_count b = cond b 1 0
+
+count-yes : (b : ℕ) (bs : List ℕ) → begins_character b ≡ true → count_by begins_character (b ∷ bs) ≡ suc (count_by begins_character bs)
+count-yes b bs h =
+    let e = sum_by-cons (λ x. cond (begins_character x) 1 0) b bs in
+    let f : as_count (begins_character b) ≡ as_count true = ap as_count h in
+    omega (arith, e, f)
+
+count-not : (b : ℕ) (bs : List ℕ) → begins_character b ≡ false → count_by begins_character (b ∷ bs) ≡ count_by begins_character bs
+count-not b bs h =
+    let e = sum_by-cons (λ x. cond (begins_character x) 1 0) b bs in
+    let f : as_count (begins_character b) ≡ as_count false = ap as_count h in
+    omega (arith, e, f)
+
+pub count-append : (xs ys : List ℕ) → count_by begins_character (xs ++ ys) ≡ count_by begins_character xs + count_by begins_character ys
+count-append xs ys = sum_by-append (λ x. cond (begins_character x) 1 0) xs ys
+
+-- one byte of a character begins it
+pub count-encode : (c : ℕ) → count_by begins_character (encode_utf8 c) ≡ 1
+unfolding encode_utf8
+count-encode c = by_size (ltb c 128) (ltb c 2048) (ltb c 65536) refl
+  where
+    last : count_by begins_character ((128 + c % 64) ∷ []) ≡ 0
+    last = count-not (128 + c % 64) [] (next-false c)
+
+    two : (n : ℕ) → count_by begins_character ((128 + n % 64) ∷ (128 + c % 64) ∷ []) ≡ 0
+    two n = count-not (128 + n % 64) ((128 + c % 64) ∷ []) (next-false n) ∙ last
+
+    three : (m n : ℕ) → count_by begins_character ((128 + m % 64) ∷ (128 + n % 64) ∷ (128 + c % 64) ∷ []) ≡ 0
+    three m n = count-not (128 + m % 64) ((128 + n % 64) ∷ (128 + c % 64) ∷ []) (next-false m) ∙ two n
+
+    first : (b : ℕ) (bs : List ℕ) → 192 ≤ b → count_by begins_character bs ≡ 0 → count_by begins_character (b ∷ bs) ≡ 1
+    first b bs h none = count-yes b bs (begins-lead b h) ∙ ap suc none
+
+    by_size : (x y z : Bool) → ltb c 128 ≡ x
+        → count_by begins_character (cond x (c ∷ [])
+        (cond y ((192 + c / 64) ∷ (128 + c % 64) ∷ [])
+        (cond z ((224 + c / 4096) ∷ (128 + c / 64 % 64) ∷ (128 + c % 64) ∷ [])
+        ((240 + c / 262144) ∷ (128 + c / 4096 % 64) ∷ (128 + c / 64 % 64) ∷ (128 + c % 64) ∷ [])))) ≡ 1
+    by_size true y z h = count-yes c [] (begins-ascii c (ltb-true c 128 h))
+    by_size false true z h = first (192 + c / 64) ((128 + c % 64) ∷ []) (omega arith) last
+    by_size false false true h = first (224 + c / 4096) ((128 + c / 64 % 64) ∷ (128 + c % 64) ∷ []) (omega arith) (two (c / 64))
+    by_size false false false h =
+        first (240 + c / 262144) ((128 + c / 4096 % 64) ∷ (128 + c / 64 % 64) ∷ (128 + c % 64) ∷ []) (omega arith)
+        (three (c / 4096) (c / 64))
+
+-- as many begin as there are characters
+pub count-encodes : (cs : List ℕ) → count_by begins_character (encode_utf8_all cs) ≡ length cs
+count-encodes [] = refl
+count-encodes (c ∷ cs) =
+    let e = count-append (encode_utf8 c) (encode_utf8_all cs) in
+    omega (arith, e, count-encode c, count-encodes cs)
+
+-- ---- between two places
+
+pub slice-split : (bs : List ℕ) (p r q : ℕ) → p ≤ r → r ≤ q → slice_range bs p q ≡ slice_range bs p r ++ slice_range bs r q
+slice-split bs p r q h k =
+    let whole : q - p ≡ (r - p) + (q - r) = omega arith in
+    let back : p + (r - p) ≡ r = omega arith in
+    ap (λ n. take n (drop p bs)) whole ∙ take-add (r - p) (q - r) (drop p bs)
+    ∙ ap (λ l. take (r - p) (drop p bs) ++ take (q - r) l) (drop-drop (r - p) p bs ∙ ap (λ n. drop n bs) back)
+
+pub between-split : (bs : List ℕ) (p r q : ℕ) → p ≤ r → r ≤ q → letters_between bs p q ≡ letters_between bs p r + letters_between bs r q
+between-split bs p r q h k =
+    ap (count_by begins_character) (slice-split bs p r q h k) ∙ count-append (slice_range bs p r) (slice_range bs r q)
+
+pub between-none : (bs : List ℕ) (p : ℕ) → letters_between bs p p ≡ 0
+between-none bs p = let e : p - p ≡ 0 = omega arith in ap (λ n. count_by begins_character (take n (drop p bs))) e
+
+pub between-one : (bs : List ℕ) (p : ℕ) → p < length bs → letters_between bs p (suc p) ≡ cond (begins_character (get_or bs p 0)) 1 0
+between-one bs p h =
+    let e : suc p - p ≡ 1 = omega arith in
+    let byte = get_or bs p 0 in
+    let last : count_by begins_character (byte ∷ []) ≡ as_count (begins_character byte) =
+    omega (arith, sum_by-cons (λ x. cond (begins_character x) 1 0) byte []) in
+    ap (λ n. count_by begins_character (take n (drop p bs))) e
+    ∙ ap (λ l. count_by begins_character (take 1 l)) (drop-cons bs p 0 h)
+    ∙ last
+
+pub between-one_at_most : (bs : List ℕ) (p : ℕ) → letters_between bs p (suc p) ≤ 1
+between-one_at_most bs p =
+    let e : suc p - p ≡ 1 = omega arith in
+    omega (arith, length-take (suc p - p) (drop p bs), count_by-le-length begins_character (slice_range bs p (suc p)))
+
+-- no more from a later place
+pub between-fewer : (bs : List ℕ) (p r q : ℕ) → p ≤ r → r ≤ q → letters_between bs r q ≤ letters_between bs p q
+between-fewer bs p r q h k = omega (arith, between-split bs p r q h k)

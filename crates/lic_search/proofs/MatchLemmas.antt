@@ -1,0 +1,96 @@
+-- From where going back over a whole expression begins to the least ranges that it describes.
+use Rattle.std.proofs.Common.{◌≡◌, ◌⊎◌, inl, inr, ℕ, zero, suc, ◌+◌, ◌-◌, ◌<◌, ◌≤◌, List, [], length, map, drop, refl, ap, ◌∙◌, subst, arith, slice_range}
+use Rattle.std.specs.List.{Contains}
+use Rattle.std.specs.Str.{chars}
+use Rattle.std.proofs.lemmas.Bool.{cases_lt}
+use Rattle.std.proofs.lemmas.List.{length-drop, length-map, length-take}
+use Rattle.lic_words.specs.Expressions.{Expression, Language}
+use Rattle.lic_norm.specs.Tokens.{TokenValue}
+use Rattle.lic_norm.specs.Places.{place_end}
+use Rattle.lic_places.specs.Places.{AreTexts, IsBehindBlank, spelling_of}
+use Rattle.lic_places.specs.Reads.{BeginsAt, Reads, ReadsTokens}
+use Rattle.lic_spans.specs.declared.span.Kind.{Kind}
+use Rattle.lic_spans.specs.declared.span.Kind.TheVariants.{End, Place, Letters, Blanks}
+use Rattle.lic_spans.specs.declared.span.PlaceSpan.{PlaceSpan}
+use Rattle.lic_search.specs.declared.range.Range.{Range}
+use Rattle.lic_search.specs.PlaceSets.{ArePlaced, IsPlaceOf, LiesInFront, Reaches}
+use Rattle.lic_search.specs.Backward.{Beats, IsBackFrom}
+use Rattle.lic_search.specs.Matches.{HasLeastRanges}
+use Rattle.lic_search.proofs.Laws.{a_blank_leads_one_way-order, a_spelling_is_read_from_token_to_token, no_blank-end}
+use Rattle.lic_search.proofs.ViewPlaces.{ends-order, start-after, starts-after}
+
+-- a place in front of the end of its last token, or at it where nothing was taken
+placed-in-front : (tokens : List TokenValue) (kind : Kind) (number p last : ℕ) → LiesInFront tokens kind number last → IsPlaceOf tokens kind number p
+    → (p < place_end tokens last) ⊎ (p ≡ place_end tokens last)
+placed-in-front tokens End number p last front place = inr (place ∙ front)
+placed-in-front tokens Place number p last front place = inl (omega (arith, front.0))
+placed-in-front tokens Letters number p last front place = inl (omega (arith, place.0))
+placed-in-front tokens Blanks number p last front place = inl (omega (arith, a_blank_leads_one_way-order tokens p number place.1))
+
+-- no token begins before the tokens before it end
+begins-after : (tokens : List TokenValue) (before first p : ℕ) → AreTexts tokens → before < first → first < length tokens → BeginsAt tokens first p
+    → place_end tokens before ≤ p
+begins-after tokens before first p texts below within (inl at) = omega (arith, starts-after tokens before first texts below within)
+begins-after tokens before zero p texts below within (inr after) = absurd (omega arith)
+begins-after tokens before (suc k) p texts below within (inr after) =
+    let next = start-after tokens k texts within in
+    let ends = ends-order tokens before k texts (omega arith) (omega arith) in
+    elim (cases_lt p (place_end tokens k)) [
+      | inl less ↦
+          let same : suc p ≡ place_end tokens k = omega (arith, after.0) in
+          absurd (no_blank-end tokens k texts (omega arith) (subst (IsBehindBlank (spelling_of tokens)) same after.1))
+      | inr le ↦ omega arith
+    ]
+
+-- the last token that beats another is no earlier than the first
+beats-after : (tokens : List TokenValue) (begins : List PlaceSpan) (p first last other : ℕ) → AreTexts tokens → ArePlaced tokens begins
+    → first < length tokens → first ≤ last → BeginsAt tokens first p → Beats tokens p other last → Reaches tokens begins p other → first ≤ other
+beats-after tokens begins p first last other texts placed within order at beats reached =
+    elim (cases_lt other first) [
+      | inl below ↦
+          let after = begins-after tokens other first p texts below within at in
+          let front = placed.front reached.kind reached.number other reached.holds in
+          elim (placed-in-front tokens reached.kind reached.number p other front reached.place) [
+            | inl less ↦ absurd (omega arith)
+            | inr same ↦ omega (arith, beats.taken same)
+          ]
+      | inr le ↦ le
+    ]
+
+-- the texts of some tokens are not none
+some-texts : (tokens : List TokenValue) (first last : ℕ) → first ≤ last → last < length tokens
+    → map (λ t. chars t.text) (slice_range tokens first (last + 1)) ≡ [] → ⊥
+some-texts tokens first last order within none =
+    let text_of = λ (t : TokenValue). chars t.text in
+    let count = length-map (slice_range tokens first (last + 1)) text_of in
+    let none_long : length (map text_of (slice_range tokens first (last + 1))) ≡ 0 = ap length none in
+    absurd (omega (arith, count, none_long, length-take ((last + 1) - first) (drop first tokens), length-drop first tokens))
+
+-- The least ranges of an expression, from where going back over it from the ends of all tokens begins.
+pub least-ranges : (tokens : List TokenValue) (expression : Expression) (begins : List PlaceSpan) (found : List Range) → AreTexts tokens
+    → IsBackFrom tokens (Language expression) (λ q last. (last < length tokens) × (q ≡ place_end tokens last)) begins
+    → ((range : Range) → Contains found range
+    → (range.first ≤ range.last) × ((p : ℕ) × Reaches tokens begins p range.last × BeginsAt tokens range.first p))
+    → ((p first last : ℕ) → Reaches tokens begins p last → BeginsAt tokens first p → first ≤ last
+    → (range : Range) × Contains found range × (first ≤ range.first) × (range.last ≤ last))
+    → HasLeastRanges tokens expression found
+least-ranges tokens expression begins found texts back sound within = record {
+  sound = λ range among.
+      let at = sound range among in
+      let led = back.sound at.1.0 range.last at.1.1 in
+      let inside : range.last < length tokens = led.1.0 in
+      let reads : ReadsTokens tokens range.first led.2 range.last = (at.1.0, at.1.2, subst (Reads tokens at.1.0 led.2) led.1.1 led.4) in
+      let spells = (a_spelling_is_read_from_token_to_token tokens range.first range.last led.2 texts at.0 inside).1 reads in
+      record {
+        order = at.0;
+        within = inside;
+        described = (some-texts tokens range.first range.last at.0 inside, led.2, led.3, spells);
+      };
+  within = λ range is.
+      let word = is.described.1 in
+      let reads = (a_spelling_is_read_from_token_to_token tokens range.first range.last word texts is.order is.within).0 is.described.3 in
+      let other = back.complete reads.0 (place_end tokens range.last) range.last word (is.within, refl) is.described.2 reads.2 in
+      let first = beats-after tokens begins reads.0 range.first range.last other.0 texts back.placed (omega (arith, is.order, is.within)) is.order reads.1 other.1 other.2 in
+      let least = within reads.0 range.first other.0 other.2 reads.1 first in
+      (least.0, least.1, least.2, omega (arith, least.3, other.1.least));
+}

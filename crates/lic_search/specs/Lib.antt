@@ -1,0 +1,9 @@
+pub mod Views
+pub mod PlaceSets
+pub mod Backward
+pub mod Plain
+pub mod Counts
+pub mod Matches
+pub mod Beginnings
+pub mod Texts
+pub mod Windows

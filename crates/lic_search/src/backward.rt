@@ -1,0 +1,99 @@
+//! Going back over the parts of a template, from the last part to the first.
+
+ghost use Rattle.std.specs.Prelude.{IfOk, IsTrue, map};
+ghost use Rattle.lic_ere.specs.Trees.{tree_of};
+ghost use Rattle.lic_words.specs.Expressions.{Language, alt, empty, tidy};
+ghost use Rattle.lic_markup.specs.Meaning.{parts_words, part_words, tree_words};
+ghost use Rattle.lic_markup.specs.Parts.{part_of, row};
+ghost use Rattle.lic_markup.specs.PartTexts.{HasPieceTexts, HavePieceTexts};
+ghost use Rattle.lic_search.specs.Backward.{IsBack};
+ghost use Rattle.lic_search.specs.Plain.{are_plain, counts_any, is_plain};
+ghost use Rattle.lic_search.specs.PlaceSets.{ArePlaced};
+
+use crate::counts::over_any;
+use crate::least::least;
+use crate::texts::over_text;
+use crate::view::{View, tokens_have_texts};
+use lic_ere::Ere;
+use lic_markup::Part;
+use lic_spans::span::PlaceSpan;
+use std::alloc::{AllocError, Global};
+
+/// The places from which a word of the parts leads to those of the spans.
+#[cycle(backward)]
+pub(crate) fn over_parts(
+    alloc: Global,
+    view: &View<'_>,
+    parts: &[Part],
+    spans: Vec<PlaceSpan>,
+) -> Result<Vec<PlaceSpan>, AllocError>
+    requires plain { IsTrue (are_plain (row (map part_of parts.now))) }
+    requires texts { HavePieceTexts (row (map part_of parts.now)) }
+    requires placed { ArePlaced view.now spans.items }
+    ensures { IfOk result (λ found. IsBack view.now (Language (parts_words (map part_of parts.now))) spans.items found.items) }
+{
+    let mut spans = spans;
+    for number in (0..parts.len()).rev() {
+        spans = over_part(alloc, view, &parts[number], spans)?;
+    }
+    Ok(spans)
+}
+
+// The places from which a word of a part leads to those of the spans.
+#[cycle(backward)]
+fn over_part(
+    alloc: Global,
+    view: &View<'_>,
+    part: &Part,
+    spans: Vec<PlaceSpan>,
+) -> Result<Vec<PlaceSpan>, AllocError>
+    requires plain { IsTrue (is_plain (part_of part.now)) }
+    requires texts { HasPieceTexts (part_of part.now) }
+    requires placed { ArePlaced view.now spans.items }
+    ensures { IfOk result (λ found. IsBack view.now (Language (part_words part.now)) spans.items found.items) }
+{
+    match part {
+        Part::Text(text) => over_text(alloc, view, text, spans),
+        Part::Var { ere, .. } => over_pattern(alloc, view, ere, spans),
+        Part::Optional(parts) => over_optional(alloc, view, parts, spans),
+    }
+}
+
+// The places of the spans themselves, and those from which a word of the parts leads to them.
+#[cycle(backward)]
+fn over_optional(
+    alloc: Global,
+    view: &View<'_>,
+    parts: &[Part],
+    spans: Vec<PlaceSpan>,
+) -> Result<Vec<PlaceSpan>, AllocError>
+    requires plain { IsTrue (are_plain (row (map part_of parts.now))) }
+    requires texts { HavePieceTexts (row (map part_of parts.now)) }
+    requires placed { ArePlaced view.now spans.items }
+    ensures { IfOk result (λ found. IsBack view.now
+        (Language (alt empty (parts_words (map part_of parts.now)))) spans.items found.items) }
+{
+    tokens_have_texts(view);
+    let mut all = Vec::from_slice(alloc, &spans)?;
+    let mut more = over_parts(alloc, view, parts, spans)?;
+    all.append(&mut more)?;
+    Ok(least(alloc, view, all)?)
+}
+
+// The places from which a tidy word of a pattern that counts letters leads to those of the spans.
+fn over_pattern(
+    alloc: Global,
+    view: &View<'_>,
+    ere: &Ere,
+    spans: Vec<PlaceSpan>,
+) -> Result<Vec<PlaceSpan>, AllocError>
+    requires plain { IsTrue (counts_any (tree_of ere.now)) }
+    requires placed { ArePlaced view.now spans.items }
+    ensures { IfOk result (λ found. IsBack view.now (Language (tidy (tree_words (tree_of ere.now)))) spans.items found.items) }
+{
+    match ere {
+        Ere::Any => Ok(over_any(alloc, view, 1, Some(1), spans)?),
+        Ere::Repeat { min, max, .. } => Ok(over_any(alloc, view, *min, *max, spans)?),
+        Ere::Empty | Ere::Char(_) | Ere::Set(_) | Ere::Cat(_) | Ere::Alt(_) => unreachable!(),
+    }
+}

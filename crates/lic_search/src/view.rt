@@ -1,0 +1,176 @@
+//! A text in canonical spelling, and where its tokens stand in it.
+
+ghost use Rattle.std.specs.Prelude.{◌≡◌, ◌<◌, ◌≤◌, ◌↔◌, ℕ, IsTrue, length, MatchOption};
+ghost use Rattle.std.specs.Str.{IsAscii};
+ghost use Rattle.lic_norm.specs.Places.{IsTokenEnd, place_end, place_start};
+ghost use Rattle.lic_places.specs.Places.{AreTexts, IsBehindBlank, OverBlank, is_blank_at, spelling_of};
+ghost use Rattle.lic_search.specs.PlaceSets.{IsLetterPlace};
+ghost use Rattle.lic_search.specs.Views.{IsFirstFrom};
+
+use lic_norm::laws::{tokens_are_token_texts, tokens_are_utf8};
+use lic_norm::text::Text;
+use std::marker::Model;
+
+/// A text in canonical spelling. A place is a number of bytes of it.
+#[derive(Debug, Drop)]
+pub struct View<'t> {
+    text: &'t Text,
+    bytes: &'t [u8],
+    is_ascii: bool,
+}
+
+impl<'t> Model for View<'t> {
+    ghost use Rattle.std.specs.Prelude.{◌≡◌, IsTrue, List};
+    ghost use Rattle.std.specs.Str.{IsAscii};
+    ghost use Rattle.lic_norm.specs.Tokens.{TokenValue};
+    ghost use Rattle.lic_places.specs.Places.{AreTexts, spelling_of};
+
+    ghost Value = { List TokenValue };
+
+    ghost view = { λ v. v.text.now.tokens };
+
+    ghost invariant = { λ v. AreTexts v.text.now.tokens
+        × (v.bytes.now ≡ spelling_of v.text.now.tokens)
+        × (IsTrue v.is_ascii → IsAscii v.bytes.now) };
+}
+
+impl<'t> View<'t> {
+    /// The text in canonical spelling.
+    pub fn new(text: &'t Text) -> View<'t>
+        ensures { result ≡ text.now.tokens }
+    {
+        tokens_are_utf8(text);
+        tokens_are_token_texts(text);
+        let letters = text.spelled();
+        View {
+            text,
+            bytes: letters.as_bytes(),
+            is_ascii: letters.is_ascii(),
+        }
+    }
+}
+
+impl View<'_> {
+    /// How many tokens there are.
+    pub fn len(&self) -> usize
+        ensures { result ≡ length self.now }
+    {
+        self.text.len()
+    }
+
+    /// The bytes of the canonical spelling.
+    pub fn bytes(&self) -> &[u8]
+        ensures { result.now ≡ spelling_of self.now }
+    {
+        self.bytes
+    }
+
+    /// Whether all bytes of the canonical spelling are known to be ASCII.
+    pub fn is_ascii(&self) -> bool
+        ensures { IsTrue result → IsAscii (spelling_of self.now) }
+    {
+        self.is_ascii
+    }
+
+    /// The place at which the token number `i` ends.
+    pub fn end(&self, i: usize) -> usize
+        requires { i < length self.now }
+        ensures { result ≡ place_end self.now i }
+    {
+        self.text.place(i).end
+    }
+
+    /// The place at which the token number `i` begins.
+    pub fn start(&self, i: usize) -> usize
+        requires { i < length self.now }
+        ensures { result ≡ place_start self.now i }
+    {
+        self.text.place(i).start
+    }
+
+    /// Whether a blank stands at a place.
+    pub fn is_blank(&self, place: usize) -> bool
+        ensures { result ≡ is_blank_at (spelling_of self.now) place }
+    {
+        place < self.bytes.len() && self.bytes[place] == b' '
+    }
+
+    /// Whether a blank stands in front of a place.
+    pub fn is_behind_blank(&self, place: usize) -> bool
+        ensures { IsTrue result ↔ IsBehindBlank (spelling_of self.now) place }
+    {
+        place > 0 && self.is_blank(place - 1)
+    }
+
+    /// The first token that ends at a place or after it.
+    pub fn first_ending_from(&self, place: usize) -> usize
+        ensures { IsFirstFrom (place_end self.now) (length self.now) place result }
+    {
+        tokens_have_texts(self);
+        let mut low = 0;
+        let mut high = self.len();
+        while low < high {
+            let middle = low + (high - low) / 2;
+            if self.end(middle) < place {
+                low = middle + 1;
+            } else {
+                high = middle;
+            }
+        }
+        low
+    }
+
+    /// The first token that begins at a place or after it.
+    pub fn first_beginning_from(&self, place: usize) -> usize
+        ensures { IsFirstFrom (place_start self.now) (length self.now) place result }
+    {
+        tokens_have_texts(self);
+        let token = self.first_ending_from(place);
+        if token < self.len() && self.start(token) < place {
+            token + 1
+        } else {
+            token
+        }
+    }
+
+    /// Whether a token ends at a place.
+    pub fn is_token_end(&self, place: usize) -> bool
+        ensures { IsTrue result ↔ IsTokenEnd self.now place }
+    {
+        tokens_have_texts(self);
+        let token = self.first_ending_from(place);
+        token < self.len() && self.end(token) == place
+    }
+
+    /// Where a blank leads from the place before which it is to stand: over a blank of the text, nowhere, or there is no such place.
+    pub fn over_blank(&self, place: usize) -> Option<usize>
+        ensures { MatchOption result ((p : ℕ) → ¬ (OverBlank self.now p place))
+            (λ p. OverBlank self.now p place) }
+    {
+        if self.is_behind_blank(place) {
+            return Some(place - 1);
+        }
+        if place == 0 || self.is_blank(place) || self.is_token_end(place) {
+            return Some(place);
+        }
+        None
+    }
+
+    /// Whether a letter begins at a place, or the text ends there.
+    pub fn is_letter_place(&self, place: usize) -> bool
+        requires { place ≤ length (spelling_of self.now) }
+        ensures { IsTrue result ↔ IsLetterPlace self.now place }
+    {
+        match self.bytes.get(place) {
+            None => true,
+            Some(byte) => *byte != b' ' && (*byte < 0x80 || *byte >= 0xC0),
+        }
+    }
+}
+
+/// The texts of tokens are in UTF-8, and none is empty.
+pub fn tokens_have_texts(view: &View<'_>)
+    ensures { AreTexts view.now }
+{
+    let _ = &view.text;
+}
