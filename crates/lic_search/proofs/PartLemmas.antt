@@ -11,24 +11,8 @@ use Rattle.lic_places.specs.Places.{AreTexts}
 use Rattle.lic_spans.specs.declared.span.PlaceSpan.{PlaceSpan}
 use Rattle.lic_markup.specs.PartTexts.{HasPieceTexts, HavePieceTexts}
 use Rattle.lic_search.specs.PlaceSets.{ArePlaced, Reaches}
-use Rattle.lic_search.specs.Plain.{are_plain, is_plain}
 use Rattle.lic_search.specs.Backward.{IsBack, IsBackFrom, KeepsLeast}
 use Rattle.lic_search.proofs.Back.{back-after, back-either, back-least, back-same, back-stay}
-
--- both tests of a pair
-pub and-left : (a b : Bool) → IsTrue (a && b) → IsTrue a
-and-left true b is = refl
-and-left false b is = is
-
-pub and-right : (a b : Bool) → IsTrue (a && b) → IsTrue b
-and-right true b is = is
-and-right false b is = cc
-
--- each of some plain parts is plain
-pub plain-at : (parts : List Part) (i : ℕ) (d : Part) → i < length parts → IsTrue (are_plain (row (map part_of parts))) → IsTrue (is_plain (part_of (get_or parts i d)))
-plain-at [] i d below plain = absurd (omega arith)
-plain-at (p ∷ ps) zero d below plain = and-left (is_plain (part_of p)) (are_plain (row (map part_of ps))) plain
-plain-at (p ∷ ps) (suc i) d below plain = plain-at ps i d (omega arith) (and-right (is_plain (part_of p)) (are_plain (row (map part_of ps))) plain)
 
 -- the texts of each of some parts are those of pieces
 pub texts-at : (parts : List Part) (i : ℕ) (d : Part) → i < length parts → HavePieceTexts (row (map part_of parts)) → HasPieceTexts (part_of (get_or parts i d))

@@ -1,9 +1,15 @@
 pub mod Views
 pub mod PlaceSets
 pub mod Backward
-pub mod Plain
 pub mod Counts
 pub mod Matches
 pub mod Beginnings
 pub mod Texts
 pub mod Windows
+pub mod Fresh
+pub mod Passing
+pub mod PassingPlaces
+pub mod Reached
+pub mod Runs
+pub mod Tidily
+pub mod LeastMatches

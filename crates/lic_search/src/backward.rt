@@ -1,17 +1,17 @@
 //! Going back over the parts of a template, from the last part to the first.
 
-ghost use Rattle.std.specs.Prelude.{IfOk, IsTrue, map};
-ghost use Rattle.lic_ere.specs.Trees.{tree_of};
+ghost use Rattle.std.specs.Prelude.{◌≡◌, IfOk, IsTrue, map};
+ghost use Rattle.lic_ere.specs.Trees.{any, tree_of};
 ghost use Rattle.lic_words.specs.Expressions.{Language, alt, empty, tidy};
 ghost use Rattle.lic_markup.specs.Meaning.{parts_words, part_words, tree_words};
 ghost use Rattle.lic_markup.specs.Parts.{part_of, row};
 ghost use Rattle.lic_markup.specs.PartTexts.{HasPieceTexts, HavePieceTexts};
 ghost use Rattle.lic_search.specs.Backward.{IsBack};
-ghost use Rattle.lic_search.specs.Plain.{are_plain, counts_any, is_plain};
 ghost use Rattle.lic_search.specs.PlaceSets.{ArePlaced};
 
 use crate::counts::over_any;
 use crate::least::least;
+use crate::patterns::over_pattern;
 use crate::texts::over_text;
 use crate::view::{View, tokens_have_texts};
 use lic_ere::Ere;
@@ -27,7 +27,6 @@ pub(crate) fn over_parts(
     parts: &[Part],
     spans: Vec<PlaceSpan>,
 ) -> Result<Vec<PlaceSpan>, AllocError>
-    requires plain { IsTrue (are_plain (row (map part_of parts.now))) }
     requires texts { HavePieceTexts (row (map part_of parts.now)) }
     requires placed { ArePlaced view.now spans.items }
     ensures { IfOk result (λ found. IsBack view.now (Language (parts_words (map part_of parts.now))) spans.items found.items) }
@@ -47,14 +46,13 @@ fn over_part(
     part: &Part,
     spans: Vec<PlaceSpan>,
 ) -> Result<Vec<PlaceSpan>, AllocError>
-    requires plain { IsTrue (is_plain (part_of part.now)) }
     requires texts { HasPieceTexts (part_of part.now) }
     requires placed { ArePlaced view.now spans.items }
     ensures { IfOk result (λ found. IsBack view.now (Language (part_words part.now)) spans.items found.items) }
 {
     match part {
         Part::Text(text) => over_text(alloc, view, text, spans),
-        Part::Var { ere, .. } => over_pattern(alloc, view, ere, spans),
+        Part::Var { ere, .. } => over_variable(alloc, view, ere, spans),
         Part::Optional(parts) => over_optional(alloc, view, parts, spans),
     }
 }
@@ -67,7 +65,6 @@ fn over_optional(
     parts: &[Part],
     spans: Vec<PlaceSpan>,
 ) -> Result<Vec<PlaceSpan>, AllocError>
-    requires plain { IsTrue (are_plain (row (map part_of parts.now))) }
     requires texts { HavePieceTexts (row (map part_of parts.now)) }
     requires placed { ArePlaced view.now spans.items }
     ensures { IfOk result (λ found. IsBack view.now
@@ -80,20 +77,28 @@ fn over_optional(
     Ok(least(alloc, view, all)?)
 }
 
-// The places from which a tidy word of a pattern that counts letters leads to those of the spans.
-fn over_pattern(
+// The places from which a tidy word of a pattern leads to those of the spans.
+fn over_variable(
     alloc: Global,
     view: &View<'_>,
     ere: &Ere,
     spans: Vec<PlaceSpan>,
 ) -> Result<Vec<PlaceSpan>, AllocError>
-    requires plain { IsTrue (counts_any (tree_of ere.now)) }
-    requires placed { ArePlaced view.now spans.items }
+    requires { ArePlaced view.now spans.items }
     ensures { IfOk result (λ found. IsBack view.now (Language (tidy (tree_words (tree_of ere.now)))) spans.items found.items) }
 {
     match ere {
-        Ere::Any => Ok(over_any(alloc, view, 1, Some(1), spans)?),
-        Ere::Repeat { min, max, .. } => Ok(over_any(alloc, view, *min, *max, spans)?),
-        Ere::Empty | Ere::Char(_) | Ere::Set(_) | Ere::Cat(_) | Ere::Alt(_) => unreachable!(),
+        // mostly letters of any kind are counted
+        Ere::Repeat { body, min, max } if *min <= 1 && is_any(body) => {
+            Ok(over_any(alloc, view, *min, *max, spans)?)
+        }
+        _ => over_pattern(alloc, view, ere, spans),
     }
+}
+
+// Whether the pattern is one letter of any kind.
+fn is_any(ere: &Ere) -> bool
+    ensures { IsTrue result → tree_of ere.now ≡ any }
+{
+    matches!(ere, Ere::Any)
 }

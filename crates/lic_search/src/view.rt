@@ -4,9 +4,11 @@ ghost use Rattle.std.specs.Prelude.{◌≡◌, ◌<◌, ◌≤◌, ◌↔◌, �
 ghost use Rattle.std.specs.Str.{IsAscii};
 ghost use Rattle.lic_norm.specs.Places.{IsTokenEnd, place_end, place_start};
 ghost use Rattle.lic_places.specs.Places.{AreTexts, IsBehindBlank, OverBlank, is_blank_at, spelling_of};
+ghost use Rattle.lic_search.specs.Passing.{IsLetterBefore};
 ghost use Rattle.lic_search.specs.PlaceSets.{IsLetterPlace};
 ghost use Rattle.lic_search.specs.Views.{IsFirstFrom};
 
+use crate::last_letter::last_letter;
 use lic_norm::laws::{tokens_are_token_texts, tokens_are_utf8};
 use lic_norm::text::Text;
 use std::marker::Model;
@@ -70,6 +72,14 @@ impl View<'_> {
         ensures { IsTrue result → IsAscii (spelling_of self.now) }
     {
         self.is_ascii
+    }
+
+    /// Where the letter in front of a place begins, and this letter.
+    pub(crate) fn letter_before(&self, place: usize) -> Option<(usize, char)>
+        ensures { MatchOption result ((p c : ℕ) → ¬ (IsLetterBefore (spelling_of self.now) place p c))
+            (λ found. IsLetterBefore (spelling_of self.now) place found.0 found.1) }
+    {
+        last_letter(self.text.spelled(), place)
     }
 
     /// The place at which the token number `i` ends.

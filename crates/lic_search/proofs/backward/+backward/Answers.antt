@@ -1,14 +1,13 @@
-use Rattle.std.proofs.Common.{rules, ◌≡◌, ◌-◌, ◌<◌, ◌≤◌, ◌++◌, IsTrue, length, arith, sym, subst, ◌∙◌, ap}
+use Rattle.std.proofs.Common.{rules, ◌≡◌, ◌-◌, ◌<◌, ◌≤◌, ◌++◌, length, arith, sym, subst, ◌∙◌, ap}
 use Rattle.lic_words.specs.Expressions.{Language}
 use Rattle.lic_markup.specs.Meaning.{part_words}
 use Rattle.lic_markup.specs.declared.part.Part.{the_lemmas}
 use Rattle.lic_markup.specs.Parts.{part_of}
 use Rattle.lic_markup.specs.PartTexts.{HasPieceTexts}
 use Rattle.lic_search.specs.PlaceSets.{ArePlaced}
-use Rattle.lic_search.specs.Plain.{is_plain}
 use Rattle.lic_search.specs.Backward.{IsBack}
 use Rattle.lic_search.proofs.Placed.{ArePlaced-append}
-use Rattle.lic_search.proofs.PartLemmas.{parts-all, parts-last, parts-more, parts-optional, plain-at, texts-at}
+use Rattle.lic_search.proofs.PartLemmas.{parts-all, parts-last, parts-more, parts-optional, texts-at}
 use Rattle.lic_search.proofs.backward.+backward.Goals as goal
 
 pub over_optional-least-requires : goal.over_optional-least-requires
@@ -29,13 +28,9 @@ pub over_parts-over_part-requires : goal.over_parts-over_part-requires
 over_parts-over_part-requires t c = (
   search (rules, the_lemmas),
   (
-    subst (λ p. IsTrue (is_plain (part_of p))) (sym c.index-parts-number.is)
-        (plain-at c.args.parts.now (c.loop-number.number - 1) c.index-parts-number.result (omega (arith, c.loop-number.auto.number, c.loop-number-test.true)) c.requires.plain),
-    (
-      subst (λ p. HasPieceTexts (part_of p)) (sym c.index-parts-number.is)
-          (texts-at c.args.parts.now (c.loop-number.number - 1) c.index-parts-number.result (omega (arith, c.loop-number.auto.number, c.loop-number-test.true)) c.requires.texts),
-      c.loop-number.invariant.placed,
-    ),
+    subst (λ p. HasPieceTexts (part_of p)) (sym c.index-parts-number.is)
+        (texts-at c.args.parts.now (c.loop-number.number - 1) c.index-parts-number.result (omega (arith, c.loop-number.auto.number, c.loop-number-test.true)) c.requires.texts),
+    c.loop-number.invariant.placed,
   ),
 )
 

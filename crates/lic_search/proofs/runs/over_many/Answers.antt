@@ -1,0 +1,51 @@
+use Rattle.std.proofs.Common.{◌≡◌, ◌⊎◌, ◌<◌, ◌++◌, true, false, inl, inr, sym, ◌∙◌, arith}
+use Rattle.lic_words.specs.Words.{blank}
+use Rattle.lic_ere.specs.Trees.{tree_of}
+use Rattle.lic_search.specs.Passing.{passes_of}
+use Rattle.lic_search.specs.PlaceSets.{Reaches}
+use Rattle.lic_search.specs.Tidily.{UpTo, spans_of}
+use Rattle.lic_search.proofs.EreLemmas.{ok-changed, placed-joined}
+use Rattle.lic_search.proofs.TidyBack.{tidy-least}
+use Rattle.lic_search.proofs.TidyPassing.{IsOne}
+use Rattle.lic_search.proofs.TidyRuns.{many-blanks, many-letters}
+use Rattle.lic_search.proofs.runs.over_many.Goals as goal
+use Rattle.lic_search.proofs.runs.over_many.Goals.{then-count-eq0-via-then-count-eq0, then-count-eq0-via-else-count-eq0+then-not-passes}
+
+pub over_one_blank-requires : goal.over_one_blank-requires
+over_one_blank-requires c = c.in_ok-begun.ensures.placed
+
+pub least-requires : goal.least-requires
+least-requires c = c.in_ok-found.ensures.placed
+
+pub least-requires-2 : goal.least-requires-2
+least-requires-2 c =
+    placed-joined c.args.view.now (spans_of c.in_ok-found.found) (spans_of c.in_ok-over_one_blank.field-0) (spans_of c.append.new.self)
+    c.in_ok-append.ensures c.in_ok-found.ensures.placed c.in_ok-over_one_blank.ensures.placed
+
+pub returns-then-count-eq0 : goal.returns-then-count-eq0
+returns-then-count-eq0 c =
+    let tokens = c.args.view.now in
+    let passes = passes_of (tree_of c.args.ere.now) in
+    let none : (passes blank ≡ false) ⊎ (c.args.count ≡ 0) =
+    elim c.then-count-eq0.branch [
+      | then-count-eq0-via-then-count-eq0 w ↦ inr w.if-count-eq0.true
+      | then-count-eq0-via-else-count-eq0+then-not-passes w ↦ inl (sym w.passes.ensures ∙ w.if-not-passes.true)
+    ] in
+    ok-changed _ _ c.least.result
+    (λ found least. tidy-least tokens (UpTo (IsOne passes) c.args.count) (λ s q l. Reaches tokens (spans_of c.args.ways.now s) q l)
+    (spans_of c.in_ok-found.found) (spans_of found)
+    (many-letters tokens passes c.args.count (spans_of c.args.ways.now) (spans_of c.in_ok-found.found) c.in_ok-found.ensures none) least)
+    c.least.ensures
+
+pub returns : goal.returns
+returns c =
+    let tokens = c.args.view.now in
+    let passes = passes_of (tree_of c.args.ere.now) in
+    let some : 0 < c.args.count = omega (arith, c.if-count-eq0.false) in
+    ok-changed _ _ c.least-2.result
+    (λ found least. tidy-least tokens (UpTo (IsOne passes) c.args.count) (λ s q l. Reaches tokens (spans_of c.args.ways.now s) q l)
+    (spans_of c.append.new.self) (spans_of found)
+    (many-blanks tokens passes c.args.count (spans_of c.args.ways.now) (spans_of c.in_ok-found.found) c.in_ok-found.ensures
+    (spans_of c.in_ok-begun.begun) (spans_of c.in_ok-over_one_blank.field-0) (spans_of c.append.new.self)
+    some (sym c.passes.ensures ∙ c.if-not-passes.false) c.in_ok-begun.ensures c.in_ok-over_one_blank.ensures c.in_ok-append.ensures) least)
+    c.least-2.ensures

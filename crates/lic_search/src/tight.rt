@@ -1,0 +1,72 @@
+//! The tight matches of a set's templates.
+
+ghost use Rattle.std.specs.Prelude.{◌≡◌, ◌<◌, List, length, IfOk, None};
+ghost use Rattle.lic_filters.specs.Filters.{tight_of};
+ghost use Rattle.lic_find.specs.Matches.{AreMatches};
+ghost use Rattle.lic_find.specs.declared.triple.Triple.{Triple};
+ghost use Rattle.lic_search.specs.LeastMatches.{AddsLeast, HasLeastMatches};
+
+use crate::search::least_ranges;
+use crate::view::View;
+use lic_auto::set::Set;
+use lic_filters::filters::tight;
+use lic_find::kept::kept_templates;
+use lic_find::triple::Triple;
+use lic_markup::laws::texts_are_those_of_pieces;
+use lic_norm::text::Text;
+use std::alloc::{AllocError, Global};
+
+/// The tight matches of a set's templates in a text, in the order of triples: the matches in whose range no other match of the same
+/// template lies (this project's profile).
+///
+/// Each template that can occur goes back over the text once, and gives matches of which one lies within each of its matches. So
+/// the tight ones of these are the tight ones of all.
+///
+/// # Errors
+///
+/// Fails if memory runs out.
+pub fn tight_matches(alloc: Global, set: &Set, text: &Text) -> Result<Vec<Triple>, AllocError>
+    ensures tight { IfOk result (λ found. (all : List Triple)
+        → AreMatches set.now text.now.tokens None all → found.items ≡ tight_of all) }
+{
+    let mut found = least_matches(alloc, set, text)?;
+    found.sort_unstable();
+    found.dedup();
+    tight(alloc, &found)
+}
+
+// Matches of the templates that can occur: within each match of the set lies one of them, of the same template.
+fn least_matches(alloc: Global, set: &Set, text: &Text) -> Result<Vec<Triple>, AllocError>
+    ensures { IfOk result (λ found. HasLeastMatches set.now text.now.tokens found.items) }
+{
+    let view = View::new(text);
+    let mut found = Vec::new(alloc);
+    let templates = kept_templates(alloc, set, text)?;
+    for number in &templates {
+        add_template(alloc, set, &view, *number, &mut found)?;
+    }
+    Ok(found)
+}
+
+// Adds matches of one template: within each of its matches lies one of them.
+fn add_template(
+    alloc: Global,
+    set: &Set,
+    view: &View<'_>,
+    number: usize,
+    found: &mut Vec<Triple>,
+) -> Result<(), AllocError>
+    requires { number < length set.now }
+    ensures { IfOk result (λ _. AddsLeast set.now view.now number found.old.items found.new.items) }
+{
+    let template = set.template(number);
+    texts_are_those_of_pieces(template);
+    let ranges = least_ranges(alloc, view, template.parts())?;
+    found.extend(
+        ranges.iter().map(|range| Triple {
+            first: range.first,
+            last: range.last,
+            template: number,
+        }),
+    )
+}
