@@ -12,3 +12,5 @@ pub mod laws;
 mod marks;
 mod table;
 mod tables;
+#[cfg(test)]
+mod tests;
