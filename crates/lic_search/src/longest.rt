@@ -10,13 +10,13 @@ use lic_markup::Part;
 
 /// The letters of a text of a template, without the blanks at its edges, and the number of the text among the parts.
 #[derive(Clone, Copy, Debug)]
-pub struct LongestText<'t> {
-    pub number: usize,
-    pub letters: &'t [u8],
+pub(crate) struct LongestText<'t> {
+    pub(crate) number: usize,
+    pub(crate) letters: &'t [u8],
 }
 
 /// The longest text of a template that stands outside optional parts, where there is one with letters.
-pub fn longest_text(parts: &[Part]) -> Option<LongestText<'_>>
+pub(crate) fn longest_text(parts: &[Part]) -> Option<LongestText<'_>>
     requires { HavePieceTexts (row (map part_of parts.now)) }
     ensures { MatchOption result ((number : ℕ) (letters : List ℕ) → ¬ HasLetters parts.now number letters)
         (λ text. HasLetters parts.now text.number text.letters.now) }

@@ -10,15 +10,36 @@ ghost use Rattle.lic_search.specs.Matches.{HasLeastRanges};
 ghost use Rattle.lic_search.specs.Windows.{HoldEnds};
 
 use crate::backward::over_parts;
+use crate::longest::longest_text;
 use crate::matches::{ranges_of, token_ends};
 use crate::range::Range;
 use crate::view::{View, tokens_have_texts};
 use crate::windows::candidate_ends;
+use lic_literals::ends::ends_within;
 use lic_markup::Part;
 use std::alloc::{AllocError, Global};
 
 /// Ranges of tokens that the parts of a template describe: within each range that they describe lies one of these.
-pub fn least_ranges(
+///
+/// The parts go back from the ends of tokens: from those within reach of the template's longest text where it has one, else from all.
+pub(crate) fn least_ranges(
+    alloc: Global,
+    view: &View<'_>,
+    parts: &[Part],
+) -> Result<Vec<Range>, AllocError>
+    requires { HavePieceTexts (row (map part_of parts.now)) }
+    ensures { IfOk result (λ found. HasLeastRanges view.now (parts_words (map part_of parts.now)) found.items) }
+{
+    let Some(text) = longest_text(parts) else {
+        return least_ranges_anywhere(alloc, view, parts);
+    };
+    let bytes = view.bytes();
+    let places = ends_within(alloc, bytes, text.letters, 0, bytes.len())?;
+    least_ranges_near(alloc, view, parts, text.number, &places)
+}
+
+// The same, from the ends of all tokens.
+fn least_ranges_anywhere(
     alloc: Global,
     view: &View<'_>,
     parts: &[Part],
@@ -32,8 +53,8 @@ pub fn least_ranges(
     Ok(ranges_of(alloc, view, &begins)?)
 }
 
-/// The same, where it is known at which places the text of this number ends: the places hold each of them.
-pub fn least_ranges_near(
+// The same, where it is known at which places the text of this number ends: the places hold each of them.
+fn least_ranges_near(
     alloc: Global,
     view: &View<'_>,
     parts: &[Part],

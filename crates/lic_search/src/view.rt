@@ -15,7 +15,7 @@ use std::marker::Model;
 
 /// A text in canonical spelling. A place is a number of bytes of it.
 #[derive(Debug, Drop)]
-pub struct View<'t> {
+pub(crate) struct View<'t> {
     text: &'t Text,
     bytes: &'t [u8],
     is_ascii: bool,
@@ -38,7 +38,7 @@ impl<'t> Model for View<'t> {
 
 impl<'t> View<'t> {
     /// The text in canonical spelling.
-    pub fn new(text: &'t Text) -> View<'t>
+    pub(crate) fn new(text: &'t Text) -> View<'t>
         ensures { result ≡ text.now.tokens }
     {
         tokens_are_utf8(text);
@@ -54,21 +54,21 @@ impl<'t> View<'t> {
 
 impl View<'_> {
     /// How many tokens there are.
-    pub fn len(&self) -> usize
+    pub(crate) fn len(&self) -> usize
         ensures { result ≡ length self.now }
     {
         self.text.len()
     }
 
     /// The bytes of the canonical spelling.
-    pub fn bytes(&self) -> &[u8]
+    pub(crate) fn bytes(&self) -> &[u8]
         ensures { result.now ≡ spelling_of self.now }
     {
         self.bytes
     }
 
     /// Whether all bytes of the canonical spelling are known to be ASCII.
-    pub fn is_ascii(&self) -> bool
+    pub(crate) fn is_ascii(&self) -> bool
         ensures { IsTrue result → IsAscii (spelling_of self.now) }
     {
         self.is_ascii
@@ -83,7 +83,7 @@ impl View<'_> {
     }
 
     /// The place at which the token number `i` ends.
-    pub fn end(&self, i: usize) -> usize
+    pub(crate) fn end(&self, i: usize) -> usize
         requires { i < length self.now }
         ensures { result ≡ place_end self.now i }
     {
@@ -91,7 +91,7 @@ impl View<'_> {
     }
 
     /// The place at which the token number `i` begins.
-    pub fn start(&self, i: usize) -> usize
+    pub(crate) fn start(&self, i: usize) -> usize
         requires { i < length self.now }
         ensures { result ≡ place_start self.now i }
     {
@@ -99,21 +99,21 @@ impl View<'_> {
     }
 
     /// Whether a blank stands at a place.
-    pub fn is_blank(&self, place: usize) -> bool
+    pub(crate) fn is_blank(&self, place: usize) -> bool
         ensures { result ≡ is_blank_at (spelling_of self.now) place }
     {
         place < self.bytes.len() && self.bytes[place] == b' '
     }
 
     /// Whether a blank stands in front of a place.
-    pub fn is_behind_blank(&self, place: usize) -> bool
+    pub(crate) fn is_behind_blank(&self, place: usize) -> bool
         ensures { IsTrue result ↔ IsBehindBlank (spelling_of self.now) place }
     {
         place > 0 && self.is_blank(place - 1)
     }
 
     /// The first token that ends at a place or after it.
-    pub fn first_ending_from(&self, place: usize) -> usize
+    pub(crate) fn first_ending_from(&self, place: usize) -> usize
         ensures { IsFirstFrom (place_end self.now) (length self.now) place result }
     {
         tokens_have_texts(self);
@@ -131,7 +131,7 @@ impl View<'_> {
     }
 
     /// The first token that begins at a place or after it.
-    pub fn first_beginning_from(&self, place: usize) -> usize
+    pub(crate) fn first_beginning_from(&self, place: usize) -> usize
         ensures { IsFirstFrom (place_start self.now) (length self.now) place result }
     {
         tokens_have_texts(self);
@@ -144,7 +144,7 @@ impl View<'_> {
     }
 
     /// Whether a token ends at a place.
-    pub fn is_token_end(&self, place: usize) -> bool
+    pub(crate) fn is_token_end(&self, place: usize) -> bool
         ensures { IsTrue result ↔ IsTokenEnd self.now place }
     {
         tokens_have_texts(self);
@@ -153,7 +153,7 @@ impl View<'_> {
     }
 
     /// Where a blank leads from the place before which it is to stand: over a blank of the text, nowhere, or there is no such place.
-    pub fn over_blank(&self, place: usize) -> Option<usize>
+    pub(crate) fn over_blank(&self, place: usize) -> Option<usize>
         ensures { MatchOption result ((p : ℕ) → ¬ (OverBlank self.now p place))
             (λ p. OverBlank self.now p place) }
     {
@@ -167,7 +167,7 @@ impl View<'_> {
     }
 
     /// Whether a letter begins at a place, or the text ends there.
-    pub fn is_letter_place(&self, place: usize) -> bool
+    pub(crate) fn is_letter_place(&self, place: usize) -> bool
         requires { place ≤ length (spelling_of self.now) }
         ensures { IsTrue result ↔ IsLetterPlace self.now place }
     {
@@ -179,7 +179,7 @@ impl View<'_> {
 }
 
 /// The texts of tokens are in UTF-8, and none is empty.
-pub fn tokens_have_texts(view: &View<'_>)
+pub(crate) fn tokens_have_texts(view: &View<'_>)
     ensures { AreTexts view.now }
 {
     let _ = &view.text;
