@@ -15,8 +15,7 @@ HEAD = """# Every file
 Made by `scripts/map/map.py` from the first lines of each file, crate by crate from the ground up, and then the scripts; the gate checks it. What
 the crates do together is said in [the map](ARCHITECTURE.md), what is proved of each in its own README.
 
-Left out are the files that hold the proof of one function (`Answers.antt`, `Invariants.antt`, in `proofs/MODULE/FUNCTION`) and do not
-begin with a comment, and data.
+Left out are the files that hold the proof of one function (`Answers.antt`, `Invariants.antt`, in `proofs/MODULE/FUNCTION`), and data.
 """
 # the folders of a crate, the ending of their files, and what begins a line that says what a file holds
 PARTS = (("src", ".rt", "//!"), ("specs", ".antt", "-- "), ("proofs", ".antt", "-- "))
@@ -75,7 +74,7 @@ def page():
         for part, ending, mark in PARTS:
             for file in files_of(f"{folder}/{part}", ending):
                 words = first_words(f"{folder}/{part}/{file}", mark)
-                if file in (top, "Lib.antt") or not words and os.path.basename(file) in OF_ONE_FUNCTION:
+                if file in (top, "Lib.antt") or os.path.basename(file) in OF_ONE_FUNCTION:
                     continue
                 if not words:
                     bare.append(f"crates/{name}/{part}/{file}")

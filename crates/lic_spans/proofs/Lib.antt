@@ -5,4 +5,3 @@ pub mod Advancing
 pub mod Heaps
 pub mod Sweeping
 pub mod Sorting
-pub mod Joining

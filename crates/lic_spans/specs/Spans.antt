@@ -54,11 +54,6 @@ is_continued_by before span =
 abbrev pub lengthened : PlaceSpan → ℕ → PlaceSpan
 lengthened span high = record { low = span.low; high = max span.high high; last = span.last; kind = span.kind }
 
--- Of two spans of one kind and one last token, the second begins after the first ends, and not next after it where the
--- kind has spans of many places.
-abbrev pub AreJoined : List PlaceSpan → Type 0
-AreJoined spans = AllPairs (λ before span. before.kind ≡ span.kind → before.last ≡ span.last → before.high + gap_of before.kind < span.low) spans
-
 -- whether another span has the kind of a span, all its places, and a last token that is no greater
 abbrev pub is_covered_by : PlaceSpan → PlaceSpan → Bool
 is_covered_by span by = rank by.kind == rank span.kind && (nat_le by.low span.low && (nat_le span.high by.high && nat_le by.last span.last))

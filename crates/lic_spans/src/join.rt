@@ -2,27 +2,11 @@
 
 ghost use Rattle.std.specs.Prelude.{◌≡◌, ◌+◌, ◌<◌, ◌≤◌, ◌⊎◌, ◌↔◌, ℕ, [], ◌∷◌, length, All, OnOk, if◌then◌else◌};
 ghost use Rattle.lic_spans.specs.declared.span.Kind.{Kind};
-ghost use Rattle.lic_spans.specs.Spans.{Holds, AreJoined, FitsKind, is_continued_by, lengthened};
+ghost use Rattle.lic_spans.specs.Spans.{Holds, FitsKind, is_continued_by, lengthened};
 ghost use Rattle.lic_spans.specs.Sweeps.{IsSettled};
 
 use crate::span::PlaceSpan;
 use std::alloc::AllocError;
-
-/// The same set, with no span twice and with spans of one kind and last token joined where they overlap or touch. Single
-/// places, of the kinds `End` and `Place`, stay single.
-///
-/// It sorts the spans where they are: of n spans it takes n log n steps and no memory.
-pub fn joined(mut spans: Vec<PlaceSpan>) -> Vec<PlaceSpan>
-    ensures same { (kind : Kind) (place last : ℕ) → Holds result.items kind place last ↔ Holds spans.items kind place last }
-    ensures apart { AreJoined result.items }
-    ensures ordered { All (λ s. s.low ≤ s.high) spans.items → All (λ s. s.low ≤ s.high) result.items }
-    ensures fits { All FitsKind spans.items → All FitsKind result.items }
-    ensures few { length result.items ≤ length spans.items }
-{
-    spans.sort_unstable_by_key(|span| (span.kind as u8, span.last, span.low));
-    spans.dedup_by(|span, before| join(before, span));
-    spans
-}
 
 /// Puts a span to the end of a list, joined with the last one there where it continues that.
 pub(crate) fn add(spans: &mut Vec<PlaceSpan>, span: PlaceSpan) -> Result<(), AllocError>

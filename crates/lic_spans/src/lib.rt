@@ -1,7 +1,7 @@
-//! Sets of places of a text, as spans with the last token of a match, and what is least or joined of them.
+//! Sets of places of a text, as spans with the last token of a match, and the least last token of each place.
 #![tactic(auto)]
 
-pub mod join;
+mod join;
 pub mod least;
 pub mod span;
 mod sweep;

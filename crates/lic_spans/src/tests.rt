@@ -2,7 +2,6 @@
 
 ghost use Rattle.std.specs.Prelude.{◌≤◌, ◌<◌, All, IfOk};
 
-use crate::join::joined;
 use crate::least::with_least_last;
 use crate::span::{Kind, PlaceSpan};
 use std::alloc::{AllocError, Global};
@@ -95,44 +94,6 @@ fn keeps_the_least_last_token_of_each_place(rt: HostRuntime) -> Result<(), Fail>
     for (listed, want) in table {
         let least = with_least_last(alloc, spans(alloc, listed)?)?;
         assert_eq!(rt; shown(alloc, &least)?.as_str(), *want);
-    }
-    Ok(())
-}
-
-#[test]
-fn joins_spans_of_one_kind_and_last_token(rt: HostRuntime) -> Result<(), Fail> {
-    let alloc = rt.alloc();
-    let table: &[(Listed, &str)] = &[
-        (&[], ""),
-        // overlapping, touching, within, and apart
-        (
-            &[
-                (Kind::Letters, 8, 9, 1),
-                (Kind::Letters, 0, 4, 1),
-                (Kind::Letters, 5, 6, 1),
-                (Kind::Letters, 1, 2, 1),
-            ],
-            "2:0-6:1 2:8-9:1 ",
-        ),
-        // single places next to each other
-        (
-            &[(Kind::Place, 5, 5, 1), (Kind::Place, 4, 4, 1)],
-            "1:4-4:1 1:5-5:1 ",
-        ),
-        // another last token, another kind, and a repeat
-        (
-            &[
-                (Kind::Place, 3, 3, 2),
-                (Kind::Place, 3, 3, 1),
-                (Kind::End, 3, 3, 1),
-                (Kind::Place, 3, 3, 2),
-            ],
-            "0:3-3:1 1:3-3:1 1:3-3:2 ",
-        ),
-    ];
-    for (listed, want) in table {
-        let all = joined(spans(alloc, listed)?);
-        assert_eq!(rt; shown(alloc, &all)?.as_str(), *want);
     }
     Ok(())
 }
