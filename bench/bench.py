@@ -1,55 +1,138 @@
 #!/usr/bin/env python3
-"""Times a built licscan, as ratios within one run: python3 bench/bench.py PROGRAM [PART ..]
+"""Times a built licscan, as ratios within one run: python3 bench/bench.py PROGRAM [--against PROGRAM] [--only WORD] [PART ..]
 
-Its inputs are what a Debian system carries (licence texts, copyright files, source trees); templates are cut out of them by a fixed seed. The
-parts, all of them where none is named:
-  reading    50 MB of licence texts: a scan for a template that never occurs and `tokens` with its output, against `wc -m`
-  sets       sets of 10, 100 and 700 templates of plain words: the time to read them, and three texts, each against the set of 10
-  published  700 templates in the shape of published ones: `scan --all` and `scan` beside `tokens` of the same files: source trees, 10,000 small
-             files, a megabyte of licence texts; the start alone, and the memory
-  shapes     templates that begin or end with wide variables, `foo .+ bar` on `foo ` repeated: twice the text against the text
-  report     the report of outer matches on a megabyte, against the list of all matches
-  values     the report of matches of 30,000 letters with texts between their variables, with adjacent variables, and of optional words: twice the
-             match against the match; of a template with a long optional part: 1,000 short matches against 1
-  live       what a token costs the default report beyond `tokens` while one template is on its way: one mark in a long text, `.{0,5000}` in front,
-             `.+` between two words; and while twenty are
+With `--against` each run is made by both programs in turn, and each line ends with the seconds and the memory of the other one, and how many
+times its seconds those of the first are. Inputs are what a Debian system carries (licence texts, copyright files, source trees); templates are
+those of `published.py` and the starter set. The parts, all of them where none is named:
+  reading    50 MB of licence texts: `tokens`, and a scan for a template that never occurs, against `wc -m`
   rules      `tokens` of 10 MB by the profile's line rules and 256 texts, against the profile alone: texts that begin with a sign, and with a letter
-Each figure is the quickest of three runs, of 25 where a run takes less than half a second, and of one where it takes more than ten seconds.
+  start      the start: 700 templates in the shape of published ones, and the starter set
+  search     the search beyond reading, `scan` and `scan --all`, each for both sets of templates: source trees, 10,000 small files, a megabyte of
+             licence texts. The start is taken off, and so is reading: `tokens`, or the scan for nothing where that is quicker (`tokens` writes)
+  growth     the cases of scripts/hostile/growing.py, or those whose group or name has the word of `--only`: the processor seconds of five sizes, each
+             twice the one before (16 times the first ones at the last size is linear), up to a size that takes more than 30; then how many times
+             those of one plain template on the same text they are
+Each figure is the quickest of three runs, of 25 where a run takes less than half a second, and of one where it takes more than ten seconds; those
+of `growth` are of one run.
 """
-import glob, os, random, subprocess, sys, tempfile
+import argparse, dataclasses, glob, math, os, subprocess, sys, tempfile
 
 from published import texts, write_folder
 
-MEASURED = os.path.join(os.path.dirname(os.path.abspath(__file__)), 'measured.py')
+HERE = os.path.dirname(os.path.abspath(__file__))
+TOP = os.path.dirname(HERE)
+sys.path.append(f'{TOP}/scripts/hostile')
+import growing, running
+
 ENVIRONMENT = dict(os.environ, LC_ALL='C.UTF-8')
+FILES_OF_A_CALL = 4_000
+MOST_SECONDS = 30
 
 
-def write_input(path, sources, size):
-    with open(path, 'w') as out:
-        written = 0
-        while written < size:
-            for text in sources:
-                out.write(text + '\n')
-                written += len(text) + 1
-                if written >= size:
-                    break
+@dataclasses.dataclass
+class Figure:
+    """Seconds, and megabytes of memory."""
+    seconds: float
+    memory: int
+
+    def less(self, seconds):
+        return Figure(self.seconds - seconds, self.memory)
 
 
-def write_word_templates(folder, sources, count):
-    """Templates of plain words with an optional front and one variable."""
-    os.makedirs(folder)
-    chance = random.Random(7)
-    sources = [text.replace('<<', '').split() for text in sources]
-    sources = [words for words in sources if len(words) >= 300]
-    for number in range(count):
-        words = chance.choice(sources)
-        length = min(chance.randint(100, 1500), len(words))
-        start = chance.randint(0, len(words) - length)
-        part = words[start:start + length]
-        middle = length // 2
-        with open(os.path.join(folder, f'T{number:04}.template.txt'), 'w') as out:
-            out.write('<<beginOptional>>' + ' '.join(part[:3]) + '<<endOptional>> ' + ' '.join(part[3:middle])
-                      + ' <<var;name="v";original="x";match=".{0,500}">> ' + ' '.join(part[middle:]) + '\n')
+def timed(command, files):
+    """One run of a command, over the files in as many calls as they need."""
+    figure = Figure(0, 0)
+    for at in range(0, max(1, len(files)), FILES_OF_A_CALL):
+        arguments = [sys.executable, '-S', f'{HERE}/measured.py', *command, *files[at:at + FILES_OF_A_CALL]]
+        done = subprocess.run(arguments, capture_output=True, env=ENVIRONMENT, check=True)
+        seconds, kilobytes, status = done.stdout.split()
+        figure = Figure(figure.seconds + float(seconds), max(figure.memory, int(kilobytes) // 1024))
+        if int(status) == 2:
+            sys.exit(f'{command}: {done.stderr.decode()}')
+    return figure
+
+
+def quickest(commands, files=()):
+    """The quickest run of each command. They are run in turn, so that other work on the machine disturbs all of them."""
+    figures = [timed(command, files) for command in commands]
+    slowest = max(figure.seconds for figure in figures)
+    # a short run is soon disturbed by other work
+    for _ in range(0 if slowest >= 10 else 2 if slowest >= 0.5 else 24):
+        again = [timed(command, files) for command in commands]
+        figures = [min(pair, key=lambda figure: figure.seconds) for pair in zip(figures, again)]
+    return figures
+
+
+class Bench:
+    """The programs that are timed, and a folder for their inputs."""
+
+    def __init__(self, programs, only, folder):
+        self.programs, self.only, self.folder, self.sources = programs, only, folder, texts()
+
+    def at(self, name):
+        return os.path.join(self.folder, name)
+
+    def quickest(self, arguments, files=()):
+        return quickest([[program, *arguments] for program in self.programs], files)
+
+    def text(self, name, size):
+        """A file of licence texts of this size."""
+        with open(self.at(name), 'w') as out:
+            while out.tell() < size:
+                for text in self.sources:
+                    out.write(text + '\n')
+                    if out.tell() >= size:
+                        break
+        return self.at(name)
+
+    def template(self, name, text):
+        """A folder with one template."""
+        os.makedirs(self.at(name))
+        with open(self.at(f'{name}/only.template.txt'), 'w') as out:
+            out.write(text + '\n')
+        return self.at(name)
+
+    def line(self, name, figures, base=None, what=''):
+        """A line of the figures of all programs, and how many times those of a base the first one is."""
+        first, *others = figures
+        times = f'{first.seconds / base[0].seconds:8.2f} times {what:12}' if base else ' ' * 27
+        against = ''.join(f' | {it.seconds:9.4f} s {it.memory:5} MB {first.seconds / it.seconds:6.2f} times' for it in others)
+        print(f'{name:64} {first.seconds:9.4f} s {times} {first.memory:5} MB{against}', flush=True)
+
+
+def reading(bench):
+    text = bench.text('real.txt', 50_000_000)
+    never = bench.template('never', 'zzzyyyxxx wwwvvv')
+    counted = quickest([['wc', '-m', text]])
+    for name, arguments in (('tokens', ['tokens']), ('a scan for nothing', ['scan', '--templates', never])):
+        bench.line(name, bench.quickest([*arguments, text]), counted, 'wc -m')
+
+
+def rules(bench):
+    text = bench.text('rules.txt', 10_000_000)
+    with open(f'{TOP}/examples/rules/profile.rules') as file:
+        lines = file.read().splitlines()
+    count = 256 - sum(line.startswith(('lead', 'tail')) for line in lines)
+    base = bench.quickest(['tokens', text])
+    bench.line('the profile', base)
+    for name, letters in (('a sign', '~^@$&'), ('a letter', 'abcdefghijklmnopqrstuvwxyz')):
+        path = bench.at(f'{len(letters)}.rules')
+        with open(path, 'w') as out:
+            more = [f'{("lead", "tail")[i % 2]} {letters[i % len(letters)]}{i:03}q{letters[i % len(letters)]}' for i in range(count)]
+            out.write('\n'.join(lines + more) + '\n')
+        bench.line(f'256 texts, those not in the profile begin with {name}', bench.quickest(['tokens', '--rules', path, text]), base, 'the profile')
+
+
+def sets(bench):
+    """The sets of templates, and the figures of the start with each."""
+    write_folder(bench.at('published'), 700)
+    for name, folder in (('700 published', bench.at('published')), ('the starter set', f'{TOP}/examples/templates')):
+        yield name, folder, bench.quickest(['scan', '--templates', folder, '/dev/null'])
+
+
+def start(bench):
+    for name, _, figures in sets(bench):
+        bench.line(name, figures)
 
 
 def source_files(most):
@@ -58,7 +141,8 @@ def source_files(most):
     for pattern in ('/usr/include/**/*.h', '/usr/lib/python3*/**/*.py', '/usr/share/perl*/**/*.pm', '/usr/lib/node_modules/**/*.js'):
         for path in sorted(glob.glob(pattern, recursive=True)):
             try:
-                data = open(path, 'rb').read()
+                with open(path, 'rb') as file:
+                    data = file.read()
                 data.decode()
             except (UnicodeDecodeError, OSError):
                 continue
@@ -70,220 +154,79 @@ def source_files(most):
     return found
 
 
-def timed(arguments, files=()):
-    """Seconds and the greatest memory in megabytes of one run, over the files in as many calls as they need."""
-    seconds, memory = 0, 0
-    for at in range(0, max(1, len(files)), 4000):
-        done = subprocess.run([sys.executable, '-S', MEASURED] + arguments + list(files[at:at + 4000]), capture_output=True, env=ENVIRONMENT, check=True)
-        taken, kilobytes, status = done.stdout.split()
-        seconds += float(taken)
-        memory = max(memory, int(kilobytes) // 1024)
-        if int(status) == 2:
-            sys.exit(f'{arguments}: {done.stderr.decode()}')
-    return seconds, memory
-
-
-def quickest(arguments, files=()):
-    seconds, memory = timed(arguments, files)
-    # a short run is soon disturbed by other work
-    for _ in range(0 if seconds >= 10 else 2 if seconds >= 0.5 else 24):
-        seconds = min(seconds, timed(arguments, files)[0])
-    return seconds, memory
-
-
-def line(name, seconds, base, what, memory):
-    print(f'{name:52} {seconds:9.3f} s {seconds / base:8.2f} times {what:24} {memory:6} MB', flush=True)
-
-
-def reading(program, at, sources):
-    write_input(at('real.txt'), sources, 50_000_000)
-    os.makedirs(at('never'))
-    with open(at('never/never.template.txt'), 'w') as out:
-        out.write('zzzyyyxxx wwwvvv\n')
-    counted, _ = quickest(['wc', '-m', at('real.txt')])
-    for name, arguments in [('a scan for nothing', ['scan', '--all', '--templates', at('never')]), ('tokens', ['tokens'])]:
-        seconds, memory = quickest([program] + arguments + [at('real.txt')])
-        line(name, seconds, counted, 'wc -m', memory)
-
-
-def sets(program, at, sources):
-    write_input(at('short.txt'), sources, 1_000_000)
-    with open(at('tiny.txt'), 'w') as out:
-        out.write('x\n')
-    with open(at('foreign.txt'), 'w') as out:
-        out.write('\u4e2d\u6587 \u6587\u5b57 ' * 400_000)
-    start = {}
-    for name in ['tiny.txt', 'foreign.txt', 'short.txt']:
-        first = None
-        for count in [10, 100, 700]:
-            folder = at(f'words{count}')
-            if not os.path.isdir(folder):
-                write_word_templates(folder, sources, count)
-            seconds, memory = quickest([program, 'scan', '--all', '--templates', folder, at(name)])
-            # the tiny text costs the reading of the set alone, which is taken off the other texts
-            seconds -= start.get(count, 0)
-            if name == 'tiny.txt':
-                start[count] = seconds
-            first = first or seconds
-            line(f'{name}, {count} templates', seconds, first, 'with 10', memory)
-
-
-def published(program, at, sources):
-    write_folder(at('published'), 700)
-    write_input(at('texts.txt'), sources, 1_000_000)
-    small = []
-    os.makedirs(at('small'))
-    trees = source_files(20_000_000)
-    for number, path in enumerate(trees * (1 + 10_000 // max(1, len(trees)))):
-        if number == 10_000:
-            break
-        small.append(at(f'small/{number}'))
-        with open(path, 'rb') as source, open(small[-1], 'wb') as out:
+def small_files(bench, sources, count):
+    """So many files of at most 4 KB, the beginnings of these."""
+    os.makedirs(bench.at('small'))
+    paths = [bench.at(f'small/{number}') for number in range(count)]
+    for number, path in enumerate(paths):
+        with open(sources[number % len(sources)], 'rb') as source, open(path, 'wb') as out:
             out.write(source.read(4096).decode(errors='ignore').encode())
-    with open(at('tiny.txt'), 'w') as out:
-        out.write('x\n')
-    scan = [program, 'scan', '--templates', at('published')]
-    start, memory = quickest(scan + ['--all', at('tiny.txt')])
-    line('the start, 700 templates', start, start, 'itself', memory)
-    for name, files in [('source trees', trees), ('10,000 small files', small), ('a megabyte of licence texts', [at('texts.txt')])]:
-        base, memory = quickest([program, 'tokens'], files)
-        line(f'{name}: tokens', base, base, 'itself', memory)
-        calls = 1 + (len(files) - 1) // 4000
-        for kind, arguments in [('scan --all', scan + ['--all']), ('scan', scan)]:
-            seconds, memory = quickest(arguments, files)
-            line(f'{name}: {kind}, start taken off', seconds - calls * start, base, 'tokens', memory)
+    return paths
 
 
-def shapes(program, at, sources):
-    wide = {'begins with .{0,5000}': '<<var;name="v";original="";match=".{0,5000}">> without any warranty',
-            'ends with .{0,5000}': 'without any warranty <<var;name="v";original="";match=".{0,5000}">>',
-            'begins with .{1,500}': '<<var;name="v";original="";match=".{1,500}">> without any warranty',
-            'foo .+ bar': 'foo <<var;name="v";original="x";match=".+">> bar'}
-    for number, (name, template) in enumerate(wide.items()):
-        folder = at(f'shape{number}')
-        os.makedirs(folder)
-        with open(f'{folder}/shape.template.txt', 'w') as out:
-            out.write(template + '\n')
-        for kind in ([], ['--all']):
-            once = None
-            for size in (100_000, 200_000):
-                if name.startswith('foo'):
-                    with open(at('input.txt'), 'w') as out:
-                        out.write('foo ' * (size // 4))
-                else:
-                    write_input(at('input.txt'), sources, size)
-                seconds, memory = quickest([program, 'scan', *kind, '--templates', folder, at('input.txt')])
-                once = once or seconds
-                line(f'{name}: scan {" ".join(kind)} of {size} bytes', seconds, once, '100000 bytes', memory)
+def search(bench):
+    trees = source_files(20_000_000)
+    never = bench.template('never', 'zzzyyyxxx wwwvvv')
+    chosen = list(sets(bench))
+    inputs = {'source trees': trees, '10,000 small files': small_files(bench, trees, 10_000), 'a megabyte of licences': [bench.text('texts.txt', 1_000_000)]}
+    for name, files in inputs.items():
+        calls = -(-len(files) // FILES_OF_A_CALL)
+        both = [bench.quickest(arguments, files) for arguments in (['tokens'], ['scan', '--templates', never])]
+        bench.line(f'{name}: tokens', both[0])
+        read = [min(pair, key=lambda figure: figure.seconds) for pair in zip(*both)]
+        bench.line(f'{name}: reading', read, both[0], 'tokens')
+        for set_name, folder, starts in chosen:
+            for kind in (['scan'], ['scan', '--all']):
+                whole = bench.quickest([*kind, '--templates', folder], files)
+                beyond = [it.less(begun.seconds * calls + base.seconds) for it, begun, base in zip(whole, starts, read)]
+                bench.line(f'{name}: {" ".join(kind)} beyond reading, {set_name}', beyond, both[0], 'tokens')
 
 
-def report(program, at, sources):
-    write_input(at('short.txt'), sources, 1_000_000)
-    examples = os.path.join(os.path.dirname(os.path.abspath(__file__)), '..', 'examples', 'templates')
-    every, memory = quickest([program, 'scan', '--all', '--templates', examples, at('short.txt')])
-    line('examples: scan --all', every, every, 'itself', memory)
-    seconds, memory = quickest([program, 'scan', '--templates', examples, at('short.txt')])
-    line('examples: scan', seconds, every, 'scan --all', memory)
+def growth(bench):
+    def seconds(program, case):
+        ran = running.run(program, dataclasses.replace(case, seconds=MOST_SECONDS))
+        return ran.seconds if ran.status in (0, 1) else math.inf
+
+    def taken_by(program, series):
+        """The seconds of each size, up to the first that takes too many."""
+        taken = []
+        while len(taken) < len(series.sizes()) and math.inf not in taken:
+            taken.append(seconds(program, series.case(series.sizes()[len(taken)])))
+        return taken
+
+    def row(label, numbers, more=''):
+        print(f'    {label:8}' + ''.join(f'{it:8.2f}' for it in numbers) + more, flush=True)
+
+    plain = running.templates(P='zzzyyyxxx wwwvvv')
+    for series in growing.SERIES:
+        if bench.only not in f'{series.group} {series.name}'.lower():
+            continue
+        print(f'{series.group}: {series.sizes()[0]:,} to {series.sizes()[-1]:,} {series.name}')
+        bare = seconds(bench.programs[0], dataclasses.replace(series.case(series.sizes()[-1]), files=plain))
+        rows = [taken_by(program, series) for program in bench.programs]
+        for label, taken in zip(('program', 'against'), rows):
+            grown = f'   grown {taken[-1] / taken[0]:6.1f} times, {taken[-1] / bare:7.1f} times a plain template'
+            row(label, taken, grown if math.inf not in taken else f'   over {MOST_SECONDS} seconds')
+        if len(rows) == 2:
+            row('ratio', [one / other for one, other in zip(*rows)])
 
 
-def rules(program, at, sources):
-    write_input(at('rules.txt'), sources, 10_000_000)
-    profile = os.path.join(os.path.dirname(os.path.abspath(__file__)), '..', 'examples', 'rules', 'profile.rules')
-    with open(profile) as file:
-        lines = file.read().splitlines()
-    count = 256 - sum(line.startswith(('lead', 'tail')) for line in lines)
-    base, memory = quickest([program, 'tokens', at('rules.txt')])
-    line('the profile', base, base, 'itself', memory)
-    for name, letters in [('a sign', '~^@$&'), ('a letter', 'abcdefghijklmnopqrstuvwxyz')]:
-        path = at(f'{len(letters)}.rules')
-        with open(path, 'w') as out:
-            more = [f'{("lead", "tail")[i % 2]} {letters[i % len(letters)]}{i:03}q{letters[i % len(letters)]}' for i in range(count)]
-            out.write('\n'.join(lines + more) + '\n')
-        seconds, memory = quickest([program, 'tokens', '--rules', path, at('rules.txt')])
-        line(f'256 texts, those not in the profile begin with {name}', seconds, base, 'the profile', memory)
-
-
-def spelled(number):
-    """A word of four letters, another one for each number."""
-    return ''.join(chr(ord('a') + number // 26 ** place % 26) for place in range(4))
-
-
-def values(program, at, sources):
-    def scan(name, template, text):
-        folder = at(name)
-        os.makedirs(folder, exist_ok=True)
-        with open(f'{folder}/values.template.txt', 'w') as out:
-            out.write(template + '\n')
-        with open(at('input.txt'), 'w') as out:
-            out.write(text)
-        return quickest([program, 'scan', '--templates', folder, at('input.txt')])
-
-    def words(count, between=' '):
-        return between.join(' '.join(spelled(number) for number in range(count // 10)) for _ in range(10))
-
-    def variables(count, between):
-        return between.join(f'<<var;name="v{number}";original="x";match=".+">>' for number in range(count))
-
-    def optional_words(count):
-        return ''.join(f'<<beginOptional>> {spelled(number)}<<endOptional>>' for number in range(count))
-
-    def every_other(count):
-        return ' '.join(spelled(number) for number in range(0, count, 2))
-
-    # matches of so many words, and how often they are repeated, so that they cost more than the start of the program
-    shapes = {'texts between ten variables': (7_500, 20, lambda size: variables(10, ' of '), lambda size: words(size, ' of ')),
-              'three adjacent variables': (7_500, 20, lambda size: variables(3, ''), words),
-              'optional words, every other one absent': (2_000, 1, optional_words, every_other)}
-    for number, (name, (most, repeats, inner, text)) in enumerate(shapes.items()):
-        once = None
-        for size in (most // 2, most):
-            seconds, memory = scan(f'values{number}', f'begin {inner(size)} end', f'begin {text(size)} end\n' * repeats)
-            once = once or seconds
-            line(f'{name}: {size}', seconds, once, f'{most // 2} words', memory)
-    once = None
-    for count in (1, 1_000):
-        seconds, memory = scan('long', f'begin<<beginOptional>> {words(24_000)}<<endOptional>> end', 'begin end\n' * count)
-        once = once or seconds
-        line(f'a long optional part: short matches: {count}', seconds, once, '1 match', memory)
-
-
-def live(program, at, sources):
-    def nanoseconds(name, templates, text):
-        folder = at(name)
-        os.makedirs(folder)
-        for number, template in enumerate(templates):
-            with open(f'{folder}/t{number:02}.template.txt', 'w') as out:
-                out.write(template + '\n')
-        with open(at('input.txt'), 'w') as out:
-            out.write(text)
-        base, _ = quickest([program, 'tokens', at('input.txt')])
-        start, _ = quickest([program, 'scan', '--templates', folder, '/dev/null'])
-        seconds, memory = quickest([program, 'scan', '--templates', folder, at('input.txt')])
-        print(f'{name:52} {(seconds - start - base) / len(text.split()) * 1e9:9.0f} ns a token {memory:45} MB', flush=True)
-
-    # words in which nothing repeats soon, and which end as the templates do; the first word of a template never stands before them
-    count, repeats = 15_000, 20
-    text = ' '.join(spelled(number) for number in range(count))
-    wide = '<<var;name="v";original="x";match=".+">>'
-    front = '<<var;name="v";original="";match=".{0,5000}">>'
-    filler = ' '.join(spelled(number) for number in range(1_000))
-    nanoseconds('one mark in a long text', [f'begin <<var;name="v";original="x";match="x">> {text}'], f'other x {text}\n' * repeats)
-    nanoseconds('.{0,5000} in front', [f'{front} the end of it all'], f'{filler} the end of it all\n' * 200)
-    nanoseconds('a wide .+', [f'begin {wide} the end of it all'], f'{text} the end of it all\n' * repeats)
-    nanoseconds('twenty of them', [f'begin{number} {wide} the end of it all' for number in range(20)], f'{text} the end of it all\n' * repeats)
-
-
-PARTS = {part.__name__: part for part in (reading, sets, published, shapes, report, values, live, rules)}
+PARTS = {part.__name__: part for part in (reading, rules, start, search, growth)}
 
 
 def main():
-    if len(sys.argv) < 2 or not set(sys.argv[2:]) <= set(PARTS):
-        sys.exit(__doc__)
-    program = os.path.abspath(sys.argv[1])
-    sources = texts()
-    for name in sys.argv[2:] or PARTS:
+    words = argparse.ArgumentParser(description=__doc__, formatter_class=argparse.RawDescriptionHelpFormatter)
+    words.add_argument('program')
+    words.add_argument('--against', metavar='PROGRAM')
+    words.add_argument('--only', metavar='WORD', default='')
+    words.add_argument('parts', metavar='PART', nargs='*', help=', '.join(PARTS))
+    given = words.parse_intermixed_args()
+    if unknown := set(given.parts) - set(PARTS):
+        words.error(f'no part {", ".join(sorted(unknown))}')
+    programs = [os.path.abspath(it) for it in (given.program, given.against) if it]
+    for name in given.parts or PARTS:
         with tempfile.TemporaryDirectory() as folder:
-            PARTS[name](program, lambda file: os.path.join(folder, file), sources)
+            PARTS[name](Bench(programs, given.only.lower(), folder))
 
 
 if __name__ == '__main__':

@@ -1,110 +1,167 @@
 #!/usr/bin/env python3
-"""Says what the finder's source stands on and where its walks begin, and fails where that is not what the map promises.
+"""Fails where the finder could learn of matches by other means than the two machines whose steps it counts.
 
 Usage, at any place: python3 scripts/gate/finder_source.py
 
-It reads the code of lic_find (crates/lic_find/src: no proofs, no clauses, no comments) and its line of crates.txt:
-- the code imports lic_auto and lic_norm alone, and other libraries of its line are there for definitions;
-- it asks no template for its identifier, its text or its parts: only what a run or a seeker says of a list of tokens makes a match;
-- the finder does not ask `is_match`;
-- one run is made, for both constructors of the finder, and one for `is_match`; one walk from the end of a text notes first tokens, and it alone makes trails, each with one seeker;
-- `Finder::steps` adds the steps of the walk that notes, those of the run, and what is counted for first tokens that are known.
+It reads the code of lic_find (crates/lic_find/src: no tests, proofs, clauses or comments) and its line of crates.txt. Refused are
+- code that imports or names another crate of the repository than lic_auto and lic_norm, or a machine under another name (the other crates of its
+  line serve definitions), and a re-export of lic_marks by lic_auto;
+- a call of `id`, `template` or `parts`;
+- a call of `is_match`;
+- a `Run` that is made anywhere but once in one constructor, which the others call, and once in `is_match`; a second `Back`;
+- a `Finder::steps` that is not the sum of the counts of the two machines.
+
+So that it is known to refuse, the same is asked of copies in which a patch of scripts/gate/wrong_finders is applied, and those faults must be
+found that the patch names. A patch has lines `#` for what it is, `fault:` for a fault that must be found, `file:` for the file that the next
+edits change, and then edits: a line with `-`, whose text stands once in that file, and lines with `+`, which take its place.
 """
 import os
 import re
+import shutil
 import sys
+import tempfile
 
-TOP = os.path.dirname(os.path.dirname(os.path.dirname(os.path.abspath(__file__))))
-CRATE = os.path.join(TOP, "crates", "lic_find")
-STANDS_ON = {"lic_auto", "lic_norm"}
-OWN = {"crate", "self", "super", "std", "core"}
+HERE = os.path.dirname(os.path.abspath(__file__))
+TOP = os.path.dirname(os.path.dirname(HERE))
+FINDER = os.path.join(TOP, "crates", "lic_find", "src")
+MACHINES = os.path.join(TOP, "crates", "lic_auto", "src")
+PATCHES = os.path.join(HERE, "wrong_finders")
+STANDS_ON = ["lic_auto", "lic_norm"]
+STEPS = "self.noting.saturating_add(self.run.steps())"
 
 
-def without_braces(text, start):
-    """The place behind the braces that open at or behind `start`."""
+def after_braces(text, start):
+    """The place after the braces that open at `start` or later."""
     depth = 0
     for place in range(text.index("{", start), len(text)):
         depth += {"{": 1, "}": -1}.get(text[place], 0)
         if depth == 0:
             return place + 1
-    sys.exit("a clause has no end")
+    sys.exit("finder_source.py: braces that are not closed")
 
 
 def code_of(text):
-    """The source without comments and ghost items: imports, fields, members and clauses."""
+    """A source without comments and ghost items: imports, fields, members and clauses."""
     text = re.sub(r"//[^\n]*", "", text)
     text = re.sub(r"^\s*ghost use [^;]*;", "", text, flags=re.M)
     clause = re.compile(r"^\s*(?:(?:pub )?ghost|requires|ensures)\b", re.M)
     while found := clause.search(text):
-        text = text[: found.start()] + text[without_braces(text, found.end()) :]
+        text = text[: found.start()] + text[after_braces(text, found.end()) :]
     return text
 
 
-def sources():
-    folder = os.path.join(CRATE, "src")
+def code_in(folder):
+    """The code of each file in a folder, by its path from there."""
     found = {}
     for place, _, names in os.walk(folder):
         for name in sorted(names):
             path = os.path.join(place, name)
             if name.endswith(".rt"):
-                found[os.path.relpath(path, folder)] = code_of(open(path, encoding="utf-8").read())
+                with open(path, encoding="utf-8") as file:
+                    found[os.path.relpath(path, folder)] = code_of(file.read())
     return found
 
 
-def libraries(code):
-    """What the code imports or names by a path."""
-    return {name for text in code.values() for name in re.findall(r"\b(lic_\w+)\s*::", text)}
+def manifest():
+    """The crates of lic_find's line."""
+    with open(os.path.join(TOP, "crates.txt"), encoding="utf-8") as file:
+        lines = dict(line.split(":", 1) for line in file if ":" in line)
+    return lines["lic_find"].split()
 
 
-def listed():
-    for line in open(os.path.join(TOP, "crates.txt"), encoding="utf-8"):
-        name, _, rest = line.partition(":")
-        if name.split() == ["lic_find"]:
-            return rest.split()
-    sys.exit("crates.txt has no line of lic_find")
+def functions(code):
+    """Each function's name and its body."""
+    for text in code.values():
+        for found in re.finditer(r"\bfn\s+(\w+)", text):
+            body = text[text.index("{", found.end()) : after_braces(text, found.end())]
+            yield found[1], body
 
 
-def places(code, pattern):
-    return [name for name, text in code.items() for _ in re.findall(pattern, text)]
+def calling(code, pattern):
+    """The names of the functions in whose bodies this stands, each as often as it does."""
+    return sorted(name for name, body in functions(code) for _ in re.findall(pattern, body))
 
 
-def body_of(text, head):
-    start = text.find(head)
-    if start < 0:
-        return ""
-    return text[text.index("{", start) : without_braces(text, start)]
+def claims(code, machines, line):
+    """What is claimed of the code: its name, what was found, and what is right."""
+    every = "\n".join(code.values())
+    yield "crates that the code names", sorted(set(re.findall(r"\b(lic_\w+)\s*::", every))), STANDS_ON
+    yield "of these not in crates.txt", [name for name in STANDS_ON if name not in line], []
+    yield "other names of what is imported", re.findall(r"\b(?:use\s+lic_[^;]*\bas\b|type\s[^;]*\b(?:Run|Back)\b)[^;]*;", every), []
+    yield "re-exports of lic_marks by lic_auto", re.findall(r"\bpub\s+use\s[^;]*\blic_marks\b[^;]*;", "\n".join(machines.values())), []
+    for name in ("id", "template", "parts"):
+        yield f"calls of {name}", calling(code, rf"\b{name}\s*\(|::\s*{name}\b"), []
+    yield "files that use is_match", [name for name, text in code.items() if re.search(r"(?<!fn )\bis_match\b", text)], []
+    runs = calling(code, r"\bRun\s*::\s*(?:new|over)\b")
+    constructor = next((name for name in runs if name != "is_match"), "a constructor")
+    yield "functions that make a Run", runs, sorted([constructor, "is_match"])
+    callers = calling(code, rf"\b{constructor}\s*\(")
+    yield "constructors that do not call that one", [name for name in ("new", "resume") if name not in callers], []
+    backs = calling(code, r"\bBack\s*::\s*(?:new|over)\b")
+    yield "functions that make a Back", backs, backs[:1] or ["one"]
+    bodies = ["".join(body.split()).strip("{}") for name, body in functions(code) if name == "steps"]
+    yield "bodies of Finder::steps", bodies, [STEPS]
+    yield "functions that take a machine's count", calling(code, r"\.\s*steps\s*\(\)"), sorted([*backs[:1], "steps"])
+
+
+def faults(finder):
+    """The claims that do not hold of the sources in a folder."""
+    made = claims(code_in(finder), code_in(MACHINES), manifest())
+    return {what: f"{found}, and not {right}" for what, found, right in made if found != right}
+
+
+def read_patch(path):
+    """The faults that a patch names, and its edits, each with a file, the text that stands in it once, and the lines in its place."""
+    expected, edits, file = [], [], None
+    with open(path, encoding="utf-8") as lines:
+        for line in lines.read().splitlines():
+            if line.startswith("fault:"):
+                expected.append(line.removeprefix("fault:").strip())
+            elif line.startswith("file:"):
+                file = line.removeprefix("file:").strip()
+            elif line.startswith("-"):
+                edits.append((file, line[1:], []))
+            elif line.startswith("+"):
+                edits[-1][2].append(line[1:])
+    return expected, edits
+
+
+def apply(edits, folder):
+    """Applies edits to the sources in a folder."""
+    for file, old, new in edits:
+        path = os.path.join(folder, file)
+        with open(path, encoding="utf-8") as source:
+            text = source.read()
+        if text.count(old) != 1:
+            sys.exit(f"finder_source.py: {file} has {text.count(old)} times {old}")
+        with open(path, "w", encoding="utf-8") as source:
+            source.write(text.replace(old, "\n".join(new)))
+
+
+def faults_of_patch(path):
+    """What is not refused of a finder that such a patch makes, though the patch names it."""
+    expected, edits = read_patch(path)
+    with tempfile.TemporaryDirectory(prefix="licscan-finder-") as top:
+        copy = shutil.copytree(FINDER, os.path.join(top, "src"))
+        apply(edits, copy)
+        found = faults(copy)
+    print(f"{os.path.basename(path)}: {', '.join(found) or 'no fault'}")
+    return [f"{os.path.basename(path)}: not refused for its {what}" for what in expected or ["faults"] if what not in found]
 
 
 def main():
-    code = sources()
-    faults = []
-
-    def expect(what, found, wanted):
-        print(f"{what}: {found}")
-        if found != wanted:
-            faults.append(f"{what}: {found}, and not {wanted}")
-
-    imported = libraries(code)
-    line = listed()
-    expect("lic_find's code stands on", sorted(imported), sorted(STANDS_ON))
-    expect("missing in its line of crates.txt", sorted(STANDS_ON - set(line)), [])
-    print(f"in its line for definitions alone: {sorted(set(line) - imported)}")
-    for call in ("id", "template", "parts"):
-        expect(f"calls of {call}", places(code, rf"\b{call}\s*\("), [])
-    finder = {name: text for name, text in code.items() if name != "matches.rt"}
-    expect("calls of is_match by the finder", places(finder, r"\bis_match\b"), [])
-    expect("runs are made in", places(code, r"\bRun\s*::\s*(?:over|new)\b"), ["finder.rt", "matches.rt"])
-    expect("machines from the end are made in", places(code, r"\bBack\s*::\s*(?:over|new)\b"), [])
-    expect("seekers are made in", places(code, r"\bSeeker\s*::\s*new\b"), ["trail.rt"])
-    expect("trails are made in", places(code, r"\bTrail\s*::\s*new\b"), ["entrances.rt"])
-    expect("steps are counted in", places(code, r"\bself\.steps = count_steps\(self\.steps, token\)"), ["walk.rt"])
-    expect("walks begin in", places(code, r"\bWalk\s*::\s*over\b"), ["noting.rt"])
-    steps = "".join(body_of(code.get("finder.rt", ""), "pub fn steps").split())
-    expect("Finder::steps is", steps, "{self.noting.saturating_add(self.run.steps()).saturating_add(self.passed)}")
-    for fault in faults:
+    wrong = [f"{what}: {fault}" for what, fault in faults(FINDER).items()]
+    if not wrong:
+        print(f"the finder stands on {', '.join(STANDS_ON)}, and its steps are those of one Run and one Back")
+    patches = sorted(name for name in os.listdir(PATCHES) if name.endswith(".patch"))
+    for name in patches:
+        wrong += faults_of_patch(os.path.join(PATCHES, name))
+    if not patches:
+        wrong.append("no wrong finder to refuse")
+    for fault in wrong:
         print(f"finder_source.py: {fault}", file=sys.stderr)
-    sys.exit(1 if faults else 0)
+    return 1 if wrong else 0
 
 
 if __name__ == "__main__":
-    main()
+    sys.exit(main())

@@ -24,9 +24,9 @@ def files_of(folder):
                 yield os.path.relpath(os.path.join(place, name), folder)
 
 
-def unformatted(crate, room):
+def unformatted(crate, top):
     """The files of a crate that `rt fmt` would change. It is run on a copy."""
-    copy = os.path.join(room, "crates", crate)
+    copy = os.path.join(top, "crates", crate)
     shutil.copytree(os.path.join(CRATES, crate), copy, ignore=shutil.ignore_patterns("out"))
     ran = subprocess.run(["rt", "fmt"], cwd=copy, capture_output=True, text=True)
     if ran.returncode:
@@ -37,9 +37,9 @@ def unformatted(crate, room):
 
 
 def main():
-    with tempfile.TemporaryDirectory() as room:
-        shutil.copy(os.path.join(TOP, "crates.txt"), room)
-        found = [file for crate in sorted(os.listdir(CRATES)) for file in unformatted(crate, room)]
+    with tempfile.TemporaryDirectory() as top:
+        shutil.copy(os.path.join(TOP, "crates.txt"), top)
+        found = [file for crate in sorted(os.listdir(CRATES)) for file in unformatted(crate, top)]
     for file in found:
         print(f"{file}: not formatted; run rt fmt in its crate", file=sys.stderr)
     sys.exit(bool(found))

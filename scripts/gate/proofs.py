@@ -32,12 +32,12 @@ def try_edits(name, start):
     """Tries a proved crate's edits. What comes of it, the gate says later."""
     if not os.path.isdir(f"{TOP}/crates/{name}/must-fail"):
         return
-    with tempfile.TemporaryDirectory(prefix="licscan-edits-") as room:
-        copy_crates(TOP, from_the_ground(read_crates(TOP), [name]), room)
-        shutil.copytree(f"{TOP}/crates/{name}/must-fail", f"{room}/crates/{name}/must-fail")
+    with tempfile.TemporaryDirectory(prefix="licscan-edits-") as folder:
+        copy_crates(TOP, from_the_ground(read_crates(TOP), [name]), folder)
+        shutil.copytree(f"{TOP}/crates/{name}/must-fail", f"{folder}/crates/{name}/must-fail")
         subprocess.run(
             ["nice", "-n", "19", "rt", "ci"],
-            cwd=room,
+            cwd=folder,
             env=dict(os.environ, RT_JOBS="2"),
             stdin=subprocess.DEVNULL,
             stdout=subprocess.DEVNULL,
@@ -54,8 +54,8 @@ def work(names, start):
 
 def main():
     names = queue.Queue()
-    with tempfile.TemporaryDirectory(prefix="licscan-proofs-") as room:
-        proving = Proving(TOP, list(read_crates(TOP)), f"{room}/proofs.log", names.put)
+    with tempfile.TemporaryDirectory(prefix="licscan-proofs-") as folder:
+        proving = Proving(TOP, list(read_crates(TOP)), f"{folder}/proofs.log", names.put)
         threads = [threading.Thread(target=work, args=(names, proving.start)) for _ in range(workers())]
         for thread in threads:
             thread.start()

@@ -20,8 +20,8 @@ class Lines:
         self.lines = whole.splitlines(keepends=True)
 
     def fullmatch(self, came):
-        rest = iter(self.lines)
-        return all(line in rest for line in came.splitlines(keepends=True))
+        left = iter(self.lines)
+        return all(line in left for line in came.splitlines(keepends=True))
 
 
 class Beginning:

@@ -17,7 +17,7 @@ EMPTY = '<<var;name=v;original=;match=>>'
 
 
 def optional_words(first, count):
-    """So many optional words of four letters, no two the same, with a word behind them."""
+    """So many optional words of four letters, no two the same, then the word `end`."""
     letters = string.ascii_lowercase
     spelled = (letters[first] + letters[k // 676 % 26] + letters[k // 26 % 26] + letters[k % 26] for k in range(count))
     return ''.join(f'<<beginOptional>>{word} <<endOptional>>' for word in spelled) + 'end'
@@ -27,21 +27,21 @@ def words(chance, count):
     return ' '.join(''.join(chance.choices('abcdefghijklmnopqrstuvwxyz', k=chance.randint(2, 9))) for _ in range(count))
 
 
-def published(count):
-    """Templates in the shape of published ones, and the text of the first."""
+def published(count, ending=''):
+    """Templates in the shape of published ones, and their texts, each with this ending."""
     chance = random.Random(7)
-    bodies = [words(chance, chance.randint(100, 1500)) for _ in range(count)]
+    bodies = [words(chance, chance.randint(100, 1500)) + ending for _ in range(count)]
     shaped = {f'L{k}': f'<<beginOptional>>{words(chance, 4)} License\n\n<<endOptional>> {WIDE}\n\n{body}\n' for k, body in enumerate(bodies)}
-    return templates(**shaped), bodies[0]
+    return templates(**shaped), bodies
 
 
 def of_published():
     """Many templates that begin with an optional title and a wide variable."""
     for count in (41, 687):
-        files, body = published(count)
-        head = 'Some Title\n\nCopyright (c) 2020 A. Author\n\n'
-        yield Case('published templates', f'{count}, a text of one of them', SCAN, files, given=(head + body).encode(), out=re.compile(rb'-\tL0\t.*', re.S))
-        yield Case('published templates', f'{count}, the first half of a text', SCAN, files, given=(head + body[:len(body) // 2]).encode(), **NOTHING)
+        files, (body, *_) = published(count)
+        title = 'Some Title\n\nCopyright (c) 2020 A. Author\n\n'
+        yield Case('published templates', f'{count}, a text of one of them', SCAN, files, given=(title + body).encode(), out=re.compile(rb'-\tL0\t.*', re.S))
+        yield Case('published templates', f'{count}, the first half of a text', SCAN, files, given=(title + body[:len(body) // 2]).encode(), **NOTHING)
         yield Case('published templates', f'{count}, a text 40 times', SCAN, files, given=(body + '\n').encode() * 40, out=re.compile(rb'-\tL0\t.*', re.S))
         yield Case('published templates', f'{count}, checked', ['check', '--templates', 'T'], files, out=re.compile(rb'(L\d+\t\d+\tyes\n){%d}' % count))
 
@@ -74,7 +74,7 @@ def of_values():
     yield Case(group, 'x .{0,5000} of .{0,5000} y on 2,000 times of', ALL, wide, given=b'x ' + b'of ' * 2_000 + b'y', out=None, status=(0, 1))
     yield Case(group, 'the same by default', SCAN, wide, given=b'x ' + b'of ' * 1_500 + b'y', out=None, status=(0, 1))
     many = EMPTY * 32_000
-    yield Case(group, '32,000 empty variables behind a letter', SCAN, templates(E=f'x{many}'), given=b'x', out=b'-\tE\t0\t0\t0\t1\n' + b'\tv\t-\n' * 32_000)
+    yield Case(group, '32,000 empty variables after a letter', SCAN, templates(E=f'x{many}'), given=b'x', out=b'-\tE\t0\t0\t0\t1\n' + b'\tv\t-\n' * 32_000)
     yield Case(group, '32,000 empty variables and a million letters', SCAN, templates(E=f'x {many}{variable(".*")} y'),
                given=b'x ' + b'a' * 1_000_000 + b' y', out=re.compile(rb'-\tE\t0\t2\t0\t1000004\n(\tv\t-\n){32000}\tv\t2\t1000002\ta{1000000}\n'))
     eight = 'q ' + ' '.join(variable('.*', f'v{k}') for k in range(8)) + ' r'
@@ -117,12 +117,12 @@ def of_sets():
     ones = {f'W{k}': f'word{k}' for k in range(4_000)}
     optionals = {f'O{k}': optional_words(k, 17_000) for k in range(4)}
     yield Case(group, '2,048 templates checked', check, templates(**dict(list(ones.items())[:2_048])), out=re.compile(rb'(W\d+\t\d+\tyes\n){2048}'))
-    yield Case(group, '4,000 words and 4 with 17,000 optional words in front', SCAN, templates(**ones, **optionals), given=b'word7 end', out=None)
+    yield Case(group, '4,000 words and 4 that begin with 17,000 optional words', SCAN, templates(**ones, **optionals), given=b'word7 end', out=None)
     same = {f'S{k}': 'foo' for k in range(4_096)}
     yield Case(group, '4,096 times the word foo, 200 times foo', SCAN, templates(**same), given=b'foo ' * 200, out=re.compile(rb'(-\tS\d+\t\d+\t\d+\t\d+\t\d+\n){819200}'))
-    any_head = {f'H{k}': f'{variable(".{0,9}")} end{k}' for k in range(2_000)}
-    yield Case(group, '2,000 that begin with a variable, 2,000 words', SCAN, templates(**any_head), given=b'foo ' * 2_000, **NOTHING)
-    yield Case(group, '2,000 that begin with a variable and end alike', SCAN, templates(**{k: v[:v.rindex('end')] + 'end' for k, v in any_head.items()}),
+    begun = {f'H{k}': f'{variable(".{0,9}")} end{k}' for k in range(2_000)}
+    yield Case(group, '2,000 that begin with a variable, 2,000 words', SCAN, templates(**begun), given=b'foo ' * 2_000, **NOTHING)
+    yield Case(group, '2,000 that begin with a variable and end alike', SCAN, templates(**{k: v[:v.rindex('end')] + 'end' for k, v in begun.items()}),
                given=b'foo end ' * 50, out=None)
     weights = {f'G{k}': 'x' + variable('.{65535}') + 'y' + variable('.{65530}') for k in range(512)}
     yield Case(group, '512 of the greatest weight', SCAN, templates(**weights), given=b'foo x bar', **NOTHING)
@@ -140,7 +140,7 @@ def of_lines():
     yield Case(group, '16 MiB of quotes', tokens, given=b"'\"" * (8 << 20), out=re.compile(rb"-\t0\t16777216\t'\n"))
     yield Case(group, '4 MiB of signs', tokens, given=b'(c)' * (4 << 18), out=re.compile(rb'-\t0\t3145728\tcopyright\n'))
     yield Case(group, '4 MiB of leads', tokens, given=b'/*' * (2 << 20), **NOTHING)
-    yield Case(group, '4 MiB that look like an item', tokens, given=b'1.' * (2 << 20), out=None)
+    yield Case(group, '4 MiB of what an item begins with', tokens, given=b'1.' * (2 << 20), out=None)
     yield Case(group, '4 MiB of 80, no UTF-8', tokens, given=b'\x80' * (4 << 20), out=re.compile(rb'-\t0\t4194304\t(\xef\xbf\xbd)+\n'))
     yield Case(group, '4 MiB of U+FB01', tokens, given=b'\xef\xac\x81' * (4 << 18), out=re.compile(rb'-\t0\t3145728\t(fi)+\n'))
     name = 'n' * 250
@@ -156,10 +156,10 @@ def of_lists():
     yield Case(group, 'a word that becomes 255 bytes, 1 MiB of it', listed, {'list': long + b',a'}, given=b'a ' * (1 << 19), out=None)
     rows = b'\n'.join(b'a%d,a%d' % (k, k + 1) for k in range(2_047))
     yield Case(group, 'a chain of 4,094 phrases', listed, {'list': rows}, given=b'a2047', out=b'-\t0\t5\ta0\n')
-    fronts = b','.join(b' '.join([b'a'] * k) for k in range(1, 9))
-    yield Case(group, 'phrases that begin one another, 200,000 words', listed, {'list': fronts}, given=b'a ' * 200_000, out=re.compile(rb'(-\t\d+\t\d+\ta\n){25000}'))
-    heads = b'\n'.join(b'a a a a a a a b%d' % k for k in range(4_096))
-    yield Case(group, '4,096 phrases that differ in their last word, 200,000 words', listed, {'list': heads}, given=b'a ' * 200_000, out=None)
+    prefixes = b','.join(b' '.join([b'a'] * k) for k in range(1, 9))
+    yield Case(group, 'phrases that begin one another, 200,000 words', listed, {'list': prefixes}, given=b'a ' * 200_000, out=re.compile(rb'(-\t\d+\t\d+\ta\n){25000}'))
+    ends = b'\n'.join(b'a a a a a a a b%d' % k for k in range(4_096))
+    yield Case(group, '4,096 phrases that differ in their last word, 200,000 words', listed, {'list': ends}, given=b'a ' * 200_000, out=None)
     yield Case(group, 'a line of 16 MiB with one comma', listed, {'list': b' ' * (16 << 20) + b','}, status=2, out=b'', err=b'licscan: words: Q1 at line 1: empty phrase\n')
     yield Case(group, 'a phrase of 8 MiB', listed, {'list': b'ab ' * (8 << 18)}, status=2, out=b'', err=b'licscan: words: Q3 at line 1: phrase too long\n')
     yield Case(group, 'a phrase of 4 MiB of signs', listed, {'list': b'(c)' * (4 << 18) + b',x'}, given=b'x', out=b'-\t0\t1\tcopyright\n')

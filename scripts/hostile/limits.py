@@ -34,12 +34,12 @@ def of_depths():
     yield Case(group, 'the same with a stack of 256 KiB', SCAN, templates(L=deep), given=b'abbc', out=b'-\tL\t0\t0\t0\t4\n\tv\t0\t4\tabbc\n', limits={resource.RLIMIT_STACK: 256 << 10})
 
 
-def of_fronts():
-    """Each front of a template's text is taken, or refused where its rule begins."""
+def of_prefixes():
+    """Each prefix of a template's text is taken, or refused where its rule begins."""
     text = 'name of <<var;name="n";original="x";match=".+">> nor'
     for end in range(len(text) + 1):
         fault = 'M10 at 0: no letter in it' if end == 0 else 'M1 at 8: rule not closed' if 13 <= end <= 47 else None
-        yield of_template('fronts of a template', f'{end} bytes', text[:end], fault, re.compile(rb'L\t\d+\t(yes|no)\n'))
+        yield of_template('prefixes of a template', f'{end} bytes', text[:end], fault, re.compile(rb'L\t\d+\t(yes|no)\n'))
 
 
 def of_numbers():
@@ -111,7 +111,7 @@ def of_inputs():
 
 
 def cases(tools, heavy):
-    for group in (of_depths, of_fronts, of_numbers, of_lengths):
+    for group in (of_depths, of_prefixes, of_numbers, of_lengths):
         yield from group()
     if heavy:
         yield from of_long_files()

@@ -1,4 +1,4 @@
-"""Standard streams that are closed, full or broken; few handles, little room for files, little memory."""
+"""Standard streams that are closed, full or broken; few handles, a limit on the size of files, little memory."""
 import os, resource
 
 from costly import ALL, SCAN, variable
@@ -27,16 +27,16 @@ def of_closed():
     yield Case(group, 'all closed, an option refused', ['--unknown'], status=2, out=b'', start={'closed': (0, 1, 2)})
 
 
-def of_room():
+def of_size():
     """A file that takes so many bytes and then no more."""
-    group = 'an output with room for k bytes'
-    for room in range(len(REPORT) + 1):
-        whole = room == len(REPORT)
-        yield Case(group, f'{room} bytes', SCAN, TWO, given=b'foo bar', status=0 if whole else 2, out=REPORT[:room], err=None,
-                   limits={resource.RLIMIT_FSIZE: room}, start={'stderr': ('/dev/null', os.O_WRONLY)})
+    group = 'an output that takes k bytes'
+    for size in range(len(REPORT) + 1):
+        whole = size == len(REPORT)
+        yield Case(group, f'{size} bytes', SCAN, TWO, given=b'foo bar', status=0 if whole else 2, out=REPORT[:size], err=None,
+                   limits={resource.RLIMIT_FSIZE: size}, start={'stderr': ('/dev/null', os.O_WRONLY)})
     long = b'foo bar ' * 20_000
-    for room in (65_535, 65_536, 65_537, 200_000):
-        yield Case(group, f'{room} bytes of a long report', ALL, FOO, given=long, status=2, out=None, err=None, limits={resource.RLIMIT_FSIZE: room},
+    for size in (65_535, 65_536, 65_537, 200_000):
+        yield Case(group, f'{size} bytes of a long report', ALL, FOO, given=long, status=2, out=None, err=None, limits={resource.RLIMIT_FSIZE: size},
                    start={'stderr': ('/dev/null', os.O_WRONLY)})
 
 
@@ -59,5 +59,5 @@ def of_address_space():
 
 
 def cases(tools, heavy):
-    for group in (of_closed, of_room, of_handles, of_address_space):
+    for group in (of_closed, of_size, of_handles, of_address_space):
         yield from group()

@@ -11,14 +11,16 @@ nobody. Some cases need a C compiler.
 """
 import collections, os, shutil, sys, tempfile
 
-import changing, costly, files, limits, streams
+import changing, costly, files, growing, limits, streams
 from running import faults, outcome, run
 
-MODULES = (costly, limits, files, streams, changing)
+MODULES = (costly, growing, limits, files, streams, changing)
 
 
 def all_cases(tools, heavy):
-    return [case for module in MODULES for case in module.cases(tools, heavy)]
+    """The cases, one after another, since all of them at once would be large."""
+    for module in MODULES:
+        yield from module.cases(tools, heavy)
 
 
 def copy_of(program, folder):

@@ -1,7 +1,7 @@
 -- What the arguments ask for.
 use Rattle.std.specs.Prelude.{◌≡◌, ℕ, ◌<◌, List, length, slice_index_or, Option, Some, None}
-use Rattle.lic_auto.specs.Sets.{Known}
-use Rattle.lic_find.specs.declared.triple.Triple.{Triple}
+use Rattle.lic_set.specs.Sets.{Known}
+use Rattle.lic_set.specs.declared.triple.Triple.{Triple}
 use Rattle.lic_arguments.specs.declared.arguments.After.{After}
 
 -- the template with this number has this identifier

@@ -6,9 +6,9 @@ ghost use Rattle.lic_arguments.specs.Arguments.{IsNamed, IsTripleOf};
 
 use crate::fault::ArgumentFault;
 use clap::{Arg, ArgAction, ArgMatches, Command, Error, value_parser};
-use lic_auto::set::Set;
 use lic_find::ask::Ask;
-use lic_find::triple::Triple;
+use lic_set::set::Set;
+use lic_set::triple::Triple;
 use std::alloc::{AllocError, Global};
 
 /// The version of the program, for whoever names it in a bill of materials.

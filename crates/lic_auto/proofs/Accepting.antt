@@ -1,22 +1,24 @@
--- Which templates describe the tokens that a run stands for.
-use Rattle.std.proofs.Common.{◌≡◌, ℕ, ◌<◌, ◌≤◌, Bool, true, false, ◌==◌, ◌&&◌, List, [], ◌++◌, length, get_or, Some, eqb-true, refl, sym, ◌∙◌, subst, append-nil, arith}
-use Rattle.std.specs.List.{slice_get, Contains}
+-- Which templates describe the tokens that runs have taken.
+use Rattle.std.proofs.Common.{◌≡◌, ℕ, zero, suc, ◌+◌, ◌<◌, ◌≤◌, Bool, true, false, ◌&&◌, not, List, [], ◌∷◌, ◌++◌, length, get_or, Some, None, refl, sym, ap, ◌∙◌, subst, arith}
+use Rattle.std.specs.List.{slice_get, Contains, list_all}
 use Rattle.std.specs.Bool.{IsTrue}
-use Rattle.std.proofs.lemmas.List.{get_or_default, length-take}
-use Rattle.std.proofs.Math.Logic.{∥∥₁_elim}
+use Rattle.std.proofs.lemmas.Bool.{cases_lt, false≢true}
+use Rattle.std.proofs.lemmas.Option.{none-some, same_Some, slice_get_within}
+use Rattle.std.proofs.Math.Logic.{∥∥₁_elim, ⊎_elim}
 use mathlib.Core.HLevel.{⊥_prop}
 use mathlib.Core.Bool.{Bool-set}
 use Rattle.lic_words.specs.Expressions.{Expression}
 use Rattle.lic_words.specs.Describing.{IsDescribed}
 use Rattle.lic_marks.specs.Deciding.{is_described}
 use Rattle.lic_marks.proofs.Deciding.{is_described_sound, is_described_complete}
-use Rattle.lic_marks.specs.Runs.{Stands}
-use Rattle.lic_marks.specs.declared.run.Run as tree
-use Rattle.lic_auto.specs.Sets.{Known, words_of}
-use Rattle.lic_auto.specs.Choices.{templates_of}
-use Rattle.lic_auto.specs.Runs.{StandsAmong, HasNumberOf, live_of, is_dead}
-use Rattle.lic_auto.specs.declared.run.Run.{Run}
-use Rattle.lic_auto.proofs.Changing.{slice_get-some}
+use Rattle.lic_set.specs.Sets.{Known, words_of}
+use Rattle.lic_set.specs.Rising.{IsRising}
+use Rattle.lic_set.proofs.RisingLemmas.{rises}
+use Rattle.lic_auto.specs.Picked.{IsLeastOf}
+use Rattle.lic_auto.specs.Walks.{AreFollowing, Follows, run_numbers}
+use Rattle.lic_auto.specs.declared.walk.TemplateRun.{TemplateRun}
+use Rattle.lic_auto.proofs.Changing.{at_number, number_there, some_at}
+use Rattle.lic_auto.proofs.PickedLemmas.{contains_or_not}
 
 and_left : (a b : Bool) → (a && b) ≡ true → a ≡ true
 and_left true b h = refl
@@ -26,48 +28,85 @@ and_right : (a b : Bool) → (a && b) ≡ true → b ≡ true
 and_right true b h = h
 and_right false b h = cc
 
--- what the runs of the first numbers of a list stand for is not described, where they are not below the first one that is asked for
-abbrev pub FailBefore : List tree.Run → List ℕ → ℕ → ℕ → Type 0
-FailBefore runs live from i = (j : ℕ) → j < i → from ≤ get_or live j 0 → (run : tree.Run) → slice_get runs (get_or live j 0) ≡ Some run →
-    (e : Expression) (ts : List (List ℕ)) → Stands run e ts → ¬ (IsDescribed e ts)
+false_if_not : (b : Bool) → not b ≡ true → b ≡ false
+false_if_not true h = cc
+false_if_not false h = refl
 
-module _ (run : Run) (numbers : List ℕ) (ts : List (List ℕ)) (s : StandsAmong run numbers ts) where
-  -- as many runs as templates
-  same_count : length (templates_of run.chosen) ≡ length run.runs.items
-  same_count = omega (arith, run.count, run.runs.ok)
+-- where none is live, each is not
+not_live : (runs : List TemplateRun) → list_all (λ (one : TemplateRun). not one.is_live) runs ≡ true → (place : ℕ) (run : TemplateRun)
+    → slice_get runs place ≡ Some run → run.is_live ≡ false
+not_live [] dead place run there = absurd (none-some run there)
+not_live (one ∷ runs) dead zero run there =
+    subst (λ (r : TemplateRun). r.is_live ≡ false) (same_Some one run there)
+    (false_if_not one.is_live (and_left (not one.is_live) (list_all (λ (r : TemplateRun). not r.is_live) runs) dead))
+not_live (one ∷ runs) dead (suc place) run there =
+    not_live runs (and_right (not one.is_live) (list_all (λ (r : TemplateRun). not r.is_live) runs) dead) place run there
 
-  module _ (k : ℕ) (known : Known) (among : HasNumberOf run numbers k) (is : slice_get (templates_of run.chosen) k ≡ Some known) where
-    -- a template is not described where its run says so, if it is live
-    pub none_described : ((j : ℕ) → j < length (live_of run) → get_or (live_of run) j 0 ≡ k → (r : tree.Run) → slice_get run.runs.items k ≡ Some r →
-        Stands r (words_of known) ts → ¬ (IsDescribed (words_of known) ts)) → ¬ (IsDescribed (words_of known) ts)
-    none_described fails described = by_begun run.has_begun refl
-      where
-        not_live : ¬ (Contains (live_of run) k)
-        not_live (j, inside, at) =
-            let (r, there) = slice_get-some run.runs.items (templates_of run.chosen) k known same_count is in
-            ∥∥₁_elim (s.live k known r (j, inside, at) is there) ⊥_prop
-            (λ stands. fails j inside (get_or_default (live_of run) j 0 k inside ∙ at) r there stands described)
+-- the runs before a place describe nothing that they have taken, where their numbers are not below the first one that is asked for
+abbrev pub FailBefore : List TemplateRun → ℕ → ℕ → Type 0
+FailBefore runs from end = (place : ℕ) (run : TemplateRun) → place < end → slice_get runs place ≡ Some run → from ≤ run.number
+    → (e : Expression) (ts : List (List ℕ)) → Follows run e ts → ¬ (IsDescribed e ts)
 
-        by_begun : (b : Bool) → run.has_begun ≡ b → ⊥
-        by_begun false e = described.0 (s.waits e).0
-        by_begun true e = s.others e k known among not_live is [] (subst (IsDescribed (words_of known)) (sym (append-nil ts)) described)
+-- one run more describes nothing
+pub FailBefore-more : (runs : List TemplateRun) (from end : ℕ) (run : TemplateRun) → slice_get runs end ≡ Some run → FailBefore runs from end
+    → (from ≤ run.number → (e : Expression) (ts : List (List ℕ)) → Follows run e ts → ¬ (IsDescribed e ts)) → FailBefore runs from (end + 1)
+FailBefore-more runs from end run here before fails = λ place one low there.
+    ⊎_elim
+    (λ (less : place < end). before place one less there)
+    (λ (late : end ≤ place).
+    let same : place ≡ end = omega (arith, low, late) in
+    let is : run ≡ one = same_Some run one (sym here ∙ ap (slice_get runs) (sym same) ∙ there) in
+    subst (λ (r : TemplateRun). from ≤ r.number → (e : Expression) (ts : List (List ℕ)) → Follows r e ts → ¬ (IsDescribed e ts)) is fails)
+    (cases_lt place end)
 
-    -- a dead run
-    pub dead_described : IsTrue (is_dead run) → (more : List (List ℕ)) → ¬ (IsDescribed (words_of known) (ts ++ more))
-    dead_described dead more described =
-        let begun : run.has_begun ≡ true = and_left run.has_begun (run.live_count == 0) dead in
-        let none : run.live_count ≡ 0 = eqb-true run.live_count 0 (and_right run.has_begun (run.live_count == 0) dead) in
-        let size : length (live_of run) ≤ run.live_count = omega (arith, length-take run.live_count run.live.items) in
-        s.others begun k known among (λ (j, inside, at). omega (arith, none, size, inside)) is more described
+module _ (set : List Known) (runs : List TemplateRun) (numbers : List ℕ) (ts : List (List ℕ)) (inner : (k : ℕ) → Contains numbers k → Contains (run_numbers runs) k)
+    (following : AreFollowing set runs numbers ts) where
+  -- a dead run describes nothing that goes on
+  pub dead_described : list_all (λ (one : TemplateRun). not one.is_live) runs ≡ true → (more : List (List ℕ)) (k : ℕ) (known : Known)
+      → Contains numbers k → slice_get set k ≡ Some known → ¬ (IsDescribed (words_of known) (ts ++ more))
+  dead_described dead more k known among is described =
+      let (place, inside, there) = inner k among in
+      let (run, here, number) = at_number (λ (one : TemplateRun). one.number) runs place k inside there in
+      ∥∥₁_elim (following.follow place run known here (ap (slice_get set) number ∙ is) (subst (Contains numbers) (sym number) among)) ⊥_prop
+      (λ follows. follows.ended (not_live runs dead place run here) more described)
 
-  -- a template is described where its run says so
-  pub some_described : (n : ℕ) (r : tree.Run) (b : Bool) → Contains (live_of run) n → slice_get run.runs.items n ≡ Some r → b ≡ true →
-      ((e : Expression) (us : List (List ℕ)) → Stands r e us → (IsTrue b → IsDescribed e us)) →
-      (known : Known) × (slice_get (templates_of run.chosen) n ≡ Some known) × IsDescribed (words_of known) ts
-  some_described n r b inside there passed accepts =
-      let (known, is) = slice_get-some (templates_of run.chosen) run.runs.items n r (sym same_count) there in
-      let decided : is_described (words_of known) ts ≡ true =
-      ∥∥₁_elim (s.live n known r inside is there)
-      (Bool-set _ _) (λ stands. is_described_complete (words_of known) ts
-      (accepts (words_of known) ts stands passed)) in
-      (known, is, is_described_sound (words_of known) ts decided)
+  module _ (up : IsRising (run_numbers runs) (length set)) (from : ℕ) where
+    -- up to a place at which none before was described
+    fails : (end : ℕ) → FailBefore runs from end → (k : ℕ) (known : Known) → Contains numbers k → from ≤ k → slice_get set k ≡ Some known
+        → ((place : ℕ) (run : TemplateRun) → slice_get runs place ≡ Some run → run.number ≡ k → place < end) → ¬ (IsDescribed (words_of known) ts)
+    fails end before k known among least is passed described =
+        let (place, inside, there) = inner k among in
+        let (run, here, number) = at_number (λ (one : TemplateRun). one.number) runs place k inside there in
+        ∥∥₁_elim (following.follow place run known here (ap (slice_get set) number ∙ is) (subst (Contains numbers) (sym number) among)) ⊥_prop
+        (λ follows. before place run (passed place run here number) here (omega (arith, number)) (words_of known) ts follows described)
+
+    -- no run accepts
+    pub none_accepts : (end : ℕ) → length runs ≤ end → FailBefore runs from end → IsLeastOf set numbers ts from None
+    none_accepts end all before = λ top k known among least less is.
+        fails end before k known among least is (λ place run here number. omega (arith, slice_get_within runs place run here))
+
+    -- the run at a place accepts, and none before it
+    pub accepts_first : (place : ℕ) (run : TemplateRun) → slice_get runs place ≡ Some run → from ≤ run.number → FailBefore runs from place
+        → IsTrue run.is_live → ((e : Expression) (us : List (List ℕ)) → Follows run e us → IsDescribed e us)
+        → IsLeastOf set numbers ts from (Some run.number)
+    accepts_first place run here least before live accepts =
+        let (inside, at) = number_there (λ (one : TemplateRun). one.number) runs place run here in
+        let (known, is) = some_at set run.number (omega (arith, at, up.below place inside)) in
+        let among : Contains numbers run.number =
+        ⊎_elim (λ (h : Contains numbers run.number). h) (λ (gone : ¬ (Contains numbers run.number)).
+        absurd (false≢true (sym (following.left_out place run here gone) ∙ live)))
+        (contains_or_not numbers run.number) in
+        let decided : is_described (words_of known) ts ≡ true =
+        ∥∥₁_elim (following.follow place run known here is among) (Bool-set _ _)
+        (λ follows. is_described_complete (words_of known) ts (accepts (words_of known) ts follows)) in (
+          among,
+          least,
+          (known, is, is_described_sound (words_of known) ts decided),
+          λ k one among' least' less is'. fails place before k one among' least' is' (λ at' run' here' number'.
+              ⊎_elim (λ (h : at' < place). h) (λ (late : place ≤ at').
+              let (inside', is'') = number_there (λ (one : TemplateRun). one.number) runs at' run' here' in
+              absurd (⊎_elim
+              (λ (behind : place < at'). omega (arith, rises (run_numbers runs) (length set) up place at' behind inside', at, is'', number', less))
+              (λ (same : at' ≤ place). let e : at' ≡ place = omega arith in omega (arith, ap (λ i. get_or (run_numbers runs) i 0) e, at, is'', number', less))
+              (cases_lt place at'))) (cases_lt at' place)),
+        )

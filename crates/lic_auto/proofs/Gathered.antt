@@ -1,82 +1,93 @@
--- The numbers of templates that are found, gathered place by place.
-use Rattle.std.proofs.Common.{◌≡◌, ℕ, ◌<◌, ◌↔◌, Bool, true, false, IsTrue, List, [], ◌∷◌, ◌++◌, length, get_or, Some, sym, ◌∙◌, subst, arith}
+-- The numbers of live templates, gathered one after another.
+use Rattle.std.proofs.Common.{◌≡◌, ℕ, ◌+◌, ◌<◌, ◌≤◌, ◌↔◌, ◌⊎◌, inl, inr, Bool, true, false, IsTrue, List, [], ◌∷◌, ◌++◌, length, get_or, Some, sym, ap, ◌∙◌, subst, arith}
 use Rattle.std.specs.List.{slice_get, Contains}
 use Rattle.std.proofs.Math.Logic.{⊎_elim, ∥∥₁_map, ∥∥₁_elim}
 use mathlib.Core.HLevel.{⊥_prop}
-use Rattle.std.proofs.lemmas.Bool.{false≢true}
+use Rattle.std.proofs.lemmas.Bool.{false≢true, cases_lt}
+use Rattle.std.proofs.lemmas.Option.{same_Some}
 use Rattle.std.proofs.lemmas.List.Elements.{Contains-push, Contains-push_cases, Contains-append_left}
 use Rattle.lic_words.specs.Expressions.{Expression}
+use Rattle.lic_words.specs.Mirrors.{mirrored}
 use Rattle.lic_marks.specs.Seeks.{DescribesEnd, Seeks}
-use Rattle.lic_marks.specs.declared.seek.Seeker.{Seeker}
-use Rattle.lic_keys.specs.Rising.{IsRising}
-use Rattle.lic_keys.proofs.RisingLemmas.{rises, IsRising-push}
-use Rattle.lic_auto.specs.Sets.{Known, words_of}
-use Rattle.lic_auto.specs.Picked.{picked}
-use Rattle.lic_auto.specs.Directions.{read}
-use Rattle.lic_auto.specs.Seeking.{SeekEach}
-use Rattle.lic_auto.specs.declared.direction.Direction.{Direction}
-use Rattle.lic_auto.proofs.TurnedEnds.{untruncated_end}
-use Rattle.lic_auto.proofs.Finding.{Found, Found-more, Found-cases}
+use Rattle.lic_set.specs.Rising.{IsRising}
+use Rattle.lic_set.proofs.RisingLemmas.{rises, IsRising-push}
+use Rattle.lic_set.specs.Sets.{Known, words_of}
+use Rattle.lic_auto.specs.Seeking.{HaveSought, IsFoundBefore, seeker_numbers}
+use Rattle.lic_auto.specs.declared.seeking.TemplateSeeker.{TemplateSeeker}
+use Rattle.lic_auto.proofs.Changing.{number_there, some_at}
+use Rattle.lic_auto.proofs.Ends.{untruncated_end}
 
--- the list has the numbers of those at these places that are found, in rising order
-pub record AreGathered (direction : Direction) (templates : List Known) (numbers : List ℕ) (seekers : List Seeker) (seen found : List ℕ) : Type 0 where
-  pub rising : IsRising found (length templates)
-  pub known : (n : ℕ) → Contains found n → (place : ℕ) × Contains seen place × (get_or numbers place 0 ≡ n)
-  pub exactly : (lists : ℕ → List (List ℕ)) → SeekEach direction (picked templates numbers) seekers lists
-      → (n : ℕ) → Contains found n ↔ Found direction templates numbers seen lists n
+-- the list has the numbers of the seekers before a place that are found, in rising order
+pub record AreGathered (seekers : List TemplateSeeker) (found : List ℕ) (end : ℕ) : Type 0 where
+  pub rising : (bound : ℕ) → IsRising (seeker_numbers seekers) bound → IsRising found bound
+  pub known : (n : ℕ) → Contains found n → (place : ℕ) × (place < end) × (get_or (seeker_numbers seekers) place 0 ≡ n)
+  pub exactly : (set : List Known) (ts : List (List ℕ)) → IsRising (seeker_numbers seekers) (length set) → HaveSought set seekers ts → (n : ℕ) → Contains found n ↔ IsFoundBefore set seekers end ts n
 
-module _ (direction : Direction) (templates : List Known) (numbers : List ℕ) (up : IsRising numbers (length templates)) (seekers : List Seeker)
-    (seen found : List ℕ) (place : ℕ) (s : Seeker) (here : slice_get seekers place ≡ Some s) (b : Bool)
-    (answers : (e : Expression) (ts : List (List ℕ)) → Seeks s e ts → IsTrue b ↔ DescribesEnd e ts)
-    (g : AreGathered direction templates numbers seekers seen found) where
+module _ (set : List Known) (seekers : List TemplateSeeker) (ts : List (List ℕ)) (end n : ℕ) where
+  Found-more : IsFoundBefore set seekers end ts n → IsFoundBefore set seekers (end + 1) ts n
+  Found-more (place, low, one, known) = (place, omega (arith, low), one, known)
+
+  -- what is found before the next place is found before this one, or at it
+  Found-cases : (s : TemplateSeeker) → slice_get seekers end ≡ Some s → IsFoundBefore set seekers (end + 1) ts n → IsFoundBefore set seekers end ts n
+      ⊎ ((s.number ≡ n) × ((known : Known) × (slice_get set n ≡ Some known) × DescribesEnd (mirrored (words_of known)) ts))
+  Found-cases s here (place, low, (one, there, number), known) =
+      ⊎_elim
+      (λ (before : place < end). inl (place, before, (one, there, number), known))
+      (λ (late : end ≤ place).
+      let same : place ≡ end = omega (arith, low, late) in
+      let is : s ≡ one = same_Some s one (sym here ∙ ap (slice_get seekers) (sym same) ∙ there) in
+      inr (ap (λ (x : TemplateSeeker). x.number) is ∙ number, known))
+      (cases_lt place end)
+
+module _ (seekers : List TemplateSeeker) (found : List ℕ) (end : ℕ) (s : TemplateSeeker) (here : slice_get seekers end ≡ Some s) (b : Bool)
+    (answers : (e : Expression) (ts : List (List ℕ)) → Seeks s.seeker e ts → IsTrue b ↔ DescribesEnd e ts) (g : AreGathered seekers found end) where
   -- the seeker at the place accepts nothing
-  pub Gathered-skip : b ≡ false → AreGathered direction templates numbers seekers (seen ++ place ∷ []) found
+  pub Gathered-skip : b ≡ false → AreGathered seekers found (end + 1)
   Gathered-skip rejects = record {
     rising = g.rising;
-    known = λ n h. let (at, among, is) = g.known n h in (at, Contains-append_left seen (place ∷ []) at among, is);
-    exactly = λ lists stand n. (
-      λ h. Found-more direction templates numbers seen lists place n ((g.exactly lists stand n).0 h),
+    known = λ n h. let (place, low, is) = g.known n h in (place, omega (arith, low), is);
+    exactly = λ set ts up sought n. (
+      λ h. Found-more set seekers ts end n ((g.exactly set ts up sought n).0 h),
       λ f. ⊎_elim
-          (λ before. (g.exactly lists stand n).1 before)
-          (λ (is, (known, there, described)). absurd (∥∥₁_elim (stand place known s there here) ⊥_prop
-          (λ seeks. false≢true (sym rejects ∙ (answers (read direction (words_of known)) (lists place) seeks).1 described))))
-          (Found-cases direction templates numbers seen lists place n f),
+          (λ before. (g.exactly set ts up sought n).1 before)
+          (λ (number, (known, there, described)). absurd (∥∥₁_elim (sought end s known here (ap (slice_get set) number ∙ there)) ⊥_prop
+          (λ seeks. false≢true (sym rejects ∙ (answers (mirrored (words_of known)) ts seeks).1 described))))
+          (Found-cases set seekers ts end n s here f),
     );
   }
 
   -- it accepts, and its number is put to the end
-  pub Gathered-add : b ≡ true → place < length numbers → ((k : ℕ) → Contains seen k → k < place) → (known : Known) →
-      slice_get (picked templates numbers) place ≡ Some known →
-      AreGathered direction templates numbers seekers (seen ++ place ∷ []) (found ++ get_or numbers place 0 ∷ [])
-  Gathered-add accepts inside above known there =
-      let number = get_or numbers place 0 in
-      let less : (x : ℕ) → Contains found x → x < number = λ x h.
-      let (at, among, is) = g.known x h in omega (arith, rises numbers (length templates) up at place (above at among) inside, is) in
+  pub Gathered-add : b ≡ true → AreGathered seekers (found ++ s.number ∷ []) (end + 1)
+  Gathered-add accepts =
+      let (inside, at) = number_there (λ (x : TemplateSeeker). x.number) seekers end s here in
       record {
-        rising = IsRising-push found (length templates) number (length templates) g.rising (omega arith) less (up.below place inside);
+        rising = λ bound up.
+            let less : (x : ℕ) → Contains found x → x < s.number = λ x h.
+            let (place, low, is) = g.known x h in omega (arith, rises (seeker_numbers seekers) bound up place end low inside, is, at) in
+            IsRising-push found bound s.number bound (g.rising bound up) (omega arith) less (omega (arith, at, up.below end inside));
         known = λ n h. ⊎_elim
-            (λ before. let (at, among, is) = g.known n before in (at, Contains-append_left seen (place ∷ []) at among, is))
-            (λ (same : number ≡ n). (place, Contains-push seen place, same))
-            (Contains-push_cases found number n h);
-        exactly = λ lists stand n. (
+            (λ before. let (place, low, is) = g.known n before in (place, omega (arith, low), is))
+            (λ (same : s.number ≡ n). (end, omega arith, at ∙ same))
+            (Contains-push_cases found s.number n h);
+        exactly = λ set ts up sought n. (
           λ h. ⊎_elim
-              (λ before. Found-more direction templates numbers seen lists place n ((g.exactly lists stand n).0 before))
-              (λ (same : number ≡ n). (
-                place,
-                Contains-push seen place,
-                same,
+              (λ before. Found-more set seekers ts end n ((g.exactly set ts up sought n).0 before))
+              (λ (same : s.number ≡ n).
+              let (known, there) = some_at set s.number (omega (arith, at, up.below end inside)) in (
+                end,
+                omega arith,
+                (s, here, same),
                 (
                   known,
-                  there,
-                  untruncated_end (read direction (words_of known)) (lists place)
-                      (∥∥₁_map (stand place known s there here) (λ seeks.
-                      (answers (read direction (words_of known)) (lists place) seeks).0 accepts)),
+                  ap (slice_get set) (sym same) ∙ there,
+                  untruncated_end (mirrored (words_of known)) ts
+                      (∥∥₁_map (sought end s known here there) (λ seeks. (answers (mirrored (words_of known)) ts seeks).0 accepts)),
                 ),
               ))
-              (Contains-push_cases found number n h),
+              (Contains-push_cases found s.number n h),
           λ f. ⊎_elim
-              (λ before. Contains-append_left found (number ∷ []) n ((g.exactly lists stand n).1 before))
-              (λ (is, rest). subst (Contains (found ++ number ∷ [])) is (Contains-push found number))
-              (Found-cases direction templates numbers seen lists place n f),
+              (λ before. Contains-append_left found (s.number ∷ []) n ((g.exactly set ts up sought n).1 before))
+              (λ (is, rest). subst (Contains (found ++ s.number ∷ [])) is (Contains-push found s.number))
+              (Found-cases set seekers ts end n s here f),
         );
       }

@@ -1,7 +1,7 @@
 -- Rows from the last item on.
-use Rattle.std.proofs.Common.{◌≡◌, Bool, true, false, ◌&&◌, List, [], ◌∷◌, ◌++◌, map, reverse, length, refl, sym, ap, ◌∙◌}
+use Rattle.std.proofs.Common.{◌≡◌, Bool, true, false, ◌&&◌, List, [], ◌∷◌, ◌++◌, map, reverse, refl, sym, ap, ◌∙◌}
 use Rattle.std.specs.List.{list_all}
-use Rattle.std.proofs.lemmas.List.{reverse-append, length-reverse, map-append}
+use Rattle.std.proofs.lemmas.List.{reverse-append, map-append}
 use Rattle.std.proofs.lemmas.List.Folds.{list_all-append}
 use Rattle.lic_auto.specs.declared.direction.Direction.{Direction}
 use Rattle.lic_auto.specs.declared.direction.Direction.TheVariants.{Forward, Backward}
@@ -41,7 +41,3 @@ map-ordered Backward f xs = map-reverse f xs
 pub list_all-ordered : {X : Type 0} (d : Direction) (p : X → Bool) (xs : List X) → list_all p xs ≡ true → list_all p (ordered d xs) ≡ true
 list_all-ordered Forward p xs h = h
 list_all-ordered Backward p xs h = list_all-reverse p xs h
-
-pub length-ordered : {X : Type 0} (d : Direction) (xs : List X) → length (ordered d xs) ≡ length xs
-length-ordered Forward xs = refl
-length-ordered Backward xs = length-reverse xs

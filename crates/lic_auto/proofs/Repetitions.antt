@@ -3,9 +3,6 @@ use Rattle.std.proofs.Common.{◌≡◌, ℕ, zero, suc, ◌+◌, ◌-◌, ◌�
 use Rattle.lic_words.specs.Words.{Word, Cat, Power}
 use Rattle.lic_words.specs.Expressions.{IsAtMost}
 use Rattle.lic_marks.specs.Cores.{Core, empty, cat, alt, WordsOf, cat_all, any_front, copies, up_to, plus}
-use Rattle.lic_marks.specs.Nodes.{so_many}
-use Rattle.lic_marks.specs.declared.node.Times.{Times}
-use Rattle.lic_marks.specs.declared.node.Times.TheVariants.{Bounded, Unbounded}
 use Rattle.lic_marks.proofs.Repetitions.{Power-map, Power-append}
 use Rattle.lic_auto.specs.Compiling.{AreSame, Repeats}
 use Rattle.lic_auto.proofs.WordSets.{AreSame-refl, AreSame-sym, AreSame-trans, IsEmpty, IsNone, Either, Cat-same, Cat-empty_left, Cat-empty_right}
@@ -50,14 +47,6 @@ module _ (a : Core) where
   up_to_from zero (suc k) w h p = absurd (omega arith)
   up_to_from (suc n) zero w h p = inl p
   up_to_from (suc n) (suc k) w h (u, v, p, q, e) = inr (u, v, p, up_to_from n k v (omega arith) q, e)
-
-  -- so many words in a row are words in a row
-  pub so_many_words : (times : Times) (w : Word) → WordsOf (so_many times a) w → (k : ℕ) × Power (WordsOf a) k w
-  so_many_words (Bounded needed more) w (u, v, p, q, e) =
-      let rest = up_to_to more v q in
-      (needed + rest.0, rw e (Power-append (WordsOf a) needed rest.0 u v (copies_to needed u p) rest.2))
-  so_many_words (Unbounded before) w (u, v, p, (x, y, q, (n, r), f), e) =
-      (before + suc n, rw e (Power-append (WordsOf a) before (suc n) u v (copies_to before u p) (x, y, q, r, f)))
 
   -- m copies, and then up to so many more
   pub bounded_words : (min max : ℕ) → min ≤ max →

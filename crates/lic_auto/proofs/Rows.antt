@@ -11,12 +11,6 @@ cat_all-push (s ∷ rs) r =
     AreSame-trans (Cat-same (AreSame-refl (WordsOf s)) (cat_all-push rs r))
     (AreSame-sym (Cat-assoc (WordsOf s) (WordsOf (cat_all rs)) (WordsOf r)))
 
-pub cat_all-append : (rs ss : List Core) → AreSame (WordsOf (cat_all (rs ++ ss))) (Cat (WordsOf (cat_all rs)) (WordsOf (cat_all ss)))
-cat_all-append [] ss = AreSame-sym (Cat-empty_left (WordsOf (cat_all ss)))
-cat_all-append (r ∷ rs) ss =
-    AreSame-trans (Cat-same (AreSame-refl (WordsOf r)) (cat_all-append rs ss))
-    (AreSame-sym (Cat-assoc (WordsOf r) (WordsOf (cat_all rs)) (WordsOf (cat_all ss))))
-
 pub alt_all-push : (rs : List Core) (r : Core) → AreSame (WordsOf (alt_all (rs ++ r ∷ []))) (Either (WordsOf (alt_all rs)) (WordsOf r))
 alt_all-push [] r = AreSame-trans (Either-none (WordsOf r)) (AreSame-sym (Either-none_left (WordsOf r)))
 alt_all-push (s ∷ rs) r =

@@ -13,7 +13,6 @@ use Rattle.lic_marks.specs.Marks.{is_nullable}
 use Rattle.lic_marks.specs.Rows.{weight}
 use Rattle.lic_marks.specs.Nodes.{core_of, is_measured, IsBuilt}
 use Rattle.lic_marks.specs.declared.node.Node.{Node}
-use Rattle.lic_marks.proofs.Children.{measured_at}
 use Rattle.lic_marks.proofs.Cuts.{and_both}
 use Rattle.lic_auto.specs.Compiling.{AreSame, HasWords}
 use Rattle.lic_auto.proofs.WordSets.{AreSame-refl, AreSame-sym, AreSame-trans, Either, EmptyIf, IsEmpty, Either-same, Either-turned, Either-none, Either-none_left, Either-assoc, EmptyIf-or}
@@ -34,9 +33,6 @@ measured-push ns new n e h k =
 module _ (all ys : List Node) (n : Node) (turn : (length ys < length all) × (n ≡ get_or all (length ys) n)) where
   taken : map core_of (take (length (ys ++ n ∷ [])) all) ≡ map core_of (take (length ys) all) ++ core_of n ∷ []
   taken = ap (λ k. map core_of (take k all)) (length_push ys n) ∙ more core_of all (length ys) n turn.0 turn.1
-
-  pub measured_turn : list_all is_measured all ≡ true → is_measured n ≡ true
-  measured_turn h = measured_at all (length ys) n h turn.0 turn.1
 
   module _ (ns : List Node) where
     pub row_keeps : (new : List Node) → new ≡ ns ++ n ∷ [] →

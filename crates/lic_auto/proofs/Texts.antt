@@ -8,7 +8,7 @@ use Rattle.lic_marks.specs.declared.test.Test.TheVariants.{Letter}
 use Rattle.lic_marks.specs.declared.node.Node.{Node}
 use Rattle.lic_auto.specs.Compiling.{AreSame}
 use Rattle.lic_auto.proofs.WordSets.{AreSame-refl, AreSame-sym, AreSame-trans, Cat-same, Cat-assoc, Cat-empty_right}
-use Rattle.lic_auto.proofs.Rows.{cat_all-push, cat_all-append}
+use Rattle.lic_auto.proofs.Rows.{cat_all-push}
 
 -- rows that differ in the last child alone, by a child with the same words
 same_end : (rs : List Core) (a b : Core) → AreSame (WordsOf a) (WordsOf b) → AreSame (WordsOf (cat_all (rs ++ a ∷ []))) (WordsOf (cat_all (rs ++ b ∷ [])))
@@ -41,31 +41,24 @@ module _ (ns : List Node) where
       subst (λ cs. AreSame (WordsOf (cat_all (map core_of new ++ cat_all (letter_cores text) ∷ []))) (WordsOf (cat_all cs)))
       (cores_end ns node ∙ ap (λ r. map core_of ns ++ r ∷ []) is) (nothing_taken new node text e none)
 
--- more letters in the text at the end
-letters_more : (rs qs : List Core) (text more : List ℕ) →
+-- a letter more in the text at the end
+letter_more : (rs qs : List Core) (text : List ℕ) (letter : ℕ) →
     AreSame (WordsOf (cat_all (rs ++ cat_all (letter_cores text) ∷ []))) (WordsOf (cat_all qs)) →
-    AreSame (WordsOf (cat_all (rs ++ cat_all (letter_cores (text ++ more)) ∷ []))) (WordsOf (cat_all (qs ++ cat_all (letter_cores more) ∷ [])))
-letters_more rs qs text more same =
-    let behind = cat_all (letter_cores more) in
-    let both : letter_cores (text ++ more) ≡ letter_cores text ++ letter_cores more = map-append (λ d. one (λ c. c == d)) text more in
-    rw both
-    (AreSame-trans (cat_all-push rs (cat_all (letter_cores text ++ letter_cores more)))
-    (AreSame-trans (Cat-same (AreSame-refl (WordsOf (cat_all rs))) (cat_all-append (letter_cores text) (letter_cores more)))
-    (AreSame-trans (AreSame-sym (Cat-assoc (WordsOf (cat_all rs)) (WordsOf (cat_all (letter_cores text))) (WordsOf behind)))
-    (AreSame-trans (Cat-same (AreSame-sym (cat_all-push rs (cat_all (letter_cores text)))) (AreSame-refl (WordsOf behind)))
-    (AreSame-trans (Cat-same same (AreSame-refl (WordsOf behind))) (AreSame-sym (cat_all-push qs behind)))))))
+    AreSame (WordsOf (cat_all (rs ++ cat_all (letter_cores (text ++ letter ∷ [])) ∷ []))) (WordsOf (cat_all (qs ++ one (λ c. c == letter) ∷ [])))
+letter_more rs qs text letter same =
+    let last = one (λ c. c == letter) in
+    let more : letter_cores (text ++ letter ∷ []) ≡ letter_cores text ++ last ∷ [] = map-append (λ d. one (λ c. c == d)) text (letter ∷ []) in
+    rw more
+    (AreSame-trans (cat_all-push rs (cat_all (letter_cores text ++ last ∷ [])))
+    (AreSame-trans (Cat-same (AreSame-refl (WordsOf (cat_all rs))) (cat_all-push (letter_cores text) last))
+    (AreSame-trans (AreSame-sym (Cat-assoc (WordsOf (cat_all rs)) (WordsOf (cat_all (letter_cores text))) (WordsOf last)))
+    (AreSame-trans (Cat-same (AreSame-sym (cat_all-push rs (cat_all (letter_cores text)))) (AreSame-refl (WordsOf last)))
+    (AreSame-trans (Cat-same same (AreSame-refl (WordsOf last))) (AreSame-sym (cat_all-push qs last)))))))
 
--- a letter alone is a text of one letter
-pub text_alone : (test : Test) (letter : ℕ) (text : List ℕ) → test ≡ Letter letter → text ≡ letter ∷ [] →
-    AreSame (WordsOf (one (passes test))) (WordsOf (cat_all (letter_cores text)))
-text_alone test letter text is e = rw (is, e) (AreSame-sym (Cat-empty_right (WordsOf (one (λ c. c == letter)))))
-
--- the text with the letters of the child stands behind the others
-pub text_joined : (ns old new : List Node) (node child : Node) (text more : List ℕ) → new ≡ ns ++ node ∷ [] →
-    core_of node ≡ cat_all (letter_cores (text ++ more)) → AreSame (WordsOf (core_of child)) (WordsOf (cat_all (letter_cores more))) →
+-- the text with the letter stands behind the others
+pub letter_joined : (ns old new : List Node) (node child : Node) (text : List ℕ) (letter : ℕ) → new ≡ ns ++ node ∷ [] →
+    core_of node ≡ cat_all (letter_cores (text ++ letter ∷ [])) → core_of child ≡ one (λ c. c == letter) →
     AreSame (WordsOf (cat_all (map core_of ns ++ cat_all (letter_cores text) ∷ []))) (WordsOf (cat_all (map core_of old))) →
     AreSame (WordsOf (cat_all (map core_of new))) (WordsOf (cat_all (map core_of (old ++ child ∷ []))))
-text_joined ns old new node child text more e is has same =
-    rw (e, cores_end ns node, cores_end old child, is)
-    (AreSame-trans (letters_more (map core_of ns) (map core_of old) text more same)
-    (same_end (map core_of old) (cat_all (letter_cores more)) (core_of child) (AreSame-sym has)))
+letter_joined ns old new node child text letter e is letter_is same =
+    rw (e, cores_end ns node, cores_end old child, is, letter_is) (letter_more (map core_of ns) (map core_of old) text letter same)

@@ -81,22 +81,9 @@ read-alt_all Forward (e ∷ es) = ap (words.alt e) (read-alt_all Forward es)
 read-alt_all Backward [] = refl
 read-alt_all Backward (e ∷ es) = ap (words.alt (mirrored e)) (read-alt_all Backward es)
 
-pub read-alt : (d : Direction) (a b : Expression) → words.alt (read d a) (read d b) ≡ read d (words.alt a b)
-read-alt Forward a b = refl
-read-alt Backward a b = refl
-
-pub read-tidy : (d : Direction) (a : Expression) → words.tidy (read d a) ≡ read d (words.tidy a)
-read-tidy Forward a = refl
-read-tidy Backward a = refl
-
 read-repeat : (d : Direction) (min : ℕ) (max : Option ℕ) (a : Expression) → words.repeat min max (read d a) ≡ read d (words.repeat min max a)
 read-repeat Forward min max a = refl
 read-repeat Backward min max a = refl
-
--- what is its own mirror has the same words in each direction
-pub read-own : (d : Direction) (e : Expression) → mirrored e ≡ e → AreSame (Language e) (Language (read d e))
-read-own Forward e own = AreSame-refl (Language e)
-read-own Backward e own = language_same (sym own)
 
 -- a row of nodes whose words are read in a direction, in the order of that direction
 pub row_read : (d : Direction) (ns : List Node) (es : List Expression) → AllHaveWords ns (map (read d) es) →

@@ -1,6 +1,6 @@
 -- Sets of words that are the same.
 use Rattle.std.proofs.Common.{◌≡◌, ◌++◌, [], ◌⊎◌, inl, inr, Bool, true, false, ◌||◌, refl, sym, ap, ◌∙◌, subst, append_assoc, append-nil}
-use Rattle.lic_words.specs.Words.{Word, Cat, IsTidy}
+use Rattle.lic_words.specs.Words.{Word, Cat}
 use Rattle.lic_auto.specs.Compiling.{AreSame}
 
 pub AreSame-refl : (P : Word → Type 0) → AreSame P P
@@ -90,9 +90,6 @@ module _ (P Q R : Word → Type 0) where
 
   pub Either-assoc : AreSame (Either (Either P Q) R) (Either P (Either Q R))
   Either-assoc = record { to = assoc_to; from = assoc_from }
-
-pub Tidy-same : {P Q : Word → Type 0} → AreSame P Q → AreSame (λ w. P w × IsTidy w) (λ w. Q w × IsTidy w)
-Tidy-same s = record { to = λ w p. (s.to w p.0, p.1); from = λ w q. (s.from w q.0, q.1) }
 
 -- the empty word where the test says so
 abbrev pub EmptyIf : Bool → Word → Type 0

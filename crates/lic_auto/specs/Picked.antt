@@ -1,33 +1,8 @@
 -- Templates that were picked from a set by their numbers.
-use Rattle.std.specs.Prelude.{◌≡◌, ℕ, ◌<◌, ◌≤◌, List, [], ◌∷◌, ◌++◌, Option, Some, None, length, Contains, IsTrue}
+use Rattle.std.specs.Prelude.{◌≡◌, ℕ, ◌<◌, ◌≤◌, List, Option, Some, None, length, Contains}
 use Rattle.std.specs.List.{slice_get}
-use Rattle.std.specs.Option.{option_to_list}
 use Rattle.lic_words.specs.Describing.{IsDescribed}
-use Rattle.lic_marks.specs.Cores.{HasWordsOf}
-use Rattle.lic_marks.specs.Nodes.{core_of, is_measured}
-use Rattle.lic_marks.specs.declared.node.Node.{Node}
-use Rattle.lic_auto.specs.Sets.{Known, words_of}
-use Rattle.lic_auto.specs.Directions.{read}
-use Rattle.lic_auto.specs.Indexes.{IsIndexOf}
-use Rattle.lic_auto.specs.declared.direction.Direction.{Direction}
-use Rattle.lic_auto.specs.declared.index.Index.{Index}
-
--- the templates of these numbers, in this order
-abbrev pub picked : List Known → List ℕ → List Known
-picked set [] = []
-picked set (n ∷ numbers) = option_to_list (slice_get set n) ++ picked set numbers
-
--- a tree for each template, with its words as they are read in this direction
-pub record HaveTheirTrees (direction : Direction) (known : List Known) (trees : List Node) : Type 0 where
-  pub count : length trees ≡ length known
-  pub measured : (k : ℕ) (tree : Node) → slice_get trees k ≡ Some tree → IsTrue (is_measured tree)
-  pub words : (k : ℕ) (one : Known) (tree : Node) → slice_get known k ≡ Some one → slice_get trees k ≡ Some tree
-      → ∥ HasWordsOf (core_of tree) (read direction (words_of one)) ∥₁
-
--- and an index of the trees
-pub record IsIndexed (direction : Direction) (known : List Known) (nodes : List Node) (of : Index) : Type 0 where
-  pub trees : HaveTheirTrees direction known nodes
-  pub index : IsIndexOf direction of nodes
+use Rattle.lic_set.specs.Sets.{Known, words_of}
 
 -- every template of the set has one of these numbers
 abbrev pub AreAll : List Known → List ℕ → Type 0

@@ -19,7 +19,6 @@ use lic_marks::node::{Node, Times};
 use lic_marks::test::Test;
 use lic_markup::Part;
 use std::alloc::{AllocError, Global};
-use std::slice;
 
 /// The words of parts in a row as they are read in a direction, as a compiled tree.
 ///
@@ -166,7 +165,7 @@ fn ordered_row(
     row(alloc, children)
 }
 
-/// One child after another. The children that weigh 0 are left out, and texts and letters in a row are one text.
+/// One child after another. The children that weigh 0 are left out, and letters in a row are one text.
 fn row(alloc: Global, children: Vec<Node>) -> Result<Node, AllocError>
     requires { IsTrue (list_all is_measured children.items) }
     ensures { IfOk result (HasWords (WordsOf (cat_all (map core_of children.items)))) }
@@ -182,7 +181,7 @@ fn row(alloc: Global, children: Vec<Node>) -> Result<Node, AllocError>
     joined(kept)
 }
 
-/// Puts the child behind the others. A text or a letter is joined to the text or the letter before it.
+/// Puts the child behind the others. A letter is joined to the text or the letter before it.
 fn push_joined(alloc: Global, kept: &mut Vec<Node>, child: Node) -> Result<(), AllocError>
     requires kept { IsTrue (list_all is_measured kept.old.items) }
     requires child { IsTrue (is_measured child) }
@@ -191,7 +190,7 @@ fn push_joined(alloc: Global, kept: &mut Vec<Node>, child: Node) -> Result<(), A
         (AreSame (WordsOf (cat_all (map core_of kept.new.items)))
         (WordsOf (cat_all (map core_of (kept.old.items ++ child ∷ []))))) }
 {
-    let Some(letters) = letters_of(&child) else {
+    let Some(letter) = letter_of(&child) else {
         kept.push(child)?;
         return Ok(());
     };
@@ -200,30 +199,17 @@ fn push_joined(alloc: Global, kept: &mut Vec<Node>, child: Node) -> Result<(), A
         return Ok(());
     };
     let mut text = end_text(alloc, kept, last)?;
-    text.extend_from_slice(letters)?;
+    text.push(letter)?;
     kept.push(build::letters(text))?;
     Ok(())
 }
 
-// The letters, of a node that is a text or one letter.
-fn letters_of(node: &Node) -> Option<&[char]>
-    ensures { IfSome result (λ letters.
-        AreSame (WordsOf (core_of node.now)) (WordsOf (cat_all (letter_cores letters.now)))) }
+// The letter, of a node that is one letter.
+fn letter_of(node: &Node) -> Option<char>
+    ensures { IfSome result (λ letter. core_of node.now ≡ one (λ c. c == letter)) }
 {
     match node {
-        Node::Letters(text) => Some(text),
-        Node::One(test) => letter_alone(test),
-        _ => None,
-    }
-}
-
-// The letter, where no other one passes.
-fn letter_alone(test: &Test) -> Option<&[char]>
-    ensures { IfSome result (λ letters. AreSame (WordsOf (one (passes test.now)))
-        (WordsOf (cat_all (letter_cores letters.now)))) }
-{
-    match test {
-        Test::Letter(letter) => Some(slice::from_ref(letter)),
+        Node::One(Test::Letter(letter)) => Some(*letter),
         _ => None,
     }
 }

@@ -1,19 +1,14 @@
-//! Multi-pattern matching: which templates of a set describe a list of tokens that comes token by token.
+//! The machines over the templates of a set: which of them describe a list of tokens that comes token by token.
 #![tactic(auto)]
 
 pub mod back;
-pub mod chosen;
+mod chosen;
 pub mod compile;
-pub mod direction;
-mod first;
-mod head;
-mod index;
-mod joining;
+mod direction;
 pub mod laws;
 pub mod run;
-pub mod seek;
-mod seekers;
 mod seeking;
 pub mod set;
-mod sieve;
+mod steps;
+pub mod triple;
 mod walk;

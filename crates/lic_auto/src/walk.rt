@@ -1,156 +1,111 @@
-//! Runs, one for each template, of which some take a token.
+//! Runs of single templates, which take tokens while their templates are live.
 
-ghost use Rattle.std.specs.Prelude.{◌≡◌, ◌<◌, ◌≤◌, ◌+◌, ◌-◌, ◌^◌, ◌∷◌, ℕ, List, length, take, IfSome, Some, Contains};
-ghost use Rattle.std.specs.List.{slice_get};
+ghost use Rattle.std.specs.Prelude.{◌≡◌, ℕ, ◌<◌, ◌↔◌, List, [], length, not, IfOk, IsTrue, Some};
+ghost use Rattle.std.specs.List.{list_all, slice_get};
 ghost use Rattle.std.specs.Str.{chars};
 ghost use Rattle.lic_words.specs.Describing.{IsDescribed};
-ghost use Rattle.lic_words.specs.Letters.{letters_in};
-ghost use Rattle.lic_phrases.specs.TokenTexts.{IsTokenText};
-ghost use Rattle.lic_auto.specs.Sets.{Known, words_of};
-ghost use Rattle.lic_keys.specs.Rising.{IsRising};
-ghost use Rattle.lic_auto.specs.Choices.{templates_of, ArePlaces};
-ghost use Rattle.lic_auto.specs.declared.direction.Direction.TheVariants.{Forward};
-ghost use Rattle.lic_auto.specs.Walks.{AreChanged, AreKept, Resets, Takes};
+ghost use Rattle.lic_words.specs.Expressions.{Expression};
+ghost use Rattle.lic_set.specs.Sets.{Known, words_of};
+ghost use Rattle.lic_auto.specs.Changes.{AreChanged};
+ghost use Rattle.lic_auto.specs.Walks.{BeginsAmong, BeginsIf, Follows, IsOver, Takes, run_numbers};
 
-use crate::chosen::Chosen;
-use crate::direction::{Direction, known_of, read_taken};
-use lic_marks::plain::Plain;
+use crate::chosen::compile_template;
+use crate::direction::Direction;
 use lic_marks::run::Run as TreeRun;
+use lic_set::set::Set;
+use std::alloc::{AllocError, Global};
 
-/// Begins anew with the templates that a text with this first token can enter, and gives how many they are. Their numbers
-/// stand first in `live`.
-pub fn enter(
-    chosen: &Chosen<'_>,
-    runs: &mut [TreeRun<'_>],
-    live: &mut [usize],
-    token: &str,
-) -> usize
-    requires token { IsTokenText token.now }
-    requires forward { chosen.now.direction ≡ Forward }
-    requires runs { length runs.old ≡ length (templates_of chosen.now) }
-    requires room { length live.old ≡ length (templates_of chosen.now) }
-    ensures count { result ≤ length live.new }
-    ensures rising { IsRising (take result live.new) (length (templates_of chosen.now)) }
-    ensures begun { AreChanged Resets (take result live.new) runs.old runs.new }
-    ensures others { (k : ℕ) (known : Known) → ¬ (Contains (take result live.new) k)
-        → slice_get (templates_of chosen.now) k ≡ Some known
-        → (more : List (List ℕ)) → ¬ (IsDescribed (words_of known) (chars token.now ∷ more)) }
-{
-    let numbers = chosen.entered_by(token);
-    let count = numbers.len();
-    reset_each(runs, numbers);
-    live[..count].copy_from_slice(numbers);
-    count
+/// The run of one template of a set.
+#[derive(Debug, Drop)]
+pub struct TemplateRun {
+    /// The number of the template.
+    pub number: usize,
+    run: TreeRun,
+    /// False where the template describes no list that begins with the tokens, and where it is left out.
+    pub is_live: bool,
 }
 
-/// Begins anew with the templates of these numbers, and gives how many they are. Their places stand first in `live`.
-pub fn enter_these(
-    chosen: &Chosen<'_>,
-    runs: &mut [TreeRun<'_>],
-    live: &mut [usize],
-    numbers: &[usize],
-) -> usize
-    requires rising { (n : ℕ) × IsRising numbers.now n }
-    requires within { (k : ℕ) → Contains numbers.now k → Contains chosen.now.numbers.items k }
-    requires runs { length runs.old ≡ length (templates_of chosen.now) }
-    requires room { length live.old ≡ length (templates_of chosen.now) }
-    ensures count { result ≡ length numbers.now }
-    ensures room { result ≤ length live.new }
-    ensures rising { IsRising (take result live.new) (length (templates_of chosen.now)) }
-    ensures begun { AreChanged Resets (take result live.new) runs.old runs.new }
-    ensures places { ArePlaces chosen.now.numbers.items (take result live.new) numbers.now }
-{
-    let count = numbers.len();
-    chosen.find_places(numbers, &mut live[..count]);
-    reset_each(runs, &live[..count]);
-    count
-}
-
-fn reset_each(runs: &mut [TreeRun<'_>], numbers: &[usize])
-    requires { IsRising numbers.now (length runs.old) }
-    ensures { AreChanged Resets numbers.now runs.old runs.new }
-{
-    for number in numbers {
-        let run = &mut runs[*number];
-        run.reset();
+impl TemplateRun {
+    /// A run over the template of this number, which has taken no token.
+    ///
+    /// # Errors
+    /// Memory ran out.
+    pub fn new(alloc: Global, set: &Set, number: usize) -> Result<TemplateRun, AllocError>
+        requires { number < length set.now }
+        ensures number { IfOk result (λ run. run.number ≡ number) }
+        ensures over { IfOk result (λ run. (known : Known) → slice_get set.now number ≡ Some known
+            → IsOver run (words_of known)) }
+        ensures follows { IfOk result (λ run. (known : Known) → slice_get set.now number ≡ Some known
+            → Follows run (words_of known) []) }
+    {
+        let tree = compile_template(alloc, set, number, Direction::Forward)?;
+        let run = TreeRun::new(alloc, tree)?;
+        Ok(TemplateRun {
+            number,
+            run,
+            is_live: true,
+        })
     }
-}
 
-/// Gives the token to the runs of the first numbers, puts the numbers of those that are not dead then to the front, and gives how
-/// many they are.
-pub fn take_token(
-    runs: &mut [TreeRun<'_>],
-    live: &mut [usize],
-    count: usize,
-    token: &str,
-    plain: &mut Plain,
-) -> usize
-    requires within { count ≤ length live.old }
-    requires rising { IsRising (take count live.old) (length runs.old) }
-    ensures count { result ≤ count }
-    ensures rising { IsRising (take result live.new) (length runs.old) }
-    ensures taken { AreChanged (Takes (chars token.now)) (take count live.old) runs.old runs.new }
-    ensures kept { AreKept (take count live.old) (take result live.new) runs.new }
-{
-    take_each(runs, &mut live[..count], token, plain)
-}
+    /// Begins anew with no token, or is left out.
+    fn begin(&mut self, is_entered: bool)
+        ensures { BeginsIf is_entered self.old self.new }
+    {
+        self.run.reset();
+        self.is_live = is_entered;
+    }
 
-fn take_each(
-    runs: &mut [TreeRun<'_>],
-    numbers: &mut [usize],
-    token: &str,
-    plain: &mut Plain,
-) -> usize
-    requires { IsRising numbers.old (length runs.old) }
-    ensures count { result ≤ length numbers.old }
-    ensures rising { IsRising (take result numbers.new) (length runs.old) }
-    ensures taken { AreChanged (Takes (chars token.now)) numbers.old runs.old runs.new }
-    ensures kept { AreKept numbers.old (take result numbers.new) runs.new }
-{
-    let is_plain = read_taken(token, Direction::Forward, !numbers.is_empty(), plain);
-    let known = known_of(plain, is_plain);
-    let mut kept = 0;
-    for i in 0..numbers.len() {
-        let number = numbers[i];
-        let run = &mut runs[number];
-        run.push_known(token, known);
-        if !run.is_dead() {
-            numbers[kept] = number;
-            kept += 1;
+    /// Takes a token, if the template is live.
+    fn push(&mut self, token: &str)
+        ensures { Takes (chars token.now) self.old self.new }
+    {
+        if self.is_live {
+            self.run.push(token);
+            self.is_live = !self.run.is_dead();
         }
     }
-    kept
-}
 
-/// How many bytes a text has that is ASCII without a blank: as many as it has letters.
-fn plain_length(token: &str) -> Option<usize>
-    ensures { IfSome result (λ count. letters_in (chars token.now) ≡ count) }
-{
-    let bytes = token.as_bytes();
-    for byte in bytes {
-        if *byte == b' ' || *byte >= 128 {
-            return None;
-        }
+    /// Whether the template is live and describes the tokens.
+    pub fn accepts(&self) -> bool
+        ensures described { (e : Expression) (ts : List (List ℕ)) → Follows self.now e ts
+            → IsTrue result ↔ IsDescribed e ts }
+        ensures live { IsTrue result → IsTrue self.now.is_live }
+    {
+        self.is_live && self.run.accepts()
     }
-    Some(bytes.len())
 }
 
-/// The steps so far and those of a token: one for each letter, with the gap before it.
-pub fn count_steps(before: u64, token: &str) -> u64
-    ensures least { result < 2 ^ 64 - 1 → before + letters_in (chars token.now) ≤ result }
-    ensures most { result ≤ before + letters_in (chars token.now) }
-    ensures never_fall { before ≤ result }
+/// All begin anew with no token.
+pub fn begin_all(runs: &mut [TemplateRun])
+    ensures { AreChanged (BeginsAmong (run_numbers runs.old)) runs.old runs.new }
 {
-    let letters = match plain_length(token) {
-        Some(length) => length,
-        None => count_letters(token),
-    };
-    before.saturating_add(letters as u64)
+    for run in runs.iter_mut() {
+        run.begin(true);
+    }
 }
 
-/// How many letters a text has.
-fn count_letters(token: &str) -> usize
-    ensures { result ≡ letters_in (chars token.now) }
+/// Those of these numbers begin anew with no token, and the others are left out.
+pub fn begin_among(runs: &mut [TemplateRun], numbers: &[usize])
+    ensures { AreChanged (BeginsAmong numbers.now) runs.old runs.new }
 {
-    token.chars().filter(|c| *c != ' ').count()
+    for run in runs.iter_mut() {
+        let is_entered = numbers.contains(&run.number);
+        run.begin(is_entered);
+    }
+}
+
+/// Those that are live take a token.
+pub fn push_to_all(runs: &mut [TemplateRun], token: &str)
+    ensures { AreChanged (Takes (chars token.now)) runs.old runs.new }
+{
+    for run in runs.iter_mut() {
+        run.push(token);
+    }
+}
+
+/// Whether none is live.
+pub fn none_is_live(runs: &[TemplateRun]) -> bool
+    ensures { result ≡ list_all (λ run. not run.is_live) runs.now }
+{
+    runs.iter().all(|run| !run.is_live)
 }

@@ -9,9 +9,9 @@ use Rattle.lic_kind.specs.LineRules.{LineRules}
 use Rattle.lic_words.specs.Describing.{IsDescribed}
 use Rattle.lic_norm.specs.Tokens.{TokenValue}
 use Rattle.lic_phrases.specs.Rewriting.{Phrase}
-use Rattle.lic_auto.specs.Sets.{Known, words_of}
-use Rattle.lic_find.specs.Matches.{IsMatch, letters_between}
-use Rattle.lic_find.specs.declared.triple.Triple.{Triple}
+use Rattle.lic_set.specs.Sets.{Known, words_of}
+use Rattle.lic_set.specs.Matches.{IsMatch, letters_between}
+use Rattle.lic_set.specs.declared.triple.Triple.{Triple}
 use Rattle.lic_stream.specs.Stream.{BeginsWith}
 use Rattle.lic_report.specs.Checking.{all_letters, Checked, check_line, known_of, says_yes, DescribesItsOriginal, IsVerdict, IsCheckReport}
 use Rattle.lic_stream.proofs.Written.{begins_empty}

@@ -4,9 +4,9 @@ use Rattle.std.specs.List.{All, flat_map}
 use Rattle.std.specs.Io.KnownBytes.{Appends}
 use Rattle.std.proofs.lemmas.List.{length-map, take_more}
 use Rattle.lic_norm.specs.Tokens.{TokenValue}
-use Rattle.lic_auto.specs.Sets.{Known}
-use Rattle.lic_find.specs.Matches.{AreMatches}
-use Rattle.lic_find.specs.declared.triple.Triple.{Triple}
+use Rattle.lic_set.specs.Sets.{Known}
+use Rattle.lic_set.specs.Matches.{AreMatches}
+use Rattle.lic_set.specs.declared.triple.Triple.{Triple}
 use Rattle.lic_filters.specs.Filters.{outer_of}
 use Rattle.lic_vars.specs.Values.{Assigned, AreValues}
 use Rattle.lic_stream.specs.Stream.{BeginsWith}

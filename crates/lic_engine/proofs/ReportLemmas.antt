@@ -6,9 +6,9 @@ use Rattle.std.proofs.lemmas.List.{take_more, take_all}
 use Rattle.std.specs.List.{flat_map, slice_index_or}
 use Rattle.std.specs.Io.KnownBytes.{Appends}
 use Rattle.lic_norm.specs.Tokens.{TokenValue}
-use Rattle.lic_auto.specs.Sets.{Known}
-use Rattle.lic_find.specs.Matches.{AreMatches}
-use Rattle.lic_find.specs.declared.triple.Triple.{Triple}
+use Rattle.lic_set.specs.Sets.{Known}
+use Rattle.lic_set.specs.Matches.{AreMatches}
+use Rattle.lic_set.specs.declared.triple.Triple.{Triple}
 use Rattle.lic_stream.specs.Stream.{BeginsWith}
 use Rattle.lic_fields.specs.Fields.{escaped}
 use Rattle.lic_report.specs.Report.{match_line, token_line, token_lines, no_token, first_of, AreAllLines, AreLines}

@@ -4,7 +4,7 @@ use Rattle.std.specs.Io.KnownBytes.{Appends}
 use Rattle.lic_kind.specs.LineRules.{LineRules}
 use Rattle.lic_norm.specs.Tokens.{TokenValue, tokens_of}
 use Rattle.lic_phrases.specs.Rewriting.{Phrase}
-use Rattle.lic_auto.specs.Sets.{Known}
+use Rattle.lic_set.specs.Sets.{Known}
 use Rattle.lic_stream.specs.Stream.{BeginsWith}
 use Rattle.lic_report.specs.Report.{IsReport, IsReportOf, token_lines}
 use Rattle.lic_find.specs.declared.ask.Ask.{Ask}

@@ -3,7 +3,7 @@
 ghost use Rattle.std.specs.Prelude.{◌≡◌, ◌<◌, ◌↔◌, ℕ, List, Contains, length, IfOk, OnErr, IsErrOf, IsTrue, Some, slice_index_or};
 ghost use Rattle.std.specs.Io.KnownBytes.{Appends};
 ghost use Rattle.std.specs.List.{list_all};
-ghost use Rattle.lic_auto.specs.Sets.{Known, words_of};
+ghost use Rattle.lic_set.specs.Sets.{Known, words_of};
 ghost use Rattle.lic_kind.specs.LineRules.{rules_of};
 ghost use Rattle.lic_norm.specs.Refusal.{refusal_of};
 ghost use Rattle.lic_norm.specs.Tokens.{tokens_of};
@@ -13,14 +13,14 @@ ghost use Rattle.lic_report.specs.Checking.{all_letters, Checked, DescribesItsOr
 ghost use Rattle.lic_engine.specs.Failures.{CountsWrites, IsOfText, Keeps};
 
 use crate::fault::RunFault;
-use lic_auto::set::Set;
 use lic_find::matches::is_match;
-use lic_find::triple::Triple;
 use lic_kind::Rules;
 use lic_norm::fault::TextFault;
 use lic_norm::text::Text;
 use lic_norm::words::Words;
 use lic_report::lines::add_checked;
+use lic_set::set::Set;
+use lic_set::triple::Triple;
 use lic_stream::stream::Sink;
 use lic_stream::transfer::put_all;
 use std::alloc::{AllocError, Global};

@@ -3,17 +3,17 @@
 ghost use Rattle.std.specs.Prelude.{◌≡◌, ℕ, List, All, length, map, nat_lt, IfOk, OnOk, OnErr};
 ghost use Rattle.std.specs.Io.KnownBytes.{Appends};
 ghost use Rattle.std.specs.List.{flat_map};
-ghost use Rattle.lic_find.specs.Matches.{IsMatch};
+ghost use Rattle.lic_set.specs.Matches.{IsMatch};
 ghost use Rattle.lic_report.specs.Report.{AreOuterLines, HasItsValues, Valued, triple_of, valued_lines};
 ghost use Rattle.lic_stream.specs.Stream.{BeginsWith};
 ghost use Rattle.lic_engine.specs.Failures.{CountsWrites, IsOfWriting};
 
 use crate::fault::RunFault;
-use lic_auto::set::Set;
-use lic_find::triple::Triple;
 use lic_norm::text::Text;
 use lic_report::outer::outer_matches;
 use lic_report::valued_lines::ValuedLines;
+use lic_set::set::Set;
+use lic_set::triple::Triple;
 use lic_stream::stream::Sink;
 use lic_stream::transfer::{put_all, put_gathered};
 use lic_vars::laws::values_are_one_list;

@@ -1,6 +1,5 @@
 //! Calls of the engine of whose reads one fails, or whose writer has room for a beginning of what is written.
 
-use lic_auto::set::Set;
 use lic_engine::check::check;
 use lic_engine::engine::{run, run_tokens};
 use lic_engine::fault::RunFault;
@@ -8,6 +7,7 @@ use lic_find::ask::Ask;
 use lic_kind::Rules;
 use lic_markup::read_template;
 use lic_norm::words::Words;
+use lic_set::set::Set;
 use lic_stream::stream::Sink;
 use lic_test_streams::streams::{Awaited, Pieces};
 use std::alloc::Global;

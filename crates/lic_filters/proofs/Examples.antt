@@ -1,6 +1,6 @@
 -- Lists whose tight and outer members are computed here.
 use Rattle.std.proofs.Common.{◌≡◌, ℕ, List, [], ◌∷◌, refl}
-use Rattle.lic_find.specs.declared.triple.Triple.{Triple}
+use Rattle.lic_set.specs.declared.triple.Triple.{Triple}
 use Rattle.lic_filters.specs.Filters.{tight_of, outer_of}
 
 abbrev triple : ℕ → ℕ → ℕ → Triple

@@ -1,7 +1,7 @@
 -- What holds of the tight and the outer members of every list.
 use Rattle.std.proofs.Common.{◌≡◌, ◌≤◌, ◌⊎◌, Bool, true, not, List, refl, sym, ap, ◌∙◌, subst, ⊎_elim, arith}
 use Rattle.std.specs.List.{Contains, list_any}
-use Rattle.lic_find.specs.declared.triple.Triple.{Triple}
+use Rattle.lic_set.specs.declared.triple.Triple.{Triple}
 use Rattle.lic_filters.specs.Filters.{is_inside, is_around, is_tight, is_outer, tight_of, outermost_of, outer_of}
 use Rattle.lic_filters.proofs.Members.{Contains-filter, not-list_any, filter-all}
 use Rattle.lic_filters.proofs.Ranges.{IsInside-test, IsStrictlyWithin-test}

@@ -4,7 +4,7 @@ use Rattle.std.proofs.lemmas.Bool.Decides.{nat_tests}
 use Rattle.std.specs.List.{Contains, dedup, list_any}
 use Rattle.std.specs.List.Sorted.{IsPermutation, IsSortedBy}
 use Rattle.std.specs.Ordering.{is_lt}
-use Rattle.lic_find.specs.declared.triple.Triple.{Triple}
+use Rattle.lic_set.specs.declared.triple.Triple.{Triple}
 use Rattle.lic_filters.specs.Filters.{SameMembers, has_range_of, has_template_of, is_strictly_within, is_inside, is_around, is_outer, tight_of, outermost_of}
 use Rattle.lic_filters.proofs.Orders.{by_range, by_range-total, IsBefore, IsBefore-by_range, AllPairs-from_sorted}
 use Rattle.lic_filters.proofs.Ranges.{IsStrictlyWithin, IsStrictlyWithin-test, test-IsStrictlyWithin, test-IsInside}

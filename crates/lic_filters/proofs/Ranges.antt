@@ -1,7 +1,7 @@
 -- Ranges within others, in numbers.
 use Rattle.std.proofs.Common.{◌≡◌, ◌≤◌, false, true, arith}
 use Rattle.std.proofs.lemmas.Bool.Decides.{nat_tests}
-use Rattle.lic_find.specs.declared.triple.Triple.{Triple}
+use Rattle.lic_set.specs.declared.triple.Triple.{Triple}
 use Rattle.lic_filters.specs.Filters.{has_range_of, has_template_of, is_strictly_within, is_inside}
 
 -- the range of s lies within that of t, and is another

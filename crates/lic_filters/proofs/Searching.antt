@@ -10,7 +10,7 @@ use Rattle.std.specs.List.Sorted.{IsPermutation, IsSorted, IsSearchInRange, IsBi
 use Rattle.std.specs.Ordering.{nat_cmp, is_eq, ordering_then, eq_by_cmp}
 use Rattle.std.specs.declared.cmp.Ordering.{Ordering}
 use Rattle.std.specs.declared.cmp.Ordering.TheVariants.{Less, Equal, Greater}
-use Rattle.lic_find.specs.declared.triple.Triple.{Triple}
+use Rattle.lic_set.specs.declared.triple.Triple.{Triple}
 use Rattle.lic_filters.specs.Filters.{triple_cmp, SameMembers}
 use Rattle.lic_filters.proofs.Members.{Contains-filter, filter-agree}
 use Rattle.lic_filters.proofs.Ranges.{same_triple}

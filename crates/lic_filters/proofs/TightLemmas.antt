@@ -4,7 +4,7 @@ use Rattle.std.proofs.lemmas.Bool.Decides.{nat_tests}
 use Rattle.std.specs.List.{Contains, dedup}
 use Rattle.std.specs.List.Sorted.{IsPermutation, IsSortedBy}
 use Rattle.std.specs.Ordering.{is_lt}
-use Rattle.lic_find.specs.declared.triple.Triple.{Triple}
+use Rattle.lic_set.specs.declared.triple.Triple.{Triple}
 use Rattle.lic_filters.specs.Filters.{SameMembers, has_range_of, is_inside, is_tight, tight_of}
 use Rattle.lic_filters.proofs.Members.{Contains-filter, not-list_any}
 use Rattle.lic_filters.proofs.Orders.{by_template, by_template-total, IsAhead, IsAhead-by_template, AllPairs-from_sorted}

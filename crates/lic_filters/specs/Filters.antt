@@ -3,7 +3,7 @@ use Rattle.std.specs.Prelude.{◌↔◌, ◌==◌, ◌&&◌, Bool, not, nat_le, 
 use Rattle.std.specs.List.{list_any}
 use Rattle.std.specs.Ordering.{nat_cmp, ordering_then}
 use Rattle.std.specs.declared.cmp.Ordering.{Ordering}
-use Rattle.lic_find.specs.declared.triple.Triple.{Triple}
+use Rattle.lic_set.specs.declared.triple.Triple.{Triple}
 
 -- the first and last token of s are those of t
 abbrev pub has_range_of : Triple → Triple → Bool

@@ -1,10 +1,10 @@
 //! Filters of matches: those that hold no smaller one, and those of these that no greater one holds.
 
 ghost use Rattle.std.specs.Prelude.{◌≡◌, ◌↔◌, IfOk, IsTrue, IsSorted, Bool, Contains, filter};
-ghost use Rattle.lic_find.specs.declared.triple.Triple.{Triple};
+ghost use Rattle.lic_set.specs.declared.triple.Triple.{Triple};
 ghost use Rattle.lic_filters.specs.Filters.{tight_of, outermost_of, outer_of, triple_cmp, SameMembers};
 
-use lic_find::triple::Triple;
+use lic_set::triple::Triple;
 use std::alloc::{AllocError, Global};
 use std::cmp::Reverse;
 

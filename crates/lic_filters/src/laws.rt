@@ -1,7 +1,7 @@
 //! Laws of the filters, each the contract of a function that does nothing.
 
 ghost use Rattle.std.specs.Prelude.{◌≡◌, ◌≤◌, List, Contains};
-ghost use Rattle.lic_find.specs.declared.triple.Triple.{Triple};
+ghost use Rattle.lic_set.specs.declared.triple.Triple.{Triple};
 ghost use Rattle.lic_filters.specs.Filters.{tight_of, outer_of};
 
 /// Tight triples are tight among themselves.

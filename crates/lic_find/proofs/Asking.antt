@@ -7,9 +7,9 @@ use Rattle.std.proofs.lemmas.Bool.{false≢true, eqb-true, eq-eqb}
 use Rattle.lic_norm.specs.Tokens.{TokenValue}
 use Rattle.lic_words.specs.Describing.{IsDescribed}
 use Rattle.lic_auto.specs.Picked.{IsLeastOf}
-use Rattle.lic_auto.specs.Sets.{Known, words_of}
-use Rattle.lic_find.specs.Matches.{IsMatch, letters_between}
-use Rattle.lic_find.specs.declared.triple.Triple.{Triple}
+use Rattle.lic_set.specs.Sets.{Known, words_of}
+use Rattle.lic_set.specs.Matches.{IsMatch, letters_between}
+use Rattle.lic_set.specs.declared.triple.Triple.{Triple}
 
 -- whether an answer is this number
 pub is_number : (r : Option ℕ) (k : ℕ) (same : Bool) → same ≡ option_eq eqb r (Some k) → IsTrue same ↔ (r ≡ Some k)

@@ -1,16 +1,17 @@
 -- The first tokens of all matches, and the longest match from each.
-use Rattle.std.proofs.Common.{◌≡◌, ℕ, zero, suc, ◌+◌, ◌-◌, ◌<◌, ◌≤◌, ◌==◌, ◌||◌, Bool, true, false, max, List, [], ◌∷◌, length, Option, None, refl, sym, ap, ◌∙◌, subst, ⊎_elim, arith}
+use Rattle.std.proofs.Common.{◌≡◌, ℕ, zero, suc, ◌+◌, ◌-◌, ◌<◌, ◌≤◌, ◌==◌, Bool, true, false, max, List, [], ◌∷◌, length, Option, None, refl, sym, ap, ◌∙◌, subst, ⊎_elim, arith}
 use Rattle.std.specs.List.{Contains, filter, range_with_len, slice_range}
 use Rattle.std.proofs.lemmas.Bool.{false≢true, cases_lt, cond-true, cond-false, cond_both, eqb-true, eq-eqb}
 use Rattle.lic_norm.specs.Tokens.{TokenValue}
-use Rattle.lic_auto.specs.Sets.{Known}
-use Rattle.lic_find.specs.Bounds.{letters_of, begins_one, firsts_from, firsts_of, longest_end, letters_of_longest}
-use Rattle.lic_find.specs.Firsts.{NotedFirst, AreFirstsFrom, IsFirstFrom, NoneBeginFrom, firsts_in}
-use Rattle.lic_find.specs.Listing.{triple_at, matches_of, matches_behind, is_behind}
-use Rattle.lic_find.specs.Matches.{AreMatches, IsMatch}
-use Rattle.lic_find.specs.Walks.{AllEndBy}
-use Rattle.lic_find.specs.declared.triple.Triple.{Triple}
-use Rattle.lic_find.proofs.LetterLemmas.{letters_of-longer, letters_of-range_le}
+use Rattle.lic_set.specs.Sets.{Known}
+use Rattle.lic_find.specs.Bounds.{letters_of, begins_one, firsts_from, longest_end, letters_of_longest}
+use Rattle.lic_find.specs.Among.{HaveAllMatches}
+use Rattle.lic_find.specs.Firsts.{NotedFirst, IsFirstFrom}
+use Rattle.lic_find.specs.Listing.{triple_at, matches_of, matches_behind, is_after}
+use Rattle.lic_set.specs.Matches.{AreMatches, IsMatch}
+use Rattle.lic_set.specs.declared.triple.Triple.{Triple}
+use Rattle.lic_find.proofs.AmongLemmas.{either_test}
+use Rattle.lic_find.proofs.LetterLemmas.{letters_of-longer}
 use Rattle.lic_find.proofs.Triples.{Contains-nil, Contains-head, Contains-tail, Contains-cons_cases}
 
 -- numbers from one on, of which only some pass
@@ -34,10 +35,6 @@ module _ (p : ℕ → Bool) where
       cond-true (p a) _ _ (ap p (sym here) ∙ passes) ∙ ap (λ x. x ∷ filter p (range_with_len (x + 1) n)) (sym here)
       ∙ ap (λ x. j ∷ filter p (range_with_len (j + 1) x)) count)
       (cases_lt a j)
-
-either_test : (a b : Bool) (P : Bool → Type 0) → (a ≡ true → P true) → (a ≡ false → P b) → P (a || b)
-either_test true b P passes fails = passes refl
-either_test false b P passes fails = fails refl
 
 -- whether a match of a list begins with a token
 begins_one-true : (matches : List Triple) (first : ℕ) (t : Triple) → Contains matches t → t.first ≡ first → begins_one matches first ≡ true
@@ -74,7 +71,7 @@ longest_end-most (s ∷ matches) first end low ended =
     cond_both (s.first == first) (max (s.last + 1) (longest_end matches first)) (longest_end matches first) (λ n. n ≤ end)
     (λ same. let here : s.last + 1 ≤ end = ended s (Contains-head s matches) (eqb-true s.first first same) in omega arith) (λ other. more)
 
-filter-all : (matches : List Triple) → filter (is_behind None) matches ≡ matches
+filter-all : (matches : List Triple) → filter (is_after None) matches ≡ matches
 filter-all [] = refl
 filter-all (t ∷ matches) = ap (λ ts. t ∷ ts) (filter-all matches)
 
@@ -82,59 +79,6 @@ filter-all (t ∷ matches) = ap (λ ts. t ∷ ts) (filter-all matches)
 all_matches : (set : List Known) (tokens : List TokenValue) → matches_behind set tokens None ≡ matches_of set tokens
 unfolding matches_behind
 all_matches set tokens = filter-all (matches_of set tokens)
-
-module _ (set : List Known) (tokens : List TokenValue) (listed : (after : Option Triple) → AreMatches set tokens after (matches_behind set tokens after)) where
-  match_in : (t : Triple) → Contains (matches_of set tokens) t → IsMatch set tokens t
-  match_in t there = (((listed None).exact t).0 (subst (λ ts. Contains ts t) (sym (all_matches set tokens)) there)).0
-
-  in_matches : (t : Triple) → IsMatch set tokens t → Contains (matches_of set tokens) t
-  in_matches t m = subst (λ ts. Contains ts t) (all_matches set tokens) (((listed None).exact t).1 (m, tt))
-
-  begins : (t : Triple) → IsMatch set tokens t → begins_one (matches_of set tokens) t.first ≡ true
-  begins t m = begins_one-true (matches_of set tokens) t.first t (in_matches t m) refl
-
-  begins_not : (first : ℕ) → ((t : Triple) → IsMatch set tokens t → t.first ≡ first → ⊥) → begins_one (matches_of set tokens) first ≡ false
-  begins_not first none = begins_one-false (matches_of set tokens) first (λ t there here. none t (match_in t there) here)
-
-  -- from here on no match begins
-  firsts_from-none : (from : ℕ) → NoneBeginFrom set tokens from → firsts_from set tokens from ≡ []
-  unfolding firsts_from
-  firsts_from-none from none =
-      filter_range-none (begins_one (matches_of set tokens)) from (length tokens - from)
-      (λ i low high. begins_not i (λ t m here. none t m (omega arith)))
-
-  -- from here on the first is this one
-  firsts_from-next : (from : ℕ) (noted : NotedFirst) → IsFirstFrom set tokens from noted →
-      firsts_from set tokens from ≡ noted.first ∷ firsts_from set tokens (noted.first + 1)
-  unfolding firsts_from
-  firsts_from-next from noted is =
-      let (last, template, m) = is.begins in
-      let low : from ≤ noted.first = is.low in
-      let order : noted.first ≤ last = m.order in
-      let within : last < length tokens = m.within in
-      filter_range-next (begins_one (matches_of set tokens)) from (length tokens - from) noted.first (length tokens - (noted.first + 1))
-      (λ i low' high. begins_not i (λ t n here. let late : noted.first ≤ t.first = is.passed t n (omega arith) in omega arith))
-      low (omega arith) (begins (triple_at noted.first last template) m)
-
-  -- the noted first tokens from here on are all of them
-  pub firsts_from-noted : (from : ℕ) (noted : List NotedFirst) → AreFirstsFrom set tokens from noted
-      → firsts_from set tokens from ≡ firsts_in noted
-  firsts_from-noted from [] none = firsts_from-none from none
-  firsts_from-noted from (one ∷ more) (is, behind) =
-      firsts_from-next from one is ∙ ap (λ firsts. one.first ∷ firsts) (firsts_from-noted (one.first + 1) more behind)
-
-  -- the longest match ends where all matches have ended
-  pub letters_of_longest-ended : (first end : ℕ) → first ≤ end → AllEndBy set tokens first end
-      → letters_of_longest set tokens first ≤ letters_of (slice_range tokens first end)
-  unfolding letters_of_longest
-  letters_of_longest-ended first end order ended =
-      letters_of-longer tokens first (longest_end (matches_of set tokens) first) end (longest_end-least (matches_of set tokens) first)
-      (longest_end-most (matches_of set tokens) first end order (λ t there here. ended t (match_in t there) here))
-
--- the longest match has no more letters than the text
-pub letters_of_longest-within : (set : List Known) (tokens : List TokenValue) (first : ℕ) → letters_of_longest set tokens first ≤ letters_of tokens
-unfolding letters_of_longest
-letters_of_longest-within set tokens first = letters_of-range_le tokens first (longest_end (matches_of set tokens) first)
 
 -- fewer begin from a later token on
 length-filter_range : (p : ℕ → Bool) (k a n : ℕ) → length (filter p (range_with_len (a + k) n)) ≤ length (filter p (range_with_len a (k + n)))
@@ -157,17 +101,77 @@ length-filter_range p (suc k) a n =
     ap (λ x. length (filter p (range_with_len a x))) count in
     omega arith
 
-pub firsts_from-fewer : (set : List Known) (tokens : List TokenValue) (from : ℕ) → from ≤ length tokens
-    → length (firsts_from set tokens from) ≤ length (firsts_of set tokens)
+-- fewer matches begin from a later token on
+pub firsts_from-fewer : (set : List Known) (tokens : List TokenValue) (from later : ℕ) → from ≤ later → later ≤ length tokens
+    → length (firsts_from set tokens later) ≤ length (firsts_from set tokens from)
 unfolding firsts_from
-firsts_from-fewer set tokens from within =
+firsts_from-fewer set tokens from later order within =
     let p : ℕ → Bool = begins_one (matches_of set tokens) in
-    let count : from + (length tokens - from) ≡ length tokens - 0 = omega arith in
-    let low : 0 + from ≡ from = omega arith in
-    let fewer : length (filter p (range_with_len (0 + from) (length tokens - from))) ≤ length (filter p (range_with_len 0 (from + (length tokens - from)))) =
-    length-filter_range p from 0 (length tokens - from) in
-    let left : length (filter p (range_with_len (0 + from) (length tokens - from))) ≡ length (filter p (range_with_len from (length tokens - from))) =
-    ap (λ x. length (filter p (range_with_len x (length tokens - from)))) low in
-    let right : length (filter p (range_with_len 0 (from + (length tokens - from)))) ≡ length (filter p (range_with_len 0 (length tokens - 0))) =
-    ap (λ x. length (filter p (range_with_len 0 x))) count in
+    let n : ℕ = length tokens - later in
+    let k : ℕ = later - from in
+    let count : k + n ≡ length tokens - from = omega arith in
+    let low : from + k ≡ later = omega arith in
+    let fewer : length (filter p (range_with_len (from + k) n)) ≤ length (filter p (range_with_len from (k + n))) = length-filter_range p k from n in
+    let left : length (filter p (range_with_len (from + k) n)) ≡ length (filter p (range_with_len later n)) =
+    ap (λ x. length (filter p (range_with_len x n))) low in
+    let right : length (filter p (range_with_len from (k + n))) ≡ length (filter p (range_with_len from (length tokens - from))) =
+    ap (λ x. length (filter p (range_with_len from x))) count in
     omega arith
+
+module _ (set : List Known) (tokens : List TokenValue) (listed : (after : Option Triple) → AreMatches set tokens after (matches_behind set tokens after)) where
+  match_in : (t : Triple) → Contains (matches_of set tokens) t → IsMatch set tokens t
+  match_in t there = (((listed None).exact t).0 (subst (λ ts. Contains ts t) (sym (all_matches set tokens)) there)).0
+
+  in_matches : (t : Triple) → IsMatch set tokens t → Contains (matches_of set tokens) t
+  in_matches t m = subst (λ ts. Contains ts t) (all_matches set tokens) (((listed None).exact t).1 (m, tt))
+
+  begins : (t : Triple) → IsMatch set tokens t → begins_one (matches_of set tokens) t.first ≡ true
+  begins t m = begins_one-true (matches_of set tokens) t.first t (in_matches t m) refl
+
+  begins_not : (first : ℕ) → ((t : Triple) → IsMatch set tokens t → t.first ≡ first → ⊥) → begins_one (matches_of set tokens) first ≡ false
+  begins_not first none = begins_one-false (matches_of set tokens) first (λ t there here. none t (match_in t there) here)
+
+  -- from here on no match begins
+  pub firsts_from-none : (from : ℕ) → ((t : Triple) → IsMatch set tokens t → from ≤ t.first → ⊥) → firsts_from set tokens from ≡ []
+  unfolding firsts_from
+  firsts_from-none from none =
+      filter_range-none (begins_one (matches_of set tokens)) from (length tokens - from)
+      (λ i low high. begins_not i (λ t m here. none t m (omega arith)))
+
+  module _ (kept : List ℕ) (from : ℕ) (noted : NotedFirst) (is : IsFirstFrom set tokens kept from noted) where
+    begins_here : (i : ℕ) → i ≤ noted.first → ((j : ℕ) → i ≤ j → j < noted.first → begins_one (matches_of set tokens) j ≡ false) →
+        firsts_from set tokens i ≡ noted.first ∷ firsts_from set tokens (noted.first + 1)
+    unfolding firsts_from
+    begins_here i low none =
+        let (last, template, m) = is.begins in
+        let order : noted.first ≤ last = m.0.order in
+        let within : last < length tokens = m.0.within in
+        filter_range-next (begins_one (matches_of set tokens)) i (length tokens - i) noted.first (length tokens - (noted.first + 1))
+        none low (omega arith) (begins (triple_at noted.first last template) m.0)
+
+    -- from here on the first is this one, where it is so for all matches
+    pub firsts_from-next : HaveAllMatches set tokens kept → firsts_from set tokens from ≡ noted.first ∷ firsts_from set tokens (noted.first + 1)
+    firsts_from-next all =
+        begins_here from is.low
+        (λ i low high. begins_not i (λ t n here. let late : noted.first ≤ t.first = is.passed t (n, all t n) (omega arith) in omega arith))
+
+    -- it is one of the first tokens of all matches
+    pub firsts_from-more : suc (length (firsts_from set tokens (noted.first + 1))) ≤ length (firsts_from set tokens from)
+    firsts_from-more =
+        let (last, template, m) = is.begins in
+        let order : noted.first ≤ last = m.0.order in
+        let within : last < length tokens = m.0.within in
+        let here : firsts_from set tokens noted.first ≡ noted.first ∷ firsts_from set tokens (noted.first + 1) =
+        begins_here noted.first (omega arith) (λ i low high. absurd (omega arith)) in
+        let fewer : length (firsts_from set tokens noted.first) ≤ length (firsts_from set tokens from) =
+        firsts_from-fewer set tokens from noted.first is.low (omega arith) in
+        let count : length (firsts_from set tokens noted.first) ≡ suc (length (firsts_from set tokens (noted.first + 1))) = ap length here in
+        omega arith
+
+  -- the longest match ends where all matches have ended
+  pub letters_of_longest-ended : (first end : ℕ) → first ≤ end → ((t : Triple) → IsMatch set tokens t → t.first ≡ first → t.last + 1 ≤ end)
+      → letters_of_longest set tokens first ≤ letters_of (slice_range tokens first end)
+  unfolding letters_of_longest
+  letters_of_longest-ended first end order ended =
+      letters_of-longer tokens first (longest_end (matches_of set tokens) first) end (longest_end-least (matches_of set tokens) first)
+      (longest_end-most (matches_of set tokens) first end order (λ t there here. ended t (match_in t there) here))

@@ -1,28 +1,21 @@
 -- Tokens with which matches begin, found from the end of a text.
-use Rattle.std.proofs.Common.{◌≡◌, ℕ, suc, ◌+◌, ◌<◌, ◌≤◌, List, [], ◌∷◌, ◌++◌, length, drop, get_or, None, refl, sym, ap, ◌∙◌, subst, ⊎_elim, arith}
-use Rattle.std.specs.List.{Contains}
-use Rattle.std.specs.Option.{option_map}
+use Rattle.std.proofs.Common.{◌≡◌, ℕ, zero, suc, ◌+◌, ◌-◌, ◌<◌, ◌≤◌, ◌↔◌, List, [], ◌∷◌, length, map, take, drop, get_or, nat_le, Some, refl, sym, ap, ◌∙◌, subst, ⊎_elim, arith, length-drop}
+use Rattle.std.specs.List.{slice_get, Contains}
 use Rattle.std.specs.Str.{chars}
 use Rattle.std.proofs.Math.Seq.{drop-cons}
-use Rattle.std.proofs.lemmas.Option.{slice_get-map}
+use Rattle.std.proofs.lemmas.Bool.{cases_lt, cond_both}
+use Rattle.std.proofs.lemmas.List.{take-map, take_all, length-map}
 use Rattle.lic_norm.specs.Tokens.{TokenValue}
-use Rattle.lic_keys.specs.Looks.{OthersDescribeNoRange}
-use Rattle.lic_auto.specs.Compiled.{parts_of}
-use Rattle.lic_auto.specs.Sets.{Known}
-use Rattle.lic_auto.proofs.PickedLemmas.{contains_or_not}
-use Rattle.lic_find.specs.Ends.{AreKnown, end_of, match_from, matches_from}
-use Rattle.lic_find.specs.Firsts.{NotedFirst, noted_at, AreFirstsFrom, AreMatchesFrom, IsFirstFrom, NoneBeginFrom}
+use Rattle.lic_words.specs.Describing.{IsDescribed}
+use Rattle.lic_auto.specs.Backs.{IsLive}
+use Rattle.lic_set.specs.Sets.{Known, words_of}
+use Rattle.lic_find.specs.Among.{IsMatchAmong}
+use Rattle.lic_find.specs.Firsts.{NotedFirst, noted_at, noted_with, IsFirstFrom, AreFirstsFrom, NoneBeginFrom}
 use Rattle.lic_find.specs.Listing.{triple_at}
-use Rattle.lic_find.specs.Matches.{IsAfter, IsMatch, all_letters}
-use Rattle.lic_find.specs.Starts.{IsNotedWith}
-use Rattle.lic_find.specs.Walked.{KnowsEnds, ends_walked, numbers_walked, set_walked, unclear_walked}
+use Rattle.lic_set.specs.Matches.{IsMatch, all_letters}
+use Rattle.lic_find.specs.Starts.{few_of}
 use Rattle.lic_find.specs.Walks.{letters_up_to}
-use Rattle.lic_find.specs.declared.end.End.{End}
-use Rattle.lic_find.specs.declared.triple.Triple.{Triple}
-use Rattle.lic_find.specs.declared.walk.Walk.{Walk}
-use Rattle.lic_find.proofs.EndLemmas.{AreAscending-falling, Contains-match_from, Contains-matches}
-use Rattle.lic_find.proofs.Ranges.{letters_up_to-all, letters_up_to-split}
-use Rattle.lic_find.proofs.Triples.{Contains-nil, same_parts}
+use Rattle.lic_set.specs.declared.triple.Triple.{Triple}
 
 -- the letters of one token more at the front
 pub all_letters-drop : (tokens : List TokenValue) (first end : ℕ) (d : TokenValue) → first < length tokens → first + 1 ≡ end →
@@ -32,112 +25,123 @@ all_letters-drop tokens first end d inside next =
     ap all_letters (drop-cons tokens first d inside) ∙ ap (λ n. chars (get_or tokens first d).text ∷ all_letters (drop n tokens)) after
 
 module _ (set : List Known) (tokens : List TokenValue) where
-  -- the template of a match is kept
-  pub kept_match : (kept : List ℕ) → OthersDescribeNoRange (parts_of set) kept (all_letters tokens) → (t : Triple)
-      → IsMatch set tokens t → Contains kept t.template
-  kept_match kept others t m =
-      let order : t.first ≤ t.last = m.order in
-      let within : t.last < length tokens = m.within in
-      let a : ℕ = t.first in
-      let b : ℕ = t.last + 1 in
-      ⊎_elim (λ (there : Contains kept t.template). there)
-      (λ (gone : ¬ (Contains kept t.template)).
-      absurd (others t.template m.known.template.parts
-      (slice_get-map (λ known. known.template.parts) set t.template ∙ ap (option_map (λ known. known.template.parts)) m.number) gone
-      (letters_up_to tokens 0 a) (letters_up_to tokens a b) (letters_up_to tokens b (length tokens))
-      (sym (letters_up_to-all tokens) ∙ letters_up_to-split tokens 0 b (length tokens) (omega arith) (omega arith)
-      ∙ ap (λ x. x ++ letters_up_to tokens b (length tokens)) (letters_up_to-split tokens 0 a b (omega arith) (omega arith)))
-      m.described))
-      (contains_or_not kept t.template)
+  -- the letters of so many tokens from this one on
+  letters_of_some : (first n : ℕ) → letters_up_to tokens first (first + n) ≡ take n (all_letters (drop first tokens))
+  letters_of_some first n =
+      let count : (first + n) - first ≡ n = omega arith in
+      ap (λ m. map (λ t. chars t.text) (take m (drop first tokens))) count ∙ sym (take-map (λ t. chars t.text) n (drop first tokens))
 
-  -- behind the last token nothing begins
-  pub NoneBeginFrom-end : NoneBeginFrom set tokens (length tokens)
-  NoneBeginFrom-end t m late =
+  -- a template of a match is live at its first token
+  pub IsLive-match : (t : Triple) → IsMatch set tokens t → IsLive set (all_letters (drop t.first tokens)) t.template
+  IsLive-match t m =
+      let order : t.first ≤ t.last = m.order in
+      let end : t.first + (t.last + 1 - t.first) ≡ t.last + 1 = omega arith in (
+        m.known,
+        m.number,
+        t.last + 1 - t.first,
+        subst (IsDescribed (words_of m.known))
+            (ap (λ n. letters_up_to tokens t.first n) (sym end)
+            ∙ letters_of_some t.first (t.last + 1 - t.first)) m.described,
+      )
+
+  -- so many tokens from this one on, or all that there are
+  module _ (first k : ℕ) (known : Known) (number : slice_get set k ≡ Some known) where
+    some_match : (n : ℕ) → first + n ≤ length tokens
+        → IsDescribed (words_of known) (letters_up_to tokens first (first + n))
+        → (last : ℕ) × IsMatch set tokens (triple_at first last k)
+    some_match zero within described =
+        absurd (described.0 (letters_of_some first 0 ∙ nothing))
+      where
+        nothing : take 0 (all_letters (drop first tokens)) ≡ []
+        nothing = refl
+    some_match (suc n) within described = (
+      first + n,
+      record {
+        order = omega arith;
+        within = omega arith;
+        known = known;
+        number = number;
+        described = let end : first + suc n ≡ first + n + 1 = omega arith in
+            subst (λ e. IsDescribed (words_of known) (letters_up_to tokens first e)) end described;
+      },
+    )
+
+  -- a live template describes a range from there
+  pub match_live : (first k : ℕ) → first ≤ length tokens → IsLive set (all_letters (drop first tokens)) k
+      → (last : ℕ) × IsMatch set tokens (triple_at first last k)
+  match_live first k inside (known, number, n, described) =
+      ⊎_elim
+      (λ (short : n < length (drop first tokens)).
+      let within : first + n ≤ length tokens = omega (arith, length-drop first tokens) in
+      some_match first k known number n within (subst (IsDescribed (words_of known)) (sym (letters_of_some first n)) described))
+      (λ (long : length (drop first tokens) ≤ n).
+      let count : length (all_letters (drop first tokens)) ≡ length (drop first tokens) = length-map (drop first tokens) (λ t. chars t.text) in
+      let within : first + length (drop first tokens) ≤ length tokens = omega (arith, length-drop first tokens) in
+      let all : take n (all_letters (drop first tokens)) ≡ take (length (drop first tokens)) (all_letters (drop first tokens)) =
+      take_all n (all_letters (drop first tokens)) (omega arith)
+      ∙ sym (take_all (length (drop first tokens)) (all_letters (drop first tokens)) (omega arith)) in
+      some_match first k known number (length (drop first tokens)) within
+      (subst (IsDescribed (words_of known)) (all ∙ sym (letters_of_some first (length (drop first tokens)))) described))
+      (cases_lt n (length (drop first tokens)))
+
+  -- after the last token nothing begins
+  pub NoneBeginFrom-end : (kept : List ℕ) → NoneBeginFrom set tokens kept (length tokens)
+  NoneBeginFrom-end kept t (m, among) late =
       let order : t.first ≤ t.last = m.order in
       let within : t.last < length tokens = m.within in
       omega arith
 
-  -- a token with which no match begins is passed by
-  pub AreFirstsFrom-pass : (first : ℕ) (noted : List NotedFirst) → ((t : Triple) → IsMatch set tokens t → t.first ≡ first → ⊥) →
-      AreFirstsFrom set tokens (first + 1) noted → AreFirstsFrom set tokens first noted
-  AreFirstsFrom-pass first [] none behind = λ t m late. let other : t.first ≡ first → ⊥ = none t m in behind t m (omega arith)
-  AreFirstsFrom-pass first (next ∷ more) none (is, behind) = (
-    record {
-      low = let low : first + 1 ≤ next.first = is.low in omega arith;
-      begins = is.begins;
-      passed = λ t m late. let other : t.first ≡ first → ⊥ = none t m in is.passed t m (omega arith);
-      known = is.known;
-    },
-    behind,
-  )
+  module _ (kept : List ℕ) where
+    -- a token with which no match begins is passed by
+    pub AreFirstsFrom-pass : (first : ℕ) (noted : List NotedFirst) → ((t : Triple) → IsMatchAmong set tokens kept t → t.first ≡ first → ⊥) →
+        AreFirstsFrom set tokens kept (first + 1) noted → AreFirstsFrom set tokens kept first noted
+    AreFirstsFrom-pass first [] none behind = λ t m late. let other : t.first ≡ first → ⊥ = none t m in behind t m (omega arith)
+    AreFirstsFrom-pass first (next ∷ more) none (is, behind) = (
+      record {
+        low = let low : first + 1 ≤ next.first = is.low in omega arith;
+        begins = is.begins;
+        passed = λ t m late. let other : t.first ≡ first → ⊥ = none t m in is.passed t m (omega arith);
+        all = is.all;
+        within = is.within;
+      },
+      behind,
+    )
 
-  -- no matches are noted
-  AreMatchesFrom-none : (first : ℕ) → AreMatchesFrom set tokens None first []
-  AreMatchesFrom-none first = record {
-    ascending = tt;
-    sound = λ t there. absurd (Contains-nil t there);
-    all = λ some. absurd (omega arith);
-  }
+    module _ (first : ℕ) (inside : first < length tokens) (live : List ℕ)
+        (exactly : (k : ℕ) → Contains live k ↔ (Contains kept k × IsLive set (all_letters (drop first tokens)) k)) where
+      live_of_match : (t : Triple) → IsMatchAmong set tokens kept t → t.first ≡ first → Contains live t.template
+      live_of_match t m here =
+          (exactly t.template).1 (m.1, subst (λ n. IsLive set (all_letters (drop n tokens)) t.template) here (IsLive-match t m.0))
 
-  -- what is known of the matches that begin with a token
-  module _ (first : ℕ) (ends : List End) (unclear : List ℕ) (known : AreKnown set tokens first ends unclear) where
-    -- where nothing is, no match begins
-    pub none_known : ends ≡ [] → unclear ≡ [] → (t : Triple) → IsMatch set tokens t → t.first ≡ first → ⊥
-    none_known no_end no_template t m here =
-        ⊎_elim
-        (λ (there : Contains ends (end_of t)). Contains-nil (end_of t) (subst (λ es. Contains es (end_of t)) no_end there))
-        (λ (there : Contains unclear t.template). Contains-nil t.template (subst (λ ns. Contains ns t.template) no_template there))
-        (known.all t m here)
+      match_of_live : (k : ℕ) → Contains live k → (last : ℕ) × IsMatch set tokens (triple_at first last k)
+      match_of_live k there = match_live first k (omega arith) ((exactly k).0 there).1
 
-    AreMatchesFrom-ends : unclear ≡ [] → AreMatchesFrom set tokens None first (matches_from first ends)
-    AreMatchesFrom-ends clear = record {
-      ascending = AreAscending-falling first ends known.falling;
-      sound = λ t there.
-          let (e, inside, is) = Contains-matches first ends t there in
-          subst (λ s. IsMatch set tokens s × (s.first ≡ first) × IsAfter None s) is (known.sound e inside, refl, tt);
-      all = λ some t m here after.
-          ⊎_elim
-          (λ (there : Contains ends (end_of t)).
-          subst (Contains (matches_from first ends)) (same_parts t (match_from first (end_of t)) here refl refl)
-          (Contains-match_from first ends (end_of t) there))
-          (λ (there : Contains unclear t.template). absurd (Contains-nil t.template (subst (λ ns. Contains ns t.template) clear there)))
-          (known.all t m here);
-    }
+      -- where no template is live, no match begins
+      pub none_live : live ≡ [] → (t : Triple) → IsMatchAmong set tokens kept t → t.first ≡ first → ⊥
+      none_live none t m here = empty (subst (λ ns. Contains ns t.template) none (live_of_match t m here))
+        where
+          empty : Contains [] t.template → ⊥
+          empty (i, within, is) = omega arith
 
-    IsFirstFrom-some : (last template : ℕ) → IsMatch set tokens (triple_at first last template) → (one : NotedFirst) (matches : List Triple)
-        → one ≡ noted_at first matches → AreMatchesFrom set tokens None first matches → (one.first ≡ first) × IsFirstFrom set tokens first one
-    IsFirstFrom-some last template m one matches is are =
-        subst (λ (n : NotedFirst). (n.first ≡ first) × IsFirstFrom set tokens first n) (sym is)
-        (refl, record { low = omega arith; begins = (last, template, m); passed = λ t n late. late; known = are })
+      -- numbers that stand for these templates, of which each is live
+      noted_live : (numbers : List ℕ) → ((t : Triple) → IsMatchAmong set tokens kept t → t.first ≡ first → Contains (noted_with kept numbers) t.template) →
+          ((k : ℕ) → Contains numbers k → Contains live k) → (k : ℕ) → Contains live k
+          → IsFirstFrom set tokens kept first (noted_at first numbers)
+      noted_live numbers all some k there = record {
+        low = omega arith;
+        begins = let (last, m) = match_of_live k there in (last, k, (m, ((exactly k).0 there).0));
+        passed = λ t m late. late;
+        all = all;
+        within = λ j inside. ((exactly j).0 (some j inside)).0;
+      }
 
-    -- where some template is unclear, the token is noted with none
-    pub IsFirstFrom-unclear : (k : ℕ) → Contains unclear k → (one : NotedFirst) → IsNotedWith first [] one
-        → (one.first ≡ first) × IsFirstFrom set tokens first one
-    IsFirstFrom-unclear k there one noted =
-        let (last, m) = known.live k there in
-        ⊎_elim
-        (λ (is : one ≡ noted_at first []). IsFirstFrom-some last k m one [] is (AreMatchesFrom-none first))
-        (λ (is : one ≡ noted_at first []). IsFirstFrom-some last k m one [] is (AreMatchesFrom-none first))
-        noted
+      with_numbers : (numbers : List ℕ) (k : ℕ) → Contains numbers k → Contains (noted_with kept numbers) k
+      with_numbers [] k (i, within, is) = absurd (omega arith)
+      with_numbers (n ∷ numbers) k there = there
 
-    -- otherwise with the matches that have these ends, or with none
-    pub IsFirstFrom-known : unclear ≡ [] → (e : End) → Contains ends e → (one : NotedFirst) → IsNotedWith first ends one
-        → (one.first ≡ first) × IsFirstFrom set tokens first one
-    IsFirstFrom-known clear e there one noted =
-        let m = known.sound e there in
-        ⊎_elim
-        (λ (is : one ≡ noted_at first (matches_from first ends)).
-        IsFirstFrom-some e.last e.template m one (matches_from first ends) is (AreMatchesFrom-ends clear))
-        (λ (is : one ≡ noted_at first []). IsFirstFrom-some e.last e.template m one [] is (AreMatchesFrom-none first))
-        noted
-
--- what a walk knows of the ends of matches is known of all, where it is asked for all and no other template describes a range
-pub AreKnown-walked : (tokens : List TokenValue) (first : ℕ) (walk : Walk) → KnowsEnds tokens (λ k. length tokens) first walk →
-    OthersDescribeNoRange (parts_of (set_walked walk)) (numbers_walked walk) (all_letters tokens) →
-    AreKnown (set_walked walk) tokens first (ends_walked walk) (unclear_walked walk)
-AreKnown-walked tokens first walk knows others = record {
-  sound = λ e there. (knows.sound e there).0;
-  live = λ k there. let (last, is) = knows.live k there in (last, is.0);
-  all = λ t m here. knows.all t m (kept_match (set_walked walk) tokens (numbers_walked walk) others t m) here m.within;
-  falling = knows.falling;
-}
+      -- where some template is live, the token is noted
+      pub IsFirstFrom-live : (k : ℕ) → Contains live k → IsFirstFrom set tokens kept first (noted_at first (few_of live))
+      IsFirstFrom-live k there =
+          cond_both (nat_le (length live) 4) live [] (λ numbers. IsFirstFrom set tokens kept first (noted_at first numbers))
+          (λ few. noted_live live (λ t m here. with_numbers live t.template (live_of_match t m here)) (λ j inside. inside) k there)
+          (λ many. noted_live [] (λ t m here. m.1) (λ j (i, within, is). absurd (omega arith)) k there)

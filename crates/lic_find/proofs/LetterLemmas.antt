@@ -1,5 +1,5 @@
 -- The letters of tokens, counted.
-use Rattle.std.proofs.Common.{◌≡◌, ℕ, ◌+◌, ◌-◌, ◌<◌, ◌≤◌, List, [], ◌∷◌, ◌++◌, length, get_or, take, drop, refl, sym, ap, ◌∙◌, arith, add-one}
+use Rattle.std.proofs.Common.{◌≡◌, ℕ, ◌+◌, ◌<◌, ◌≤◌, List, [], ◌∷◌, ◌++◌, length, get_or, take, drop, refl, sym, ap, ◌∙◌, arith, add-one}
 use Rattle.std.specs.List.{slice_range}
 use Rattle.std.specs.Str.{chars}
 use Rattle.std.proofs.Math.Seq.{drop-cons}
@@ -54,27 +54,8 @@ module _ (tokens : List TokenValue) where
       ap letters_of (sym (take-append-drop b tokens)) ∙ letters_of-append (take b tokens) (drop b tokens) in
       omega arith
 
-  pub letters_of-range_le : (a b : ℕ) → letters_of (slice_range tokens a b) ≤ letters_of tokens
-  letters_of-range_le a b =
-      let behind : letters_of (drop a tokens) ≤ letters_of tokens = letters_of-drop_le a in
-      let whole : letters_of (drop a tokens) ≡ letters_of (take (b - a) (drop a tokens)) + letters_of (drop (b - a) (drop a tokens)) =
-      ap letters_of (sym (take-append-drop (b - a) (drop a tokens)))
-      ∙ letters_of-append (take (b - a) (drop a tokens)) (drop (b - a) (drop a tokens)) in
-      omega arith
-
   pub letters_of-longer : (a b e : ℕ) → a ≤ b → b ≤ e → letters_of (slice_range tokens a b) ≤ letters_of (slice_range tokens a e)
   letters_of-longer a b e low high =
       let both : letters_of (slice_range tokens a e) ≡ letters_of (slice_range tokens a b) + letters_of (slice_range tokens b e) =
       ap letters_of (slice_range-split tokens a b e low high) ∙ letters_of-append (slice_range tokens a b) (slice_range tokens b e) in
       omega arith
-
-  -- a count that goes on by the letters of a token
-  module _ (first : ℕ) (d : TokenValue) (within : first < length tokens) (text : List ℕ) (same : text ≡ (get_or tokens first d).text) (before count : ℕ) where
-    more : letters_of (drop first tokens) ≡ letters_in (chars text) + letters_of (drop (first + 1) tokens)
-    more = letters_of-drop first d within ∙ ap (λ t. letters_in (chars t) + letters_of (drop (first + 1) tokens)) (sym same)
-
-    pub counted_most : count ≤ before + letters_in (chars text) → count + letters_of (drop (first + 1) tokens) ≤ before + letters_of (drop first tokens)
-    counted_most most = omega (arith, most, more)
-
-    pub counted_least : before + letters_in (chars text) ≤ count → before + letters_of (drop first tokens) ≤ count + letters_of (drop (first + 1) tokens)
-    counted_least least = omega (arith, least, more)

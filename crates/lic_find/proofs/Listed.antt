@@ -10,10 +10,10 @@ use Rattle.lic_norm.specs.Tokens.{TokenValue}
 use Rattle.lic_words.specs.Expressions.{Expression}
 use Rattle.lic_words.specs.Describing.{IsDescribed}
 use Rattle.lic_marks.specs.Deciding.{is_described}
-use Rattle.lic_auto.specs.Sets.{Known, words_of}
-use Rattle.lic_find.specs.Listing.{triple_at, numbers_below, all_triples, describes, is_matching, precedes, is_behind, matches_behind}
-use Rattle.lic_find.specs.Matches.{Precedes, IsAfter, IsMatch, AreMatches, letters_between}
-use Rattle.lic_find.specs.declared.triple.Triple.{Triple}
+use Rattle.lic_set.specs.Sets.{Known, words_of}
+use Rattle.lic_find.specs.Listing.{triple_at, numbers_below, all_triples, describes, is_matching, precedes, is_after, matches_behind}
+use Rattle.lic_set.specs.Matches.{Precedes, IsAfter, IsMatch, AreMatches, letters_between}
+use Rattle.lic_set.specs.declared.triple.Triple.{Triple}
 use Rattle.lic_find.proofs.Collecting.{Collects, Collects-one, Collects-same, Collects-rows, Collects-filter}
 use Rattle.lic_find.proofs.Triples.{same_parts}
 
@@ -71,9 +71,9 @@ Decides-precedes s t =
     (Decides-and _ _ (Decides-eqb s.first t.first)
     (Decides-or _ _ (Decides-ltb s.last t.last) (Decides-and _ _ (Decides-eqb s.last t.last) (Decides-ltb s.template t.template))))
 
-Decides-is_behind : (place : Option Triple) (t : Triple) → Decides (is_behind place t) (IsAfter place t)
-Decides-is_behind None t = (λ h. tt, λ h. refl)
-Decides-is_behind (Some place) t = Decides-precedes place t
+Decides-is_after : (place : Option Triple) (t : Triple) → Decides (is_after place t) (IsAfter place t)
+Decides-is_after None t = (λ h. tt, λ h. refl)
+Decides-is_after (Some place) t = Decides-precedes place t
 
 module _ (decided : (e : Expression) (ts : List (List ℕ)) → IsTrue (is_described e ts) ↔ IsDescribed e ts) where
   described_by : (o : Option Known) (letters : List (List ℕ)) → describes o letters ≡ true
@@ -108,11 +108,11 @@ module _ (decided : (e : Expression) (ts : List (List ℕ)) → IsTrue (is_descr
   AreMatches-listed set tokens after =
       let all = Collects-all (length tokens) (length set) in
       let matching = Collects-filter (is_matching set tokens) (IsInside (length tokens) (length set)) (all_triples (length tokens) (length set)) all in
-      let found = Collects-filter (is_behind after) _ _ matching in
+      let found = Collects-filter (is_after after) _ _ matching in
       record {
         ascending = found.ascending;
         exact = λ t. (
-          λ h. let p = (found.exact t).0 h in (IsMatch-from_test set tokens t p.0.0 p.0.1, (Decides-is_behind after t).0 p.1),
-          λ m. (found.exact t).1 ((IsInside-match set tokens t m.0, test_from_IsMatch set tokens t m.0), (Decides-is_behind after t).1 m.1),
+          λ h. let p = (found.exact t).0 h in (IsMatch-from_test set tokens t p.0.0 p.0.1, (Decides-is_after after t).0 p.1),
+          λ m. (found.exact t).1 ((IsInside-match set tokens t m.0, test_from_IsMatch set tokens t m.0), (Decides-is_after after t).1 m.1),
         );
       }

@@ -4,11 +4,14 @@ use Rattle.std.proofs.Math.Logic.{∥∥₁_elim}
 use Rattle.std.specs.Coded.{Coded, Coded-set, code_by, coded×, coded_ℕ, coded_list}
 use Rattle.std.specs.List.{Contains}
 use Rattle.lic_norm.specs.Tokens.{TokenValue}
-use Rattle.lic_auto.specs.Sets.{Known}
-use Rattle.lic_find.specs.Listing.{triple_at, matches_behind}
-use Rattle.lic_find.specs.Matches.{AreMatches, IsAfter, IsMatch, Precedes}
+use Rattle.lic_set.specs.Sets.{Known}
+use Rattle.lic_find.specs.Among.{IsMatchAmong}
+use Rattle.lic_find.specs.Listing.{triple_at, matches_behind, matches_among}
+use Rattle.lic_set.specs.Matches.{AreMatches, IsAfter, IsMatch, Precedes}
 use Rattle.lic_find.specs.Walks.{IsNext}
-use Rattle.lic_find.specs.declared.triple.Triple.{Triple}
+use Rattle.lic_set.specs.declared.triple.Triple.{Triple}
+use Rattle.lic_find.proofs.AmongLemmas.{AreMatchesAmong-listed, Collects-among, Collects-matches}
+use Rattle.lic_find.proofs.Collecting.{Collects}
 use Rattle.lic_find.proofs.Triples.{same_from_members, not_before, Precedes-trans, Contains-head, Contains-tail, Contains-cons_cases}
 
 pub AreMatches-unique : (set : List Known) (tokens : List TokenValue) (after : Option Triple) (xs ys : List Triple) →
@@ -16,38 +19,62 @@ pub AreMatches-unique : (set : List Known) (tokens : List TokenValue) (after : O
 AreMatches-unique set tokens after xs ys m n =
     same_from_members xs ys m.ascending n.ascending (λ t h. (n.exact t).1 ((m.exact t).0 h)) (λ t h. (m.exact t).1 ((n.exact t).0 h))
 
-pub IsAfter-trans : (place : Option Triple) (s t : Triple) → IsAfter place s → Precedes s t → IsAfter place t
+IsAfter-trans : (place : Option Triple) (s t : Triple) → IsAfter place s → Precedes s t → IsAfter place t
 IsAfter-trans None s t h k = tt
 IsAfter-trans (Some place) s t h k = Precedes-trans place s t h k
 
+module _ (P : Triple → Type 0) (place : Option Triple) where
+  -- the first after a place, and those after it
+  Collects-next : (t : Triple) (xs ys : List Triple) → IsNext P place t → Collects (λ s. P s × IsAfter place s) xs →
+      Collects (λ s. P s × IsAfter (Some t) s) ys → xs ≡ t ∷ ys
+  Collects-next t xs ys next old new =
+      same_from_members xs (t ∷ ys) old.ascending (λ s h. ((new.exact s).0 h).1, new.ascending)
+      (λ s h.
+      let p = (old.exact s).0 h in
+      ⊎_elim (λ (e : t ≡ s). subst (λ u. Contains (t ∷ ys) u) e (Contains-head t ys))
+      (λ k. Contains-tail t ys s ((new.exact s).1 (p.0, k)))
+      (not_before s t (next.least s p.0 p.1)))
+      (λ s h.
+      (old.exact s).1 (⊎_elim (λ (e : t ≡ s). subst (λ u. P u × IsAfter place u) e (next.matches, next.after))
+      (λ k. let p = (new.exact s).0 k in (p.0, IsAfter-trans place t s next.after p.1))
+      (Contains-cons_cases t ys s h)))
+
+  Collects-no_one : (xs : List Triple) → Collects (λ s. P s × IsAfter place s) xs → ((t : Triple) → P t → IsAfter place t → ⊥) → xs ≡ []
+  Collects-no_one [] c none = refl
+  Collects-no_one (x ∷ xs) c none = let p = (c.exact x).0 (Contains-head x xs) in absurd (none x p.0 p.1)
+
 module _ (set : List Known) (tokens : List TokenValue) (listed : (after : Option Triple) → AreMatches set tokens after (matches_behind set tokens after)) where
-  -- the first of the matches behind a place, and those behind it
-  pub matches_behind-next : (place : Option Triple) (t : Triple) → IsNext set tokens place t
+  matching : (place : Option Triple) → Collects (λ t. IsMatch set tokens t × IsAfter place t) (matches_behind set tokens place)
+  matching place = Collects-matches set tokens place (matches_behind set tokens place) (listed place)
+
+  -- the first of the matches after a place, and those after it
+  pub matches_behind-next : (place : Option Triple) (t : Triple) → IsNext (IsMatch set tokens) place t
       → matches_behind set tokens place ≡ t ∷ matches_behind set tokens (Some t)
   matches_behind-next place t next =
-      let old = listed place in
-      let new = listed (Some t) in
-      AreMatches-unique set tokens place (matches_behind set tokens place) (t ∷ matches_behind set tokens (Some t)) old (record {
-        ascending = (λ s h. ((new.exact s).0 h).1, new.ascending);
-        exact = λ s. (
-          λ h.
-              ⊎_elim (λ (e : t ≡ s). subst (λ u. IsMatch set tokens u × IsAfter place u) e (next.matches, next.after))
-              (λ k. let p = (new.exact s).0 k in (p.0, IsAfter-trans place t s next.after p.1))
-              (Contains-cons_cases t (matches_behind set tokens (Some t)) s h),
-          λ p.
-              ⊎_elim (λ (e : t ≡ s). subst (λ u. Contains (t ∷ matches_behind set tokens (Some t)) u) e (Contains-head t (matches_behind set tokens (Some t))))
-              (λ k. Contains-tail t (matches_behind set tokens (Some t)) s ((new.exact s).1 (p.0, k)))
-              (not_before s t (next.least s p.0 p.1)),
-        );
-      })
-
-  no_member : (xs : List Triple) → ((t : Triple) → Contains xs t → ⊥) → xs ≡ []
-  no_member [] none = refl
-  no_member (x ∷ xs) none = absurd (none x (Contains-head x xs))
+      Collects-next (IsMatch set tokens) place t (matches_behind set tokens place)
+      (matches_behind set tokens (Some t)) next (matching place) (matching (Some t))
 
   pub matches_behind-none : (place : Option Triple) → ((t : Triple) → IsMatch set tokens t → IsAfter place t → ⊥) → matches_behind set tokens place ≡ []
-  matches_behind-none place none =
-      no_member (matches_behind set tokens place) (λ t h. let p = ((listed place).exact t).0 h in none t p.0 p.1)
+  matches_behind-none place none = Collects-no_one (IsMatch set tokens) place (matches_behind set tokens place) (matching place) none
+
+  -- the same of the matches of some templates
+  module _ (numbers : List ℕ) where
+    among : (place : Option Triple)
+        → Collects (λ t. IsMatchAmong set tokens numbers t × IsAfter place t) (matches_among set tokens numbers place)
+    among place =
+        Collects-among set tokens numbers place (matches_among set tokens numbers place)
+        (AreMatchesAmong-listed set tokens numbers place (listed place))
+
+    pub matches_among-next : (place : Option Triple) (t : Triple) → IsNext (IsMatchAmong set tokens numbers) place t
+        → matches_among set tokens numbers place ≡ t ∷ matches_among set tokens numbers (Some t)
+    matches_among-next place t next =
+        Collects-next (IsMatchAmong set tokens numbers) place t (matches_among set tokens numbers place)
+        (matches_among set tokens numbers (Some t)) next (among place) (among (Some t))
+
+    pub matches_among-none : (place : Option Triple) → ((t : Triple) → IsMatchAmong set tokens numbers t → IsAfter place t → ⊥)
+        → matches_among set tokens numbers place ≡ []
+    matches_among-none place none =
+        Collects-no_one (IsMatchAmong set tokens numbers) place (matches_among set tokens numbers place) (among place) none
 
 -- triples as their numbers, by which they are told apart
 abbrev triple_code : Coded Triple

@@ -1,11 +1,10 @@
 -- The letters of the tokens of a range.
-use Rattle.std.proofs.Common.{◌≡◌, ℕ, ◌+◌, ◌-◌, ◌<◌, ◌≤◌, List, [], ◌∷◌, ◌++◌, length, get_or, map, take, drop, sym, ap, ◌∙◌, arith, length-drop, get_or-drop}
+use Rattle.std.proofs.Common.{◌≡◌, ℕ, ◌+◌, ◌-◌, ◌<◌, ◌≤◌, List, [], ◌∷◌, ◌++◌, length, get_or, map, take, drop, ap, ◌∙◌, arith, length-drop, get_or-drop}
 use Rattle.std.specs.List.{slice_range}
 use Rattle.std.specs.Str.{chars}
-use Rattle.std.proofs.lemmas.List.{take_all, take_more, map-append, drop-drop, length-map, length-take}
-use Rattle.std.proofs.Math.Seq.{take-add, take-append_seam}
+use Rattle.std.proofs.lemmas.List.{take_more, map-append, drop-drop}
+use Rattle.std.proofs.Math.Seq.{take-add}
 use Rattle.lic_norm.specs.Tokens.{TokenValue}
-use Rattle.lic_find.specs.Matches.{all_letters}
 use Rattle.lic_find.specs.Walks.{letters_up_to}
 
 module _ {A : Type 0} (xs : List A) where
@@ -27,9 +26,6 @@ module _ {A : Type 0} (xs : List A) where
       ap (λ n. take n (drop a xs)) count ∙ take-add (b - a) (e - b) (drop a xs)
       ∙ ap (λ ys. take (b - a) (drop a xs) ++ take (e - b) ys) (drop-drop (b - a) a xs ∙ ap (λ n. drop n xs) place)
 
-  pub slice_range-all : slice_range xs 0 (length xs) ≡ xs
-  slice_range-all = let count : length xs - 0 ≡ length xs = omega arith in ap (λ n. take n xs) count ∙ take_all (length xs) xs (omega arith)
-
 module _ (tokens : List TokenValue) where
   pub letters_up_to-none : (first : ℕ) → letters_up_to tokens first first ≡ []
   letters_up_to-none first = ap (λ xs. map (λ t. chars t.text) xs) (slice_range-none tokens first)
@@ -41,43 +37,8 @@ module _ (tokens : List TokenValue) where
       ap (λ xs. map (λ t. chars t.text) xs) (slice_range-more tokens first last d order within)
       ∙ map-append (λ t. chars t.text) (slice_range tokens first last) (get_or tokens last d ∷ [])
 
-  pub letters_up_to-all : letters_up_to tokens 0 (length tokens) ≡ all_letters tokens
-  letters_up_to-all = ap (λ xs. map (λ t. chars t.text) xs) (slice_range-all tokens)
-
-  -- the letters of the first tokens, and of one more
-  pub all_letters-more : (n : ℕ) (d : TokenValue) → n < length tokens
-      → all_letters (take (n + 1) tokens) ≡ all_letters (take n tokens) ++ chars (get_or tokens n d).text ∷ []
-  all_letters-more n d within =
-      ap (λ xs. map (λ t. chars t.text) xs) (take_more tokens n d within) ∙ map-append (λ t. chars t.text) (take n tokens) (get_or tokens n d ∷ [])
-
   pub letters_up_to-split : (first between end : ℕ) → first ≤ between → between ≤ end →
       letters_up_to tokens first end ≡ letters_up_to tokens first between ++ letters_up_to tokens between end
   letters_up_to-split first between end order within =
       ap (λ xs. map (λ t. chars t.text) xs) (slice_range-split tokens first between end order within)
       ∙ map-append (λ t. chars t.text) (slice_range tokens first between) (slice_range tokens between end)
-
-  pub letters_up_to-one : (first : ℕ) (d : TokenValue) → first < length tokens
-      → letters_up_to tokens first (first + 1) ≡ chars (get_or tokens first d).text ∷ []
-  letters_up_to-one first d within =
-      letters_up_to-more first first d (omega arith) within ∙ ap (λ ts. ts ++ chars (get_or tokens first d).text ∷ []) (letters_up_to-none first)
-
-  -- one more token in front
-  pub letters_up_to-front : (first end : ℕ) (d : TokenValue) → first < end → end ≤ length tokens →
-      letters_up_to tokens first end ≡ chars (get_or tokens first d).text ∷ letters_up_to tokens (first + 1) end
-  letters_up_to-front first end d less within =
-      letters_up_to-split first (first + 1) end (omega arith) (omega arith)
-      ∙ ap (λ ts. ts ++ letters_up_to tokens (first + 1) end) (letters_up_to-one first d (omega arith))
-
-  pub letters_up_to-length : (first end : ℕ) → first ≤ end → end ≤ length tokens → length (letters_up_to tokens first end) ≡ end - first
-  letters_up_to-length first end order within =
-      length-map (slice_range tokens first end) (λ t. chars t.text)
-      ∙ omega (arith, length-take (end - first) (drop first tokens), length-drop first tokens)
-
-  -- so many of them
-  pub letters_up_to-take : (n first end : ℕ) → first + n ≤ end → end ≤ length tokens
-      → take n (letters_up_to tokens first end) ≡ letters_up_to tokens first (first + n)
-  letters_up_to-take n first end order within =
-      let count : length (letters_up_to tokens first (first + n)) ≡ n = omega (arith, letters_up_to-length first (first + n) (omega arith) (omega arith)) in
-      ap (take n) (letters_up_to-split first (first + n) end (omega arith) order)
-      ∙ ap (λ m. take m (letters_up_to tokens first (first + n) ++ letters_up_to tokens (first + n) end)) (sym count)
-      ∙ take-append_seam (letters_up_to tokens first (first + n)) (letters_up_to tokens (first + n) end)

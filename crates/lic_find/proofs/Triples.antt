@@ -4,8 +4,8 @@ use Rattle.std.specs.List.{Contains}
 use Rattle.std.proofs.lemmas.Bool.{cases_order}
 use Rattle.std.proofs.lemmas.List.Elements.{Contains-append_cases}
 use Rattle.lic_find.specs.Listing.{triple_at}
-use Rattle.lic_find.specs.Matches.{Precedes, AreAscending}
-use Rattle.lic_find.specs.declared.triple.Triple.{Triple}
+use Rattle.lic_set.specs.Matches.{Precedes, AreAscending}
+use Rattle.lic_set.specs.declared.triple.Triple.{Triple}
 
 -- triples are the same if their numbers are
 pub same_parts : (s t : Triple) → s.first ≡ t.first → s.last ≡ t.last → s.template ≡ t.template → t ≡ s
@@ -18,7 +18,7 @@ Precedes-itself t h = omega (arith, h)
 pub Precedes-both : (s t : Triple) → Precedes s t → Precedes t s → ⊥
 Precedes-both s t h k = omega (arith, h, k)
 
--- a triple that does not come before another is that one, or comes behind it
+-- a triple that does not come before another is that one, or comes after it
 pub not_before : (s t : Triple) → (Precedes s t → ⊥) → (t ≡ s) ⊎ Precedes t s
 not_before s t never =
     elim (cases_order s.first t.first) [

@@ -4,9 +4,9 @@ use Rattle.std.specs.List.{list_any, range_with_len}
 use Rattle.std.specs.Str.{chars}
 use Rattle.lic_norm.specs.Tokens.{TokenValue}
 use Rattle.lic_words.specs.Letters.{letters_in}
-use Rattle.lic_auto.specs.Sets.{Known}
+use Rattle.lic_set.specs.Sets.{Known}
 use Rattle.lic_find.specs.Listing.{matches_of}
-use Rattle.lic_find.specs.declared.triple.Triple.{Triple}
+use Rattle.lic_set.specs.declared.triple.Triple.{Triple}
 
 -- how many letters the tokens have together, blanks not counted
 unfoldable pub letters_of : List TokenValue → ℕ

@@ -1,19 +1,22 @@
 -- What the steps have come to on a walk over a text.
 use Rattle.std.specs.Prelude.{◌≡◌, ℕ, ◌+◌, ◌-◌, ◌*◌, ◌^◌, ◌<◌, ◌≤◌, List, length, drop, Option, None, slice_range, sum_by}
 use Rattle.lic_norm.specs.Tokens.{TokenValue}
-use Rattle.lic_auto.specs.Sets.{Known}
-use Rattle.lic_find.specs.Bounds.{letters_of, walk_over, firsts_of, letters_of_longest, letters_of_matches}
-use Rattle.lic_find.specs.declared.triple.Triple.{Triple}
+use Rattle.lic_set.specs.Sets.{Known}
+use Rattle.lic_find.specs.Among.{HaveAllMatches}
+use Rattle.lic_find.specs.Bounds.{letters_of, walk_over, firsts_from, firsts_of, letters_of_longest, letters_of_matches}
+use Rattle.lic_set.specs.declared.triple.Triple.{Triple}
 
--- The steps of the walk that noted first tokens, and those of the walks from first tokens up to `first` and its `end`, with
--- what is counted for first tokens whose matches were known: with the first tokens that are left they fit into what is allowed. Below the
--- greatest number each letter of the longest matches was counted, where the search began with the first match.
-pub record AreCounted (set : List Known) (tokens : List TokenValue) (began : Option Triple)
-    (noting walked first end : ℕ) (left : List ℕ) : Type 0 where
+-- The steps of the walk that noted first tokens, and of the walks from first tokens up to `first` and its `end`: with what is still to
+-- come they fit into what is allowed. Below the greatest number each letter of these walks was counted, where the search began with the
+-- first match and is for all matches.
+pub record AreCounted (set : List Known) (tokens : List TokenValue) (numbers : List ℕ) (began : Option Triple)
+    (noting walked first end : ℕ) : Type 0 where
   pub noting_most : noting ≤ 2 * letters_of tokens
   pub noting_least : began ≡ None → noting < 2 ^ 64 - 1 → letters_of tokens ≤ noting
-  pub walked_most : walked + 2 * letters_of (drop end tokens) + walk_over tokens * length left
+  pub walked_most : walked + 2 * letters_of (drop end tokens)
+      + walk_over tokens * length (firsts_from set tokens (first + 1))
       ≤ walk_over tokens * length (firsts_of set tokens)
-  pub walked_least : began ≡ None → walked < 2 ^ 64 - 1
+  pub walked_least : began ≡ None → HaveAllMatches set tokens numbers → walked < 2 ^ 64 - 1
       → letters_of_matches set tokens + letters_of (slice_range tokens first end)
-      ≤ walked + letters_of_longest set tokens first + sum_by (letters_of_longest set tokens) left
+      ≤ walked + letters_of_longest set tokens first
+      + sum_by (letters_of_longest set tokens) (firsts_from set tokens (first + 1))

@@ -1,43 +1,42 @@
 -- Tokens with which matches begin.
-use Rattle.std.specs.Prelude.{◌≡◌, ℕ, ◌+◌, ◌<◌, ◌≤◌, List, [], ◌∷◌, length, map, Option, None, Contains}
+use Rattle.std.specs.Prelude.{◌≡◌, ℕ, ◌+◌, ◌≤◌, List, [], ◌∷◌, Contains}
 use Rattle.lic_norm.specs.Tokens.{TokenValue}
-use Rattle.lic_auto.specs.Sets.{Known}
+use Rattle.lic_set.specs.Sets.{Known}
+use Rattle.lic_find.specs.Among.{IsMatchAmong}
 use Rattle.lic_find.specs.Listing.{triple_at}
-use Rattle.lic_find.specs.Matches.{AreAscending, IsAfter, IsMatch}
-use Rattle.lic_find.specs.declared.triple.Triple.{Triple}
+use Rattle.lic_set.specs.declared.triple.Triple.{Triple}
 
--- a first token that was noted, with the matches that begin there, or with none where they are not known
+-- a first token that was noted, with numbers of templates
 pub record NotedFirst : Type 0 where
   pub first : ℕ
-  pub matches : List Triple
+  pub numbers : List ℕ
 
--- a first token with these matches
-abbrev pub noted_at : ℕ → List Triple → NotedFirst
-noted_at first matches = record { first = first; matches = matches }
+-- a first token with these numbers
+abbrev pub noted_at : ℕ → List ℕ → NotedFirst
+noted_at first numbers = record { first = first; numbers = numbers }
 
--- the tokens alone
-abbrev pub firsts_in : List NotedFirst → List ℕ
-firsts_in noted = map (λ (one : NotedFirst). one.first) noted
+-- the templates that a first token stands for: those of its numbers, or without numbers all that were kept
+abbrev pub noted_with : List ℕ → List ℕ → List ℕ
+noted_with kept [] = kept
+noted_with kept (n ∷ numbers) = n ∷ numbers
 
--- no match begins with this token or a later one
-abbrev pub NoneBeginFrom : List Known → List TokenValue → ℕ → Type 0
-NoneBeginFrom set tokens from = (t : Triple) → IsMatch set tokens t → ¬ (from ≤ t.first)
+-- no match of a template of these numbers begins with this token or a later one
+abbrev pub NoneBeginFrom : List Known → List TokenValue → List ℕ → ℕ → Type 0
+NoneBeginFrom set tokens kept from = (t : Triple) → IsMatchAmong set tokens kept t → ¬ (from ≤ t.first)
 
--- Where matches are noted with a token, they are all that begin there and come behind a place, each once, in order.
-pub record AreMatchesFrom (set : List Known) (tokens : List TokenValue) (place : Option Triple) (first : ℕ)
-    (matches : List Triple) : Type 0 where
-  pub ascending : AreAscending matches
-  pub sound : (t : Triple) → Contains matches t → IsMatch set tokens t × (t.first ≡ first) × IsAfter place t
-  pub all : 0 < length matches → (t : Triple) → IsMatch set tokens t → t.first ≡ first → IsAfter place t → Contains matches t
-
--- The first token, from this one on, with which a match begins. Where matches are noted with it, they are all that begin there.
-pub record IsFirstFrom (set : List Known) (tokens : List TokenValue) (from : ℕ) (noted : NotedFirst) : Type 0 where
+-- The first token, from this one on, with which a match of one of the kept templates begins. Its numbers are some of theirs, and the
+-- templates that it stands for are all that describe a range from there.
+pub record IsFirstFrom (set : List Known) (tokens : List TokenValue) (kept : List ℕ) (from : ℕ)
+    (noted : NotedFirst) : Type 0 where
   pub low : from ≤ noted.first
-  pub begins : (last template : ℕ) × IsMatch set tokens (triple_at noted.first last template)
-  pub passed : (t : Triple) → IsMatch set tokens t → from ≤ t.first → noted.first ≤ t.first
-  pub known : AreMatchesFrom set tokens None noted.first noted.matches
+  pub begins : (last template : ℕ) × IsMatchAmong set tokens kept (triple_at noted.first last template)
+  pub passed : (t : Triple) → IsMatchAmong set tokens kept t → from ≤ t.first → noted.first ≤ t.first
+  pub all : (t : Triple) → IsMatchAmong set tokens kept t → t.first ≡ noted.first
+      → Contains (noted_with kept noted.numbers) t.template
+  pub within : (k : ℕ) → Contains noted.numbers k → Contains kept k
 
--- all tokens from this one on with which matches begin, in rising order
-abbrev pub AreFirstsFrom : List Known → List TokenValue → ℕ → List NotedFirst → Type 0
-AreFirstsFrom set tokens from [] = NoneBeginFrom set tokens from
-AreFirstsFrom set tokens from (noted ∷ more) = IsFirstFrom set tokens from noted × AreFirstsFrom set tokens (noted.first + 1) more
+-- all tokens from this one on with which matches of the kept templates begin, in rising order
+abbrev pub AreFirstsFrom : List Known → List TokenValue → List ℕ → ℕ → List NotedFirst → Type 0
+AreFirstsFrom set tokens kept from [] = NoneBeginFrom set tokens kept from
+AreFirstsFrom set tokens kept from (noted ∷ more) =
+    IsFirstFrom set tokens kept from noted × AreFirstsFrom set tokens kept (noted.first + 1) more

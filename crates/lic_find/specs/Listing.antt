@@ -1,11 +1,11 @@
 -- The matches of a text as a list that computes.
 use Rattle.std.specs.Prelude.{ℕ, ◌==◌, ◌&&◌, ◌||◌, nat_lt, nat_le, Bool, true, false, List, length, map, filter, Option, Some, None}
-use Rattle.std.specs.List.{slice_get, flat_map, range_with_len}
+use Rattle.std.specs.List.{slice_get, flat_map, list_any, range_with_len}
 use Rattle.lic_norm.specs.Tokens.{TokenValue}
 use Rattle.lic_marks.specs.Deciding.{is_described}
-use Rattle.lic_auto.specs.Sets.{Known, words_of}
-use Rattle.lic_find.specs.Matches.{letters_between}
-use Rattle.lic_find.specs.declared.triple.Triple.{Triple}
+use Rattle.lic_set.specs.Sets.{Known, words_of}
+use Rattle.lic_set.specs.Matches.{letters_between}
+use Rattle.lic_set.specs.declared.triple.Triple.{Triple}
 
 abbrev pub triple_at : ℕ → ℕ → ℕ → Triple
 triple_at first last template = record { first = first; last = last; template = template }
@@ -40,11 +40,19 @@ precedes s t =
     nat_lt s.first t.first || (s.first == t.first
     && (nat_lt s.last t.last || (s.last == t.last && nat_lt s.template t.template)))
 
--- whether a triple comes behind a place, if there is one
-abbrev pub is_behind : Option Triple → Triple → Bool
-is_behind None t = true
-is_behind (Some place) t = precedes place t
+-- whether a triple comes after a place, if there is one
+abbrev pub is_after : Option Triple → Triple → Bool
+is_after None t = true
+is_after (Some place) t = precedes place t
 
--- the matches behind a place, or all of them
+-- the matches after a place, or all of them
 unfoldable pub matches_behind : List Known → List TokenValue → Option Triple → List Triple
-matches_behind set tokens place = filter (is_behind place) (matches_of set tokens)
+matches_behind set tokens place = filter (is_after place) (matches_of set tokens)
+
+-- whether the template of a triple has one of these numbers
+abbrev pub is_among : List ℕ → Triple → Bool
+is_among numbers t = list_any (λ n. t.template == n) numbers
+
+-- the matches after a place, or all of them, of the templates of these numbers
+unfoldable pub matches_among : List Known → List TokenValue → List ℕ → Option Triple → List Triple
+matches_among set tokens numbers place = filter (is_among numbers) (matches_behind set tokens place)

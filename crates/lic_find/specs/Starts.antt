@@ -1,25 +1,25 @@
 -- The first tokens that are noted.
-use Rattle.std.specs.Prelude.{◌≡◌, ℕ, ◌<◌, ◌⊎◌, Bool, false, List, [], ◌∷◌, IsTrue, length, reverse}
-use Rattle.std.specs.List.{flat_map}
-use Rattle.lic_find.specs.Ends.{matches_from}
+use Rattle.std.specs.Prelude.{ℕ, ◌-◌, ◌*◌, ◌≤◌, List, [], ◌∷◌, length, take, drop, reverse, nat_le, if◌then◌else◌}
 use Rattle.lic_find.specs.Firsts.{NotedFirst, noted_at}
-use Rattle.lic_find.specs.Rows.{noted_in}
-use Rattle.lic_find.specs.declared.end.End.{End}
+use Rattle.lic_find.specs.declared.starts.Entry.{Entry}
 use Rattle.lic_find.specs.declared.starts.Starts.{Starts}
-use Rattle.lic_find.specs.declared.triple.Triple.{Triple}
 
--- the first tokens that are left, in rising order: those of each row, which are kept in falling order
+-- each with its numbers, which stand at the end of the list; those of the entries after it stand before them
+abbrev pub noted_in : List Entry → List ℕ → List NotedFirst
+noted_in [] numbers = []
+noted_in (entry ∷ more) numbers =
+    noted_at entry.first (drop (length numbers - entry.count) numbers)
+    ∷ noted_in more (take (length numbers - entry.count) numbers)
+
+-- the first tokens that are left, in rising order
 unfoldable pub starts_in : Starts → List NotedFirst
-starts_in starts = flat_map (noted_in starts.ends.items) (reverse starts.rows.items)
+starts_in starts = noted_in (reverse starts.entries.items) starts.numbers.items
 
--- a first token with the matches that have these ends, or with none
-abbrev pub IsNotedWith : ℕ → List End → NotedFirst → Type 0
-IsNotedWith first ends one = (one ≡ noted_at first (matches_from first ends)) ⊎ (one ≡ noted_at first [])
+-- at most four numbers, or none
+abbrev pub few_of : List ℕ → List ℕ
+few_of numbers = if nat_le (length numbers) 4 then numbers else []
 
--- The first of the matches that are noted with the least first token is taken. With the last of them this first token is removed.
-pub record TakesMatch (old : List NotedFirst) (taken : Triple) (is_last : Bool) (new : List NotedFirst) : Type 0 where
-  pub others : List Triple
-  pub behind : List NotedFirst
-  pub was : old ≡ noted_at taken.first (taken ∷ others) ∷ behind
-  pub last : IsTrue is_last → (others ≡ []) × (new ≡ behind)
-  pub more : is_last ≡ false → (0 < length others) × (new ≡ noted_at taken.first others ∷ behind)
+-- first tokens of at most so many tokens, with four numbers for each on the average at most
+pub record HasAtMost (starts : Starts) (tokens : ℕ) : Type 0 where
+  pub firsts : length starts.entries.items ≤ tokens
+  pub numbers : length starts.numbers.items ≤ 4 * length starts.entries.items

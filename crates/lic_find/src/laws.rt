@@ -2,10 +2,10 @@
 
 ghost use Rattle.std.specs.Prelude.{◌≡◌, List, Option};
 ghost use Rattle.lic_norm.specs.Tokens.{TokenValue};
-ghost use Rattle.lic_auto.specs.Sets.{Known};
+ghost use Rattle.lic_set.specs.Sets.{Known};
 ghost use Rattle.lic_find.specs.Listing.{matches_behind};
-ghost use Rattle.lic_find.specs.Matches.{AreMatches};
-ghost use Rattle.lic_find.specs.declared.triple.Triple.{Triple};
+ghost use Rattle.lic_set.specs.Matches.{AreMatches};
+ghost use Rattle.lic_set.specs.declared.triple.Triple.{Triple};
 
 use lic_auto::laws::whether_an_expression_describes_is_decided;
 

@@ -1,7 +1,7 @@
 //! One triple by itself.
 
 ghost use Rattle.std.specs.Prelude.{◌↔◌, IfOk, IsTrue};
-ghost use Rattle.lic_find.specs.Matches.{IsMatch};
+ghost use Rattle.lic_set.specs.Matches.{IsMatch};
 
 use crate::triple::Triple;
 use lic_auto::run::Run;

@@ -1,9 +1,7 @@
-pub mod ByteLemmas
-pub mod KeyLemmas
-pub mod RisingLemmas
-pub mod WindowLemmas
-pub mod TableLemmas
-pub mod FlagLemmas
-pub mod ListingLemmas
-pub mod LookLemmas
-pub mod TailLemmas
+pub mod EdgeLemmas
+pub mod SameLetters
+pub mod LongestLemmas
+pub mod TextWords
+pub mod RequiredEnds
+pub mod KeysLemmas
+pub mod CandidateLemmas

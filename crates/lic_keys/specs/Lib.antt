@@ -1,7 +1,4 @@
-pub mod Hashes
+pub mod Texts
+pub mod Required
 pub mod Keys
-pub mod Listing
-pub mod Looks
-pub mod Rising
-pub mod Tables
-pub mod Tails
+pub mod Candidates

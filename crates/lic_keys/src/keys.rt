@@ -1,244 +1,144 @@
-//! The keys of templates, and the table in which their grams are looked up.
+//! A prefilter over templates, by the longest text of each.
 
-ghost use Rattle.std.specs.Prelude.{◌≡◌, ◌<◌, ◌≤◌, ◌+◌, ℕ, List, None, Some, map, length, Contains, IfOk, OnOk, IsTrue};
-ghost use Rattle.std.specs.List.{AllZip, slice_get};
-ghost use Rattle.std.specs.Option.{is_none};
-ghost use Rattle.std.specs.Str.{chars, encode_utf8_all};
-ghost use Rattle.std.specs.String.{string_bytes};
-ghost use Rattle.lic_keys.specs.Keys.{AreKeysOf, StandsIn};
-ghost use Rattle.lic_keys.specs.Listing.{HaveLengths, IsListed, IsPickedOf, IsSet, MayHaveLetters, StandsAt, plain_key, plain_keys};
-ghost use Rattle.lic_keys.specs.Tables.{PutsDown, place_in};
-ghost use Rattle.lic_keys.specs.declared.table.Place.{Place};
+ghost use Rattle.std.specs.Prelude.{◌≡◌, ◌<◌, ◌↔◌, ℕ, map, filter, length, All, Contains, IfOk, IfSome};
+ghost use Rattle.std.specs.List.Sorted.{IsStrictlyIncreasing};
+ghost use Rattle.std.specs.Option.{option_map};
+ghost use Rattle.lic_literals.specs.Ends.{EndsAt};
+ghost use Rattle.lic_keys.specs.Keys.{AreKeysOf, IsKeyOf, letters_of, text_of};
+ghost use Rattle.lic_keys.specs.Candidates.{IsCandidateIn, ends_at};
 
-use crate::table::{Place, Table};
-use crate::texts::longest_letters;
-use crate::window::{Counts, GRAM, STEP};
+use crate::candidate::{Candidate, RequiredEnds};
+use crate::longest::longest_text;
+use lic_literals::ends::ends_within;
 use lic_markup::Template;
+use lic_markup::laws::texts_are_those_of_pieces;
 use std::alloc::{AllocError, Global};
+use std::fmt;
 use std::marker::Model;
 
-/// A key for each template that has a long text outside optional parts: a window of its letters, blanks aside. Where the
-/// template describes a range of tokens, its key stands within their letters.
-#[derive(Debug, Drop)]
+/// The longest texts of templates, which are looked for together.
+#[derive(Drop)]
 pub struct Keys {
-    // the text of each
-    keys: Vec<Option<String>>,
-    table: Table,
+    // the letters of the longest text of each template, or none
+    literals: lic_literals::keys::Keys,
+    // the number of this text among the parts, if there is one
+    texts: Vec<Option<usize>>,
 }
 
 impl Model for Keys {
-    ghost use Rattle.std.specs.Prelude.{List, Option, ℕ};
-    ghost use Rattle.lic_keys.specs.Listing.{IsListed, plain_keys};
+    ghost use Rattle.lic_keys.specs.Keys.{HaveLetters, KeysValue};
 
-    ghost Value = { List (Option (List ℕ)) };
+    ghost Value = { KeysValue };
 
-    ghost view = { λ a. plain_keys a.keys.items };
+    ghost view = { λ a. record { texts = a.texts.items; letters = a.literals } };
 
-    ghost invariant = { λ a. IsListed (plain_keys a.keys.items) a.table };
+    ghost invariant = { λ a. HaveLetters a.texts.items a.literals };
 }
 
 impl Keys {
-    /// The keys of these templates: each is that window of its template's longest text which fewest templates have.
-    pub fn build(alloc: Global, templates: &[&Template]) -> Result<Keys, AllocError>
-        ensures { IfOk result (λ keys. AreKeysOf (map (λ t. t.now.parts) templates.now) keys) }
-    {
-        let texts = longest_texts(alloc, templates)?;
-        let counts = Counts::of(alloc, &texts)?;
-        let keys = pick_keys(alloc, &texts, &counts)?;
-        let table = list_keys(alloc, &keys)?;
-        Ok(Keys { keys, table })
-    }
-
-    /// How many templates there are.
-    pub fn len(&self) -> usize
-        ensures { result ≡ length self.now }
-    {
-        self.keys.len()
-    }
-
-    /// A flag for each template, set where it has no key.
-    pub(crate) fn without_key(&self, alloc: Global) -> Result<Vec<bool>, AllocError>
-        ensures count { IfOk result (λ flags. length flags.items ≡ length self.now) }
-        ensures set { IfOk result (λ flags. (k : ℕ) → slice_get self.now k ≡ Some None
-            → IsSet flags.items k) }
-        ensures lengths { HaveLengths self.now }
-    {
-        flags_of(alloc, &self.keys)
-    }
-
-    /// Sets the flag of each template whose key stands in the bytes.
+    /// The longest text of each template, if it has one that stands outside optional parts and has letters.
     ///
-    /// It looks at one of eight places. Wherever a key stands, one of its first eight grams begins at such a place.
-    pub(crate) fn mark_all(&self, bytes: &[u8], flags: &mut [bool])
-        requires lengths { HaveLengths self.now }
-        requires flags { length flags.old ≡ length self.now }
-        ensures kept { (k : ℕ) → IsSet flags.old k → IsSet flags.new k }
-        ensures set { (k : ℕ) (key : List ℕ) → slice_get self.now k ≡ Some (Some key)
-            → StandsIn (encode_utf8_all key) bytes.now → IsSet flags.new k }
+    /// # Errors
+    ///
+    /// Fails if memory runs out.
+    pub fn build(alloc: Global, templates: &[&Template]) -> Result<Keys, AllocError>
+        ensures { IfOk result (AreKeysOf (map (λ t. t.now.parts) templates.now)) }
     {
-        for step in 0..bytes.len() / STEP {
-            self.mark(bytes, step * STEP, flags);
+        let mut texts = Vec::with_capacity(alloc, templates.len())?;
+        let mut letters: Vec<&[u8]> = Vec::with_capacity(alloc, templates.len())?;
+        for template in templates {
+            let (text, own) = key_of(template);
+            texts.push(text)?;
+            letters.push(own)?;
         }
+        let literals = lic_literals::keys::Keys::build(alloc, &letters)?;
+        Ok(Keys { literals, texts })
     }
 
-    // Sets the flag of each template whose key stands in the bytes and has one of its first eight grams at this place.
-    #[inline(always)]
-    fn mark(&self, bytes: &[u8], place: usize, flags: &mut [bool])
-        requires lengths { HaveLengths self.now }
-        requires place { place + 8 ≤ length bytes.now }
-        requires flags { length flags.old ≡ length self.now }
-        ensures kept { (k : ℕ) → IsSet flags.old k → IsSet flags.new k }
-        ensures set { (k from : ℕ) (key : List ℕ) → slice_get self.now k ≡ Some (Some key)
-            → StandsAt (encode_utf8_all key) bytes.now from → from ≤ place → place < from + 8
-            → IsSet flags.new k }
+    /// The templates that have no text and those whose text may stand in the bytes, by rising numbers.
+    ///
+    /// # Errors
+    ///
+    /// Fails if memory runs out.
+    pub fn candidates(&self, alloc: Global, bytes: &[u8]) -> Result<Vec<Candidate>, AllocError>
+        ensures rising { IfOk result (λ found. IsStrictlyIncreasing (map (λ c. c.number) found.items)) }
+
+        // A template whose letters end somewhere is a candidate. Where it has none, they end at each place.
+        ensures others { IfOk result (λ found. (number e : ℕ) → number < length self.now.texts
+            → EndsAt bytes.now (letters_of self.now number) e
+            → Contains (map (λ c. c.number) found.items) number) }
+        ensures each { IfOk result (λ found. All (IsCandidateIn self.now bytes.now) found.items) }
     {
-        let gram = &bytes[place..place + GRAM];
-        if !self.table.may_have(gram) {
-            return;
-        }
-        mark_each(&self.keys, self.table.places(gram), bytes, place, flags);
+        let kept = self.literals.kept(alloc, bytes)?;
+        kept.into_iter()
+            .map(|kept| Candidate {
+                number: kept.number,
+                kept,
+            })
+            .collect(alloc)
+    }
+
+    /// Where the text of a candidate ends in the bytes in which it was found; none where the template has no text.
+    ///
+    /// # Errors
+    ///
+    /// Fails if memory runs out.
+    pub fn ends(
+        &self,
+        alloc: Global,
+        bytes: &[u8],
+        candidate: &Candidate,
+    ) -> Result<Option<RequiredEnds>, AllocError>
+        requires { IsCandidateIn self.now bytes.now candidate.now }
+        ensures part { IfOk result (λ found.
+            option_map (λ ends. ends.part) found ≡ text_of self.now candidate.now.number) }
+        ensures exact { IfOk result (λ found. IfSome found (λ ends. (e : ℕ) → Contains ends.places.items e
+            ↔ EndsAt bytes.now (letters_of self.now candidate.now.number) e)) }
+        ensures rising { IfOk result (λ found. IfSome found (λ ends. IsStrictlyIncreasing ends.places.items)) }
+    {
+        let Some(part) = self.texts[candidate.number] else {
+            return Ok(None);
+        };
+        let letters = self.literals.literal(candidate.number);
+        let places = match candidate.kept.ends(alloc)? {
+            Some(places) => true_ends(bytes, letters, places),
+            None => ends_within(alloc, bytes, letters, 0, bytes.len())?,
+        };
+        Ok(Some(RequiredEnds { part, places }))
     }
 }
 
-// Sets the flag of each key that stands in the bytes so that one of its places here comes to this byte.
-#[inline(never)]
-fn mark_each(
-    keys: &[Option<String>],
-    places: &[Place],
-    bytes: &[u8],
-    byte: usize,
-    flags: &mut [bool],
-)
-    requires inside { (p : Place) → Contains places.now p → p.key < length keys.now }
-    requires byte { byte ≤ length bytes.now }
-    requires flags { length flags.old ≡ length keys.now }
-    ensures kept { (k : ℕ) → IsSet flags.old k → IsSet flags.new k }
-    ensures set { (k from start : ℕ) (key : List ℕ) → Contains places.now (place_in k start)
-        → slice_get (plain_keys keys.now) k ≡ Some (Some key)
-        → StandsAt (encode_utf8_all key) bytes.now from → from + start ≡ byte
-        → IsSet flags.new k }
-{
-    for place in places {
-        let Place { key, start } = *place;
-        let found = is_found(flags[key], &keys[key], bytes, byte, start);
-        flags[key] = found;
+impl fmt::Debug for Keys {
+    fn fmt<W: fmt::Write>(&self, f: &mut fmt::Formatter<W>) -> fmt::Result {
+        f.write_str("Keys")
     }
 }
 
-// The letters of each template's longest text outside optional parts.
-fn longest_texts(alloc: Global, templates: &[&Template]) -> Result<Vec<Vec<char>>, AllocError>
-    ensures { IfOk result (λ texts.
-        AllZip MayHaveLetters (map (λ t. t.now.parts) templates.now)
-        (map (λ text. text.items) texts.items)) }
+// The number and the letters of the longest text of a template, or none.
+fn key_of(template: &Template) -> (Option<usize>, &[u8])
+    ensures { IsKeyOf template.now.parts result.0 result.1.now }
 {
-    let mut texts = Vec::with_capacity(alloc, templates.len())?;
-    for template in templates {
-        texts.push(longest_letters(alloc, template.parts())?)?;
-    }
-    Ok(texts)
-}
-
-// The window of each text that fewest texts have; none where a text is too short.
-fn pick_keys(
-    alloc: Global,
-    texts: &[Vec<char>],
-    counts: &Counts,
-) -> Result<Vec<Option<String>>, AllocError>
-    ensures { IfOk result (λ keys.
-        AllZip IsPickedOf (map (λ text. text.items) texts.now) (plain_keys keys.items)) }
-{
-    let mut keys = Vec::with_capacity(alloc, texts.len())?;
-    for text in texts {
-        keys.push(pick_key(alloc, text, counts)?)?;
-    }
-    Ok(keys)
-}
-
-fn pick_key(alloc: Global, text: &[char], counts: &Counts) -> Result<Option<String>, AllocError>
-    ensures { IfOk result (λ key. IsPickedOf text.now (plain_key key)) }
-{
-    match counts.rarest(text) {
-        Some(window) => Ok(Some(text_of(alloc, window)?)),
-        None => Ok(None),
+    texts_are_those_of_pieces(template);
+    match longest_text(template.parts()) {
+        Some(text) => (Some(text.number), text.letters),
+        None => (None, &[]),
     }
 }
 
-// Puts the number of each key down for it.
-fn list_keys(alloc: Global, keys: &[Option<String>]) -> Result<Table, AllocError>
-    requires { HaveLengths (plain_keys keys.now) }
-    ensures { IfOk result (λ table. IsListed (plain_keys keys.now) table) }
+// The places among these at which the letters end.
+fn true_ends(bytes: &[u8], letters: &[u8], mut places: Vec<usize>) -> Vec<usize>
+    ensures { result.items ≡ filter (ends_at bytes.now letters.now) places.items }
 {
-    let mut table = Table::new(alloc)?;
-    for number in 0..keys.len() {
-        put_down(&mut table, &keys[number], number)?;
-    }
-    Ok(table)
+    places.retain(|end| ends_at(bytes, letters, *end));
+    places
 }
 
-// Puts the places of the first eight grams of the key down, if there is one.
-fn put_down(table: &mut Table, key: &Option<String>, number: usize) -> Result<(), AllocError>
-    requires { (letters : List ℕ) → plain_key key.now ≡ Some letters → length letters ≡ 16 }
-    ensures { OnOk result (PutsDown (plain_key key.now) number table.old table.new) }
+// Whether the letters end at a place.
+fn ends_at(bytes: &[u8], letters: &[u8], end: usize) -> bool
+    ensures { result ≡ ends_at bytes.now letters.now end }
 {
-    match key {
-        Some(key) => put_grams_down(table, key.as_str(), number),
-        None => Ok(()),
-    }
-}
-
-fn put_grams_down(table: &mut Table, key: &str, number: usize) -> Result<(), AllocError>
-    requires { length (chars key.now) ≡ 16 }
-    ensures { OnOk result (PutsDown (Some (chars key.now)) number table.old table.new) }
-{
-    let bytes = key.as_bytes();
-    for start in 0..STEP {
-        table.add(&bytes[start..start + GRAM], Place { key: number, start })?;
-    }
-    Ok(())
-}
-
-// Whether it was found before, or there is a key and its text stands in the bytes so that its byte number `start` is this one.
-fn is_found(before: bool, key: &Option<String>, bytes: &[u8], byte: usize, start: usize) -> bool
-    requires { byte ≤ length bytes.now }
-    ensures kept { IsTrue before → IsTrue result }
-    ensures stands { (letters : List ℕ) (from : ℕ) → plain_key key.now ≡ Some letters
-        → StandsAt (encode_utf8_all letters) bytes.now from → from + start ≡ byte
-        → IsTrue result }
-{
-    if before {
-        return true;
-    }
-    match key {
-        Some(key) => stands_around(key.as_bytes(), bytes, byte, start),
-        None => false,
-    }
-}
-
-// Whether the text stands in the bytes so that its byte number `start` is this one.
-fn stands_around(text: &[u8], bytes: &[u8], byte: usize, start: usize) -> bool
-    requires { byte ≤ length bytes.now }
-    ensures { (from : ℕ) → StandsAt text.now bytes.now from → from + start ≡ byte → IsTrue result }
-{
-    if start > byte {
+    if end < letters.len() || end > bytes.len() {
         return false;
     }
-    bytes[byte - start..].starts_with(text)
-}
-
-/// The text of these letters.
-pub(crate) fn text_of(alloc: Global, letters: &[char]) -> Result<String, AllocError>
-    ensures { IfOk result (λ text. chars (string_bytes text) ≡ letters.now) }
-{
-    let mut text = String::new(alloc);
-    for letter in letters {
-        text.push(*letter)?;
-    }
-    Ok(text)
-}
-
-// A flag for each key that is missing.
-fn flags_of(alloc: Global, keys: &[Option<String>]) -> Result<Vec<bool>, AllocError>
-    ensures { IfOk result (λ flags. flags.items ≡ map (λ key. is_none key) keys.now) }
-{
-    keys.iter().map(|key| key.is_none()).collect(alloc)
+    &bytes[end - letters.len()..end] == letters
 }

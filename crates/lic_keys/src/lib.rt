@@ -1,10 +1,8 @@
-//! Key texts, a literal prefilter: which templates can describe a range of a text's tokens at all.
+//! Of each template a required text, which stands in whatever it describes, and a prefilter by these texts.
 #![tactic(auto)]
 
+pub mod candidate;
+pub mod edges;
 pub mod keys;
 pub mod laws;
-pub mod look;
-mod table;
-pub mod tails;
-mod texts;
-mod window;
+pub mod longest;

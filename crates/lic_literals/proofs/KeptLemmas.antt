@@ -23,7 +23,7 @@ module _ (p : ℕ → Bool) where
   Contains-filter_more x xs y false fails h known =
       ⊎_elim (λ (e : x ≡ y). absurd (false≢true (sym fails ∙ ap p e ∙ known))) (λ (later : Contains (filter p xs) y). later) h
 
-  Contains-filter : (xs : List ℕ) (y : ℕ) → Contains xs y → p y ≡ true → Contains (filter p xs) y
+  pub Contains-filter : (xs : List ℕ) (y : ℕ) → Contains xs y → p y ≡ true → Contains (filter p xs) y
   Contains-filter [] y h known = h
   Contains-filter (x ∷ xs) y (zero, within, is) known = Contains-filter_more x xs y (p x) refl (inl is) known
   Contains-filter (x ∷ xs) y (suc k, within, is) known =

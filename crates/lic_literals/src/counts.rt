@@ -8,6 +8,9 @@ use std::alloc::{AllocError, Global};
 // The most counters for windows.
 const MAX_COUNTERS: usize = 1 << 19;
 
+// So many windows of a literal are counted, the first ones: of these one is rare enough, and a set of long texts is soon made.
+const MOST_WINDOWS: usize = 512;
+
 /// How often windows stand in literals, counted by their hashes.
 #[derive(Debug, Drop)]
 pub struct Counts {
@@ -26,11 +29,11 @@ impl Counts {
         })
     }
 
-    /// Counts the windows of so many bytes in one more literal.
+    /// Counts the first windows of so many bytes in one more literal.
     pub fn add(&mut self, literal: &[u8], size: usize)
         requires { 4 ≤ size }
     {
-        for window in literal.windows(size) {
+        for window in literal.windows(size).take(MOST_WINDOWS) {
             let counter = self.counter_of(window);
             if let Some(count) = self.counters.get_mut(counter) {
                 *count = count.saturating_add(1);
@@ -38,7 +41,7 @@ impl Counts {
         }
     }
 
-    /// Where the window of so many bytes begins that was counted least, the first of these.
+    /// Where the window of so many bytes begins that was counted least, the first of these, among the first windows.
     pub fn rarest(&self, literal: &[u8], size: usize) -> usize
         requires long { 4 ≤ size }
         requires within { size ≤ length literal.now }
@@ -46,7 +49,7 @@ impl Counts {
     {
         let mut rarest = 0;
         let mut least = u16::MAX;
-        for place in 0..literal.len() - (size - 1) {
+        for place in 0..(literal.len() - (size - 1)).min(MOST_WINDOWS) {
             let count = self.count(&literal[place..place + size]);
             if count < least {
                 least = count;

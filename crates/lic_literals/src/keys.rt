@@ -1,6 +1,6 @@
 //! A prefilter over many literals at once.
 
-ghost use Rattle.std.specs.Prelude.{◌≡◌, ◌≤◌, ◌<◌, ℕ, List, Option, Some, map, length, All, Contains, IfOk, IfSome};
+ghost use Rattle.std.specs.Prelude.{◌≡◌, ◌≤◌, ◌<◌, ℕ, List, Option, Some, map, length, slice_index_or, All, Contains, IfOk, IfSome};
 ghost use Rattle.std.specs.List.{slice_get};
 ghost use Rattle.std.specs.List.Sorted.{IsStrictlyIncreasing};
 ghost use Rattle.lic_literals.specs.Ends.{EndsAt};
@@ -61,6 +61,14 @@ impl Keys {
             groups,
             tables,
         })
+    }
+
+    /// The literal of this number.
+    pub fn literal(&self, number: usize) -> &[u8]
+        requires { number < length self.now }
+        ensures { (d : _) → result.now ≡ slice_index_or self.now number d }
+    {
+        &self.literals[number]
     }
 
     /// The literals of which an occurrence in the bytes cannot be ruled out, by rising numbers.

@@ -4,9 +4,9 @@ ghost use Rattle.std.specs.Prelude.{◌≡◌, ◌↔◌, IsTrue};
 ghost use Rattle.std.specs.IoError.{error_kind};
 ghost use Rattle.lic_load.specs.declared.fault.LoadFault.TheVariants.{Memory};
 
-use lic_auto::set::BuildFault;
 use lic_kind::RulesFault;
 use lic_norm::words::WordsFault;
+use lic_set::set::BuildFault;
 use lic_stream::stream::Sink;
 use lic_stream::transfer::put_all;
 use std::alloc::{AllocError, AllocFailed};

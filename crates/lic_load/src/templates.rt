@@ -7,11 +7,11 @@ ghost use Rattle.lic_load.specs.declared.templates.TemplateFault.TheVariants.{Un
 ghost use Rattle.lic_load.specs.Causes.{fault_of_read};
 
 use crate::fault::{LoadFault, tell, wants_memory};
-use lic_auto::set::Set;
 use lic_fields::Escaped;
 use lic_kind::Rules;
 use lic_markup::{MarkupCause, MarkupFault, Template, read_template};
 use lic_norm::words::Words;
+use lic_set::set::Set;
 use lic_stream::stream::{Counted, Sink};
 use lic_stream::transfer::{ReadFault, read_up_to};
 use std::alloc::{AllocError, AllocFailed, Global};

@@ -1,9 +1,8 @@
 -- The children of a node, one after another.
-use Rattle.std.proofs.Common.{◌≡◌, ℕ, zero, suc, ◌+◌, ◌≤◌, ◌<◌, true, ◌==◌, List, [], ◌∷◌, length, drop, map, get_or, sym, ap, ◌∙◌, subst, arith}
+use Rattle.std.proofs.Common.{◌≡◌, ℕ, zero, suc, ◌+◌, ◌≤◌, ◌<◌, true, List, [], ◌∷◌, length, drop, map, get_or, sym, ap, ◌∙◌, subst, arith}
 use Rattle.std.specs.List.{list_all}
 use Rattle.std.proofs.lemmas.List.{drop_more, drop_all}
-use Rattle.lic_marks.specs.Cores.{one}
-use Rattle.lic_marks.specs.Nodes.{core_of, is_measured, letter_cores}
+use Rattle.lic_marks.specs.Nodes.{core_of, is_measured}
 use Rattle.lic_marks.specs.declared.node.Node.{Node}
 use Rattle.lic_marks.proofs.Cuts.{and_left, and_right}
 
@@ -27,15 +26,3 @@ measured_get (n ∷ ns) (suc i) d h inside =
 pub measured_at : (children : List Node) (i : ℕ) (child : Node) → list_all is_measured children ≡ true → i < length children →
     child ≡ get_or children i child → is_measured child ≡ true
 measured_at children i child h inside is = subst (λ n. is_measured n ≡ true) (sym is) (measured_get children i child h inside)
-
--- one letter more
-pub rest_more : (text : List ℕ) (i d : ℕ) → i < length text → d ≡ get_or text i d → drop i text ≡ d ∷ drop (i + 1) text
-rest_more text i d inside is = drop_more text i d inside ∙ ap (λ x. x ∷ drop (i + 1) text) (sym is)
-
-pub letters_more : (text : List ℕ) (i d : ℕ) → i < length text → d ≡ get_or text i d →
-    letter_cores (drop i text) ≡ one (λ c. c == d) ∷ letter_cores (drop (i + 1) text)
-letters_more text i d inside is = ap letter_cores (rest_more text i d inside is)
-
--- no letter more
-pub letters_done : (text : List ℕ) (i : ℕ) → length text ≤ i → letter_cores (drop i text) ≡ []
-letters_done text i h = ap letter_cores (drop_all i text h)

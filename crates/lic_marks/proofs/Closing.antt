@@ -1,13 +1,10 @@
 -- The loop that gathers marks over blanks.
-use Rattle.std.proofs.Common.{◌≡◌, ℕ, zero, suc, ◌≤◌, Bool, true, false, List, length, refl, sym, ap, ◌∙◌, subst, arith}
+use Rattle.std.proofs.Common.{◌≡◌, ℕ, zero, suc, ◌≤◌, Bool, true, false, List, refl, sym, ap, ◌∙◌, subst, arith}
 use Rattle.lic_words.specs.Words.{blank}
 use Rattle.lic_marks.specs.Cores.{Core}
 use Rattle.lic_marks.specs.Marks.{Marks, join, shift}
-use Rattle.lic_marks.specs.Rows.{weight, marks_of, either_row, Shifts}
+use Rattle.lic_marks.specs.Rows.{weight, marks_of}
 use Rattle.lic_marks.specs.Deciding.{has_new, gather, over_blanks}
-use Rattle.lic_marks.proofs.RowWalks.{Shifts-marks_of}
-use Rattle.lic_marks.proofs.JoinedRows.{marks_of-either_row}
-use Rattle.lic_marks.proofs.Superposing.{join-assoc, join-idem, shift-join}
 use Rattle.lic_marks.proofs.Deciding.{unmarked, unmarked-bound, join-same, join-grows, stopped}
 
 -- gathered on, the marks are all of these
@@ -52,53 +49,20 @@ module _ (r : Core) (all m : Marks r) where
   GathersTo-done g e = g.rest ∙ ended g.times (none_new (has_new r m next) refl e)
 
 -- the first blank
-pub GathersTo-begin : (r : Core) (entry : Bool) (at_once copy after_blanks : List Bool) (x : Bool) → copy ≡ at_once →
-    Shifts r false entry blank copy 0 after_blanks x → GathersTo r (over_blanks r entry (marks_of r at_once)) (marks_of r after_blanks)
-GathersTo-begin r entry at_once copy after_blanks x e p =
-    let same : marks_of r after_blanks ≡ shift r false entry (marks_of r at_once) blank =
-    Shifts-marks_of r false entry blank copy after_blanks x p ∙ ap (λ t. shift r false entry (marks_of r t) blank) e in
+pub GathersTo-begin : (r : Core) (entry : Bool) (at_once copy after_blanks : List Bool) → copy ≡ at_once →
+    marks_of r after_blanks ≡ shift r false entry (marks_of r copy) blank → GathersTo r (over_blanks r entry (marks_of r at_once)) (marks_of r after_blanks)
+GathersTo-begin r entry at_once copy after_blanks e p =
+    let same : marks_of r after_blanks ≡ shift r false entry (marks_of r at_once) blank = p ∙ ap (λ t. shift r false entry (marks_of r t) blank) e in
     record { times = weight r; enough = unmarked-bound r (marks_of r after_blanks); rest = ap (gather (weight r) true r) (sym same) }
 
--- what one blank more marks is marked from the front as well: the marks that the last blank made
-abbrev pub LeadsOn : (r : Core) → (all front : Marks r) → Type 0
-LeadsOn r all front = join r all (shift r true false all blank) ≡ join r all (shift r true false front blank)
-
--- so it is once these are joined
-module _ (r : Core) (m front : Marks r) (e : LeadsOn r m front) where
-  abbrev after_one : Marks r → Marks r
-  after_one n = shift r true false n blank
-
-  abbrev two : Marks r
-  two = join r m (after_one front)
-
-  -- the marks that were reached from the old ones are there
-  pub LeadsOn-more : LeadsOn r two (after_one front)
-  LeadsOn-more =
-      ap (join r two) (shift-join r true false false m (after_one front) blank)
-      ∙ sym (join-assoc r two (after_one m) (after_one (after_one front)))
-      ∙ ap (λ x. join r x (after_one (after_one front))) reached
-    where
-      reached : join r two (after_one m) ≡ two
-      reached = ap (λ x. join r x (after_one m)) (sym e) ∙ join-assoc r m (after_one m) (after_one m)
-          ∙ ap (join r m) (join-idem r (after_one m)) ∙ e
-
 -- one blank more, joined
-module _ (r : Core) (all : Marks r) (after_blanks spare moved row : List Bool) (x : Bool)
-    (front : LeadsOn r (marks_of r after_blanks) (marks_of r spare))
-    (p : Shifts r true false blank spare 0 moved x) (long : length after_blanks ≡ length moved) (w : row ≡ either_row after_blanks moved) where
-  of_front : marks_of r row ≡ join r (marks_of r after_blanks) (shift r true false (marks_of r spare) blank)
-  of_front = ap (marks_of r) w ∙ marks_of-either_row r after_blanks moved long
-      ∙ ap (join r (marks_of r after_blanks)) (Shifts-marks_of r true false blank spare moved x p)
-
+module _ (r : Core) (all : Marks r) (after_blanks copy spare row : List Bool) (e : copy ≡ after_blanks)
+    (p : marks_of r spare ≡ shift r true false (marks_of r copy) blank) (w : marks_of r row ≡ join r (marks_of r after_blanks) (marks_of r spare)) where
   joined : marks_of r row ≡ join r (marks_of r after_blanks) (shift r true false (marks_of r after_blanks) blank)
-  joined = of_front ∙ sym front
+  joined = w ∙ ap (join r (marks_of r after_blanks)) (p ∙ ap (λ t. shift r true false (marks_of r t) blank) e)
 
   pub GathersTo-next : GathersTo r all (marks_of r after_blanks) → GathersTo r all (marks_of r row)
   GathersTo-next g = subst (λ (y : Marks r). GathersTo r all y) (sym joined) (GathersTo-more r all (marks_of r after_blanks) g)
-
-  pub LeadsOn-next : LeadsOn r (marks_of r row) (marks_of r moved)
-  LeadsOn-next = rw (of_front, Shifts-marks_of r true false blank spare moved x p)
-      (LeadsOn-more r (marks_of r after_blanks) (marks_of r spare) front)
 
   pub GathersTo-end : GathersTo r all (marks_of r after_blanks) → row ≡ after_blanks → all ≡ marks_of r row
   GathersTo-end g same =

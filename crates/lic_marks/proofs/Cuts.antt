@@ -1,5 +1,5 @@
 -- Words cut in two.
-use Rattle.std.proofs.Common.{◌≡◌, ℕ, zero, suc, Bool, true, false, ◌&&◌, ◌||◌, [], ◌∷◌, ◌++◌, ◌⊎◌, inl, inr, refl, sym, ap, subst}
+use Rattle.std.proofs.Common.{◌≡◌, ℕ, zero, suc, Bool, true, false, ◌&&◌, ◌||◌, [], ◌∷◌, ◌++◌, ◌⊎◌, inl, inr, refl, sym, subst}
 use Rattle.lic_words.specs.Words.{Word, Cat, Power}
 use Rattle.lic_marks.specs.Cores.{Star}
 
@@ -45,15 +45,6 @@ module _ (P Q : Word → Type 0) where
       let same : d ≡ c = cc in
       let rest : w ≡ u ++ v = cc in
       inr (u, v, subst (λ x. P (x ∷ u)) same p, q, rest)
-
-  pub cons_cat : (c : ℕ) (w : Word) → Cat (λ u. P (c ∷ u)) Q w → Cat P Q (c ∷ w)
-  cons_cat c w (u, v, p, q, e) = (c ∷ u, v, p, q, ap (λ x. c ∷ x) e)
-
-pub cat_map : (P Q R : Word → Type 0) → ((u : Word) → P u → R u) → (w : Word) → Cat P Q w → Cat R Q w
-cat_map P Q R f w (u, v, p, q, e) = (u, v, f u p, q, e)
-
-pub cat_map_right : (P Q R : Word → Type 0) → ((u : Word) → Q u → R u) → (w : Word) → Cat P Q w → Cat P R w
-cat_map_right P Q R f w (u, v, p, q, e) = (u, v, p, f v q, e)
 
 -- a row of words that is not empty has a first word that is not
 pub power_cons : (P : Word → Type 0) (n : ℕ) (c : ℕ) (w : Word) →

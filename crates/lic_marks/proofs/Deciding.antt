@@ -1,5 +1,5 @@
 -- The test whether an expression describes a list of tokens is right.
-use Rattle.std.proofs.Common.{◌≡◌, ℕ, zero, suc, ◌+◌, ◌<◌, ◌≤◌, Bool, true, false, ◌==◌, ◌||◌, List, [], ◌∷◌, ◌++◌, inl, inr, refl, arith, append_assoc, append-nil}
+use Rattle.std.proofs.Common.{◌≡◌, ℕ, zero, suc, ◌+◌, ◌<◌, ◌≤◌, Bool, true, false, ◌==◌, ◌||◌, ◌&&◌, not, List, [], ◌∷◌, ◌++◌, inl, inr, refl, arith, append_assoc, append-nil}
 use Rattle.std.proofs.lemmas.Bool.{eqb-false}
 use Rattle.lic_words.specs.Words.{Word, blank}
 use Rattle.lic_words.specs.Expressions.{Expression}
@@ -12,7 +12,6 @@ use Rattle.lic_marks.specs.Rows.{weight}
 use Rattle.lic_marks.specs.Standing.{After, Leads, LeadsOverBlanks, StandsAtOnce, StandsFor, Gathers, IsClosed}
 use Rattle.lic_marks.specs.Deciding.{has_new, gather, over_blanks, read_letter, can_read, is_described}
 use Rattle.lic_marks.proofs.Cuts.{or_cases}
-use Rattle.lic_marks.proofs.JoinedRows.{kept}
 use Rattle.lic_marks.proofs.Repetitions.{core_sound, core_complete}
 use Rattle.lic_marks.proofs.Standing.{Gathers-first, Gathers-more, IsClosed-same, LeadsOverBlanks-close, StandsFor-letter, StandsAtOnce-letter, StandsAtOnce-begin, accept_sound, accept_complete}
 
@@ -56,6 +55,11 @@ or_left_false false b h = refl
 or_right_false : (a b : Bool) → (a || b) ≡ false → b ≡ false
 or_right_false true b h = cc
 or_right_false false b h = h
+
+kept : (x y : Bool) → (y && not x) ≡ false → (x || y) ≡ x
+kept true y h = refl
+kept false true h = cc
+kept false false h = refl
 
 -- nothing new changes nothing
 pub join-same : (r : Core) (m n : Marks r) → has_new r m n ≡ false → join r m n ≡ m

@@ -1,4 +1,4 @@
--- A word that begins with a letter, beside those that go on with it.
+-- A word that begins with a letter, beside those that have it next.
 use Rattle.std.proofs.Common.{◌≡◌, ℕ, zero, suc, Bool, true, false, ◌==◌, List, [], ◌∷◌, ◌++◌, ◌⊎◌, inl, inr, refl, sym, ap, ◌∙◌, subst, arith}
 use Rattle.lic_words.specs.Words.{Word, blank, blanks}
 use Rattle.lic_words.specs.Spelling.{Gap, free, gap_of}
@@ -15,7 +15,7 @@ use Rattle.lic_marks.proofs.RowWalks.{marks_of-flags_of}
 use Rattle.lic_marks.proofs.Lists.{AfterAny-snoc, snoc-AfterAny}
 use Rattle.lic_marks.proofs.Deciding.{LeadsOverBlanks-over_blanks}
 
--- what may follow a letter that a word begins with, after any blanks, or that goes on behind the gap
+-- what may follow a letter that a word begins with, after any blanks, or that goes on after the gap
 abbrev pub Entered : Core → Gap → ℕ → (Word → Type 0) → Word → Type 0
 Entered r gap c A v = Then free c (WordsOf r) v ⊎ Then gap c A v
 

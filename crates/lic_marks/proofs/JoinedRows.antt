@@ -1,90 +1,74 @@
 -- Two rows of flags joined.
-use Rattle.std.proofs.Common.{◌≡◌, ℕ, zero, suc, ◌+◌, ◌<◌, Bool, true, false, ◌||◌, ◌&&◌, not, List, [], ◌∷◌, ◌++◌, length, take, drop, set, get_or, refl, sym, ap, arith, append_assoc, length-drop, ◌∙◌, replicate}
-use Rattle.std.proofs.lemmas.List.{get_or-replicate, drop_more, take_more_set, drop-set-lt}
+use Rattle.std.proofs.Common.{◌≡◌, ℕ, zero, suc, ◌+◌, ◌≤◌, ◌<◌, ◌||◌, Bool, true, false, List, [], ◌∷◌, length, drop, get_or, refl, arith}
+use Rattle.std.proofs.lemmas.List.{get_or-drop}
 use Rattle.lic_marks.specs.Cores.{Core, empty, one, cat, none, alt, plus, tidy}
 use Rattle.lic_marks.specs.Marks.{join}
-use Rattle.lic_marks.specs.Rows.{weight, marks_of, first_flag, either_row, unset_count}
+use Rattle.lic_marks.specs.Rows.{weight, marks_of, first_flag, unset_count}
 
-pub drop-either_row : (n : ℕ) (xs ys : List Bool) → length xs ≡ length ys → drop n (either_row xs ys) ≡ either_row (drop n xs) (drop n ys)
-drop-either_row zero xs ys h = refl
-drop-either_row (suc n) [] ys h = refl
-drop-either_row (suc n) (x ∷ xs) [] h = absurd (let e : suc (length xs) ≡ 0 = h in cc)
-drop-either_row (suc n) (x ∷ xs) (y ∷ ys) h = drop-either_row n xs ys (omega (arith, h))
+first : (row : List Bool) → first_flag row ≡ get_or row 0 false
+first [] = refl
+first (flag ∷ row) = refl
 
-first_flag-either_row : (xs ys : List Bool) → length xs ≡ length ys → first_flag (either_row xs ys) ≡ (first_flag xs || first_flag ys)
-first_flag-either_row [] [] h = refl
-first_flag-either_row [] (y ∷ ys) h = absurd (let e : 0 ≡ suc (length ys) = h in cc)
-first_flag-either_row (x ∷ xs) [] h = absurd (let e : suc (length xs) ≡ 0 = h in cc)
-first_flag-either_row (x ∷ xs) (y ∷ ys) h = refl
+-- each flag of the third row is set where it is in one of the other two
+abbrev IsEither : List Bool → List Bool → List Bool → Type 0
+IsEither xs ys zs = (k : ℕ) → get_or zs k false ≡ (get_or xs k false || get_or ys k false)
 
-pub marks_of-either_row : (r : Core) (xs ys : List Bool) → length xs ≡ length ys → marks_of r (either_row xs ys) ≡ join r (marks_of r xs) (marks_of r ys)
-marks_of-either_row empty xs ys h = refl
-marks_of-either_row (one passes) xs ys h = first_flag-either_row xs ys h
-marks_of-either_row (cat a b) xs ys h =
-    let same : length (drop (weight a) xs) ≡ length (drop (weight a) ys) = omega (arith, length-drop (weight a) xs, length-drop (weight a) ys) in
-    let left : marks_of a (either_row xs ys) ≡ join a (marks_of a xs) (marks_of a ys) = marks_of-either_row a xs ys h in
-    let right : marks_of b (drop (weight a) (either_row xs ys)) ≡ join b (marks_of b (drop (weight a) xs)) (marks_of b (drop (weight a) ys)) =
-    rw (drop-either_row (weight a) xs ys h) (marks_of-either_row b (drop (weight a) xs) (drop (weight a) ys) same) in
+IsEither-drop : (n : ℕ) (xs ys zs : List Bool) → IsEither xs ys zs → IsEither (drop n xs) (drop n ys) (drop n zs)
+IsEither-drop n xs ys zs h k = rw (get_or-drop n zs k false, get_or-drop n xs k false, get_or-drop n ys k false) (h (n + k))
+
+pub marks_of-either : (r : Core) (xs ys zs : List Bool) → ((k : ℕ) → get_or zs k false ≡ (get_or xs k false || get_or ys k false))
+    → marks_of r zs ≡ join r (marks_of r xs) (marks_of r ys)
+marks_of-either empty xs ys zs h = refl
+marks_of-either (one passes) xs ys zs h = rw (first zs, first xs, first ys) (h 0)
+marks_of-either (cat a b) xs ys zs h =
+    let left = marks_of-either a xs ys zs h in
+    let right = marks_of-either b (drop (weight a) xs) (drop (weight a) ys) (drop (weight a) zs) (IsEither-drop (weight a) xs ys zs h) in
     λ i. (left i, right i)
-marks_of-either_row none xs ys h = refl
-marks_of-either_row (alt a b) xs ys h =
-    let same : length (drop (weight a) xs) ≡ length (drop (weight a) ys) = omega (arith, length-drop (weight a) xs, length-drop (weight a) ys) in
-    let left : marks_of a (either_row xs ys) ≡ join a (marks_of a xs) (marks_of a ys) = marks_of-either_row a xs ys h in
-    let right : marks_of b (drop (weight a) (either_row xs ys)) ≡ join b (marks_of b (drop (weight a) xs)) (marks_of b (drop (weight a) ys)) =
-    rw (drop-either_row (weight a) xs ys h) (marks_of-either_row b (drop (weight a) xs) (drop (weight a) ys) same) in
+marks_of-either none xs ys zs h = refl
+marks_of-either (alt a b) xs ys zs h =
+    let left = marks_of-either a xs ys zs h in
+    let right = marks_of-either b (drop (weight a) xs) (drop (weight a) ys) (drop (weight a) zs) (IsEither-drop (weight a) xs ys zs h) in
     λ i. (left i, right i)
-marks_of-either_row (plus a) xs ys h = marks_of-either_row a xs ys h
-marks_of-either_row (tidy a) xs ys h = marks_of-either_row a xs ys h
+marks_of-either (plus a) xs ys zs h = marks_of-either a xs ys zs h
+marks_of-either (tidy a) xs ys zs h = marks_of-either a xs ys zs h
 
--- one flag more is joined; `z` is what stands there afterwards
-pub either_row-more : (into from into' : List Bool) (i : ℕ) → i < length into → i < length from →
-    into' ≡ set into i (get_or into i false || get_or from i false) →
-    take (i + 1) into' ++ either_row (drop (i + 1) into') (drop (i + 1) from) ≡ take i into ++ either_row (drop i into) (drop i from)
-either_row-more into from into' i h k e =
-    let z : Bool = get_or into i false || get_or from i false in
-    rw (
-      e,
-      take_more_set into i (get_or into i false || get_or from i false) h,
-      drop-set-lt (i + 1) into i (get_or into i false || get_or from i false) (omega arith),
-      drop_more into i false h,
-      drop_more from i false k,
-    )
-    (simp append_assoc)
+-- a row that has all flags of another has no more that are not set, and less where it has one that the other has not
+unset_most : (old new : List Bool) → length new ≡ length old
+    → ((k : ℕ) → get_or old k false ≡ true → get_or new k false ≡ true) → unset_count new ≤ unset_count old
+unset_most [] [] h more = omega arith
+unset_most [] (y ∷ new) h more = absurd (let e : suc (length new) ≡ 0 = h in cc)
+unset_most (x ∷ old) [] h more = absurd (let e : 0 ≡ suc (length old) = h in cc)
+unset_most (x ∷ old) (true ∷ new) h more =
+    let rest = unset_most old new (omega (arith, h)) (λ k. more (suc k)) in by_first x rest
+  where
+    by_first : (x : Bool) → unset_count new ≤ unset_count old → unset_count (true ∷ new) ≤ unset_count (x ∷ old)
+    by_first true rest = rest
+    by_first false rest = omega arith
+unset_most (true ∷ old) (false ∷ new) h more = absurd (let e = more 0 refl in cc)
+unset_most (false ∷ old) (false ∷ new) h more =
+    let rest = unset_most old new (omega (arith, h)) (λ k. more (suc k)) in omega arith
 
-pub unset_count-set : (xs : List Bool) (i : ℕ) → i < length xs → get_or xs i false ≡ false → unset_count (set xs i true) + 1 ≡ unset_count xs
-unset_count-set [] i h e = absurd (omega arith)
-unset_count-set (true ∷ xs) zero h e = cc
-unset_count-set (false ∷ xs) zero h e = omega arith
-unset_count-set (true ∷ xs) (suc i) h e = unset_count-set xs i (omega (arith, h)) e
-unset_count-set (false ∷ xs) (suc i) h e = let t = unset_count-set xs i (omega (arith, h)) e in omega (arith, t)
+pub unset_less : (old new : List Bool) → length new ≡ length old → ((k : ℕ) → get_or old k false ≡ true → get_or new k false ≡ true)
+    → (k : ℕ) → get_or old k false ≡ false → get_or new k false ≡ true → unset_count new < unset_count old
+unset_less [] [] h more k unset set = absurd cc
+unset_less [] (y ∷ new) h more k unset set = absurd (let e : suc (length new) ≡ 0 = h in cc)
+unset_less (x ∷ old) [] h more k unset set = absurd cc
+unset_less (true ∷ old) (y ∷ new) h more zero unset set = absurd cc
+unset_less (false ∷ old) (true ∷ new) h more zero unset set =
+    let rest = unset_most old new (omega (arith, h)) (λ k. more (suc k)) in omega arith
+unset_less (false ∷ old) (false ∷ new) h more zero unset set = absurd cc
+unset_less (true ∷ old) (true ∷ new) h more (suc k) unset set = unset_less old new (omega (arith, h)) (λ k. more (suc k)) k unset set
+unset_less (true ∷ old) (false ∷ new) h more (suc k) unset set = absurd (let e = more 0 refl in cc)
+unset_less (false ∷ old) (true ∷ new) h more (suc k) unset set =
+    let rest = unset_less old new (omega (arith, h)) (λ k. more (suc k)) k unset set in omega arith
+unset_less (false ∷ old) (false ∷ new) h more (suc k) unset set =
+    let rest = unset_less old new (omega (arith, h)) (λ k. more (suc k)) k unset set in omega arith
 
--- writing what stands there changes nothing
-pub set-same : (xs : List Bool) (i : ℕ) (b : Bool) → i < length xs → b ≡ get_or xs i false → xs ≡ set xs i b
-set-same [] i b h e = absurd (omega arith)
-set-same (x ∷ xs) zero b h e = ap (λ y. y ∷ xs) (sym e)
-set-same (x ∷ xs) (suc i) b h e = ap (λ s. x ∷ s) (set-same xs i b (omega (arith, h)) e)
+kept_set : (x y z : Bool) → z ≡ (x || y) → x ≡ true → z ≡ true
+kept_set true y z e h = e
+kept_set false y z e h = absurd (let f : false ≡ true = h in cc)
 
-pub kept : (x y : Bool) → (y && not x) ≡ false → (x || y) ≡ x
-kept true y h = refl
-kept false true h = cc
-kept false false h = refl
-
-pub gained_old : (x y : Bool) → (y && not x) ≡ true → x ≡ false
-gained_old true true h = cc
-gained_old true false h = cc
-gained_old false y h = refl
-
-pub gained : (x y : Bool) → (y && not x) ≡ true → (x || y) ≡ true
-gained true y h = refl
-gained false true h = refl
-gained false false h = cc
-
--- a row of which each flag is clear
-pub all_clear : (row : List Bool) → ((k : ℕ) (d : Bool) → k < length row → get_or row k d ≡ false) → row ≡ replicate (length row) false
-all_clear [] all = refl
-all_clear (flag ∷ row) all =
-    let first : flag ≡ false = all 0 true (omega arith) in
-    ap (λ x. x ∷ row) first ∙ ap (λ s. false ∷ s) (all_clear row (λ k d inside. all (suc k) d (omega (arith, inside))))
-
-pub clear_flag : (row : List Bool) → row ≡ replicate (length row) false → (k : ℕ) (d : Bool) → k < length row → get_or row k d ≡ false
-clear_flag row clear k d inside = ap (λ s. get_or s k d) clear ∙ get_or-replicate (length row) k false d inside
+-- where one flag is new, fewer are not set
+pub unset_fewer : (xs ys zs : List Bool) → length zs ≡ length xs → ((k : ℕ) → get_or zs k false ≡ (get_or xs k false || get_or ys k false))
+    → (k : ℕ) × (get_or xs k false ≡ false) × (get_or zs k false ≡ true) → unset_count zs < unset_count xs
+unset_fewer xs ys zs long h (k, unset, set) = unset_less xs zs long (λ j. kept_set (get_or xs j false) (get_or ys j false) (get_or zs j false) (h j)) k unset set

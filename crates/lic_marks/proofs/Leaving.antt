@@ -71,13 +71,13 @@ by_either true false false true = refl
 by_either true false false false = refl
 
 -- the answer for tidy words by that of a walk in which one may not always enter
-pub Leaves-tidy-behind : (a : Core) (after entry may : Bool) (row : List Bool) (at : ℕ) (has_empty behind : Bool) → has_empty ≡ is_nullable a →
-    Leaves a after (entry && may) row at behind → Leaves (tidy a) after entry row at ((entry && has_empty) || (behind && not after))
-Leaves-tidy-behind a true entry may row at has_empty behind e p =
-    record { answer = sym (ap (λ b. entry && b) (sym e) ∙ both entry has_empty behind) }
-Leaves-tidy-behind a false entry may row at has_empty behind e p =
+pub Leaves-tidy-past : (a : Core) (after entry may : Bool) (row : List Bool) (at : ℕ) (has_empty past : Bool) → has_empty ≡ is_nullable a →
+    Leaves a after (entry && may) row at past → Leaves (tidy a) after entry row at ((entry && has_empty) || (past && not after))
+Leaves-tidy-past a true entry may row at has_empty past e p =
+    record { answer = sym (ap (λ b. entry && b) (sym e) ∙ both entry has_empty past) }
+Leaves-tidy-past a false entry may row at has_empty past e p =
     let m = marks_of a (drop at row) in
-    let is : behind ≡ (can_leave a false false m || ((entry && may) && has_empty)) =
+    let is : past ≡ (can_leave a false false m || ((entry && may) && has_empty)) =
     p.answer ∙ can_leave-entry a false (entry && may) m ∙ ap (λ b. can_leave a false false m || ((entry && may) && b)) (sym e) in
     record {
       answer = sym (can_leave-entry a false entry m ∙ ap (λ b. can_leave a false false m || (entry && b)) (sym e)

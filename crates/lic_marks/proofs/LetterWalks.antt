@@ -1,5 +1,5 @@
--- Walks over the flags of letters in a row.
-use Rattle.std.proofs.Common.{◌≡◌, ℕ, zero, suc, ◌+◌, ◌-◌, ◌≤◌, ◌<◌, ◌==◌, ◌||◌, Bool, List, [], ◌∷◌, length, get_or, take, drop, replicate, refl, ap, ◌∙◌, subst, arith, length-drop, ne_eqb}
+-- What is computed on the flags of letters in a row.
+use Rattle.std.proofs.Common.{◌≡◌, ℕ, zero, suc, ◌+◌, ◌-◌, ◌≤◌, ◌==◌, ◌||◌, Bool, List, [], ◌∷◌, length, get_or, take, drop, replicate, refl, ap, ◌∙◌, subst, arith, length-drop, ne_eqb}
 use Rattle.std.specs.List.{list_any, slice_range}
 use Rattle.lic_marks.specs.Cores.{cat_all, any_front, one}
 use Rattle.lic_marks.specs.Rows.{weight, marks_of, Leaves}
@@ -30,16 +30,6 @@ Leaves-letters (c ∷ e ∷ text) after entry row at d some room =
     (Leaves-letters (e ∷ text) after (get_or row at d) row (at + 1) d more (omega (arith, room))))
 
 -- ---- so many letters that pass, or up to so many
-
-pub replicate_more {ℓ} : {X : Type ℓ} → (x : X) (n i : ℕ) → i < n → replicate (n - i) x ≡ x ∷ replicate (n - (i + 1)) x
-replicate_more x n i h =
-    let more : n - i ≡ suc (n - (i + 1)) = omega arith in
-    ap (λ k. replicate k x) more
-
-pub replicate_done {ℓ} : {X : Type ℓ} → (x : X) (n i : ℕ) → n ≤ i → replicate (n - i) x ≡ []
-replicate_done x n i h =
-    let none : n - i ≡ 0 = omega arith in
-    ap (λ k. replicate k x) none
 
 pub weight-copies : (passes : ℕ → Bool) (n : ℕ) → weight (cat_all (replicate n (one passes))) ≡ n
 weight-copies passes zero = refl

@@ -1,5 +1,5 @@
 -- Marks that move on by one place.
-use Rattle.std.proofs.Common.{◌≡◌, ◌≢◌, ℕ, zero, suc, ◌+◌, ◌-◌, ◌≤◌, ◌<◌, ◌==◌, ◌&&◌, min, max, Bool, true, false, List, [], ◌∷◌, length, drop, set, get_or, replicate, refl, sym, ap, ◌∙◌, ⊎_elim, inl, inr, ◌⊎◌, if◌then◌else◌, arith}
+use Rattle.std.proofs.Common.{◌≡◌, ◌≢◌, ℕ, zero, suc, ◌+◌, ◌-◌, ◌≤◌, ◌<◌, ◌==◌, ◌&&◌, Bool, true, false, List, [], ◌∷◌, length, drop, set, get_or, replicate, refl, sym, ap, ◌∙◌, ⊎_elim, arith}
 use Rattle.std.proofs.lemmas.Bool.{cases_lt, cases_eq}
 use Rattle.std.proofs.lemmas.List.{get_or-set_same, get_or-set_other, get_or-drop}
 use Rattle.lic_marks.specs.Cores.{Core, cat_all, any_front, one}
@@ -7,12 +7,10 @@ use Rattle.lic_marks.specs.Marks.{shift}
 use Rattle.lic_marks.specs.Rows.{weight, flags_of, marks_of, first_flag, Leaves, Shifts}
 use Rattle.lic_marks.specs.Nodes.{letter_cores}
 use Rattle.lic_rows.specs.Bits.{flag_at, IsKeptOutside}
-use Rattle.lic_marks.specs.Windows.{IsClearOutside, TakesIn, flag_before, Moves}
-use Rattle.lic_marks.specs.declared.window.Window.{Window}
+use Rattle.lic_marks.specs.Moves.{flag_before, Moves}
 use Rattle.lic_marks.proofs.RowWalks.{length-flags_of}
 use Rattle.lic_marks.proofs.LetterWalks.{weight-letters, weight-copies, weight-up_to}
 use Rattle.lic_marks.proofs.Patches.{patched}
-use Rattle.lic_marks.proofs.Taken.{TakesIn-clear, TakesIn-down}
 
 and_none : (b : Bool) → (b && false) ≡ false
 and_none true = refl
@@ -22,7 +20,7 @@ and_all : (b : Bool) → (b && true) ≡ b
 and_all true = refl
 and_all false = refl
 
--- the flag before a place of the stretch but the first
+-- the flag before a place of the range but the first
 came : (old : List Bool) (at : ℕ) (entry : Bool) (j : ℕ) → flag_before (drop at old) entry (suc j) ≡ get_or old (at + j) false
 came old at entry j = get_or-drop at old j false
 
@@ -30,134 +28,53 @@ none_and : (b c : Bool) → b ≡ false → (b && c) ≡ false
 none_and true c h = cc
 none_and false c h = refl
 
--- ---- whole stretches
+-- ---- all at once
 
--- The stretch from `from` to before `to` has what moves.
-module _ (entry : Bool) (old : List Bool) (at n : ℕ) (w : Window) (clear : IsClearOutside w old at (at + n)) (from to : ℕ)
-    (begin : from ≡ (if entry then at else max w.from at)) (end : to ≡ min (max w.to at + 1) (at + n)) where
-  -- a stretch that begins behind the first place has no entry
-  no_entry : at < from → (entry ≡ false) × (from ≡ w.from)
-  no_entry late = by_entry entry begin
-    where
-      by_entry : (e : Bool) → from ≡ (if e then at else max w.from at) → (e ≡ false) × (from ≡ w.from)
-      by_entry true h = absurd (omega arith)
-      by_entry false h = (refl, omega arith)
-
-  begins : at ≤ from
-  begins = by_entry entry begin
-    where
-      by_entry : (e : Bool) → from ≡ (if e then at else max w.from at) → at ≤ from
-      by_entry true h = omega arith
-      by_entry false h = omega arith
-
-  pub old_before : (k : ℕ) → at ≤ k → k < at + n → k < from → get_or old k false ≡ false
-  old_before k low inside high = let e = no_entry (omega arith) in clear.before k low inside (omega (arith, e.1))
-
-  pub old_behind : (k : ℕ) → k < at + n → to ≤ k → get_or old k false ≡ false
-  old_behind k inside high = clear.behind k (omega (arith, end)) inside (omega (arith, end))
-
-  before_it : (j : ℕ) → j < n → at + j < from → flag_before (drop at old) entry j ≡ false
-  before_it zero h low = (no_entry (omega arith)).0
-  before_it (suc j) h low = came old at entry j ∙ old_before (at + j) (omega arith) (omega arith) (omega arith)
-
-  behind_it : (j : ℕ) → j < n → to ≤ at + j → flag_before (drop at old) entry j ≡ false
-  behind_it zero h high = absurd (omega (arith, end))
-  behind_it (suc j) h high = came old at entry j ∙ clear.behind (at + j) (omega arith) (omega arith) (omega (arith, end))
-
-  module _ (new : List Bool) (kept : IsKeptOutside from to (flag_at old) (flag_at new)) where
-    outside : (j : ℕ) → j < n → (at + j < from) ⊎ (to ≤ at + j)
-        → (get_or new (at + j) false ≡ false) × (flag_before (drop at old) entry j ≡ false)
-    outside j h apart = ⊎_elim
-        (λ low. (kept.before (at + j) low ∙ old_before (at + j) (omega arith) (omega arith) low, before_it j h low))
-        (λ high. (kept.behind (at + j) high ∙ old_behind (at + j) (omega arith) high, behind_it j h high)) apart
-
-    -- a stretch moved up by one place
-    slid : from < to → get_or new from false ≡ entry → ((k : ℕ) → from ≤ k → suc k < to → get_or new (suc k) false ≡ get_or old k false)
-        → (j : ℕ) → j < n → get_or new (at + j) false ≡ flag_before (drop at old) entry j
-    slid some first rest j h = ⊎_elim (λ low. let o = outside j h (inl low) in o.0 ∙ sym o.1)
-        (λ from_on. ⊎_elim (λ within. ⊎_elim (λ same. at_first j h same) (λ apart. later j h (omega (arith, apart)) within) (cases_eq (at + j) from))
-        (λ high. let o = outside j h (inr high) in o.0 ∙ sym o.1) (cases_lt (at + j) to)) (cases_lt (at + j) from)
-      where
-        at_first : (j : ℕ) → j < n → at + j ≡ from → get_or new (at + j) false ≡ flag_before (drop at old) entry j
-        at_first zero h same = ap (λ k. get_or new k false) same ∙ first
-        at_first (suc j) h same =
-            let e = no_entry (omega arith) in
-            ap (λ k. get_or new k false) same ∙ first ∙ e.0
-            ∙ sym (came old at entry j ∙ clear.before (at + j) (omega arith) (omega arith) (omega (arith, e.1)))
-
-        later : (j : ℕ) → j < n → from < at + j → at + j < to → get_or new (at + j) false ≡ flag_before (drop at old) entry j
-        later zero h low high = absurd (omega (arith, begins))
-        later (suc j) h low high =
-            let here : at + suc j ≡ suc (at + j) = omega arith in
-            ap (λ k. get_or new k false) here ∙ rest (at + j) (omega arith) (omega arith) ∙ sym (came old at entry j)
-
-    before_all : (k : ℕ) → k < at → get_or new k false ≡ get_or old k false
-    before_all k low = kept.before k (omega (arith, begins))
-
-    behind_all : (k : ℕ) → at + n ≤ k → get_or new k false ≡ get_or old k false
-    behind_all k high = kept.behind k (omega (arith, end))
-
-    pub Moves-slid : (passed : Bool) → passed ≡ true → from < to → get_or new from false ≡ entry
-        → ((k : ℕ) → from ≤ k → suc k < to → get_or new (suc k) false ≡ get_or old k false) → Moves (λ j. passed) entry old at n new
-    Moves-slid passed is some first rest = record {
-      inside = λ j h. slid some first rest j h ∙ sym (and_all (flag_before (drop at old) entry j)) ∙ ap (λ b. flag_before (drop at old) entry j && b) (sym is);
-      before = before_all;
-      behind = behind_all;
-    }
-
-    pub Moves-cleared : (passed : Bool) → passed ≡ false → ((k : ℕ) → from ≤ k → k < to → get_or new k false ≡ false) → Moves (λ j. passed) entry old at n new
-    Moves-cleared passed is none = record {
-      inside = λ j h. gone j h ∙ sym (and_none (flag_before (drop at old) entry j)) ∙ ap (λ b. flag_before (drop at old) entry j && b) (sym is);
-      before = before_all;
-      behind = behind_all;
-    }
-      where
-        gone : (j : ℕ) → j < n → get_or new (at + j) false ≡ false
-        gone j h = ⊎_elim (λ low. (outside j h (inl low)).0) (λ from_on. ⊎_elim (λ within. none (at + j) from_on within)
-            (λ high. (outside j h (inr high)).0) (cases_lt (at + j) to)) (cases_lt (at + j) from)
-
-    -- past the stretch nothing is marked
-    pub clear_around : (k : ℕ) → at ≤ k → k < at + n → (k < from) ⊎ (to ≤ k) → get_or new k false ≡ false
-    clear_around k low inside apart = ⊎_elim (λ near. kept.before k near ∙ old_before k low inside near)
-        (λ far. kept.behind k far ∙ old_behind k inside far) apart
-
-  -- where there is no stretch nothing moves
-  pub Moves-idle : (takes : ℕ → Bool) → to ≤ from → Moves takes entry old at n old
-  Moves-idle takes none = record {
-    inside = λ j h. ⊎_elim (λ low. old_before (at + j) (omega arith) (omega arith) low ∙ sym (none_and _ (takes j) (before_it j h low)))
-        (λ high. old_behind (at + j) (omega arith) (omega arith) ∙ sym (none_and _ (takes j) (behind_it j h (omega arith)))) (cases_lt (at + j) from);
-    before = λ k h. refl;
-    behind = λ k h. refl;
+module _ (entry : Bool) (old : List Bool) (at n : ℕ) (new : List Bool) (kept : IsKeptOutside at (at + n) (flag_at old) (flag_at new)) where
+  pub Moves-slid : (passed : Bool) → passed ≡ true → get_or new at false ≡ entry
+      → ((k : ℕ) → at ≤ k → suc k < at + n → get_or new (suc k) false ≡ get_or old k false) → Moves (λ j. passed) entry old at n new
+  Moves-slid passed is first rest = record {
+    inside = λ j h. slid j h ∙ sym (and_all (flag_before (drop at old) entry j)) ∙ ap (λ b. flag_before (drop at old) entry j && b) (sym is);
+    before = kept.before;
+    past = kept.past;
   }
+    where
+      slid : (j : ℕ) → j < n → get_or new (at + j) false ≡ flag_before (drop at old) entry j
+      slid zero h =
+          let here : at + 0 ≡ at = omega arith in
+          ap (λ k. get_or new k false) here ∙ first
+      slid (suc j) h =
+          let here : at + suc j ≡ suc (at + j) = omega arith in
+          ap (λ k. get_or new k false) here ∙ rest (at + j) (omega arith) (omega arith) ∙ sym (came old at entry j)
 
-  pub clear_idle : to ≤ from → (k : ℕ) → at ≤ k → k < at + n → get_or old k false ≡ false
-  clear_idle none k low inside = ⊎_elim (λ near. old_before k low inside near) (λ far. old_behind k inside (omega arith)) (cases_lt k from)
+  pub Moves-cleared : (passed : Bool) → passed ≡ false → ((k : ℕ) → at ≤ k → k < at + n → get_or new k false ≡ false) → Moves (λ j. passed) entry old at n new
+  Moves-cleared passed is none = record {
+    inside = λ j h. none (at + j) (omega arith) (omega arith)
+        ∙ sym (and_none (flag_before (drop at old) entry j)) ∙ ap (λ b. flag_before (drop at old) entry j && b) (sym is);
+    before = kept.before;
+    past = kept.past;
+  }
 
 -- ---- mark by mark, from the last to the first
 
--- The walk has come down to `place`: behind it marks have moved, and before it they have not.
+-- The walk has come down to `place`: after it marks have moved, and before it they have not.
 pub record Falls (takes : ℕ → Bool) (old : List Bool) (at n : ℕ) (row : List Bool) (place : ℕ) : Type 0 where
   pub below : (k : ℕ) → k < place → get_or row k false ≡ get_or old k false
   pub here : place < at + n → get_or row place false ≡ false
   pub above : (j : ℕ) → j < n → place < at + j → get_or row (at + j) false ≡ (get_or old (at + j - 1) false && takes j)
-  pub behind : (k : ℕ) → at + n ≤ k → get_or row k false ≡ get_or old k false
+  pub past : (k : ℕ) → at + n ≤ k → get_or row k false ≡ get_or old k false
 
 module _ (takes : ℕ → Bool) (old : List Bool) (at n : ℕ) where
-  pub Falls-start : (w : Window) → IsClearOutside w old at (at + n) → (place : ℕ) → place ≡ min (max w.to at) (at + n) → Falls takes old at n old place
-  Falls-start w clear place e = record {
+  pub Falls-start : (place : ℕ) → place ≡ at + n → Falls takes old at n old place
+  Falls-start place e = record {
     below = λ k h. refl;
-    here = λ inside. clear.behind place (omega (arith, e)) inside (omega (arith, e));
-    above = λ j h high. clear.behind (at + j) (omega arith) (omega arith) (omega (arith, e))
-        ∙ sym (none_and _ (takes j) (clear.behind (at + j - 1) (omega (arith, e)) (omega arith) (omega (arith, e))));
-    behind = λ k h. refl;
+    here = λ inside. absurd (omega (arith, e));
+    above = λ j h high. absurd (omega (arith, e));
+    past = λ k h. refl;
   }
 
-  pub above_clear : (w : Window) → IsClearOutside w old at (at + n) → (place : ℕ) → place ≡ min (max w.to at) (at + n)
-      → (k : ℕ) → place + 1 ≤ k → k < at + n → get_or old k false ≡ false
-  above_clear w clear place e k low inside = clear.behind k (omega (arith, e)) inside (omega (arith, e))
-
   module _ (row : List Bool) (place : ℕ) (f : Falls takes old at n row place) (within : place ≤ at + n) where
-    -- down to a place behind which, and before the last one, nothing is marked
+    -- down to a place after which, and before the last one, nothing is marked
     module _ (new : List Bool) (q : ℕ) (begun : at ≤ q) (less : q < place) (none : (k : ℕ) → q < k → k < place → get_or row k false ≡ false)
         (here : get_or new q false ≡ false) (next : q + 1 < at + n → get_or new (q + 1) false ≡ (get_or row q false && takes (q + 1 - at)))
         (other : (k : ℕ) → k ≢ q → (k ≡ q + 1 → at + n ≤ k) → get_or new k false ≡ get_or row k false) where
@@ -175,7 +92,7 @@ module _ (takes : ℕ → Bool) (old : List Bool) (at n : ℕ) where
             (λ until. gap (at + j) (omega (arith, apart)) until (omega arith)
             ∙ sym (none_and _ (takes j) (sym (f.below (at + j - 1) (omega (arith, apart))) ∙ none (at + j - 1) (omega (arith, apart)) (omega (arith, apart)))))
             (cases_lt place (at + j))) (cases_eq (at + j) (q + 1));
-        behind = λ k h. other k (omega arith) (λ e. h) ∙ f.behind k h;
+        past = λ k h. other k (omega arith) (λ e. h) ∙ f.past k h;
       }
         where
           at_next : (j : ℕ) → j < n → at + j ≡ q + 1 → get_or new (at + j) false ≡ (get_or old (at + j - 1) false && takes j)
@@ -185,13 +102,7 @@ module _ (takes : ℕ → Bool) (old : List Bool) (at n : ℕ) where
               ap (λ k. get_or new k false) same ∙ next (omega arith) ∙ ap (λ i. get_or row q false && takes i) size
               ∙ ap (λ b. b && takes j) (f.below q less ∙ ap (λ k. get_or old k false) prior)
 
-      pub Takes-to : (first mid last : Window) → TakesIn first mid row (place + 1) (at + n) → TakesIn mid last new (q + 1) (min (q + 2) (at + n))
-          → TakesIn first last new (q + 1) (at + n)
-      Takes-to first mid last p r =
-          TakesIn-down first mid last row new (q + 1) (min (q + 2) (at + n)) (place + 1) (at + n) p
-          (λ k low high. other k (omega arith) (λ e. absurd (omega arith))) (λ k low high inside. gap k (omega arith) (omega arith) inside) (omega arith) r
-
-    -- where the stretch has no mark
+    -- where the range has no mark
     module _ (q : ℕ) (begun : at ≤ q) (less : q < place) (none : (k : ℕ) → q ≤ k → k < place → get_or row k false ≡ false) where
       none_next : q + 1 < at + n → get_or row (q + 1) false ≡ (get_or row q false && takes (q + 1 - at))
       none_next inside = ⊎_elim (λ before. none (q + 1) (omega arith) before)
@@ -201,65 +112,40 @@ module _ (takes : ℕ → Bool) (old : List Bool) (at n : ℕ) where
       pub Falls-past : Falls takes old at n row q
       Falls-past = Falls-to row q begun less (λ k low high. none k (omega arith) high) (none q (omega arith) less) none_next (λ k a b. refl)
 
-      pub Takes-past : (first mid : Window) → TakesIn first mid row (place + 1) (at + n) → TakesIn first mid row (q + 1) (at + n)
-      Takes-past first mid p =
-          TakesIn-down first mid mid row row (q + 1) (q + 1) (place + 1) (at + n) p (λ k low high. refl)
-          (λ k low high inside. ⊎_elim (λ before. none k (omega arith) before)
-          (λ last. let e : k ≡ place = omega arith in ap (λ i. get_or row i false) e ∙ f.here (omega arith)) (cases_lt k place))
-          (omega arith) (TakesIn-clear mid row (q + 1) (q + 1) (λ k low high. absurd (omega arith)))
+  -- down to the first place
+  module _ (row : List Bool) (f : Falls takes old at n row at) where
+    first_place : at + 0 ≡ at
+    first_place = omega arith
 
-    -- down to the first mark
-    module _ (begun : at ≤ place) (none : (k : ℕ) → at ≤ k → k < place → get_or old k false ≡ false) where
-      low_clear : (k : ℕ) → at ≤ k → k ≤ place → k < at + n → get_or row k false ≡ false
-      low_clear k low high inside = ⊎_elim (λ before. f.below k before ∙ none k low before)
-          (λ last. let e : k ≡ place = omega arith in ap (λ i. get_or row i false) e ∙ f.here (omega arith)) (cases_lt k place)
+    later : (entry : Bool) (j : ℕ) → suc j < n → get_or row (at + suc j) false ≡ (flag_before (drop at old) entry (suc j) && takes (suc j))
+    later entry j h =
+        let prior : at + suc j - 1 ≡ at + j = omega arith in
+        f.above (suc j) h (omega arith) ∙ ap (λ k. get_or old k false && takes (suc j)) prior ∙ ap (λ b. b && takes (suc j)) (sym (came old at entry j))
 
-      later : (entry : Bool) (j : ℕ) → suc j < n → get_or row (at + suc j) false ≡ (flag_before (drop at old) entry (suc j) && takes (suc j))
-      later entry j h = ⊎_elim
-          (λ beyond.
-          let prior : at + suc j - 1 ≡ at + j = omega arith in
-          f.above (suc j) h beyond ∙ ap (λ k. get_or old k false && takes (suc j)) prior ∙ ap (λ b. b && takes (suc j)) (sym (came old at entry j)))
-          (λ until. low_clear (at + suc j) (omega arith) until (omega arith)
-          ∙ sym (none_and _ (takes (suc j)) (came old at entry j ∙ none (at + j) (omega arith) (omega arith)))) (cases_lt place (at + suc j))
+    pub Moves-fallen : (entry : Bool) → (entry ≡ true → n ≡ 0) → Moves takes entry old at n row
+    Moves-fallen entry out = record { inside = inside; before = f.below; past = f.past }
+      where
+        first : (e : Bool) → (e ≡ true → n ≡ 0) → 0 < n → get_or row at false ≡ (e && takes 0)
+        first true out h = absurd (omega (arith, out refl))
+        first false out h = f.here (omega arith)
 
-      pub Moves-fallen : (entry : Bool) → (entry ≡ true → n ≡ 0) → Moves takes entry old at n row
-      Moves-fallen entry out = record { inside = inside; before = λ k h. f.below k (omega arith); behind = f.behind }
-        where
-          first : (e : Bool) → (e ≡ true → n ≡ 0) → 0 < n → get_or row (at + 0) false ≡ (e && takes 0)
-          first true out h = absurd (omega (arith, out refl))
-          first false out h = low_clear (at + 0) (omega arith) (omega arith) (omega arith)
+        inside : (j : ℕ) → j < n → get_or row (at + j) false ≡ (flag_before (drop at old) entry j && takes j)
+        inside zero h = ap (λ k. get_or row k false) first_place ∙ first entry out h
+        inside (suc j) h = later entry j h
 
-          inside : (j : ℕ) → j < n → get_or row (at + j) false ≡ (flag_before (drop at old) entry j && takes j)
-          inside zero h = first entry out h
-          inside (suc j) h = later entry j h
+    pub Moves-entered : 0 < n → at + n ≤ length row → (entry : Bool) → entry ≡ true → Moves takes entry old at n (set row at (takes 0))
+    Moves-entered some room entry is = record {
+      inside = inside;
+      before = λ k h. get_or-set_other row at k (takes 0) false (omega arith) ∙ f.below k h;
+      past = λ k h. get_or-set_other row at k (takes 0) false (omega arith) ∙ f.past k h;
+    }
+      where
+        inside : (j : ℕ) → j < n → get_or (set row at (takes 0)) (at + j) false ≡ (flag_before (drop at old) entry j && takes j)
+        inside zero h =
+            ap (λ k. get_or (set row at (takes 0)) k false) first_place ∙ get_or-set_same row at (takes 0) false (omega arith) ∙ ap (λ b. b && takes 0) (sym is)
+        inside (suc j) h = get_or-set_other row at (at + suc j) (takes 0) false (omega arith) ∙ later entry j h
 
-      pub Takes-fallen : (first mid : Window) → TakesIn first mid row (place + 1) (at + n) → TakesIn first mid row at (at + n)
-      Takes-fallen first mid p =
-          TakesIn-down first mid mid row row at at (place + 1) (at + n) p (λ k low high. refl)
-          (λ k low high inside. low_clear k low (omega arith) inside) (omega arith) (TakesIn-clear mid row at at (λ k low high. absurd (omega arith)))
-
-      module _ (some : 0 < n) (room : at + n ≤ length row) where
-        pub Moves-entered : (entry : Bool) → entry ≡ true → Moves takes entry old at n (set row at (takes 0))
-        Moves-entered entry is = record {
-          inside = inside;
-          before = λ k h. get_or-set_other row at k (takes 0) false (omega arith) ∙ f.below k (omega arith);
-          behind = λ k h. get_or-set_other row at k (takes 0) false (omega arith) ∙ f.behind k h;
-        }
-          where
-            inside : (j : ℕ) → j < n → get_or (set row at (takes 0)) (at + j) false ≡ (flag_before (drop at old) entry j && takes j)
-            inside zero h =
-                let same : at + 0 ≡ at = omega arith in
-                ap (λ k. get_or (set row at (takes 0)) k false) same ∙ get_or-set_same row at (takes 0) false (omega arith) ∙ ap (λ b. b && takes 0) (sym is)
-            inside (suc j) h = get_or-set_other row at (at + suc j) (takes 0) false (omega arith) ∙ later entry j h
-
-        pub Takes-entered : (first mid last : Window) → TakesIn first mid row (place + 1) (at + n)
-            → TakesIn mid last (set row at (takes 0)) at (at + 1) → TakesIn first last (set row at (takes 0)) at (at + n)
-        Takes-entered first mid last p r =
-            TakesIn-down first mid last row (set row at (takes 0)) at (at + 1) (place + 1) (at + n) p
-            (λ k low high. get_or-set_other row at k (takes 0) false (omega arith))
-            (λ k low high inside. get_or-set_other row at k (takes 0) false (omega arith) ∙ low_clear k (omega arith) (omega arith) inside) (omega arith) r
-
--- ---- the marks that flags moved on stand for
+-- ---- the marks of flags that were moved on
 
 -- the flag before a place, where the row's first is left out
 before_next : (row : List Bool) (j : ℕ) → flag_before (drop 1 row) (first_flag row) j ≡ get_or row j false
@@ -307,7 +193,7 @@ module _ (r : Core) (takes : ℕ → Bool) (after entry : Bool) (c : ℕ) (old :
         walk = p;
         row = patched old (flags_of r (shift r after entry (marks_of r (drop at old)) c)) at (at + weight r) (omega arith) (omega (arith, few)) new
             (omega (arith, size)) long m.before (λ j h. m.inside j (omega (arith, h, few, size)) ∙ sym (flags j (omega (arith, h, few, size))))
-            (λ k h. m.behind k (omega (arith, h, size)));
+            (λ k h. m.past k (omega (arith, h, size)));
       }
 
 pub Shifts-letters : (text : List ℕ) (after entry : Bool) (c : ℕ) (old : List Bool) (at : ℕ) (new : List Bool) (x : Bool) →

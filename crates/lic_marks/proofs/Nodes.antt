@@ -121,9 +121,6 @@ module _ (children : Vec Node Global) (kept : ℕ) where
 pub weight-Letters : (text : Vec ℕ Global) → length text.items ≡ weight (core_of (Letters text))
 weight-Letters text = rw (core_of-Letters text) (sym (weight-letters text.items))
 
-pub weight-One : (test : Test) → 1 ≡ weight (core_of (One test))
-weight-One test = ap weight (sym (core_of-One test))
-
 -- what a measured node with children says: its number is its weight, and its children are measured
 module _ (children : Vec Node Global) (kept : ℕ) where
   pub weight-Cat : is_measured (Cat children kept) ≡ true → kept ≡ weight (core_of (Cat children kept))

@@ -1,4 +1,4 @@
--- The expression with its repetitions written out stands for the same words.
+-- The expression with its repetitions written out denotes the same words.
 use Rattle.std.proofs.Common.{◌≡◌, ℕ, zero, suc, ◌+◌, ◌-◌, ◌≤◌, [], ◌++◌, inl, inr, Option, Some, None, refl, sym, ap, ◌∙◌, arith, append_assoc, sub-one, ◌≢◌, ◌<◌, ne_eqb, lt-ltb, le-ltb, if◌then◌else◌}
 use Rattle.std.proofs.lemmas.Bool.{cases_lt}
 use Rattle.lic_words.specs.Words.{Word, Cat, Power}

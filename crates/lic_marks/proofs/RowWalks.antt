@@ -1,7 +1,7 @@
--- Walks over a row.
+-- What is computed on a row, part by part.
 use Rattle.std.proofs.Common.{if◌then◌else◌, ◌≡◌, ℕ, zero, suc, ◌+◌, ◌≤◌, ◌<◌, ◌-◌, Bool, true, false, not, ◌==◌, ◌&&◌, ◌||◌, List, [], ◌∷◌, ◌++◌, length, take, drop, set, get_or, replicate, refl, sym, ap, ◌∙◌, arith, append_assoc, append-nil, length-append, length-drop, add-one}
 use Rattle.std.specs.List.{slice_range}
-use Rattle.std.proofs.Math.ListN.{replicate-append-replicate, length-replicate}
+use Rattle.std.proofs.Math.ListN.{replicate-append-replicate}
 use Rattle.std.proofs.lemmas.List.Folds.{drop_split}
 use Rattle.std.proofs.lemmas.List.{take_at, drop_at, drop-drop, length-take-le, set_split, take-append-drop, drop_more, drop-replicate}
 use Rattle.lic_words.specs.Words.{blank}
@@ -19,7 +19,7 @@ length-flags_of (alt a b) m = omega (arith, length-append (flags_of a m.0) (flag
 length-flags_of (plus a) m = length-flags_of a m
 length-flags_of (tidy a) m = length-flags_of a m
 
--- the marks that flags stand for
+-- the marks of flags
 pub marks_of-flags_of : (r : Core) (m : Marks r) (t : List Bool) → marks_of r (flags_of r m ++ t) ≡ m
 marks_of-flags_of empty m t = refl
 marks_of-flags_of (one passes) m t = refl
@@ -84,7 +84,7 @@ module _ (a b : Core) (after entry : Bool) (row : List Bool) (at : ℕ) (x y : B
   pub Leaves-alt : Leaves a after entry row at x → Leaves b after entry row (at + weight a) y → Leaves (alt a b) after entry row at (x || y)
   Leaves-alt p q = record { answer = rw (drop-drop, ← p.answer, ← q.answer) refl }
 
--- the first child may be left out with all behind it
+-- the first child may be left out with all after it
 pub Leaves-front : (a b : Core) (after entry : Bool) (row : List Bool) (at : ℕ) (x y : Bool) →
     Leaves a after entry row at x → Leaves b after x row (at + weight a) y → Leaves (alt empty (cat a b)) after entry row at (entry || y)
 Leaves-front a b after entry row at x y p q =
@@ -110,7 +110,7 @@ pub Leaves-one : (passes : ℕ → Bool) (after entry : Bool) (row : List Bool) 
     x ≡ get_or row at d → Leaves (one passes) after entry row at x
 Leaves-one passes after entry row at x d h e = record { answer = e ∙ sym (first_flag-drop row at d h) }
 
--- ---- a row in which a stretch was written anew
+-- ---- a row in which a range was written anew
 
 module _ (old seg : List Bool) (at k : ℕ) (room : at ≤ length old) (end : k ≡ at + length seg) where
   front_length : length (take at old ++ seg) ≡ k
@@ -161,8 +161,8 @@ module _ (a : Core) (after entry : Bool) (c : ℕ) (old : List Bool) (at : ℕ) 
   Shifts-drop-more w next e = ap (drop next) p.row
       ∙ drop-patch-more old (flags_of a (shift a after entry (marks_of a (drop at old)) c)) at (at + weight a) (omega arith) end w next e
 
-  pub Leaves-behind : (b : Core) (e : Bool) (y : Bool) → Leaves b after e mid (at + weight a) y → Leaves b after e old (at + weight a) y
-  Leaves-behind b e y q = record { answer = rw Shifts-drop at q.answer }
+  pub Leaves-past : (b : Core) (e : Bool) (y : Bool) → Leaves b after e mid (at + weight a) y → Leaves b after e old (at + weight a) y
+  Leaves-past b e y q = record { answer = rw Shifts-drop at q.answer }
 
 -- two walks in a row, as a cat or an alt has them
 module _ (a b : Core) (after entry : Bool) (c : ℕ) (old : List Bool) (at : ℕ) (mid : List Bool) (x : Bool) (new : List Bool) (y : Bool)
@@ -172,7 +172,7 @@ module _ (a b : Core) (after entry : Bool) (c : ℕ) (old : List Bool) (at : ℕ
 
   pub Shifts-cat : Shifts b after x c mid (at + weight a) new y → Shifts (cat a b) after entry c old at new y
   Shifts-cat q = record {
-    walk = Leaves-cat a b after entry old at x y p.walk (Leaves-behind a after entry c old at mid x room p b x y q.walk);
+    walk = Leaves-cat a b after entry old at x y p.walk (Leaves-past a after entry c old at mid x room p b x y q.walk);
     row = q.row ∙ rw (
       Shifts-take a after entry c old at mid x room p,
       Shifts-drop a after entry c old at mid x room p,
@@ -186,7 +186,7 @@ module _ (a b : Core) (after entry : Bool) (c : ℕ) (old : List Bool) (at : ℕ
 
   pub Shifts-alt : Shifts b after entry c mid (at + weight a) new y → Shifts (alt a b) after entry c old at new (x || y)
   Shifts-alt q = record {
-    walk = Leaves-alt a b after entry old at x y p.walk (Leaves-behind a after entry c old at mid x room p b entry y q.walk);
+    walk = Leaves-alt a b after entry old at x y p.walk (Leaves-past a after entry c old at mid x room p b entry y q.walk);
     row = q.row ∙ rw (
       Shifts-take a after entry c old at mid x room p,
       Shifts-drop a after entry c old at mid x room p,
@@ -200,14 +200,14 @@ module _ (a b : Core) (after entry : Bool) (c : ℕ) (old : List Bool) (at : ℕ
 none_more : (n : ℕ) → n ≡ 0 + n
 none_more n = omega arith
 
--- the first child may be left out with all behind it
+-- the first child may be left out with all after it
 pub Shifts-front : (a b : Core) (after entry : Bool) (c : ℕ) (old : List Bool) (at : ℕ) (mid : List Bool) (x : Bool) (new : List Bool) (y : Bool) →
     at + weight a ≤ length old → Shifts a after entry c old at mid x → Shifts b after x c mid (at + weight a) new y →
     Shifts (alt empty (cat a b)) after entry c old at new (entry || y)
 Shifts-front a b after entry c old at mid x new y room p q =
     let rest : Shifts (cat a b) after entry c old at new y = Shifts-cat a b after entry c old at mid x new y room p q in
     record {
-      walk = Leaves-front a b after entry old at x y p.walk (Leaves-behind a after entry c old at mid x room p b x y q.walk);
+      walk = Leaves-front a b after entry old at x y p.walk (Leaves-past a after entry c old at mid x room p b x y q.walk);
       row = rest.row ∙ ap (λ w. take at old
           ++ flags_of (cat a b) (shift (cat a b) after entry (marks_of (cat a b) (drop at old)) c)
           ++ drop (at + w) old) (none_more (weight a + weight b));
@@ -245,7 +245,7 @@ Shifts-clear r after c row at tail whole clear =
       row = whole ∙ rw (none, shift-no_marks r after c, flags_of-no_marks r) refl;
     }
 
--- the same of a stretch of the row that is clear
+-- the same of a range of the row that is clear
 pub Shifts-clear_slice : (r : Core) (after : Bool) (c : ℕ) (row : List Bool) (at n : ℕ) → at + weight r ≤ length row → n ≡ weight r →
     slice_range row at (at + n) ≡ replicate (length (slice_range row at (at + n))) false → Shifts r after false c row at row false
 Shifts-clear_slice r after c row at n room size clear =
@@ -288,27 +288,3 @@ pub Shifts-tidy-clear : (a : Core) (entry : Bool) (c : ℕ) (old : List Bool) (a
 Shifts-tidy-clear a entry c old at next new x is p n w =
     let size : next - at ≡ weight a = omega (arith, n) in
     record { walk = p; row = w ∙ rw (is, flags_of-no_marks a, size, n) refl }
-
--- one flag more is taken back
-pub clear_more : (old : List Bool) (at i : ℕ) → at ≤ i → i < length old →
-    set (take at old ++ replicate (i - at) false ++ drop i old) i false ≡ take at old ++ replicate (i + 1 - at) false ++ drop (i + 1) old
-clear_more old at i l h =
-    let room : at ≤ length old = omega arith in
-    let end : i ≡ at + length (replicate (i - at) false) = omega (arith, length-replicate (i - at) false) in
-    let long : length (take at old ++ replicate (i - at) false ++ drop i old) ≡ length old =
-    omega (
-      arith,
-      length-append (take at old ++ replicate (i - at) false) (drop i old),
-      front_length old (replicate (i - at) false) at i room end,
-      length-drop i old,
-    ) in
-    let more : i + 1 - at ≡ (i - at) + 1 = omega arith in
-    let rep : replicate (i + 1 - at) false ≡ replicate (i - at) false ++ false ∷ [] =
-    ap (λ n. replicate n false) more ∙ sym (replicate-append-replicate (i - at) 1 false) in
-    set_split (take at old ++ replicate (i - at) false ++ drop i old) i false (omega (arith, long))
-    ∙ rw (
-      take-patch old (replicate (i - at) false) at i room end,
-      drop-patch-more old (replicate (i - at) false) at i room end 1 (suc i) (omega arith),
-      rep,
-      add-one,
-    ) (simp append_assoc)

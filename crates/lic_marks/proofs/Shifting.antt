@@ -1,4 +1,4 @@
--- The marks after a letter stand for what may follow it.
+-- The marks after a letter say what may follow it.
 use Rattle.std.proofs.Common.{◌≡◌, ℕ, suc, Bool, true, false, ◌==◌, ◌&&◌, ◌||◌, [], ◌∷◌, ◌⊎◌, inl, inr, refl, sym, ap, ◌∙◌, subst, if◌then◌else◌}
 use Rattle.lic_words.specs.Words.{Word, Cat, blank}
 use Rattle.lic_marks.specs.Cores.{Core, empty, one, cat, none, alt, plus, tidy, Star, WordsOf}
@@ -237,16 +237,6 @@ begin_sound r after v (inr h) = h.1
 
 pub begin_complete : (r : Core) (after : Bool) (v : Word) → WordsOf r v → GoesOn r after true (no_marks r) v
 begin_complete r after v h = inr (refl, h)
-
--- after a letter nothing enters any more
-pub step_sound : (r : Core) (after entry : Bool) (m : Marks r) (c : ℕ) (v : Word) →
-    GoesOn r (c == blank) false (shift r after entry m c) v → GoesOn r after entry m (c ∷ v)
-step_sound r after entry m c v (inl h) = shift_sound r after entry m c v h
-step_sound r after entry m c v (inr h) = absurd (let e = h.0 in cc)
-
-pub step_complete : (r : Core) (after entry : Bool) (m : Marks r) (c : ℕ) (v : Word) →
-    GoesOn r after entry m (c ∷ v) → GoesOn r (c == blank) false (shift r after entry m c) v
-step_complete r after entry m c v h = inl (shift_complete r after entry m c v h)
 
 -- where nothing is marked and one may not begin, one cannot leave
 pub can_leave-no_marks : (r : Core) (after : Bool) → can_leave r after false (no_marks r) ≡ false

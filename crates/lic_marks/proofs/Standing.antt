@@ -1,4 +1,4 @@
--- How the two sets of marks go on.
+-- The two sets of marks, from letter to letter.
 use Rattle.std.proofs.Common.{◌≡◌, ℕ, zero, suc, Bool, true, false, ◌==◌, ◌||◌, List, [], ◌∷◌, ◌++◌, ◌⊎◌, inl, inr, refl, sym, ap, subst, arith, ne_eqb}
 use Rattle.lic_words.specs.Words.{Word, blank, blanks}
 use Rattle.lic_words.specs.Spelling.{Gap, no_gap, free, needed, gap_of, Allows, SpellsGapped}
@@ -185,7 +185,7 @@ module _ (r : Core) (entry : Bool) (at_once after_blanks : Marks r) (A : Word �
   completed free v (zero, a, h) = join-left r false (shift r false entry at_once c) (shift r true false after_blanks c) v (to_at_once v h)
   completed free v (suc n, a, h) = join-right r false (shift r false entry at_once c) (shift r true false after_blanks c) v (to_after_blanks v n h)
 
-  -- one letter more behind any gap
+  -- one letter more after any gap
   pub LeadsOverBlanks-letter : (g : Gap) → Leads r false (shift_over r entry at_once after_blanks g c) (Then g c A)
   LeadsOverBlanks-letter g = record { sound = letter_sound g; complete = λ v h. inl (completed g v h) }
 
@@ -242,7 +242,7 @@ pub StandsAtOnce-letter : (r : Core) (entry : Bool) (at_once : Marks r) (letters
 StandsAtOnce-letter r entry at_once letters s c letter =
     StandsAtOnce-more r (shift r false entry at_once c) letters no_gap c (Leads-letter r entry at_once (After (WordsOf r) letters) s c letter)
 
--- one letter more, which is no blank, behind any gap
+-- one letter more, which is no blank, after any gap
 pub StandsFor-letter : (r : Core) (entry : Bool) (at_once after_blanks : Marks r) (letters : List (Gap × ℕ)) →
     StandsFor r entry at_once after_blanks letters → (g : Gap) (c : ℕ) → (c ≡ blank → ⊥) →
     StandsAtOnce r false (shift_over r entry at_once after_blanks g c) (letters ++ (g, c) ∷ [])

@@ -1,4 +1,4 @@
--- Expressions whose repetitions are written out, and the words that they stand for.
+-- Expressions whose repetitions are written out, and the words that they denote.
 use Rattle.std.specs.Prelude.{◌≡◌, ◌↔◌, ℕ, zero, suc, ◌-◌, Bool, true, ◌==◌, nat_lt, List, [], ◌∷◌, Option, Some, None, ◌⊎◌, if◌then◌else◌}
 use Rattle.lic_words.specs.Words.{Word, IsTidy, Cat, Power}
 use Rattle.lic_words.specs.Expressions as expressions
@@ -21,7 +21,7 @@ pub data Core : Type 0 where
 abbrev pub Star : (Word → Type 0) → Word → Type 0
 Star P w = (n : ℕ) × Power P n w
 
--- the set of words that a core stands for
+-- the set of words that a core denotes
 abbrev pub WordsOf : Core → Word → Type 0
 WordsOf empty w = w ≡ []
 WordsOf (one passes) w = (c : ℕ) × (passes c ≡ true) × (w ≡ c ∷ [])
@@ -71,6 +71,6 @@ core (expressions.alt a b) = alt (core a) (core b)
 core (expressions.repeat min max a) = repeat min max (core a)
 core (expressions.tidy a) = tidy (core a)
 
--- the core and the expression stand for the same words
+-- the core and the expression denote the same words
 abbrev pub HasWordsOf : Core → expressions.Expression → Type 0
 HasWordsOf r e = (w : Word) → WordsOf r w ↔ expressions.Language e w

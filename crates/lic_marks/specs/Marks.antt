@@ -44,7 +44,7 @@ is_nullable (alt a b) = is_nullable a || is_nullable b
 is_nullable (plus a) = is_nullable a
 is_nullable (tidy a) = is_nullable a
 
--- Whether one may stand behind the expression: some mark is at an end, or one enters and passes through.
+-- Whether a word of the expression may end here: some mark is at an end, or a word begins here that is empty.
 -- `after` says that the last letter was a blank.
 abbrev pub can_leave : (r : Core) → Bool → Bool → Marks r → Bool
 can_leave empty after entry m = entry

@@ -41,7 +41,7 @@ node_core (Node-F.Repeat child times weight) = so_many times child.value
 node_core (Node-F.Plus child weight) = plus child.value
 node_core (Node-F.Tidy child weight is_nullable) = tidy child.value
 
--- the core that a node stands for
+-- the core of a node
 abbrev pub core_of : Node → Core
 core_of = fold-Node Core node_core
 
@@ -74,7 +74,7 @@ node_is_measured (Node-F.Tidy child kept has_empty) =
 abbrev pub is_measured : Node → Bool
 is_measured = para-Node Bool node_is_measured
 
--- the node stands for this core, and its cached numbers are right
+-- this is the node's core, and its cached numbers are right
 pub record IsBuilt (r : Core) (node : Node) : Type 0 where
   pub stands : core_of node ≡ r
   pub measured : IsTrue (is_measured node)

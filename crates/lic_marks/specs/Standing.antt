@@ -1,4 +1,4 @@
--- For which letters with gaps a pair of marks stands.
+-- What may follow letters with gaps, said of a pair of marks: those at once, and those after blanks.
 use Rattle.std.specs.Prelude.{◌≡◌, ℕ, suc, Bool, true, false, List, [], ◌∷◌, ◌++◌, ◌⊎◌, map}
 use Rattle.lic_words.specs.Words.{Word, blank, blanks}
 use Rattle.lic_words.specs.Spelling.{Gap, no_gap, free, needed, Allows}
@@ -42,11 +42,11 @@ pub record LeadsSoFar (r : Core) (entry : Bool) (at_once after_blanks : Marks r)
   pub now : Leads r entry at_once A
   pub apart : is_apart ≡ true → LeadsOverBlanks r entry at_once after_blanks A
 
--- The marks stand for what may follow the letters at once.
+-- The marks say what may follow the letters at once.
 abbrev pub StandsAtOnce : (r : Core) → Bool → Marks r → List (Gap × ℕ) → Type 0
 StandsAtOnce r entry marks letters = Leads r entry marks (After (WordsOf r) letters)
 
--- The first marks stand for what may follow the letters at once, the second for what may follow after some blanks.
+-- The first marks say what may follow the letters at once, the second what may follow after some blanks.
 abbrev pub StandsFor : (r : Core) → Bool → Marks r → Marks r → List (Gap × ℕ) → Type 0
 StandsFor r entry at_once after_blanks letters =
     LeadsOverBlanks r entry at_once after_blanks (After (WordsOf r) letters)

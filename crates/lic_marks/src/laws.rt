@@ -1,4 +1,4 @@
-//! Laws of marked expressions, each the contract of a function that does nothing.
+//! Laws of the position automaton, each the contract of a function that does nothing. A mark says that a position is active.
 
 ghost use Rattle.std.specs.Prelude.{◌≡◌, ◌≢◌, ◌↔◌, ◌++◌, ◌∷◌, ◌==◌, ◌||◌, ◌⊎◌, [], ℕ, Bool, List, IsTrue, true, false};
 ghost use Rattle.lic_words.specs.Words.{blank};
@@ -11,7 +11,7 @@ ghost use Rattle.lic_marks.specs.Rests.{Completes, GoesOn};
 ghost use Rattle.lic_marks.specs.Deciding.{is_described};
 ghost use Rattle.lic_marks.specs.Standing.{StandsAtOnce, StandsFor, Gathers, IsClosed, shift_over};
 
-/// An expression with its repetitions written out stands for the same words.
+/// An expression with its repetitions written out denotes the same words.
 pub fn a_core_stands_for_the_words_of_its_expression()
     ensures { (e : Expression) (w : List ℕ) → WordsOf (core e) w ↔ Language e w }
 {}
@@ -22,7 +22,7 @@ pub fn all_words_follow_the_beginning()
         → GoesOn r after true (no_marks r) v ↔ WordsOf r v }
 {}
 
-/// After a letter goes on what went on with that letter before.
+/// What may follow after a letter is what could follow before it and begins with that letter.
 pub fn a_letter_is_taken()
     ensures { (r : Core) (after entry : Bool) (m : Marks r) (c : ℕ) (v : List ℕ)
         → Completes r (c == blank) (shift r after entry m c) v ↔ GoesOn r after entry m (c ∷ v) }
@@ -47,12 +47,12 @@ pub fn joined_marks_stand_for_either()
         → Completes r after (join r m n) v ↔ (Completes r after m v ⊎ Completes r after n v) }
 {}
 
-/// No marks stand for no letter, where one may begin.
+/// Where no letter was read and a word may begin, no position is marked.
 pub fn marks_begin_before_the_first_letter()
     ensures { (r : Core) → StandsAtOnce r true (no_marks r) [] }
 {}
 
-/// Marks gathered over blanks until one more leads to nothing new stand for what may follow after blanks.
+/// Marks gathered over blanks until one more blank marks nothing new say what may follow after blanks.
 pub fn closed_marks_stand_for_what_follows_blanks()
     ensures { (r : Core) (entry : Bool) (at_once after_blanks : Marks r) (letters : List (Gap × ℕ))
         → StandsAtOnce r entry at_once letters → Gathers r entry at_once after_blanks

@@ -1,31 +1,18 @@
-//! Marked expressions, which are position automata (Glushkov): which words may still follow marked positions, and a
-//! machine that reads a list of tokens with them.
+//! Position automata (Glushkov's) of expressions. A compiled expression has one position for each letter that it is written
+//! with; a row of bits says which positions are active, those that the letters read so far can end at. `State` reads letters and
+//! gaps with two such rows, `Run` a list of tokens from its beginning, `Seeker` one that may begin at each token.
+//!
+//! In clauses the active positions are the marks of the expression (specs/Marks.antt).
 #![tactic(auto)]
 
-mod alone;
-mod beginning;
 pub mod build;
-mod counts;
-mod front;
-mod head;
-mod known;
 pub mod laws;
-pub mod letter_set;
-mod memory;
 mod moves;
 pub mod node;
-mod over;
-pub mod plain;
-mod probe;
-mod row;
 mod rows;
 pub mod run;
 pub mod seek;
 mod shift;
-pub mod spelled;
 pub mod state;
-pub mod stretch;
 pub mod test;
-mod threads;
 mod walk;
-mod window;

@@ -1,84 +1,47 @@
-//! The transition within a text, or within a repetition of one letter test: marks moved on by one place.
+//! Active positions moved on by one.
 
-ghost use Rattle.std.specs.Prelude.{◌≡◌, ◌==◌, ◌+◌, ◌-◌, ◌<◌, ◌≤◌, min, length, slice_index, slice_set};
-ghost use Rattle.lic_marks.specs.Windows.{IsClearOutside, TakesIn, Moves, Advances};
+ghost use Rattle.std.specs.Prelude.{◌≡◌, ◌==◌, ◌+◌, ◌≤◌, ◌<◌, length, slice_index};
+ghost use Rattle.lic_marks.specs.Moves.{Moves, Advances};
 
-use crate::window::Window;
 use lic_rows::bits::Bits;
 
-/// The letter that is read, whether the letter before it was a blank, and a window that has each mark before it is read.
+/// The letter that is read, and whether the letter before it was a blank.
 #[derive(Clone, Copy, Debug)]
 pub struct Reading {
     pub letter: char,
     pub after: bool,
-    pub live: Window,
 }
 
-/// Writes the flag, and takes its place in where it is set.
-pub fn put(row: &mut Bits, place: usize, flag: bool, marked: &mut Window)
-    requires { place < length row.old }
-    ensures row { row.new ≡ slice_set row.old place flag }
-    ensures marked { TakesIn marked.old marked.new row.new place (place + 1) }
-{
-    let room = row.len();
-    prove!(place < room);
-    row.put(place, flag);
-    if flag {
-        marked.add(place);
-    }
-}
-
-/// Moves the marks of these letters, which stand in the row from `at` on, over the letter that is read.
-pub fn move_letters(
-    text: &[char],
-    row: &mut Bits,
-    at: usize,
-    entry: bool,
-    reading: Reading,
-    marked: &mut Window,
-)
-    requires room { at + length text.now ≤ length row.old }
-    requires live { IsClearOutside reading.live row.old at (at + length text.now) }
-    ensures moves { Moves (λ j. reading.letter == slice_index text.now j) entry row.old at
-        (length text.now) row.new }
-    ensures marked { TakesIn marked.old marked.new row.new at (at + length text.now) }
+/// Takes the active positions of these letters, which are in the row from `at` on, over the letter that is read.
+pub fn move_letters(text: &[char], row: &mut Bits, at: usize, entry: bool, letter: char)
+    requires { at + length text.now ≤ length row.old }
+    ensures moves { Moves (λ j. letter == slice_index text.now j) entry row.old at (length text.now) row.new }
     ensures len { length row.new ≡ length row.old }
 {
     let room = row.len();
     prove!(at <= room);
     let end = at + text.len();
-    let from = reading.live.from.max(at);
-    let mut to = reading.live.to.max(at).min(end);
-    while from < to {
-        to = match row.last_set(from, to) {
+    let mut to = end;
+    while at < to {
+        to = match row.last_set(at, to) {
             Some(place) => {
-                advance(text, row, at, place, reading.letter, marked);
+                advance(text, row, at, place, letter);
                 place
             }
-            None => from,
+            None => at,
         };
     }
     if entry && at < end {
-        put(row, at, reading.letter == text[0], marked);
+        row.put(at, letter == text[0]);
     }
 }
 
-// Moves the mark at this place of the letters, which stand in the row from `at` on, to the next one, where that passes.
-fn advance(
-    text: &[char],
-    row: &mut Bits,
-    at: usize,
-    place: usize,
-    letter: char,
-    marked: &mut Window,
-)
+// Makes this position of the letters, which are in the row from `at` on, inactive, and the next one active if it passes.
+fn advance(text: &[char], row: &mut Bits, at: usize, place: usize, letter: char)
     requires begun { at ≤ place }
     requires inside { place < at + length text.now }
     requires room { at + length text.now ≤ length row.old }
-    ensures moves { Advances (λ j. letter == slice_index text.now j) row.old at
-        (length text.now) place row.new }
-    ensures marked { TakesIn marked.old marked.new row.new (place + 1)
-        (min (place + 2) (at + length text.now)) }
+    ensures moves { Advances (λ j. letter == slice_index text.now j) row.old at (length text.now) place row.new }
     ensures len { length row.new ≡ length row.old }
 {
     let room = row.len();
@@ -86,50 +49,25 @@ fn advance(
     row.put(place, false);
     let next = place + 1;
     if next < at + text.len() {
-        put(row, next, letter == text[next - at], marked);
+        row.put(next, letter == text[next - at]);
     }
 }
 
-/// Moves the marks of so many letters, which all pass or do not, over the letter that is read. They are a row of
+/// Takes the active positions of so many letters, which all pass or do not, over the letter that is read. They are a row of
 /// counts: the one numbered `k` says that `k + 1` of the letters were taken.
-pub fn move_copies(
-    count: usize,
-    is_passed: bool,
-    row: &mut Bits,
-    at: usize,
-    entry: bool,
-    live: Window,
-    marked: &mut Window,
-)
-    requires room { at + count ≤ length row.old }
-    requires live { IsClearOutside live row.old at (at + count) }
+pub fn move_copies(count: usize, is_passed: bool, row: &mut Bits, at: usize, entry: bool)
+    requires { at + count ≤ length row.old }
     ensures moves { Moves (λ j. is_passed) entry row.old at count row.new }
-    ensures marked { TakesIn marked.old marked.new row.new at (at + count) }
     ensures len { length row.new ≡ length row.old }
 {
     let room = row.len();
     prove!(at <= room);
-    let reach = live.reach(at, at + count, entry);
-    if reach.from < reach.to {
+    let end = at + count;
+    if at < end {
         if is_passed {
-            row.move_up(reach.from, reach.to, entry);
-            take_in(row, reach, marked);
+            row.move_up(at, end, entry);
         } else {
-            row.clear(reach.from, reach.to);
+            row.clear(at, end);
         }
-    }
-}
-
-// Takes in the places of the row within the window, from the first that is marked on.
-fn take_in(row: &Bits, within: Window, marked: &mut Window)
-    requires order { within.from ≤ within.to }
-    requires room { within.to ≤ length row.now }
-    ensures { TakesIn marked.old marked.new row.now within.from within.to }
-{
-    if let Some(first) = row.next_set(within.from, within.to) {
-        *marked = marked.union(Window {
-            from: first,
-            to: within.to,
-        });
     }
 }

@@ -18,7 +18,7 @@ impl Times {
     ghost use Rattle.lic_marks.specs.Rows.{weight};
     ghost use Rattle.lic_marks.specs.Nodes.{so_many};
 
-    /// How many of the words are needed at first, and how many places there are behind them for one word each.
+    /// How many of the words are needed at first, and how many places for one word each there are after them.
     pub fn counts(self) -> (usize, usize)
         ensures { (r : Core) → weight (so_many self r) ≡ result.0 * weight r + result.1 * weight r }
     {

@@ -1,95 +1,52 @@
-//! Rows of flags, and stretches of them outside of which no flag is set.
+//! State sets: a row of bits says which positions are active.
 
-ghost use Rattle.std.specs.Prelude.{◌≡◌, ℕ, ◌<◌, ◌≤◌, ◌-◌, ◌++◌, ◌↔◌, IsTrue, true, false, length, get_or, take, drop, replicate};
-ghost use Rattle.lic_marks.specs.Rows.{either_row, unset_count};
-ghost use Rattle.lic_marks.specs.Windows.{IsClearOutside};
+ghost use Rattle.std.specs.Prelude.{◌≡◌, ◌<◌, ◌≤◌, ◌↔◌, IsTrue, false, true, length, replicate};
+ghost use Rattle.lic_marks.specs.Cores.{Core};
+ghost use Rattle.lic_marks.specs.Marks.{join, shift};
+ghost use Rattle.lic_marks.specs.Rows.{weight, marks_of, unset_count};
+ghost use Rattle.lic_marks.specs.Nodes.{core_of, is_measured};
 
-use crate::window::Window;
+use crate::moves::Reading;
+use crate::node::Node;
+use crate::shift::shift;
 use lic_rows::bits::Bits;
 
-/// Whether no flag is set, in a row that is clear outside the window.
-pub fn is_clear_within(row: &Bits, live: Window) -> bool
-    requires live { IsClearOutside live row.now 0 (length row.now) }
-    requires fits { live.to ≤ length row.now }
+/// Whether no position is active.
+pub fn is_clear(row: &Bits) -> bool
     ensures { IsTrue result ↔ (row.now ≡ replicate (length row.now) false) }
 {
-    let end = row.len();
-    !is_any_set(row, 0, end, live)
+    !row.is_any_set(0, row.len())
 }
 
-/// Whether a flag is set from `at` to before `end`, where none is set outside the window.
-pub fn is_any_set(row: &Bits, at: usize, end: usize, live: Window) -> bool
-    requires room { end ≤ length row.now }
-    requires live { IsClearOutside live row.now at end }
-    ensures { IsTrue result ↔ ((k : ℕ) × (at ≤ k) × (k < end) × (get_or row.now k false ≡ true)) }
-{
-    let first = live.from.max(at);
-    let last = live.to.min(end);
-    if first >= last {
-        return false;
-    }
-    // most windows begin where a flag is set
-    if row.get(first) {
-        return true;
-    }
-    row.is_any_set(first, last)
-}
-
-/// Takes back the flags from `at` to before `end`, of which none is set outside the window.
-pub fn clear(row: &mut Bits, at: usize, end: usize, live: Window)
-    requires order { at ≤ end }
-    requires room { end ≤ length row.old }
-    requires live { IsClearOutside live row.old at end }
-    ensures row { row.new ≡ take at row.old ++ replicate (end - at) false ++ drop end row.old }
+/// Makes no position active.
+pub fn clear(row: &mut Bits)
+    ensures clear { row.new ≡ replicate (length row.old) false }
     ensures len { length row.new ≡ length row.old }
 {
-    let first = live.from.max(at);
-    let last = live.to.min(end);
-    if first < last {
-        row.clear(first, last);
-    }
+    let end = row.len();
+    row.clear(0, end);
 }
 
-/// Becomes the other row. Both are clear outside the window.
-pub fn copy(row: &mut Bits, other: &Bits, live: Window)
-    requires len { length row.old ≡ length other.now }
-    requires clear { IsClearOutside live row.old 0 (length row.old) }
-    requires live { IsClearOutside live other.now 0 (length other.now) }
-    requires fits { live.to ≤ length other.now }
-    ensures { row.new ≡ other.now }
-{
-    if live.from < live.to {
-        row.copy(other, live.from, live.to);
-    }
-}
-
-/// Sets the flags that the other row has, which is clear outside the window, and says whether one was new.
-pub fn join(row: &mut Bits, other: &Bits, live: Window) -> bool
-    requires len { length row.old ≡ length other.now }
-    requires live { IsClearOutside live other.now 0 (length other.now) }
-    requires fits { live.to ≤ length other.now }
-    ensures row { row.new ≡ either_row row.old other.now }
+/// Makes the other row's positions active too, and says whether one was new.
+pub fn join(row: &mut Bits, other: &Bits) -> bool
+    requires { length row.old ≡ length other.now }
+    ensures marks { (r : Core)
+        → marks_of r row.new ≡ join r (marks_of r row.old) (marks_of r other.now) }
     ensures same { result ≡ false → row.new ≡ row.old }
     ensures grows { result ≡ true → unset_count row.new < unset_count row.old }
+    ensures len { length row.new ≡ length row.old }
 {
-    if live.from < live.to {
-        row.join(other, live.from, live.to)
-    } else {
-        false
-    }
+    row.join(other)
 }
 
-/// A place from `at` on up to which no flag is set, where none is set outside the window: the first that is marked, where one is.
-pub fn next_marked(row: &Bits, at: usize, live: Window) -> usize
-    ensures { (end : ℕ) → end ≤ length row.now → IsClearOutside live row.now at end
-        → (k : ℕ) → at ≤ k → k < end → k < result → get_or row.now k false ≡ false }
+/// Takes the active positions over the letter. `after` says that the letter before it was a blank, and `entry` that a
+/// word may begin with it.
+pub fn step(row: &mut Bits, tree: &Node, after: bool, entry: bool, letter: char)
+    requires measured { IsTrue (is_measured tree.now) }
+    requires room { weight (core_of tree.now) ≤ length row.old }
+    ensures marks { marks_of (core_of tree.now) row.new
+        ≡ shift (core_of tree.now) after entry (marks_of (core_of tree.now) row.old) letter }
+    ensures len { length row.new ≡ length row.old }
 {
-    let to = live.to.min(row.len());
-    if at >= to {
-        return usize::MAX;
-    }
-    match row.next_set(at, to) {
-        Some(next) => next,
-        None => usize::MAX,
-    }
+    shift(tree, row, 0, entry, Reading { letter, after });
 }

@@ -1,6 +1,6 @@
 //! Tests of one letter.
 
-ghost use Rattle.std.specs.Prelude.{◌≡◌, ℕ, true, IfOk, IsTrue};
+ghost use Rattle.std.specs.Prelude.{◌≡◌, IfOk};
 
 use lic_ere::Class;
 use std::alloc::{AllocError, Global};
@@ -12,7 +12,7 @@ pub enum Test {
     Letter(char),
     /// Any letter, the blank too.
     Any,
-    /// A letter of the set that a bracket stands for.
+    /// A letter of the set that a bracket denotes.
     Class(Class),
 }
 
@@ -28,14 +28,6 @@ impl Test {
             Test::Any => true,
             Test::Class(class) => class.has(c),
         }
-    }
-
-    /// Whether it is the test that any letter passes.
-    #[inline]
-    pub fn is_any(&self) -> bool
-        ensures { IsTrue result → (c : ℕ) → passes self.now c ≡ true }
-    {
-        matches!(self, Test::Any)
     }
 
     /// The same test once more.

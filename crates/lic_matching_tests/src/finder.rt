@@ -3,8 +3,8 @@
 use crate::profile::{set_of, text_of};
 use lic_find::finder::Finder;
 use lic_find::matches::is_match;
-use lic_find::triple::Triple;
 use lic_norm::text::Text;
+use lic_set::triple::Triple;
 use std::alloc::Global;
 use std::fmt::Write;
 use std::test::Fail;
@@ -105,7 +105,7 @@ fn steps_of(mut finder: Finder<'_>) -> Steps {
     (new, last.max(most_of_next), finder.steps())
 }
 
-/// A text: its front, what stands so often behind that, and its end.
+/// A text: its beginning, what stands so often after that, and its end.
 type Source = (&'static str, &'static str, usize, &'static str);
 
 fn source_of(alloc: Global, source: &Source) -> Result<Text, Fail> {
@@ -151,16 +151,8 @@ fn counts_the_steps_of_worked_texts(rt: HostRuntime) -> Result<(), Fail> {
             (0, 57),
             (24, 64),
         ),
-        // Ten letters and three gaps from the end; then at least the letter of the match, and at most what one walk over the text takes, since a
-        // match that is known counts as the walk that noted it.
-        (
-            &["z"],
-            ("", "abc ", 3, "z"),
-            (10, 22),
-            22,
-            (1, 22),
-            (11, 44),
-        ),
+        // Ten letters from the end, with at most a gap before each; then the letter of the match, with the gap before it.
+        (&["z"], ("", "abc ", 3, "z"), (10, 22), 2, (1, 2), (11, 24)),
         // No match, no walk from any token; the text is walked once all the same.
         (
             &["abc z"],
@@ -203,7 +195,7 @@ fn counts_the_steps_of_worked_texts(rt: HostRuntime) -> Result<(), Fail> {
     Ok(())
 }
 
-/// The steps of a finder that has given its first match behind a triple.
+/// The steps of a finder that has given its first match after a triple.
 fn steps_to_first(alloc: Global, after: &Row) -> Result<u64, Fail> {
     let set = set_of(alloc, &["z"])?;
     let text = text_of(alloc, "abc abc abc z")?;

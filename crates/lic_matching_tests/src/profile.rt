@@ -1,10 +1,10 @@
 //! Templates, sets and texts by the rules of the profile, with no equivalent words.
 
-use lic_auto::set::Set;
 use lic_kind::Rules;
 use lic_markup::{MarkupFault, Template, read_template};
 use lic_norm::text::Text;
 use lic_norm::words::Words;
+use lic_set::set::Set;
 use std::alloc::Global;
 use std::test::Fail;
 

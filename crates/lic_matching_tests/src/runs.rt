@@ -76,11 +76,12 @@ fn steps(alloc: Global, tokens: &str) -> Result<(u64, u64, u64), Fail> {
 }
 
 #[test]
-fn letters_are_steps(rt: HostRuntime) -> Result<(), Fail> {
+fn letters_and_gaps_are_steps(rt: HostRuntime) -> Result<(), Fail> {
+    // each token has three letters, and a gap before the first of them
     let (new, taken, anew) = steps(rt.alloc(), "foo bar")?;
     assert_eq!(&rt; new, 0);
-    assert_eq!(&rt; taken, 6);
-    assert_eq!(&rt; anew, 6);
+    assert_eq!(&rt; taken, 8);
+    assert_eq!(&rt; anew, 8);
     Ok(())
 }
 

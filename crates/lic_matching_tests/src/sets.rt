@@ -1,8 +1,8 @@
 //! Sets of templates: how they are numbered, and why one is refused.
 
-use crate::profile::{set_of, template_of};
-use lic_auto::set::Set;
+use crate::profile::{set_of, template_of, text_of};
 use lic_markup::Template;
+use lic_set::set::Set;
 use std::alloc::Global;
 use std::fmt::Write;
 use std::test::Fail;
@@ -63,39 +63,48 @@ fn templates_are_numbered_or_no_set(rt: HostRuntime) -> Result<(), Fail> {
     Ok(())
 }
 
-/// The tail of the template of a text, or `-` where it has none.
-fn tail_of(alloc: Global, text: &str) -> Result<String, Fail> {
-    let set = set_of(alloc, &[text])?;
-    if set.len() == 0 {
-        return Ok(String::new(alloc));
+/// The templates of a set that can describe a range of a text, each with the places of the text's canonical spelling at which the
+/// letters of its required text end.
+fn candidates_in(alloc: Global, texts: &[&str], source: &str) -> Result<String, Fail> {
+    let set = set_of(alloc, texts)?;
+    let text = text_of(alloc, source)?;
+    let mut shown = String::new(alloc);
+    for candidate in &set.candidates(alloc, &text)? {
+        write!(shown, "{}:", candidate.number)?;
+        if let Some(ends) = set.required_ends(alloc, &text, candidate)? {
+            for place in &ends.places {
+                write!(shown, " {place}")?;
+            }
+        }
+        shown.push_str("; ")?;
     }
-    Ok(set.tail(0).unwrap_or("-").to_string(alloc)?)
+    Ok(shown)
 }
 
 #[test]
-fn a_set_has_the_tails_of_its_templates(rt: HostRuntime) -> Result<(), Fail> {
-    let table: &[(&str, &str)] = &[
-        // the last sixteen letters, without blanks
+fn a_set_rules_out_templates_for_a_text(rt: HostRuntime) -> Result<(), Fail> {
+    let table: &[(&[&str], &str, &str)] = &[
         (
-            "Permission is hereby granted, free of charge",
-            "ted,freeofcharge",
+            &[
+                "foo bar",
+                "foo",
+                "<<beginOptional>>z<<endOptional>><<var;name=\"a\";original=\"b\";match=\".+\">>",
+            ],
+            "Foo BAR  foo",
+            "0: 7; 1: 3 11; 2:; ",
         ),
-        ("the end", "theend"),
+        // with no blank beside a mark, wherever one stands in the source
         (
-            "\u{e9}t\u{e9} \u{4e2d} \u{6587}",
-            "\u{e9}t\u{e9}\u{4e2d}\u{6587}",
+            &["licens", "( licens )"],
+            "the license ( Licens )",
+            "0: 10 18; 1: 19; ",
         ),
-        (
-            "<<var;name=\"a\";original=\"b\";match=\".+\">> of <<beginOptional>>b<<endOptional>> c",
-            "c",
-        ),
-        // the last part is no text
-        ("x <<var;name=\"a\";original=\"b\";match=\".+\">>", "-"),
-        ("x <<beginOptional>>y<<endOptional>>", "-"),
+        (&["foo bar"], "foo the bar", ""),
+        (&["foo bar"], "", ""),
     ];
-    for (text, expected) in table {
-        let tail = tail_of(rt.alloc(), text)?;
-        assert_eq!(rt; tail.as_str(), *expected, "of {text}");
+    for (texts, source, expected) in table {
+        let shown = candidates_in(rt.alloc(), texts, source)?;
+        assert_eq!(rt; shown.as_str(), *expected, "in {source}");
     }
     Ok(())
 }

@@ -2,7 +2,6 @@
 
 use lic_auto::compile::compile_pattern;
 use lic_marks::node::Node;
-use lic_marks::plain::Plain;
 use lic_marks::run::Run;
 use std::alloc::Global;
 use std::test::Fail;
@@ -79,39 +78,17 @@ fn what_stands_many_times_is_compiled_once(rt: HostRuntime) -> Result<(), Fail> 
     Ok(())
 }
 
-/// Takes tokens, with a `|` between two.
-fn push_all(run: &mut Run<'_>, tokens: &str) {
+/// Whether a pattern describes tokens, which are given with a `|` between two, and whether a run of it is dead then.
+fn outcome_of(alloc: Global, pattern: &str, tokens: &str) -> Result<(bool, bool), Fail> {
+    let ere = lic_ere::read(alloc, pattern)?;
+    let tree = compile_pattern(alloc, &ere)?;
+    let mut run = Run::new(alloc, tree)?;
     for token in tokens.split('|') {
         if !token.is_empty() {
             run.push(token);
         }
     }
-}
-
-/// Takes them where what is known of plain ones is handed in.
-fn push_known(run: &mut Run<'_>, tokens: &str) {
-    let mut plain = Plain::none();
-    for token in tokens.split('|') {
-        if !token.is_empty() {
-            if plain.read(token) {
-                run.push_known(token, Some(&plain));
-            } else {
-                run.push(token);
-            }
-        }
-    }
-}
-
-/// Whether a pattern describes tokens, whether a run of it is dead then, and whether it describes them where plain ones are known.
-fn told(alloc: Global, pattern: &str, tokens: &str) -> Result<(bool, bool, bool), Fail> {
-    let ere = lic_ere::read(alloc, pattern)?;
-    let tree = compile_pattern(alloc, &ere)?;
-    let mut run = Run::new(alloc, &tree)?;
-    push_all(&mut run, tokens);
-    let (is_described, is_dead) = (run.accepts(), run.is_dead());
-    run.reset();
-    push_known(&mut run, tokens);
-    Ok((is_described, is_dead, run.accepts()))
+    Ok((run.accepts(), run.is_dead()))
 }
 
 #[test]
@@ -154,26 +131,8 @@ fn a_run_that_is_dead_says_so(rt: HostRuntime) -> Result<(), Fail> {
         ("(ab){3,}", "ababb", false, true),
     ];
     for (pattern, tokens, is_described, is_dead) in table {
-        let told = told(rt.alloc(), pattern, tokens)?;
-        let wanted = (*is_described, *is_dead, *is_described);
-        assert_eq!(rt; told, wanted, "{pattern} on {tokens}");
+        let outcome = outcome_of(rt.alloc(), pattern, tokens)?;
+        assert_eq!(rt; outcome, (*is_described, *is_dead), "{pattern} on {tokens}");
     }
     Ok(())
-}
-
-#[test]
-fn a_token_is_plain_from_either_end(rt: HostRuntime) {
-    let table: &[(&str, bool)] = &[
-        ("holder", true),
-        ("1,000", true),
-        ("a b", false),
-        ("na\u{EF}ve", false),
-        ("abcdefghijklmnopqrstuvwxy", true),
-        ("abcdefghijklmnopqrstuvwxyz", false),
-    ];
-    let mut plain = Plain::none();
-    for (token, is_plain) in table {
-        assert_eq!(rt; plain.read(token), *is_plain, "{token:?}");
-        assert_eq!(rt; plain.read_turned(token), *is_plain, "{token:?}");
-    }
 }

@@ -2,8 +2,8 @@
 
 use crate::profile::{set_of, text_of};
 use lic_find::matches::is_match;
-use lic_find::triple::Triple;
 use lic_norm::text::Text;
+use lic_set::triple::Triple;
 use lic_vars::values::{Value, assign};
 use std::alloc::Global;
 use std::fmt::Write;

@@ -1,11 +1,11 @@
 //! What is lent to the calls: templates, and a set and a text that were made with a list and rules.
 
 use crate::refused::Refused;
-use lic_auto::set::Set;
 use lic_kind::Rules;
 use lic_markup::read_template;
 use lic_norm::text::Text;
 use lic_norm::words::Words;
+use lic_set::set::Set;
 use std::alloc::{AllocError, Global};
 
 /// Identifiers and texts of templates.

@@ -4,17 +4,19 @@ use crate::lent::{CHOICE, OF, ONE, OPTIONAL, TWO, Templates, lend};
 use crate::refused::{Refused, retried};
 use lic_auto::back::Back;
 use lic_auto::run::Run;
-use lic_auto::set::Set;
 use lic_filters::filters::{outer, tight};
 use lic_find::finder::Finder;
 use lic_find::matches::is_match;
-use lic_find::triple::Triple;
 use lic_kind::Rules;
 use lic_norm::text::Text;
 use lic_norm::token::Span;
 use lic_norm::words::Words;
+use lic_report::all_matches::AllMatches;
+use lic_search::tight::tight_matches;
+use lic_set::set::Set;
+use lic_set::triple::Triple;
 use lic_vars::values::assign;
-use std::alloc::Global;
+use std::alloc::{AllocError, Global};
 
 /// A range of tokens, the last one counted, and the number of a template.
 type Range = (usize, usize, usize);
@@ -107,8 +109,61 @@ fn finds(alloc: Global, set: &Set, text: &Text, matches: &[Range]) -> Result<boo
     Ok(finder.next().is_none())
 }
 
+/// Whether these are the matches, found one by one over the first template alone.
+fn finds_of_first(
+    alloc: Global,
+    set: &Set,
+    text: &Text,
+    matches: &[Range],
+) -> Result<bool, Refused> {
+    if set.len() == 0 {
+        return Ok(matches.is_empty());
+    }
+    let first = Vec::from_slice(alloc, &[0])?;
+    let mut finder = Finder::over(alloc, set, text, first, None)?;
+    for range in matches.iter().filter(|range| range.2 == 0) {
+        if finder.next() != Some(triple_of(*range)) {
+            return Ok(false);
+        }
+    }
+    Ok(finder.next().is_none())
+}
+
+/// Whether these are the matches that the search gives.
+fn gives(alloc: Global, set: &Set, text: &Text, matches: &[Range]) -> Result<bool, Refused> {
+    let mut found = AllMatches::new(alloc, set, text, None)?;
+    for range in matches {
+        if found.next() != Some(triple_of(*range)) {
+            return Ok(false);
+        }
+    }
+    Ok(found.next().is_none())
+}
+
+/// Whether the tight ones of these are those that the search gives.
+fn gives_tight(alloc: Global, set: &Set, text: &Text, matches: &[Range]) -> Result<bool, Refused> {
+    let mut all = Vec::new(alloc);
+    for range in matches {
+        all.push(triple_of(*range)).map_err(AllocError::from)?;
+    }
+    let wanted = tight(alloc, &all)?;
+    Ok(tight_matches(alloc, set, text)?.as_slice() == wanted.as_slice())
+}
+
+/// Whether no template is ruled out, and a text of each stands in the text.
+fn keeps_all(alloc: Global, set: &Set, text: &Text) -> Result<bool, Refused> {
+    let candidates = set.candidates(alloc, text)?;
+    for candidate in &candidates {
+        match set.required_ends(alloc, text, candidate)? {
+            Some(ends) if !ends.places.is_empty() => (),
+            _ => return Ok(false),
+        }
+    }
+    Ok(candidates.len() == set.len())
+}
+
 /// Whether all of these ranges are matches, or none is.
-fn are_told(
+fn are_matches(
     alloc: Global,
     set: &Set,
     text: &Text,
@@ -145,9 +200,13 @@ fn read_back(alloc: Global, set: &Set, text: &Text) -> Result<bool, Refused> {
 fn answers(alloc: Global, set: &Set, text: &Text, row: &Row) -> Result<bool, Refused> {
     let begins = row.matches.first().is_some_and(|range| range.0 == 0);
     Ok(
-        finds(alloc, set, text, row.matches)?
-            && are_told(alloc, set, text, row.matches, true)?
-            && are_told(alloc, set, text, row.others, false)?
+        keeps_all(alloc, set, text)?
+            && finds(alloc, set, text, row.matches)?
+            && finds_of_first(alloc, set, text, row.matches)?
+            && gives(alloc, set, text, row.matches)?
+            && gives_tight(alloc, set, text, row.matches)?
+            && are_matches(alloc, set, text, row.matches, true)?
+            && are_matches(alloc, set, text, row.others, false)?
             && read_on(alloc, set, text)? == row.whole
             && read_back(alloc, set, text)? == begins,
     )
@@ -188,10 +247,15 @@ fn matches_are_filtered_when_there_is_memory(rt: HostRuntime) {
     assert!(rt; retried(&rt, || filters(rt.alloc())));
 }
 
-/// The match after another.
-fn go_on(alloc: Global, set: &Set, text: &Text) -> Result<Option<Triple>, Refused> {
+/// The match after another, that of the finder and that of the search.
+fn go_on(
+    alloc: Global,
+    set: &Set,
+    text: &Text,
+) -> Result<(Option<Triple>, Option<Triple>), Refused> {
     let mut later = Finder::resume(alloc, set, text, of(0, 3))?;
-    Ok(later.next())
+    let mut found = AllMatches::new(alloc, set, text, Some(of(0, 3)))?;
+    Ok((later.next(), found.next()))
 }
 
 /// What the two variables of a match stand for; nothing where it is none.
@@ -219,7 +283,7 @@ fn matches_have_values_when_there_is_memory(rt: HostRuntime) {
         lend(rt.alloc(), OF, b"x of y of z", &words, &rules)
     });
     let whole = of(0, 4);
-    assert!(rt; retried(&rt, || go_on(rt.alloc(), &set, &text)) == Some(whole));
+    assert!(rt; retried(&rt, || go_on(rt.alloc(), &set, &text)) == (Some(whole), Some(whole)));
     let found = retried(&rt, || spans(rt.alloc(), &set, &text, whole));
     let wanted = (Span { start: 0, end: 1 }, Span { start: 5, end: 11 });
     assert!(rt; found == Some(wanted));

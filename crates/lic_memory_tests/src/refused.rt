@@ -3,13 +3,13 @@
 ghost use Rattle.std.specs.Prelude.{◌≡◌};
 ghost use Rattle.lic_memory_tests.specs.declared.refused.Refused.TheVariants.{Memory};
 
-use lic_auto::set::BuildFault;
 use lic_engine::fault::RunFault;
 use lic_ere::{EreCause, EreFault};
 use lic_kind::{RulesCause, RulesFault};
 use lic_markup::{MarkupCause, MarkupFault};
 use lic_norm::fault::TextFault;
 use lic_norm::words::{WordsCause, WordsFault};
+use lic_set::set::BuildFault;
 use std::alloc::AllocError;
 use std::process::Abort;
 

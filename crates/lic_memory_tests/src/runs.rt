@@ -2,13 +2,13 @@
 
 use crate::lent::{CHECKED, OF, OPTIONAL, TWO, Templates, set_of, text_of};
 use crate::refused::{Refused, retried};
-use lic_auto::set::Set;
 use lic_engine::check::check;
 use lic_engine::engine::{run, run_tokens};
 use lic_find::ask::Ask;
-use lic_find::triple::Triple;
 use lic_kind::Rules;
 use lic_norm::words::Words;
+use lic_set::set::Set;
+use lic_set::triple::Triple;
 use lic_test_streams::streams::{Awaited, Pieces};
 use std::alloc::Global;
 

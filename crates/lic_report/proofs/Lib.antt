@@ -1,2 +1,5 @@
 mod LimitLemmas
+mod MergingLemmas
+mod BundlingLemmas
+mod AllMatchesLemmas
 mod ValueLemmas

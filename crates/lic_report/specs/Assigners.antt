@@ -1,7 +1,7 @@
 -- What a report keeps of the templates that had a match.
 use Rattle.std.specs.Prelude.{◌≡◌, ℕ, List, Some, nat_eq}
 use Rattle.std.specs.HashMap.{HashMap, get}
-use Rattle.lic_auto.specs.Sets.{Known}
+use Rattle.lic_set.specs.Sets.{Known}
 use Rattle.lic_vars.specs.Assigners.{AssignerValue}
 
 -- under each number stands the assigner of the template of this number

@@ -6,7 +6,7 @@ use Rattle.lic_kind.specs.LineRules.{LineRules}
 use Rattle.lic_words.specs.Describing.{IsDescribed}
 use Rattle.lic_norm.specs.Tokens.{TokenValue, tokens_of}
 use Rattle.lic_phrases.specs.Rewriting.{Phrase}
-use Rattle.lic_auto.specs.Sets.{Known, words_of}
+use Rattle.lic_set.specs.Sets.{Known, words_of}
 use Rattle.lic_fields.specs.Fields.{escaped, field}
 
 -- the letters of each token

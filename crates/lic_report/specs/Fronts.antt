@@ -1,7 +1,7 @@
 -- What the lines of matches in one file are made of, and what is kept of it.
 use Rattle.std.specs.Prelude.{◌≡◌, ℕ, List, Some, nat_eq}
 use Rattle.std.specs.HashMap.{HashMap, get}
-use Rattle.lic_auto.specs.Sets.{Known}
+use Rattle.lic_set.specs.Sets.{Known}
 use Rattle.lic_report.specs.Report.{match_front}
 
 -- the name of a file, and the templates whose matches are told

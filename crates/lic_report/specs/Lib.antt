@@ -1,5 +1,8 @@
 pub mod Report
 pub mod Checking
+pub mod Bundling
+pub mod Merging
+pub mod Found
 pub mod Wanted
 pub mod Assigners
 pub mod Fronts

@@ -5,9 +5,9 @@ use Rattle.lic_kind.specs.LineRules.{LineRules}
 use Rattle.lic_norm.specs.Tokens.{TokenValue, tokens_of}
 use Rattle.lic_norm.specs.declared.token.Span.{Span}
 use Rattle.lic_phrases.specs.Rewriting.{Phrase}
-use Rattle.lic_auto.specs.Sets.{Known}
-use Rattle.lic_find.specs.Matches.{AreMatches}
-use Rattle.lic_find.specs.declared.triple.Triple.{Triple}
+use Rattle.lic_set.specs.Sets.{Known}
+use Rattle.lic_set.specs.Matches.{AreMatches}
+use Rattle.lic_set.specs.declared.triple.Triple.{Triple}
 use Rattle.lic_filters.specs.Filters.{outer_of}
 use Rattle.lic_vars.specs.Values.{Assigned, AreValues}
 use Rattle.lic_find.specs.declared.ask.Ask.{Ask}

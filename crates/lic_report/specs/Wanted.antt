@@ -1,10 +1,9 @@
 -- What is left of the matches that are asked for.
 use Rattle.std.specs.Prelude.{List}
-use Rattle.lic_find.specs.Rest.{rest_of}
-use Rattle.lic_find.specs.declared.triple.Triple.{Triple}
+use Rattle.lic_set.specs.declared.triple.Triple.{Triple}
 use Rattle.lic_report.specs.declared.wanted.Wanted.{Wanted}
 use Rattle.lic_report.specs.Report.{first_of}
 
--- the first so many of what the finder has left
+-- the first so many of the matches that are left
 abbrev pub wanted_of : Wanted → List Triple
-wanted_of w = first_of w.left (rest_of w.finder)
+wanted_of w = first_of w.left w.matches

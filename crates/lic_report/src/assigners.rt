@@ -1,13 +1,13 @@
 //! The values of one report's matches.
 
 ghost use Rattle.std.specs.Prelude.{◌≡◌, IfOk, map};
-ghost use Rattle.lic_find.specs.Matches.{IsMatch};
+ghost use Rattle.lic_set.specs.Matches.{IsMatch};
 ghost use Rattle.lic_vars.specs.Values.{AreValues};
 ghost use Rattle.lic_vars.specs.Views.{value_of};
 
-use lic_auto::set::Set;
-use lic_find::triple::Triple;
 use lic_norm::text::Text;
+use lic_set::set::Set;
+use lic_set::triple::Triple;
 use lic_vars::values::{Assigner, Value};
 use std::alloc::{AllocError, Global};
 use std::collections::HashMap;
@@ -26,7 +26,7 @@ impl<'s> Model for Assigners<'s> {
     ghost use Rattle.std.specs.Prelude.{List};
     ghost use Rattle.std.specs.Coded.{codes};
     ghost use Rattle.lic_markup.specs.contracts.part.Part as e;
-    ghost use Rattle.lic_auto.specs.Sets.{Known};
+    ghost use Rattle.lic_set.specs.Sets.{Known};
     ghost use Rattle.lic_report.specs.Assigners.{AreAssigners};
 
     ghost Value = { List Known };

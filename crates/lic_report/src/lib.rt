@@ -1,6 +1,7 @@
 //! What a report is: the matches that are asked for, and the lines that are written about them.
 #![tactic(auto)]
 
+pub mod all_matches;
 pub mod assigners;
 pub mod lines;
 pub mod match_lines;

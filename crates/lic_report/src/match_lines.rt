@@ -5,11 +5,11 @@ ghost use Rattle.std.specs.List.{slice_index_or};
 ghost use Rattle.lic_report.specs.Report.{match_front, match_line, no_known, no_token};
 
 use crate::lines::add_file;
-use lic_auto::set::Set;
 use lic_fields::{add_last_numbers, add_text};
-use lic_find::triple::Triple;
 use lic_norm::text::Text;
 use lic_norm::token::Span;
+use lic_set::set::Set;
+use lic_set::triple::Triple;
 use std::alloc::{AllocError, Global};
 use std::collections::HashMap;
 use std::marker::Model;

@@ -1,16 +1,16 @@
 //! The outer matches of a text.
 
 ghost use Rattle.std.specs.Prelude.{◌≡◌, List, All, IfOk, None};
-ghost use Rattle.lic_find.specs.Matches.{AreMatches, IsMatch};
+ghost use Rattle.lic_set.specs.Matches.{AreMatches, IsMatch};
 ghost use Rattle.lic_filters.specs.Filters.{outer_of};
 
-use lic_auto::set::Set;
 use lic_filters::filters::outer;
 use lic_filters::laws::{outer_ones_are_tight, tight_ones_are_tight};
 use lic_find::laws::matches_exist;
-use lic_find::triple::Triple;
 use lic_norm::text::Text;
-use lic_tight::matches::tight_matches;
+use lic_search::tight::tight_matches;
+use lic_set::set::Set;
+use lic_set::triple::Triple;
 use std::alloc::{AllocError, Global};
 
 /// The outer ones of all matches in a text, in the order of triples: those of its tight matches, which are found without a list of all.
@@ -25,5 +25,5 @@ pub fn outer_matches(alloc: Global, set: &Set, text: &Text) -> Result<Vec<Triple
     matches_exist();
     tight_ones_are_tight();
     outer_ones_are_tight();
-    outer(alloc, &tight.matches)
+    outer(alloc, &tight)
 }

@@ -2,7 +2,7 @@
 
 ghost use Rattle.std.specs.Prelude.{◌≡◌, ◌≤◌, ◌++◌, ℕ, List, All, length, map, OnOk, Some};
 ghost use Rattle.std.specs.List.{flat_map};
-ghost use Rattle.lic_find.specs.Matches.{IsMatch};
+ghost use Rattle.lic_set.specs.Matches.{IsMatch};
 ghost use Rattle.lic_norm.specs.declared.token.Span.{Span};
 ghost use Rattle.lic_vars.specs.Values.{Assigned, AreValues};
 ghost use Rattle.lic_vars.specs.Views.{value_of};
@@ -11,10 +11,10 @@ ghost use Rattle.lic_report.specs.Report.{value_line, valued_lines};
 use crate::assigners::Assigners;
 use crate::lines::add_value;
 use crate::match_lines::MatchLines;
-use lic_auto::set::Set;
-use lic_find::triple::Triple;
 use lic_norm::laws::tokens_have_spans;
 use lic_norm::text::Text;
+use lic_set::set::Set;
+use lic_set::triple::Triple;
 use lic_vars::laws::values_run_over_tokens;
 use lic_vars::values::Value;
 use std::alloc::{AllocError, Global};

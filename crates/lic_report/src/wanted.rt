@@ -2,21 +2,21 @@
 
 ghost use Rattle.std.specs.Prelude.{◌≡◌, List, IfOk};
 ghost use Rattle.std.specs.Iterator.{YieldsFirst, item_count};
-ghost use Rattle.lic_find.specs.Matches.{AreMatches};
+ghost use Rattle.lic_set.specs.Matches.{AreMatches};
 ghost use Rattle.lic_report.specs.Report.{first_of};
 ghost use Rattle.lic_report.specs.Wanted.{wanted_of};
 
-use lic_auto::set::Set;
+use crate::all_matches::AllMatches;
 use lic_find::ask::Ask;
-use lic_find::finder::Finder;
-use lic_find::triple::Triple;
 use lic_norm::text::Text;
+use lic_set::set::Set;
+use lic_set::triple::Triple;
 use std::alloc::{AllocError, Global};
 
-/// The matches of a set in a text, from behind a triple and up to a limit where these are asked for.
+/// Gives the matches of a set in a text, after a triple and up to a limit where these are asked for.
 #[derive(Debug, Drop)]
 pub struct Wanted<'a> {
-    finder: Finder<'a>,
+    matches: AllMatches<'a>,
     left: Option<u64>,
 }
 
@@ -34,12 +34,9 @@ impl<'a> Wanted<'a> {
             → AreMatches set.now text.now.tokens ask.now.after others
             → first_of ask.now.limit others ≡ wanted_of w) }
     {
-        let finder = match ask.after {
-            Some(after) => Finder::resume(alloc, set, text, after)?,
-            None => Finder::new(alloc, set, text)?,
-        };
+        let matches = AllMatches::new(alloc, set, text, ask.after)?;
         Ok(Wanted {
-            finder,
+            matches,
             left: ask.limit,
         })
     }
@@ -58,9 +55,9 @@ impl Iterator for Wanted<'_> {
             Some(0) => None,
             Some(n) => {
                 self.left = Some(n - 1);
-                self.finder.next()
+                self.matches.next()
             }
-            None => self.finder.next(),
+            None => self.matches.next(),
         }
     }
 }

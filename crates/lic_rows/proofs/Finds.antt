@@ -1,18 +1,15 @@
 -- The search for a set bit, word by word.
-use Rattle.std.proofs.Common.{◌≡◌, ◌≢◌, ℕ, zero, suc, ◌+◌, ◌-◌, ◌*◌, ◌/◌, ◌%◌, ◌^◌, ◌<◌, ◌≤◌, Bool, true, false, ◌&&◌, not, List, get_or, refl, ap, sym, ◌∙◌, arith, inl, inr, w64, eq-eqb, ne_eqb, eqb-true}
-use Rattle.std.proofs.lemmas.Bool.{cases_lt, cases_eq, cases_Bool}
+use Rattle.std.proofs.Common.{◌≡◌, ℕ, zero, suc, ◌+◌, ◌-◌, ◌*◌, ◌/◌, ◌%◌, ◌^◌, ◌<◌, ◌≤◌, Bool, true, false, ◌&&◌, not, List, get_or, refl, ap, sym, ◌∙◌, arith, inl, inr, w64, eq-eqb}
+use Rattle.std.proofs.lemmas.Bool.{cases_lt}
 use Rattle.std.proofs.lemmas.Nat.Bits.{bit_at-trailing_zeros, bit_at-zero, bit_at-lt, bit_at_above}
-use Rattle.std.specs.Prelude.{◌==◌, nat_le}
+use Rattle.std.specs.Prelude.{◌==◌}
 use Rattle.std.specs.Int.{bit_at, trailing_zeros, leading_zeros}
 use Rattle.std.proofs.lemmas.Nat.{leading_top, shr_high}
 use Rattle.lic_rows.specs.Bits.{has}
+use Rattle.lic_rows.proofs.Sets.{some_bit}
 
--- set in the other row and not in this one
-abbrev pub is_fresh : List ℕ → List ℕ → ℕ → Bool
-is_fresh row other b = has other b && not (has row b)
-
--- The search has come to the word at `at`: of the bits of the stretch before it none is wanted, and of its own the
--- word has those that are wanted and stand in the stretch or behind.
+-- The search has come to the word at `at`: of the bits of the range before it none is wanted, and of its own the
+-- word has those that are wanted and stand in the range or after.
 pub record Looks (wanted : ℕ → Bool) (from to at word : ℕ) : Type 0 where
   pub begun : from / 64 ≤ at
   pub within : at ≤ to / 64
@@ -88,8 +85,8 @@ module _ (wanted : ℕ → Bool) (from to : ℕ) (order : from ≤ to) where
 
 -- ---- from the last word to the first
 
--- The search has come down to the word at `at`: of the bits of the stretch behind it none is wanted, and of its own the
--- word has those that are wanted and stand in the stretch or before.
+-- The search has come down to the word at `at`: of the bits of the range after it none is wanted, and of its own the
+-- word has those that are wanted and stand in the range or before.
 pub record LooksDown (wanted : ℕ → Bool) (from to at word : ℕ) : Type 0 where
   pub within : at ≤ to / 64
   pub fits : word < 2 ^ 64
@@ -171,8 +168,8 @@ module _ (wanted : ℕ → Bool) (from to : ℕ) (order : from ≤ to) where
         let t = highest_is word some l.fits in
         sym (l.inside (highest word) t.0 last_before) ∙ eq-eqb _ 1 t.1
 
-    pub none_behind : (b : ℕ) → at * 64 + highest word < b → b < to → wanted b ≡ false
-    none_behind b after before = elim (cases_lt b (suc at * 64)) [
+    pub none_past : (b : ℕ) → at * 64 + highest word < b → b < to → wanted b ≡ false
+    none_past b after before = elim (cases_lt b (suc at * 64)) [
       | inl low ↦
           let t = highest_is word some l.fits in
           let i : ℕ = b - at * 64 in
@@ -197,20 +194,38 @@ minus (suc zero) (suc zero) p q = refl
 minus (suc (suc m)) n p q = absurd (omega arith)
 minus m (suc (suc n)) p q = absurd (omega arith)
 
-pub fresh_here : (row other : List ℕ) (at word i : ℕ) → i < 64 → bit_at word i ≡ bit_at (get_or other at 0) i - bit_at (get_or row at 0) i
-    → (bit_at word i == 1) ≡ is_fresh row other (at * 64 + i)
-fresh_here row other at word i small e =
-    ap (λ x. x == 1) e ∙ minus (bit_at (get_or other at 0) i) (bit_at (get_or row at 0) i) (bit_at-lt _ i) (bit_at-lt _ i)
-    ∙ ap (λ x. x && not (bit_at (get_or row at 0) i == 1)) (has_here other at i small)
-    ∙ ap (λ x. has other (at * 64 + i) && not x) (has_here row at i small)
-
-pub fresh_true : (x y : Bool) → (x && not y) ≡ true → (y ≡ false) × (x ≡ true)
+fresh_true : (x y : Bool) → (x && not y) ≡ true → (y ≡ false) × (x ≡ true)
 fresh_true true false e = (refl, refl)
 fresh_true true true e = absurd cc
 fresh_true false true e = absurd cc
 fresh_true false false e = absurd cc
 
-pub fresh_false : (x y : Bool) → (x && not y) ≡ false → x ≡ true → y ≡ true
+fresh_false : (x y : Bool) → (x && not y) ≡ false → x ≡ true → y ≡ true
 fresh_false true true e h = refl
 fresh_false true false e h = absurd cc
 fresh_false false y e h = absurd cc
+
+-- set in the other row and not in this one
+abbrev is_fresh : List ℕ → List ℕ → ℕ → Bool
+is_fresh row other b = has other b && not (has row b)
+
+module _ (row other : List ℕ) (at word : ℕ) (fits : word < 2 ^ 64)
+    (bits : (i : ℕ) → i < 64 → bit_at word i ≡ bit_at (get_or other at 0) i - bit_at (get_or row at 0) i) where
+  fresh_here : (i : ℕ) → i < 64 → (bit_at word i == 1) ≡ is_fresh row other (at * 64 + i)
+  fresh_here i small =
+      ap (λ x. x == 1) (bits i small) ∙ minus (bit_at (get_or other at 0) i) (bit_at (get_or row at 0) i) (bit_at-lt _ i) (bit_at-lt _ i)
+      ∙ ap (λ x. x && not (bit_at (get_or row at 0) i == 1)) (has_here other at i small)
+      ∙ ap (λ x. has other (at * 64 + i) && not x) (has_here row at i small)
+
+  pub some_fresh : 0 < word → (b : ℕ) × (has row b ≡ false) × (has other b ≡ true)
+  some_fresh some =
+      let t = some_bit word some fits in
+      let b : ℕ = at * 64 + t.0 in
+      let is = fresh_true (has other b) (has row b) (sym (fresh_here t.0 t.1) ∙ eq-eqb _ 1 t.2) in
+      (b, is.0, is.1)
+
+  pub none_fresh : word ≡ 0 → (b : ℕ) → b / 64 ≡ at → has other b ≡ true → has row b ≡ true
+  none_fresh none b here set =
+      let place : at * 64 + b % 64 ≡ b = omega arith in
+      let bit : (bit_at word (b % 64) == 1) ≡ false = ap (λ w. bit_at w (b % 64) == 1) none ∙ ap (λ x. x == 1) (bit_at-zero (b % 64)) in
+      fresh_false (has other b) (has row b) (ap (is_fresh row other) (sym place) ∙ sym (fresh_here (b % 64) (omega arith)) ∙ bit) set

@@ -1,19 +1,27 @@
 -- Words seen as a list of flags.
-use Rattle.std.proofs.Common.{◌≡◌, ◌≢◌, ℕ, ◌+◌, ◌/◌, ◌<◌, ◌≤◌, Bool, true, false, List, get_or, length, replicate, set, map, refl, ap, sym, ◌∙◌, arith, inl, inr}
+use Rattle.std.proofs.Common.{◌≡◌, ◌≢◌, ℕ, ◌+◌, ◌/◌, ◌<◌, ◌≤◌, Bool, true, false, List, get_or, length, replicate, set, refl, ap, sym, ◌∙◌, arith, inl, inr}
 use Rattle.std.proofs.lemmas.Bool.{cases_lt, cases_eq}
 use Rattle.std.proofs.lemmas.List.{get_or_past, get_or-replicate, length-replicate, ext_get_or, get_or-set_same, get_or-set_other, length-set}
 use Rattle.std.proofs.lemmas.List.FromFn.{get_or-map-range_with_len, length-map-range_with_len}
-use Rattle.std.specs.Prelude.{Option, Some, None, IfSome, IfNone, is_some, ◌||◌}
+use Rattle.std.specs.Prelude.{Option, Some, None, IfSome, IfNone, ◌||◌}
 use Rattle.lic_rows.specs.Bits.{has, flags, flag_at, IsKeptOutside}
 use Rattle.lic_rows.proofs.Sets.{unset_in_zero}
 
 pub length-flags : (n : ℕ) (row : List ℕ) → length (flags n row) ≡ n
 length-flags n row = length-map-range_with_len (λ b. has row b) 0 n
 
+-- rows of as many flags have as many words
+module _ (n m : ℕ) (xs ys : List ℕ) (same : length (flags n xs) ≡ length (flags m ys)) where
+  pub same_flags : n ≡ m
+  same_flags = sym (length-flags n xs) ∙ same ∙ length-flags m ys
+
+  pub same_words : length xs ≡ n / 64 + 1 → length ys ≡ m / 64 + 1 → length xs ≡ length ys
+  same_words e f = e ∙ ap (λ k. k / 64 + 1) same_flags ∙ sym f
+
 pub flag-inside : (n : ℕ) (row : List ℕ) (k : ℕ) → k < n → flag_at (flags n row) k ≡ has row k
 flag-inside n row k inside = get_or-map-range_with_len (λ b. has row b) 0 n k k false inside (omega arith)
 
--- where no bit is set behind them
+-- where no bit is set after them
 pub flag-is : (n : ℕ) (row : List ℕ) → ((k : ℕ) → n ≤ k → has row k ≡ false) → (k : ℕ) → flag_at (flags n row) k ≡ has row k
 flag-is n row rest k = elim (cases_lt k n) [
   | inl inside ↦ flag-inside n row k inside
@@ -23,12 +31,12 @@ flag-is n row rest k = elim (cases_lt k n) [
 module _ (n : ℕ) (old new : List ℕ) (rest : (k : ℕ) → n ≤ k → has old k ≡ false) (from to : ℕ) (room : to ≤ n)
     (kept : IsKeptOutside from to (has old) (has new)) where
   pub rest_kept : (k : ℕ) → n ≤ k → has new k ≡ false
-  rest_kept k past = kept.behind k (omega arith) ∙ rest k past
+  rest_kept k past = kept.past k (omega arith) ∙ rest k past
 
   pub flags_kept : IsKeptOutside from to (flag_at (flags n old)) (flag_at (flags n new))
   flags_kept = record {
     before = λ k low. flag-is n new rest_kept k ∙ kept.before k low ∙ sym (flag-is n old rest k);
-    behind = λ k high. flag-is n new rest_kept k ∙ kept.behind k high ∙ sym (flag-is n old rest k);
+    past = λ k high. flag-is n new rest_kept k ∙ kept.past k high ∙ sym (flag-is n old rest k);
   }
 
 pub clear_unset : (m b : ℕ) → has (replicate m 0) b ≡ false
@@ -84,28 +92,34 @@ module _ (n : ℕ) (row : List ℕ) (from to : ℕ) (room : to ≤ n) where
   none_flag None h = λ k low high. flag-inside n row k (omega arith) ∙ h k low high
   none_flag (Some at) h = h
 
-all_or : (x y : Bool) → (y ≡ true → x ≡ true) → x ≡ (x || y)
+-- ---- joined rows
+
+all_or : (x y : Bool) → (y ≡ true → x ≡ true) → (x || y) ≡ x
 all_or true y h = refl
 all_or false true h = absurd (let e = h refl in cc)
 all_or false false h = refl
 
-module _ (n : ℕ) (row other : List ℕ) (new : List ℕ) (from to : ℕ) (room : to ≤ n) where
-  pub found_fresh : (found : Option ℕ) → IfSome found (λ at. (from ≤ at) × (at < to) × (has row at ≡ false) × (has other at ≡ true))
-      → is_some found ≡ true → ((b : ℕ) → from ≤ b → b < to → has new b ≡ (has row b || has other b))
-      → (k : ℕ) × (flag_at (flags n row) k ≡ false) × (flag_at (flags n new) k ≡ true)
-  found_fresh None h is joined = absurd cc
-  found_fresh (Some at) h is joined = (
-    at,
-    flag-inside n row at (omega (arith, h.1)) ∙ h.2,
-    flag-inside n new at (omega (arith, h.1)) ∙ joined at h.0 h.1 ∙ ap (λ x. x || has other at) h.2 ∙ h.3,
+none_of : (x y : Bool) → x ≡ false → y ≡ false → (x || y) ≡ false
+none_of true y h k = absurd cc
+none_of false y h k = k
+
+module _ (n : ℕ) (row other new : List ℕ) (rest : (k : ℕ) → n ≤ k → has row k ≡ false) (other_rest : (k : ℕ) → n ≤ k → has other k ≡ false)
+    (joined : (b : ℕ) → has new b ≡ (has row b || has other b)) where
+  pub rest_joined : (k : ℕ) → n ≤ k → has new k ≡ false
+  rest_joined k past = joined k ∙ none_of (has row k) (has other k) (rest k past) (other_rest k past)
+
+  pub flags_joined : (k : ℕ) → flag_at (flags n new) k ≡ (flag_at (flags n row) k || flag_at (flags n other) k)
+  flags_joined k = flag-is n new rest_joined k ∙ joined k
+      ∙ ap (λ x. x || has other k) (sym (flag-is n row rest k))
+      ∙ ap (λ x. flag_at (flags n row) k || x) (sym (flag-is n other other_rest k))
+
+  pub flags_grown : (b : ℕ) × (has row b ≡ false) × (has other b ≡ true) → (k : ℕ) × (flag_at (flags n row) k ≡ false) × (flag_at (flags n new) k ≡ true)
+  flags_grown (b, unset, set) = (
+    b,
+    flag-is n row rest b ∙ unset,
+    flag-is n new rest_joined b ∙ joined b ∙ ap (λ x. x || has other b) unset ∙ set,
   )
 
-module _ (n m : ℕ) (row other : List ℕ) (from to : ℕ) (room : to ≤ n) (same : n ≡ m) where
-  pub none_fresh : (found : Option ℕ) → IfNone found ((b : ℕ) → from ≤ b → b < to → has other b ≡ true → has row b ≡ true)
-      → is_some found ≡ false → (k : ℕ) → from ≤ k → k < to → flag_at (flags n row) k ≡ (flag_at (flags n row) k || flag_at (flags m other) k)
-  none_fresh (Some at) h is = absurd cc
-  none_fresh None h is = λ k low high.
-      let inside : k < n = omega arith in
-      let x = flag-inside n row k inside in
-      let y = flag-inside m other k (omega (arith, inside)) in
-      all_or (flag_at (flags n row) k) (flag_at (flags m other) k) (λ set. x ∙ h k low high (sym y ∙ set))
+  pub flags_same : ((b : ℕ) → has other b ≡ true → has row b ≡ true) → flags n new ≡ flags n row
+  flags_same none = ext_get_or false (flags n new) (flags n row) (length-flags n new ∙ sym (length-flags n row))
+      (λ k inside. flag-is n new rest_joined k ∙ joined k ∙ all_or (has row k) (has other k) (none k) ∙ sym (flag-is n row rest k))

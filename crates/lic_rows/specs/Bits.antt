@@ -15,7 +15,7 @@ flags n words = map (λ b. has words b) (range_with_len 0 n)
 abbrev pub flag_at : List Bool → ℕ → Bool
 flag_at flags k = get_or flags k false
 
--- outside of a stretch the bits are as they were
+-- outside of a range the bits are as they were
 pub record IsKeptOutside (from to : ℕ) (old new : ℕ → Bool) : Type 0 where
   pub before : (k : ℕ) → k < from → new k ≡ old k
-  pub behind : (k : ℕ) → to ≤ k → new k ≡ old k
+  pub past : (k : ℕ) → to ≤ k → new k ≡ old k

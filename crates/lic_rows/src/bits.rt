@@ -3,11 +3,12 @@
 ghost use Rattle.std.specs.Prelude.{◌≡◌, ℕ, suc, ◌+◌, ◌-◌, ◌≤◌, ◌<◌, ◌↔◌, ◌||◌, IsTrue, IfOk, IfSome, IfNone, true, false, length, replicate, slice_set};
 ghost use Rattle.lic_rows.specs.Bits.{flag_at, IsKeptOutside};
 
-use crate::stretch;
+use crate::words::has_fresh;
+use crate::{or_into, range};
 use std::alloc::{AllocError, Global};
 use std::marker::Model;
 
-/// A row of bits: a list of flags, 64 in a word. A stretch of it is given by its first place and the one behind its
+/// A row of bits: a list of flags, 64 in a word. A range of it is given by its first place and the one after its
 /// last, in bits. Only `new` takes memory.
 #[derive(Drop, Debug)]
 pub struct Bits {
@@ -54,7 +55,7 @@ impl Bits {
         requires { at < length self.now }
         ensures { result ≡ flag_at self.now at }
     {
-        stretch::get(&self.words, at)
+        range::get(&self.words, at)
     }
 
     /// Sets or clears the bit.
@@ -63,22 +64,22 @@ impl Bits {
         requires { at < length self.old }
         ensures { self.new ≡ slice_set self.old at is_set }
     {
-        stretch::put(&mut self.words, at, is_set);
+        range::put(&mut self.words, at, is_set);
     }
 
-    /// The first bit of the stretch that is set. Words with none are passed over.
+    // The first bit of the range that is set. Words with none are passed over.
     #[inline]
-    pub fn next_set(&self, from: usize, to: usize) -> Option<usize>
+    fn next_set(&self, from: usize, to: usize) -> Option<usize>
         requires order { from ≤ to }
         requires room { to ≤ length self.now }
         ensures found { IfSome result (λ at. (from ≤ at) × (at < to) × (flag_at self.now at ≡ true)
             × ((k : ℕ) → from ≤ k → k < at → flag_at self.now k ≡ false)) }
         ensures none { IfNone result ((k : ℕ) → from ≤ k → k < to → flag_at self.now k ≡ false) }
     {
-        stretch::next_set(&self.words, from, to)
+        range::next_set(&self.words, from, to)
     }
 
-    /// The last bit of the stretch that is set. Words with none are passed over.
+    /// The last bit of the range that is set. Words with none are passed over.
     #[inline]
     pub fn last_set(&self, from: usize, to: usize) -> Option<usize>
         requires order { from ≤ to }
@@ -87,10 +88,10 @@ impl Bits {
             × ((k : ℕ) → at < k → k < to → flag_at self.now k ≡ false)) }
         ensures none { IfNone result ((k : ℕ) → from ≤ k → k < to → flag_at self.now k ≡ false) }
     {
-        stretch::last_set(&self.words, from, to)
+        range::last_set(&self.words, from, to)
     }
 
-    /// Whether a bit of the stretch is set.
+    /// Whether a bit of the range is set.
     #[inline]
     pub fn is_any_set(&self, from: usize, to: usize) -> bool
         requires order { from ≤ to }
@@ -100,15 +101,7 @@ impl Bits {
         self.next_set(from, to).is_some()
     }
 
-    /// Whether it has the same bits as the other row.
-    #[inline]
-    pub fn is_same(&self, other: &Bits) -> bool
-        ensures { IsTrue result → self.now ≡ other.now }
-    {
-        (self.len == other.len) & (self.words == other.words)
-    }
-
-    /// Clears the bits of the stretch.
+    /// Clears the bits of the range.
     #[inline]
     pub fn clear(&mut self, from: usize, to: usize)
         requires order { from ≤ to }
@@ -117,47 +110,36 @@ impl Bits {
         ensures kept { IsKeptOutside from to (flag_at self.old) (flag_at self.new) }
         ensures inside { (k : ℕ) → from ≤ k → k < to → flag_at self.new k ≡ false }
     {
-        stretch::clear(&mut self.words, from, to);
+        range::clear(&mut self.words, from, to);
     }
 
-    /// Makes the bits of the stretch those of the other row.
+    /// Becomes the other row.
     #[inline]
-    pub fn copy(&mut self, other: &Bits, from: usize, to: usize)
-        requires order { from ≤ to }
-        requires room { to ≤ length self.old }
-        requires len { length self.old ≡ length other.now }
-        ensures len { length self.new ≡ length self.old }
-        ensures kept { IsKeptOutside from to (flag_at self.old) (flag_at self.new) }
-        ensures inside { (k : ℕ) → from ≤ k → k < to → flag_at self.new k ≡ flag_at other.now k }
+    pub fn copy_from(&mut self, other: &Bits)
+        requires { length self.old ≡ length other.now }
+        ensures { self.new ≡ other.now }
     {
-        stretch::copy(&mut self.words, &other.words, from, to);
+        self.words.copy_from_slice(&other.words);
     }
 
-    /// Sets the bits of the stretch that the other row has, and says whether one was new.
+    /// Sets the bits that the other row has, and says whether one was new.
     #[inline]
-    pub fn join(&mut self, other: &Bits, from: usize, to: usize) -> bool
-        requires order { from ≤ to }
-        requires room { to ≤ length self.old }
-        requires len { length self.old ≡ length other.now }
+    pub fn join(&mut self, other: &Bits) -> bool
+        requires { length self.old ≡ length other.now }
         ensures len { length self.new ≡ length self.old }
-        ensures kept { IsKeptOutside from to (flag_at self.old) (flag_at self.new) }
-        ensures inside { (k : ℕ) → from ≤ k → k < to
-            → flag_at self.new k ≡ (flag_at self.old k || flag_at other.now k) }
+        ensures either { (k : ℕ) → flag_at self.new k ≡ (flag_at self.old k || flag_at other.now k) }
         ensures same { result ≡ false → self.new ≡ self.old }
         ensures grows { result ≡ true
             → (k : ℕ) × (flag_at self.old k ≡ false) × (flag_at self.new k ≡ true) }
     {
-        let grows = stretch::next_fresh(&self.words, &other.words, from, to).is_some();
-        if grows {
-            stretch::join(&mut self.words, &other.words, from, to);
-        }
+        let grows = has_fresh(&self.words, &other.words);
+        or_into(&mut self.words, &other.words);
         grows
     }
 
-    /// Moves each bit of the stretch to the next place. The one at its front becomes as given, and the last one, which
-    /// moves out at its end, is the answer.
+    /// Moves each bit of the range to the next place. The first one becomes as given, and the last one is lost.
     #[inline]
-    pub fn move_up(&mut self, from: usize, to: usize, is_set: bool) -> bool
+    pub fn move_up(&mut self, from: usize, to: usize, is_set: bool)
         requires order { from < to }
         requires room { to ≤ length self.old }
         ensures len { length self.new ≡ length self.old }
@@ -165,10 +147,7 @@ impl Bits {
         ensures first { flag_at self.new from ≡ is_set }
         ensures rest { (k : ℕ) → from ≤ k → suc k < to
             → flag_at self.new (suc k) ≡ flag_at self.old k }
-        ensures out { result ≡ flag_at self.old (to - 1) }
     {
-        let out = stretch::get(&self.words, to - 1);
-        stretch::move_up(&mut self.words, from, to, is_set);
-        out
+        range::move_up(&mut self.words, from, to, is_set);
     }
 }

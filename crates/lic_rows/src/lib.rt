@@ -1,6 +1,6 @@
 //! Rows of bits. A row of any length is a `Bits`. The calls of this module are its kernels on whole words, which move lanes
 //! of four words and a plain loop for the rest. Bit number `b` of a row is bit `b % 64`, counted from the lowest, of word
-//! `b / 64`; behind its last word a row has no set bit. Only `Bits::new` takes memory and can fail.
+//! `b / 64`; after its last word a row has no set bit. Only `Bits::new` takes memory and can fail.
 #![tactic(auto)]
 
 ghost use Rattle.std.specs.Prelude.{◌≡◌, ℕ, suc, ◌*◌, ◌≤◌, ◌↔◌, ◌&&◌, ◌||◌, nat_lt, IsTrue, true, false, length};
@@ -8,7 +8,7 @@ ghost use Rattle.lic_rows.specs.Bits.{has};
 
 pub mod bits;
 mod lanes;
-mod stretch;
+mod range;
 mod word;
 mod words;
 

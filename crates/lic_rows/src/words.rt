@@ -4,6 +4,7 @@ ghost use Rattle.std.specs.Prelude.{◌≡◌, ℕ, suc, ◌*◌, ◌/◌, ◌%�
 ghost use Rattle.lic_rows.specs.Bits.{has};
 
 use crate::lanes::{four_are_zero, shift_four};
+use crate::word::fresh;
 
 /// Whether the words numbered `from` or more are zero.
 pub fn are_zero_from(row: &[u64], from: usize) -> bool
@@ -60,4 +61,18 @@ pub fn clear_from(row: &mut [u64], limit: usize)
             row[k] = 0;
         }
     }
+}
+
+/// Whether the other row has a bit that this one has not. Both have the same number of words.
+pub fn has_fresh(row: &[u64], other: &[u64]) -> bool
+    requires { length row.now ≡ length other.now }
+    ensures some { result ≡ true → (b : ℕ) × (has row.now b ≡ false) × (has other.now b ≡ true) }
+    ensures none { result ≡ false → (b : ℕ) → has other.now b ≡ true → has row.now b ≡ true }
+{
+    for at in 0..row.len() {
+        if fresh(row[at], other[at]) != 0 {
+            return true;
+        }
+    }
+    false
 }

@@ -1,20 +1,21 @@
 -- Going back over a blank from the places of one span.
-use Rattle.std.proofs.Common.{◌≡◌, ◌⊎◌, ◌↔◌, ℕ, suc, ◌+◌, ◌<◌, ◌≤◌, true, false, IsTrue, List, [], ◌∷◌, ◌++◌, length, inl, inr, refl, sym, ap, arith, subst, ◌∙◌}
-use Rattle.std.specs.Prelude.{All, Contains}
+use Rattle.std.proofs.Common.{◌≡◌, ◌⊎◌, ◌↔◌, ℕ, ◌<◌, ◌≤◌, false, List, [], ◌∷◌, length, inl, inr, refl, sym, ap, arith, subst, ◌∙◌}
+use Rattle.std.specs.Prelude.{Contains}
 use Rattle.std.proofs.lemmas.List.Elements.{All-contains, All-nil, All-push, Contains-push_cases}
 use Rattle.lic_words.specs.Words.{Word, blank}
 use Rattle.lic_norm.specs.Tokens.{TokenValue}
-use Rattle.lic_norm.specs.Places.{IsTokenEnd, place_end}
-use Rattle.lic_places.specs.Places.{AreTexts, HasGap, IsBehindBlank, OverBlank, is_blank_at, over, spelling_of, stays}
+use Rattle.lic_norm.specs.Places.{place_end}
+use Rattle.lic_places.specs.Places.{AreTexts, IsBehindBlank, OverBlank, is_blank_at, over, spelling_of, stays}
 use Rattle.lic_places.specs.Reads.{Reads, Takes}
 use Rattle.lic_spans.specs.Spans.{Holds}
 use Rattle.lic_spans.specs.declared.span.Kind.{Kind}
-use Rattle.lic_spans.specs.declared.span.Kind.TheVariants.{End, Place, Letters, Blanks}
+use Rattle.lic_spans.specs.declared.span.Kind.TheVariants.{End, Letters, Blanks}
 use Rattle.lic_spans.specs.declared.span.PlaceSpan.{PlaceSpan}
 use Rattle.lic_search.specs.PlaceSets.{ArePlaced, IsPlaceOf, LiesInFront, Reaches}
-use Rattle.lic_search.specs.Backward.{Beats, IsBack, IsBackFrom}
+use Rattle.lic_search.specs.Backward.{Beats, IsBack}
 use Rattle.lic_search.proofs.PlaceLaws.{blank-one, blank-twice, blanks-apart, end-not_behind}
 use Rattle.lic_search.proofs.Back.{Beats-same}
+use Rattle.lic_search.specs.declared.keep.Keep.{Keep}
 
 -- the word of one blank
 abbrev pub IsBlank : Word → Type 0
@@ -49,13 +50,13 @@ pub holds-one : (span : PlaceSpan) (number : ℕ) → span.low ≤ number → nu
 holds-one span number from to = record { span = span; among = (0, omega arith, refl); kind_is = refl; from = from; to = to; last_is = refl }
 
 -- a span of the same numbers, of another kind, whose places are those to which a blank leads from the places of the one
-pub back-renamed : (tokens : List TokenValue) (span other : PlaceSpan) → ArePlaced tokens (span ∷ []) →
+pub back-renamed : (keep : Keep) (tokens : List TokenValue) (span other : PlaceSpan) → ArePlaced tokens (span ∷ []) →
     other.low ≡ span.low → other.high ≡ span.high → other.last ≡ span.last →
     ((number : ℕ) → LiesInFront tokens span.kind number span.last → LiesInFront tokens other.kind number span.last) →
     ((number p : ℕ) → LiesInFront tokens span.kind number span.last →
     IsPlaceOf tokens other.kind number p ↔ ((q : ℕ) × IsPlaceOf tokens span.kind number q × OverBlank tokens p q)) →
-    IsBack tokens IsBlank (span ∷ []) (other ∷ [])
-back-renamed tokens span other placed low high last front places = record {
+    IsBack keep tokens IsBlank (span ∷ []) (other ∷ [])
+back-renamed keep tokens span other placed low high last front places = record {
   placed = record {
     ordered = All-push (λ (s : PlaceSpan). s.low ≤ s.high) [] other (All-nil (λ (s : PlaceSpan). s.low ≤ s.high)) order;
     last = All-push (λ (s : PlaceSpan). s.last < length tokens) [] other (All-nil (λ (s : PlaceSpan). s.last < length tokens)) within;
@@ -93,14 +94,14 @@ back-renamed tokens span other placed low high last front places = record {
 
     complete : (p q l : ℕ) (w : Word) (r : Reaches tokens (span ∷ []) q l) →
         (span.kind ≡ r.kind) × (span.low ≤ r.number) × (r.number ≤ span.high) × (span.last ≡ l) → IsBlank w → Reads tokens p w q →
-        (o : ℕ) × Beats tokens p o l × Reaches tokens (other ∷ []) p o
+        (o : ℕ) × Beats keep tokens p o l × Reaches tokens (other ∷ []) p o
     complete p q l w r h is reads =
         let blank-leads = (blank-read tokens p q).0 (subst (λ x. Reads tokens p x q) is reads) in
         let place = (places r.number p (in_front r.number h.1 h.2)).1 (q, subst (λ k. IsPlaceOf tokens k r.number q) (sym h.0) r.place, blank-leads) in
         let from : other.low ≤ r.number = omega (arith, h.1, low) in
         let to : r.number ≤ other.high = omega (arith, h.2, high) in
         let holds : Holds (other ∷ []) other.kind r.number l = subst (λ x. Holds (other ∷ []) other.kind r.number x) (last ∙ h.3) (holds-one other r.number from to) in
-        (l, Beats-same tokens p l, record { kind = other.kind; number = r.number; holds = holds; place = place })
+        (l, Beats-same keep tokens p l, record { kind = other.kind; number = r.number; holds = holds; place = place })
 
 -- at the end of a token one blank leads nowhere else
 pub blank-at_end : (tokens : List TokenValue) (last p : ℕ) → AreTexts tokens → last < length tokens →
@@ -123,9 +124,9 @@ blank-again tokens p _ texts (over is) = stays (λ behind. apart behind) (inr (i
 blank-again tokens p _ texts (stays not gap) = stays not gap
 
 -- of what nothing was taken, and of what is in front of a blank, the places stay
-pub back-kept : (tokens : List TokenValue) (span : PlaceSpan) → AreTexts tokens → ArePlaced tokens (span ∷ []) → (span.kind ≡ End) ⊎ (span.kind ≡ Blanks) →
-    IsBack tokens IsBlank (span ∷ []) (span ∷ [])
-back-kept tokens span texts placed kinds = back-renamed tokens span span placed refl refl refl (λ number front. front) (λ number p front. by_kind kinds number p front)
+pub back-kept : (keep : Keep) (tokens : List TokenValue) (span : PlaceSpan) → AreTexts tokens → ArePlaced tokens (span ∷ []) → (span.kind ≡ End) ⊎ (span.kind ≡ Blanks) →
+    IsBack keep tokens IsBlank (span ∷ []) (span ∷ [])
+back-kept keep tokens span texts placed kinds = back-renamed keep tokens span span placed refl refl refl (λ number front. front) (λ number p front. by_kind kinds number p front)
   where
     within : span.last < length tokens
     within = All-contains (λ (s : PlaceSpan). s.last < length tokens) (span ∷ []) span placed.last (0, omega arith, refl)
@@ -149,11 +150,11 @@ back-kept tokens span texts placed kinds = back-renamed tokens span span placed 
         )
 
 -- of places at which letters begin those to which a blank leads
-pub back-with_blank : (tokens : List TokenValue) (span other : PlaceSpan) → ArePlaced tokens (span ∷ []) → span.kind ≡ Letters → other ≡ record span { kind = Blanks } →
-    IsBack tokens IsBlank (span ∷ []) (other ∷ [])
-back-with_blank tokens span other placed is renamed =
-    subst (λ o. IsBack tokens IsBlank (span ∷ []) (o ∷ [])) (sym renamed)
-    (back-renamed tokens span (record span { kind = Blanks }) placed refl refl refl
+pub back-with_blank : (keep : Keep) (tokens : List TokenValue) (span other : PlaceSpan) → ArePlaced tokens (span ∷ []) → span.kind ≡ Letters → other ≡ record span { kind = Blanks } →
+    IsBack keep tokens IsBlank (span ∷ []) (other ∷ [])
+back-with_blank keep tokens span other placed is renamed =
+    subst (λ o. IsBack keep tokens IsBlank (span ∷ []) (o ∷ [])) (sym renamed)
+    (back-renamed keep tokens span (record span { kind = Blanks }) placed refl refl refl
     (λ number front. subst (λ k. LiesInFront tokens k number span.last) is front)
     (λ number p front. subst (λ k. IsPlaceOf tokens Blanks number p ↔ ((q : ℕ) × IsPlaceOf tokens k number q × OverBlank tokens p q)) (sym is) (
       λ place. (number, (refl, place.0), place.1),

@@ -9,15 +9,16 @@ use Rattle.lic_places.specs.Reads.{Reads}
 use Rattle.lic_spans.specs.Spans.{Holds}
 use Rattle.lic_spans.specs.declared.span.Kind.TheVariants.{Letters}
 use Rattle.lic_spans.specs.declared.span.PlaceSpan.{PlaceSpan}
-use Rattle.lic_search.specs.Backward.{AddsBack, Beats, IsBack, IsBackFrom, KeepsLeast}
+use Rattle.lic_search.specs.Backward.{AddsBack, Beats, IsBack, IsBackFrom, Keeps}
 use Rattle.lic_search.specs.PlaceSets.{ArePlaced, IsPlaceOf, Reaches}
-use Rattle.lic_search.proofs.Back.{back-both, back-either, back-least, back-nothing, back-same, back-stay}
+use Rattle.lic_search.proofs.Back.{back-both, back-either, back-keeps, back-nothing, back-same, back-stay}
 use Rattle.lic_search.proofs.BlankLemmas.{held}
 use Rattle.lic_search.proofs.CountPlaces.{place-order, place-same}
 use Rattle.lic_search.proofs.CountReads.{counted-reads}
 use Rattle.lic_search.proofs.CountSpans.{IsAt, letters_before}
 use Rattle.lic_search.proofs.CountWords.{Counted, counted-from_none, counted-sound}
 use Rattle.lic_search.proofs.ViewSpans.{Holds-one}
+use Rattle.lic_search.specs.declared.keep.Keep.{Keep}
 
 -- the place of some number of the span, from this one on
 pub record IsFromNumber (tokens : List TokenValue) (span : PlaceSpan) (from q last : ℕ) : Type 0 where
@@ -35,23 +36,23 @@ pub number-at : (tokens : List TokenValue) (span : PlaceSpan) (number q : ℕ) �
     → IsAt (IsOfNumber tokens span number) q span.last
 number-at tokens span number q place = λ r l ends. (place-same tokens span.kind number r q ends.0 place, ends.1)
 
-pub back-none_yet : (tokens : List TokenValue) (P : Word → Type 0) (span : PlaceSpan) (n : ℕ) → span.high < n
-    → IsBackFrom tokens P (IsFromNumber tokens span n) []
-back-none_yet tokens P span n past =
-    back-nothing tokens P (IsFromNumber tokens span n)
+pub back-none_yet : (keep : Keep) (tokens : List TokenValue) (P : Word → Type 0) (span : PlaceSpan) (n : ℕ) → span.high < n
+    → IsBackFrom keep tokens P (IsFromNumber tokens span n) []
+back-none_yet keep tokens P span n past =
+    back-nothing keep tokens P (IsFromNumber tokens span n)
     (λ p q last w ends is reads. let low : n ≤ ends.number = ends.low in let high : ends.number ≤ span.high = ends.high in omega arith)
 
 same_words : (P : Word → Type 0) (w : Word) → P w ↔ P w
 same_words P w = (λ h. h, λ h. h)
 
-pub back-one_more : (tokens : List TokenValue) (P : Word → Type 0) (span : PlaceSpan) (n : ℕ) (xs ys : List PlaceSpan) → n ≤ span.high
-    → IsBackFrom tokens P (IsFromNumber tokens span (suc n)) xs → IsBackFrom tokens P (IsOfNumber tokens span n) ys
-    → IsBackFrom tokens P (IsFromNumber tokens span n) (xs ++ ys)
-back-one_more tokens P span n xs ys high more here =
-    back-same tokens P P
+pub back-one_more : (keep : Keep) (tokens : List TokenValue) (P : Word → Type 0) (span : PlaceSpan) (n : ℕ) (xs ys : List PlaceSpan) → n ≤ span.high
+    → IsBackFrom keep tokens P (IsFromNumber tokens span (suc n)) xs → IsBackFrom keep tokens P (IsOfNumber tokens span n) ys
+    → IsBackFrom keep tokens P (IsFromNumber tokens span n) (xs ++ ys)
+back-one_more keep tokens P span n xs ys high more here =
+    back-same keep tokens P P
     (λ q last. IsFromNumber tokens span (suc n) q last ⊎ IsOfNumber tokens span n q last) (IsFromNumber tokens span n) (xs ++ ys)
     (same_words P) (λ q last. (either q last, part q last))
-    (back-both tokens P (IsFromNumber tokens span (suc n)) (IsOfNumber tokens span n) xs ys more here)
+    (back-both keep tokens P (IsFromNumber tokens span (suc n)) (IsOfNumber tokens span n) xs ys more here)
   where
     either : (q last : ℕ) → IsFromNumber tokens span (suc n) q last ⊎ IsOfNumber tokens span n q last → IsFromNumber tokens span n q last
     either q last (inl h) =
@@ -70,10 +71,10 @@ back-one_more tokens P span n xs ys high more here =
             inr (subst (λ k. IsPlaceOf tokens span.kind k q) same h.place, h.last_is)
 
 -- once all numbers are done
-pub back-span : (tokens : List TokenValue) (P : Word → Type 0) (span : PlaceSpan) (xs : List PlaceSpan)
-    → IsBackFrom tokens P (IsFromNumber tokens span span.low) xs → IsBack tokens P (span ∷ []) xs
-back-span tokens P span xs back =
-    back-same tokens P P (IsFromNumber tokens span span.low) (Reaches tokens (span ∷ [])) xs
+pub back-span : (keep : Keep) (tokens : List TokenValue) (P : Word → Type 0) (span : PlaceSpan) (xs : List PlaceSpan)
+    → IsBackFrom keep tokens P (IsFromNumber tokens span span.low) xs → IsBack keep tokens P (span ∷ []) xs
+back-span keep tokens P span xs back =
+    back-same keep tokens P P (IsFromNumber tokens span span.low) (Reaches tokens (span ∷ [])) xs
     (same_words P) (λ q last. (reached q last, number_of q last)) back
   where
     reached : (q last : ℕ) → IsFromNumber tokens span span.low q last → Reaches tokens (span ∷ []) q last
@@ -96,11 +97,11 @@ back-span tokens P span xs back =
         }
 
 -- without an end, from the greatest place on one comes to all that the lesser ones lead to
-pub back-widest : (tokens : List TokenValue) (span : PlaceSpan) (n q : ℕ) (xs : List PlaceSpan) → span.low ≤ n
+pub back-widest : (keep : Keep) (tokens : List TokenValue) (span : PlaceSpan) (n q : ℕ) (xs : List PlaceSpan) → span.low ≤ n
     → IsPlaceOf tokens span.kind n q → Contains xs (letters_before 0 q span.last)
-    → IsBackFrom tokens (Counted 1 None) (IsFromNumber tokens span n) xs
-    → IsBackFrom tokens (Counted 1 None) (IsFromNumber tokens span span.low) xs
-back-widest tokens span n q xs low place among back = record {
+    → IsBackFrom keep tokens (Counted 1 None) (IsFromNumber tokens span n) xs
+    → IsBackFrom keep tokens (Counted 1 None) (IsFromNumber tokens span span.low) xs
+back-widest keep tokens span n q xs low place among back = record {
   placed = back.placed;
   sound = λ p last reached.
       let (r, ends, w, is, reads) = back.sound p last reached in
@@ -110,7 +111,7 @@ back-widest tokens span n q xs low place among back = record {
 }
   where
     by_number : (p r last : ℕ) (w : Word) (ends : IsFromNumber tokens span span.low r last) → Counted 1 None w → Reads tokens p w r
-        → (ends.number < n) ⊎ (n ≤ ends.number) → (other : ℕ) × Beats tokens p other last × Reaches tokens xs p other
+        → (ends.number < n) ⊎ (n ≤ ends.number) → (other : ℕ) × Beats keep tokens p other last × Reaches tokens xs p other
     by_number p r last w ends is reads (inr from) =
         back.complete p r last w (record { number = ends.number; low = from; high = ends.high; place = ends.place; last_is = ends.last_is }) is reads
     by_number p r last w ends is reads (inl before) =
@@ -118,73 +119,73 @@ back-widest tokens span n q xs low place among back = record {
         let free = (counted-reads tokens w p r word.tidied word.least reads).0 in
         let below : r ≤ q = place-order tokens span.kind ends.number n r q ends.place place before in
         let front : p < r = free.before in
-        let beats : Beats tokens p span.last last = record { least = le_of_eq (sym ends.last_is); taken = λ _. sym ends.last_is } in
+        let beats : Beats keep tokens p span.last last = record { least = le_of_eq (sym ends.last_is); taken = λ _. sym ends.last_is; each = λ _. sym ends.last_is } in
         let holds : Holds xs Letters p span.last =
         record { span = letters_before 0 q span.last; among = among; kind_is = refl; from = omega arith; to = omega arith; last_is = refl } in
         (span.last, beats, record { kind = Letters; number = p; holds = holds; place = (refl, free.begins) })
 
 -- ---- what a loop over the numbers of a span has added, from the greatest down
 
-pub record AddsFrom (tokens : List TokenValue) (max : Option ℕ) (span : PlaceSpan) (from : ℕ) (old new : List PlaceSpan) : Type 0 where
+pub record AddsFrom (keep : Keep) (tokens : List TokenValue) (max : Option ℕ) (span : PlaceSpan) (from : ℕ) (old new : List PlaceSpan) : Type 0 where
   pub more : List PlaceSpan
   pub added : new ≡ old ++ more
-  pub back : IsBackFrom tokens (Counted 1 max) (IsFromNumber tokens span from) more
+  pub back : IsBackFrom keep tokens (Counted 1 max) (IsFromNumber tokens span from) more
 
-pub adds-nothing : (tokens : List TokenValue) (max : Option ℕ) (span : PlaceSpan) (n : ℕ) (old : List PlaceSpan) → span.high < n
-    → AddsFrom tokens max span n old old
-adds-nothing tokens max span n old past =
-    record { more = []; added = sym (append-nil old); back = back-none_yet tokens (Counted 1 max) span n past }
+pub adds-nothing : (keep : Keep) (tokens : List TokenValue) (max : Option ℕ) (span : PlaceSpan) (n : ℕ) (old : List PlaceSpan) → span.high < n
+    → AddsFrom keep tokens max span n old old
+adds-nothing keep tokens max span n old past =
+    record { more = []; added = sym (append-nil old); back = back-none_yet keep tokens (Counted 1 max) span n past }
 
-pub adds-more : (tokens : List TokenValue) (max : Option ℕ) (span : PlaceSpan) (m n : ℕ) (old new newer xs : List PlaceSpan) → m ≡ suc n
-    → n ≤ span.high → AddsFrom tokens max span m old new → IsBackFrom tokens (Counted 1 max) (IsOfNumber tokens span n) xs
-    → newer ≡ new ++ xs → AddsFrom tokens max span n old newer
-adds-more tokens max span m n old new newer xs next high adds here grown = record {
+pub adds-more : (keep : Keep) (tokens : List TokenValue) (max : Option ℕ) (span : PlaceSpan) (m n : ℕ) (old new newer xs : List PlaceSpan) → m ≡ suc n
+    → n ≤ span.high → AddsFrom keep tokens max span m old new → IsBackFrom keep tokens (Counted 1 max) (IsOfNumber tokens span n) xs
+    → newer ≡ new ++ xs → AddsFrom keep tokens max span n old newer
+adds-more keep tokens max span m n old new newer xs next high adds here grown = record {
   more = adds.more ++ xs;
   added = grown ∙ ap (λ l. l ++ xs) adds.added ∙ append_assoc old adds.more xs;
-  back = back-one_more tokens (Counted 1 max) span n adds.more xs high
-      (subst (λ k. IsBackFrom tokens (Counted 1 max) (IsFromNumber tokens span k) adds.more) next adds.back) here;
+  back = back-one_more keep tokens (Counted 1 max) span n adds.more xs high
+      (subst (λ k. IsBackFrom keep tokens (Counted 1 max) (IsFromNumber tokens span k) adds.more) next adds.back) here;
 }
 
-pub adds-all : (tokens : List TokenValue) (max : Option ℕ) (span : PlaceSpan) (n : ℕ) (old new : List PlaceSpan) → n ≡ span.low
-    → AddsFrom tokens max span n old new → AddsBack tokens (Counted 1 max) span old new
-adds-all tokens max span n old new low adds = record {
+pub adds-all : (keep : Keep) (tokens : List TokenValue) (max : Option ℕ) (span : PlaceSpan) (n : ℕ) (old new : List PlaceSpan) → n ≡ span.low
+    → AddsFrom keep tokens max span n old new → AddsBack keep tokens (Counted 1 max) span old new
+adds-all keep tokens max span n old new low adds = record {
   more = adds.more;
   added = adds.added;
-  back = back-span tokens (Counted 1 max) span adds.more
-      (subst (λ k. IsBackFrom tokens (Counted 1 max) (IsFromNumber tokens span k) adds.more) low adds.back);
+  back = back-span keep tokens (Counted 1 max) span adds.more
+      (subst (λ k. IsBackFrom keep tokens (Counted 1 max) (IsFromNumber tokens span k) adds.more) low adds.back);
 }
 
 -- without an end the first that lead anywhere are enough
-pub adds-widest : (tokens : List TokenValue) (max : Option ℕ) (span letters : PlaceSpan) (m n q : ℕ) (old new newer : List PlaceSpan) → max ≡ None
+pub adds-widest : (keep : Keep) (tokens : List TokenValue) (max : Option ℕ) (span letters : PlaceSpan) (m n q : ℕ) (old new newer : List PlaceSpan) → max ≡ None
     → m ≡ suc n → span.low ≤ n → n ≤ span.high → IsPlaceOf tokens span.kind n q → letters ≡ letters_before 0 q span.last
-    → AddsFrom tokens max span m old new → IsBackFrom tokens (Counted 1 max) (IsOfNumber tokens span n) (letters ∷ [])
-    → newer ≡ new ++ letters ∷ [] → AddsBack tokens (Counted 1 max) span old newer
-adds-widest tokens max span letters m n q old new newer without next low high place is adds here grown =
+    → AddsFrom keep tokens max span m old new → IsBackFrom keep tokens (Counted 1 max) (IsOfNumber tokens span n) (letters ∷ [])
+    → newer ≡ new ++ letters ∷ [] → AddsBack keep tokens (Counted 1 max) span old newer
+adds-widest keep tokens max span letters m n q old new newer without next low high place is adds here grown =
     let more = adds.more ++ letters ∷ [] in
-    let whole : IsBackFrom tokens (Counted 1 max) (IsFromNumber tokens span n) (adds.more ++ letters ∷ []) =
-    back-one_more tokens (Counted 1 max) span n adds.more (letters ∷ []) high
-    (subst (λ k. IsBackFrom tokens (Counted 1 max) (IsFromNumber tokens span k) adds.more) next adds.back) here in
+    let whole : IsBackFrom keep tokens (Counted 1 max) (IsFromNumber tokens span n) (adds.more ++ letters ∷ []) =
+    back-one_more keep tokens (Counted 1 max) span n adds.more (letters ∷ []) high
+    (subst (λ k. IsBackFrom keep tokens (Counted 1 max) (IsFromNumber tokens span k) adds.more) next adds.back) here in
     let among = subst (Contains more) is (Contains-push adds.more letters) in
-    let widest = back-widest tokens span n q more low place among
-    (subst (λ o. IsBackFrom tokens (Counted 1 o) (IsFromNumber tokens span n) more) without whole) in
+    let widest = back-widest keep tokens span n q more low place among
+    (subst (λ o. IsBackFrom keep tokens (Counted 1 o) (IsFromNumber tokens span n) more) without whole) in
     record {
       more = more;
       added = grown ∙ ap (λ l. l ++ letters ∷ []) adds.added ∙ append_assoc old adds.more (letters ∷ []);
-      back = back-span tokens (Counted 1 max) span more
-          (subst (λ o. IsBackFrom tokens (Counted 1 o) (IsFromNumber tokens span span.low) more) (sym without) widest);
+      back = back-span keep tokens (Counted 1 max) span more
+          (subst (λ o. IsBackFrom keep tokens (Counted 1 o) (IsFromNumber tokens span span.low) more) (sym without) widest);
     }
 
 -- the empty word too
-pub back-from_none : (tokens : List TokenValue) (max : Option ℕ) (xs found : List PlaceSpan) → ArePlaced tokens xs
-    → IsBack tokens (Counted 1 max) xs found → IsBack tokens (Counted 0 max) xs (found ++ xs)
-back-from_none tokens max xs found placed back =
-    back-same tokens (λ w. Counted 1 max w ⊎ (w ≡ [])) (Counted 0 max) (Reaches tokens xs) (Reaches tokens xs) (found ++ xs)
+pub back-from_none : (keep : Keep) (tokens : List TokenValue) (max : Option ℕ) (xs found : List PlaceSpan) → ArePlaced tokens xs
+    → IsBack keep tokens (Counted 1 max) xs found → IsBack keep tokens (Counted 0 max) xs (found ++ xs)
+back-from_none keep tokens max xs found placed back =
+    back-same keep tokens (λ w. Counted 1 max w ⊎ (w ≡ [])) (Counted 0 max) (Reaches tokens xs) (Reaches tokens xs) (found ++ xs)
     (counted-from_none max) (λ q last. (λ h. h, λ h. h))
-    (back-either tokens (Counted 1 max) (λ w. w ≡ []) (Reaches tokens xs) found xs back (back-stay tokens xs placed))
+    (back-either keep tokens (Counted 1 max) (λ w. w ≡ []) (Reaches tokens xs) found xs back (back-stay keep tokens xs placed))
 
--- each place with its least last token alone, where there is memory
-pub back-kept_of : {A E : Type 0} (items : A → List PlaceSpan) (tokens : List TokenValue) (P : Word → Type 0) (Ends : ℕ → ℕ → Type 0)
-    (xs : List PlaceSpan) (r : Result A E) → AreTexts tokens → IsBackFrom tokens P Ends xs → IfOk r (λ v. KeepsLeast xs (items v))
-    → IfOk r (λ v. IsBackFrom tokens P Ends (items v))
-back-kept_of items tokens P Ends xs (Ok v) texts back kept = back-least tokens P Ends xs (items v) texts back kept.sound kept.least kept.ordered
-back-kept_of items tokens P Ends xs (Err e) texts back kept = tt
+-- each place with those last tokens that are kept, unless the search stops
+pub back-kept_of : (keep : Keep) {A E : Type 0} (items : A → List PlaceSpan) (tokens : List TokenValue) (P : Word → Type 0) (Ends : ℕ → ℕ → Type 0)
+    (xs : List PlaceSpan) (r : Result A E) → AreTexts tokens → IsBackFrom keep tokens P Ends xs → IfOk r (λ v. Keeps keep xs (items v))
+    → IfOk r (λ v. IsBackFrom keep tokens P Ends (items v))
+back-kept_of keep items tokens P Ends xs (Ok v) texts back kept = back-keeps keep tokens P Ends xs (items v) texts back kept
+back-kept_of keep items tokens P Ends xs (Err e) texts back kept = tt

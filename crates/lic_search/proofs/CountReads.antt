@@ -1,5 +1,5 @@
 -- Which places a tidy word of so many letters and blanks leads from: where a letter begins, and no more of them follow.
-use Rattle.std.proofs.Common.{◌≡◌, ◌⊎◌, ℕ, zero, suc, ◌+◌, ◌-◌, ◌<◌, ◌≤◌, Bool, true, false, IsTrue, List, [], ◌∷◌, ◌++◌, length, get_or, take, drop, refl, sym, ap, ◌∙◌, subst, arith, inl, inr, slice_range, count_by, append_assoc, append-nil, eq-eqb, eqb-true, lit<, take-append-drop, ◌&&◌}
+use Rattle.std.proofs.Common.{◌≡◌, ◌⊎◌, ℕ, suc, ◌+◌, ◌-◌, ◌<◌, ◌≤◌, Bool, true, false, IsTrue, List, [], ◌∷◌, ◌++◌, length, get_or, take, drop, refl, sym, ap, ◌∙◌, subst, arith, inl, inr, slice_range, count_by, append_assoc, append-nil, eq-eqb, eqb-true, lit<, take-append-drop, ◌&&◌}
 use Rattle.std.specs.Char.{IsScalar, encode_utf8}
 use Rattle.std.specs.Str.{IsUtf8, IsCharBoundary, encode_utf8_all}
 use Rattle.std.proofs.Math.ListN.{get_or-append}
@@ -162,7 +162,7 @@ counted-reads tokens (c ∷ w) p q tidied some (r, inr (other, scalar, stands), 
 
 -- ---- the word that stands between two places
 
-scalar-head : (c : ℕ) (cs : List ℕ) → scalars (c ∷ cs) ≡ true → (scalar c ≡ true) × (scalars cs ≡ true)
+pub scalar-head : (c : ℕ) (cs : List ℕ) → scalars (c ∷ cs) ≡ true → (scalar c ≡ true) × (scalars cs ≡ true)
 scalar-head c cs h = both (scalar c) (scalars cs) h
   where
     both : (a b : Bool) → a && b ≡ true → (a ≡ true) × (b ≡ true)

@@ -20,6 +20,7 @@ use Rattle.lic_search.proofs.CountPlaces.{LiesWell}
 use Rattle.lic_search.proofs.CountReads.{IsFree, counted-reads, counted-word}
 use Rattle.lic_search.proofs.CountWords.{Counted, IsCounted, counted-complete, counted-sound}
 use Rattle.lic_search.proofs.ViewSpans.{Holds-one}
+use Rattle.lic_search.specs.declared.keep.Keep.{Keep}
 
 within-fewer : (max : Option ℕ) (m n : ℕ) → m ≤ n → IsWithin max n → IsWithin max m
 within-fewer None m n h k = tt
@@ -41,16 +42,16 @@ letters_before least q last = record { low = least; high = q - 1; last = last; k
 abbrev pub IsAt : (ℕ → ℕ → Type 0) → ℕ → ℕ → Type 0
 IsAt Ends q last = (r l : ℕ) → Ends r l → (r ≡ q) × (l ≡ last)
 
-pub back-behind_blank : (tokens : List TokenValue) (max : Option ℕ) (q last : ℕ) (Ends : ℕ → ℕ → Type 0) → IsAt Ends q last
-    → IsBehindBlank (spelling_of tokens) q → IsBackFrom tokens (Counted 1 max) Ends []
-back-behind_blank tokens max q last Ends at behind =
-    back-nothing tokens (Counted 1 max) Ends
+pub back-behind_blank : (keep : Keep) (tokens : List TokenValue) (max : Option ℕ) (q last : ℕ) (Ends : ℕ → ℕ → Type 0) → IsAt Ends q last
+    → IsBehindBlank (spelling_of tokens) q → IsBackFrom keep tokens (Counted 1 max) Ends []
+back-behind_blank keep tokens max q last Ends at behind =
+    back-nothing keep tokens (Counted 1 max) Ends
     (λ p r l w ends is reads.
     let word = counted-sound 1 max w is in
     let to : Reads tokens p w q = subst (Reads tokens p w) (at r l ends).0 reads in
     (counted-reads tokens w p q word.tidied word.least to).0.ends behind)
 
-module _ (tokens : List TokenValue) (max : Option ℕ) (q least last : ℕ) (Ends : ℕ → ℕ → Type 0) (texts : AreTexts tokens)
+module _ (keep : Keep) (tokens : List TokenValue) (max : Option ℕ) (q least last : ℕ) (Ends : ℕ → ℕ → Type 0) (texts : AreTexts tokens)
     (lies : LiesWell tokens last q) (at : IsAt Ends q last)
     (is_least : IsLeastPlace (spelling_of tokens) q max least) where
   -- what is known of a place from which such a word is read
@@ -67,16 +68,16 @@ module _ (tokens : List TokenValue) (max : Option ℕ) (q least last : ℕ) (End
       no_less within (inl before) = absurd (is_least.before p before within)
       no_less within (inr from) = from
 
-  pub back-no_letter : q ≤ least → IsBackFrom tokens (Counted 1 max) Ends []
+  pub back-no_letter : q ≤ least → IsBackFrom keep tokens (Counted 1 max) Ends []
   back-no_letter none =
-      back-nothing tokens (Counted 1 max) Ends
+      back-nothing keep tokens (Counted 1 max) Ends
       (λ p r l w ends is reads.
       let found = counted_from p r l w ends is reads in
       let before : p < q = found.0.before in
       let from : least ≤ p = found.1 in omega arith)
 
   pub back-counted : least < q → ¬ (IsBehindBlank (spelling_of tokens) q) → Ends q last
-      → IsBackFrom tokens (Counted 1 max) Ends (letters_before least q last ∷ [])
+      → IsBackFrom keep tokens (Counted 1 max) Ends (letters_before least q last ∷ [])
   back-counted some free here = record {
     placed = record {
       ordered = All-cons (λ s. s.low ≤ s.high) (letters_before least q last) [] (omega arith) (All-nil (λ s. s.low ≤ s.high));
@@ -108,7 +109,7 @@ module _ (tokens : List TokenValue) (max : Option ℕ) (q least last : ℕ) (End
     complete = λ p r l w ends is reads.
         let found = counted_from p r l w ends is reads in
         let before : p < q = found.0.before in
-        let beats : Beats tokens p last l = record { least = le_of_eq (sym found.2); taken = λ _. sym found.2 } in
+        let beats : Beats keep tokens p last l = record { least = le_of_eq (sym found.2); taken = λ _. sym found.2; each = λ _. sym found.2 } in
         let holds = Holds-one (letters_before least q last) p found.1 (omega arith) in
         (last, beats, record { kind = Letters; number = p; holds = holds; place = (refl, found.0.begins) });
   }

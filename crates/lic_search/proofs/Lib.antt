@@ -10,6 +10,7 @@ pub mod Numbers
 pub mod SpanLoops
 pub mod SingleLemmas
 pub mod LetterLemmas
+pub mod StretchLemmas
 pub mod WideLemmas
 pub mod CountWords
 pub mod CountBytes
@@ -18,7 +19,6 @@ pub mod CountReads
 pub mod CountPlaces
 pub mod CountSpans
 pub mod CountNumbers
-pub mod EdgeLemmas
 pub mod TextLemmas
 pub mod PartLemmas
 pub mod PatternLemmas
@@ -26,7 +26,7 @@ pub mod MatchStarts
 pub mod MatchSpans
 pub mod MatchLists
 pub mod MatchLemmas
-pub mod LongestLemmas
+pub mod RowLemmas
 pub mod WindowBounds
 pub mod WindowEnds
 pub mod WindowLemmas
@@ -44,9 +44,13 @@ pub mod EreLemmas
 pub mod ReachedLemmas
 pub mod RunWords
 pub mod RunChains
+pub mod AnyChains
 pub mod RunPlaces
 pub mod RunSpans
 pub mod TidyRuns
-pub mod TightLemmas
-pub mod Sorting
+pub mod TemplateMatches
 pub mod LeastMatchLemmas
+pub mod Ascending
+pub mod Sorting
+pub mod TightLemmas
+pub mod AllMatchLemmas

@@ -1,5 +1,5 @@
 -- From where going back over a whole expression begins to the least ranges that it describes.
-use Rattle.std.proofs.Common.{◌≡◌, ◌⊎◌, inl, inr, ℕ, zero, suc, ◌+◌, ◌-◌, ◌<◌, ◌≤◌, List, [], length, map, drop, refl, ap, ◌∙◌, subst, arith, slice_range}
+use Rattle.std.proofs.Common.{◌≡◌, ◌⊎◌, ◌↔◌, inl, inr, ℕ, zero, suc, ◌+◌, ◌-◌, ◌<◌, ◌≤◌, List, [], length, map, drop, refl, ap, ◌∙◌, subst, arith, slice_range}
 use Rattle.std.specs.List.{Contains}
 use Rattle.std.specs.Str.{chars}
 use Rattle.std.proofs.lemmas.Bool.{cases_lt}
@@ -14,10 +14,12 @@ use Rattle.lic_spans.specs.declared.span.Kind.TheVariants.{End, Place, Letters, 
 use Rattle.lic_spans.specs.declared.span.PlaceSpan.{PlaceSpan}
 use Rattle.lic_search.specs.declared.range.Range.{Range}
 use Rattle.lic_search.specs.PlaceSets.{ArePlaced, IsPlaceOf, LiesInFront, Reaches}
-use Rattle.lic_search.specs.Backward.{Beats, IsBackFrom}
-use Rattle.lic_search.specs.Matches.{HasLeastRanges}
+use Rattle.lic_search.specs.Backward.{Beats, IsBackFrom, IsEach}
+use Rattle.lic_search.specs.Beginnings.{BeginsIn}
+use Rattle.lic_search.specs.Matches.{DescribesRange, HasLeastRanges}
 use Rattle.lic_search.proofs.Laws.{a_blank_leads_one_way-order, a_spelling_is_read_from_token_to_token, no_blank-end}
 use Rattle.lic_search.proofs.ViewPlaces.{ends-order, start-after, starts-after}
+use Rattle.lic_search.specs.declared.keep.Keep.{Keep}
 
 -- a place in front of the end of its last token, or at it where nothing was taken
 placed-in-front : (tokens : List TokenValue) (kind : Kind) (number p last : ℕ) → LiesInFront tokens kind number last → IsPlaceOf tokens kind number p
@@ -43,9 +45,9 @@ begins-after tokens before (suc k) p texts below within (inr after) =
     ]
 
 -- the last token that beats another is no earlier than the first
-beats-after : (tokens : List TokenValue) (begins : List PlaceSpan) (p first last other : ℕ) → AreTexts tokens → ArePlaced tokens begins
-    → first < length tokens → first ≤ last → BeginsAt tokens first p → Beats tokens p other last → Reaches tokens begins p other → first ≤ other
-beats-after tokens begins p first last other texts placed within order at beats reached =
+beats-after : (keep : Keep) (tokens : List TokenValue) (begins : List PlaceSpan) (p first last other : ℕ) → AreTexts tokens → ArePlaced tokens begins
+    → first < length tokens → first ≤ last → BeginsAt tokens first p → Beats keep tokens p other last → Reaches tokens begins p other → first ≤ other
+beats-after keep tokens begins p first last other texts placed within order at beats reached =
     elim (cases_lt other first) [
       | inl below ↦
           let after = begins-after tokens other first p texts below within at in
@@ -66,31 +68,51 @@ some-texts tokens first last order within none =
     let none_long : length (map text_of (slice_range tokens first (last + 1))) ≡ 0 = ap length none in
     absurd (omega (arith, count, none_long, length-take ((last + 1) - first) (drop first tokens), length-drop first tokens))
 
--- The least ranges of an expression, from where going back over it from the ends of all tokens begins.
-pub least-ranges : (tokens : List TokenValue) (expression : Expression) (begins : List PlaceSpan) (found : List Range) → AreTexts tokens
-    → IsBackFrom tokens (Language expression) (λ q last. (last < length tokens) × (q ≡ place_end tokens last)) begins
-    → ((range : Range) → Contains found range
-    → (range.first ≤ range.last) × ((p : ℕ) × Reaches tokens begins p range.last × BeginsAt tokens range.first p))
-    → ((p first last : ℕ) → Reaches tokens begins p last → BeginsAt tokens first p → first ≤ last
-    → (range : Range) × Contains found range × (first ≤ range.first) × (range.last ≤ last))
-    → HasLeastRanges tokens expression found
-least-ranges tokens expression begins found texts back sound within = record {
-  sound = λ range among.
-      let at = sound range among in
-      let led = back.sound at.1.0 range.last at.1.1 in
+-- the relation of ends of tokens
+abbrev pub IsTokenEnd : List TokenValue → ℕ → ℕ → Type 0
+IsTokenEnd tokens q last = (last < length tokens) × (q ≡ place_end tokens last)
+
+module _ (keep : Keep) (tokens : List TokenValue) (expression : Expression) (begins : List PlaceSpan) (texts : AreTexts tokens)
+    (back : IsBackFrom keep tokens (Language expression) (IsTokenEnd tokens) begins) where
+  -- what begins at a place from where going back begins is described
+  begins-described : (range : Range) (p : ℕ) → range.first ≤ range.last → Reaches tokens begins p range.last → BeginsAt tokens range.first p →
+      DescribesRange tokens expression range
+  begins-described range p order reached at =
+      let led = back.sound p range.last reached in
       let inside : range.last < length tokens = led.1.0 in
-      let reads : ReadsTokens tokens range.first led.2 range.last = (at.1.0, at.1.2, subst (Reads tokens at.1.0 led.2) led.1.1 led.4) in
-      let spells = (a_spelling_is_read_from_token_to_token tokens range.first range.last led.2 texts at.0 inside).1 reads in
+      let reads : ReadsTokens tokens range.first led.2 range.last = (p, at, subst (Reads tokens p led.2) led.1.1 led.4) in
+      let spells = (a_spelling_is_read_from_token_to_token tokens range.first range.last led.2 texts order inside).1 reads in
       record {
-        order = at.0;
+        order = order;
         within = inside;
-        described = (some-texts tokens range.first range.last at.0 inside, led.2, led.3, spells);
-      };
-  within = λ range is.
-      let word = is.described.1 in
-      let reads = (a_spelling_is_read_from_token_to_token tokens range.first range.last word texts is.order is.within).0 is.described.3 in
-      let other = back.complete reads.0 (place_end tokens range.last) range.last word (is.within, refl) is.described.2 reads.2 in
-      let first = beats-after tokens begins reads.0 range.first range.last other.0 texts back.placed (omega (arith, is.order, is.within)) is.order reads.1 other.1 other.2 in
-      let least = within reads.0 range.first other.0 other.2 reads.1 first in
-      (least.0, least.1, least.2, omega (arith, least.3, other.1.least));
-}
+        described = (some-texts tokens range.first range.last order inside, led.2, led.3, spells);
+      }
+
+  -- The least ranges of an expression, from where going back over it from the ends of all tokens begins.
+  pub least-ranges : (found : List Range) → ((range : Range) → Contains found range
+      → (range.first ≤ range.last) × ((p : ℕ) × Reaches tokens begins p range.last × BeginsAt tokens range.first p))
+      → ((p first last : ℕ) → Reaches tokens begins p last → BeginsAt tokens first p → first ≤ last
+      → (range : Range) × Contains found range × (first ≤ range.first) × (range.last ≤ last))
+      → HasLeastRanges tokens expression found
+  least-ranges found sound within = record {
+    sound = λ range among. let at = sound range among in begins-described range at.1.0 at.0 at.1.1 at.1.2;
+    within = λ range is.
+        let word = is.described.1 in
+        let reads = (a_spelling_is_read_from_token_to_token tokens range.first range.last word texts is.order is.within).0 is.described.3 in
+        let other = back.complete reads.0 (place_end tokens range.last) range.last word (is.within, refl) is.described.2 reads.2 in
+        let first = beats-after keep tokens begins reads.0 range.first range.last other.0 texts back.placed (omega (arith, is.order, is.within)) is.order reads.1 other.1 other.2 in
+        let least = within reads.0 range.first other.0 other.2 reads.1 first in
+        (least.0, least.1, least.2, omega (arith, least.3, other.1.least));
+  }
+
+  -- where each last token is kept, each range that is described begins there
+  pub described-begins : IsEach keep → (range : Range) → BeginsIn tokens begins range.first range.last ↔ DescribesRange tokens expression range
+  described-begins each range = (
+    λ at. begins-described range at.place at.order at.reached at.begins,
+    λ is.
+        let word = is.described.1 in
+        let reads = (a_spelling_is_read_from_token_to_token tokens range.first range.last word texts is.order is.within).0 is.described.3 in
+        let other = back.complete reads.0 (place_end tokens range.last) range.last word (is.within, refl) is.described.2 reads.2 in
+        let same : other.0 ≡ range.last = other.1.each each in
+        record { order = is.order; place = reads.0; reached = subst (Reaches tokens begins reads.0) same other.2; begins = reads.1 },
+  )

@@ -1,18 +1,16 @@
 -- Going back from the numbers of one span, one after another.
-use Rattle.std.proofs.Common.{◌≡◌, ◌⊎◌, ◌↔◌, ℕ, suc, ◌+◌, ◌<◌, ◌≤◌, List, [], ◌∷◌, ◌++◌, length, inl, inr, refl, sym, arith, subst, ◌∙◌, append_assoc}
-use Rattle.std.specs.Prelude.{All, Contains}
-use Rattle.std.proofs.Math.Nat.{eq-or-lt_of_le}
+use Rattle.std.proofs.Common.{◌≡◌, ◌⊎◌, ◌↔◌, ℕ, ◌+◌, ◌<◌, ◌≤◌, List, [], ◌∷◌, ◌++◌, inl, inr, sym, arith, subst, ◌∙◌, append_assoc}
 use Rattle.std.proofs.lemmas.Bool.{cases_lt}
 use Rattle.std.proofs.lemmas.List.{append-nil}
 use Rattle.lic_words.specs.Words.{Word}
 use Rattle.lic_norm.specs.Tokens.{TokenValue}
-use Rattle.lic_places.specs.Reads.{Reads}
 use Rattle.lic_spans.specs.Spans.{Holds}
 use Rattle.lic_spans.specs.declared.span.PlaceSpan.{PlaceSpan}
-use Rattle.lic_search.specs.PlaceSets.{ArePlaced, IsPlaceOf, Reaches}
-use Rattle.lic_search.specs.Backward.{AddsBack, IsBack, IsBackFrom}
+use Rattle.lic_search.specs.PlaceSets.{IsPlaceOf, Reaches}
+use Rattle.lic_search.specs.Backward.{AddsBack, IsBackFrom}
 use Rattle.lic_search.proofs.Back.{back-both, back-nothing, back-same}
 use Rattle.lic_search.proofs.BlankLemmas.{held, holds-one}
+use Rattle.lic_search.specs.declared.keep.Keep.{Keep}
 
 -- the place of one number of a span, with its last token
 abbrev pub At : List TokenValue → PlaceSpan → ℕ → ℕ → ℕ → Type 0
@@ -23,28 +21,28 @@ abbrev pub Below : List TokenValue → PlaceSpan → ℕ → ℕ → ℕ → Typ
 Below tokens span end q last = (number : ℕ) × (span.low ≤ number) × (number < end) × At tokens span number q last
 
 -- spans were added that have what leads to the places of the numbers below one
-pub record AddsBelow (tokens : List TokenValue) (P : Word → Type 0) (span : PlaceSpan) (end : ℕ) (old new : List PlaceSpan) : Type 0 where
+pub record AddsBelow (keep : Keep) (tokens : List TokenValue) (P : Word → Type 0) (span : PlaceSpan) (end : ℕ) (old new : List PlaceSpan) : Type 0 where
   pub more : List PlaceSpan
   pub added : new ≡ old ++ more
-  pub back : IsBackFrom tokens P (Below tokens span end) more
+  pub back : IsBackFrom keep tokens P (Below tokens span end) more
 
 -- at first no number is below the first one
-pub below-first : (tokens : List TokenValue) (P : Word → Type 0) (span : PlaceSpan) (old : List PlaceSpan) → AddsBelow tokens P span span.low old old
-below-first tokens P span old = record {
+pub below-first : (keep : Keep) (tokens : List TokenValue) (P : Word → Type 0) (span : PlaceSpan) (old : List PlaceSpan) → AddsBelow keep tokens P span span.low old old
+below-first keep tokens P span old = record {
   more = [];
   added = sym (append-nil old);
-  back = back-nothing tokens P (Below tokens span span.low) (λ p q last w e is reads. omega (arith, e.1, e.2));
+  back = back-nothing keep tokens P (Below tokens span span.low) (λ p q last w e is reads. omega (arith, e.1, e.2));
 }
 
 -- what leads to the places of one number more
-pub below-more : (tokens : List TokenValue) (P : Word → Type 0) (span : PlaceSpan) (number : ℕ) (old new next ys : List PlaceSpan) → span.low ≤ number →
-    AddsBelow tokens P span number old new → IsBackFrom tokens P (At tokens span number) ys → next ≡ new ++ ys →
-    AddsBelow tokens P span (number + 1) old next
-below-more tokens P span number old new next ys from adds back is = record {
+pub below-more : (keep : Keep) (tokens : List TokenValue) (P : Word → Type 0) (span : PlaceSpan) (number : ℕ) (old new next ys : List PlaceSpan) → span.low ≤ number →
+    AddsBelow keep tokens P span number old new → IsBackFrom keep tokens P (At tokens span number) ys → next ≡ new ++ ys →
+    AddsBelow keep tokens P span (number + 1) old next
+below-more keep tokens P span number old new next ys from adds back is = record {
   more = adds.more ++ ys;
   added = is ∙ subst (λ x. x ++ ys ≡ old ++ (adds.more ++ ys)) (sym adds.added) (append_assoc old adds.more ys);
-  back = back-same tokens P P _ _ (adds.more ++ ys) (λ w. (λ h. h, λ h. h)) (λ q last. places q last)
-      (back-both tokens P (Below tokens span number) (At tokens span number) adds.more ys adds.back back);
+  back = back-same keep tokens P P _ _ (adds.more ++ ys) (λ w. (λ h. h, λ h. h)) (λ q last. places q last)
+      (back-both keep tokens P (Below tokens span number) (At tokens span number) adds.more ys adds.back back);
 }
   where
     places : (q last : ℕ) → (Below tokens span number q last ⊎ At tokens span number q last) ↔ Below tokens span (number + 1) q last
@@ -59,12 +57,12 @@ below-more tokens P span number old new next ys from adds back is = record {
         backward e (inr reached) = let same : e.0 ≡ number = omega (arith, e.2) in inr (subst (λ x. At tokens span x q last) same e.3)
 
 -- all numbers of a span
-pub below-all : (tokens : List TokenValue) (P : Word → Type 0) (span : PlaceSpan) (end : ℕ) (old new : List PlaceSpan) → end ≡ span.high + 1 →
-    AddsBelow tokens P span end old new → AddsBack tokens P span old new
-below-all tokens P span end old new last adds = record {
+pub below-all : (keep : Keep) (tokens : List TokenValue) (P : Word → Type 0) (span : PlaceSpan) (end : ℕ) (old new : List PlaceSpan) → end ≡ span.high + 1 →
+    AddsBelow keep tokens P span end old new → AddsBack keep tokens P span old new
+below-all keep tokens P span end old new last adds = record {
   more = adds.more;
   added = adds.added;
-  back = back-same tokens P P (Below tokens span end) (Reaches tokens (span ∷ [])) adds.more (λ w. (λ h. h, λ h. h)) (λ q l. places q l) adds.back;
+  back = back-same keep tokens P P (Below tokens span end) (Reaches tokens (span ∷ [])) adds.more (λ w. (λ h. h, λ h. h)) (λ q l. places q l) adds.back;
 }
   where
     places : (q l : ℕ) → Below tokens span end q l ↔ Reaches tokens (span ∷ []) q l

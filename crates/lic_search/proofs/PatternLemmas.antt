@@ -11,6 +11,7 @@ use Rattle.lic_markup.specs.Meaning.{tree_words}
 use Rattle.lic_norm.specs.Tokens.{TokenValue}
 use Rattle.lic_spans.specs.declared.span.PlaceSpan.{PlaceSpan}
 use Rattle.lic_search.specs.Backward.{IsBack}
+use Rattle.lic_search.specs.declared.keep.Keep.{Keep}
 
 -- the trees of the two patterns
 pub tree_of-any : tree_of ere.Any ≡ any
@@ -20,8 +21,8 @@ tree_of-repeat : (body : Box Ere Global) (min : ℕ) (max : Option ℕ) → tree
 tree_of-repeat body min max = ap tree_of (sym (rolls-Repeat body min max)) ∙ fold-roll-Ere Tree node_tree (Ere-F.Repeat body min max)
 
 -- going back over a repetition of any letter
-pub back-repeated : (tokens : List TokenValue) (spans found : List PlaceSpan) (e : Ere) (body : Box Ere Global) (min : ℕ) (max : Option ℕ) → e ≡ ere.Repeat body min max →
-    tree_of body.value ≡ any → IsBack tokens (Language (tidy (repeat min max (one (λ _. true))))) spans found → IsBack tokens (Language (tidy (tree_words (tree_of e)))) spans found
-back-repeated tokens spans found e body min max is same back =
-    subst (λ t. IsBack tokens (Language (tidy (tree_words t))) spans found) (sym (ap tree_of is ∙ tree_of-repeat body min max))
-    (subst (λ t. IsBack tokens (Language (tidy (repeat min max (tree_words t)))) spans found) (sym same) back)
+pub back-repeated : (keep : Keep) (tokens : List TokenValue) (spans found : List PlaceSpan) (e : Ere) (body : Box Ere Global) (min : ℕ) (max : Option ℕ) → e ≡ ere.Repeat body min max →
+    tree_of body.value ≡ any → IsBack keep tokens (Language (tidy (repeat min max (one (λ _. true))))) spans found → IsBack keep tokens (Language (tidy (tree_words (tree_of e)))) spans found
+back-repeated keep tokens spans found e body min max is same back =
+    subst (λ t. IsBack keep tokens (Language (tidy (tree_words t))) spans found) (sym (ap tree_of is ∙ tree_of-repeat body min max))
+    (subst (λ t. IsBack keep tokens (Language (tidy (repeat min max (tree_words t)))) spans found) (sym same) back)

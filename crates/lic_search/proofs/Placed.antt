@@ -1,10 +1,8 @@
 -- Lists of spans put together, and what is known of where tokens end.
-use Rattle.std.proofs.Common.{◌≡◌, ◌⊎◌, ◌↔◌, ℕ, ◌+◌, ◌<◌, ◌≤◌, List, [], ◌∷◌, ◌++◌, length, inl, inr, arith}
+use Rattle.std.proofs.Common.{◌⊎◌, ℕ, ◌<◌, ◌≤◌, List, [], ◌++◌, length, inl, inr, arith}
 use Rattle.std.specs.Prelude.{Contains}
 use Rattle.std.proofs.lemmas.List.Elements.{All-append, All-nil, Contains-append_left, Contains-append_right, Contains-append_cases}
 use Rattle.lic_norm.specs.Tokens.{TokenValue}
-use Rattle.lic_norm.specs.Places.{place_end}
-use Rattle.lic_places.specs.Places.{AreTexts}
 use Rattle.lic_spans.specs.Spans.{Holds}
 use Rattle.lic_spans.specs.declared.span.Kind.{Kind}
 use Rattle.lic_spans.specs.declared.span.PlaceSpan.{PlaceSpan}

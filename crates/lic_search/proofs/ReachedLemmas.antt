@@ -1,5 +1,5 @@
 -- Ways that are added to those that were reached, and ways that are settled.
-use Rattle.std.proofs.Common.{◌≡◌, ◌⊎◌, ℕ, List, [], ◌∷◌, ◌++◌, inl, inr, refl, sym, ap, subst, ◌∙◌, append_assoc}
+use Rattle.std.proofs.Common.{◌≡◌, ◌⊎◌, ℕ, List, [], ◌++◌, inl, inr, refl, sym, ap, subst, ◌∙◌}
 use Rattle.std.proofs.lemmas.List.{append-nil}
 use Rattle.lic_norm.specs.Tokens.{TokenValue}
 use Rattle.lic_spans.specs.declared.span.PlaceSpan.{PlaceSpan}
@@ -14,15 +14,16 @@ use Rattle.lic_search.proofs.Back.{Beats-same}
 use Rattle.lic_search.proofs.TidyBack.{HasBetter, IsEmptyWord, tidy-least, tidy-lists, tidy-stay}
 use Rattle.lic_search.proofs.TidyPassing.{better-left, better-right}
 use Rattle.lic_search.proofs.TidyPowers.{from-least, to-least}
+use Rattle.lic_search.specs.declared.keep.Keep.{Keep}
 
-module _ (tokens : List TokenValue) where
+module _ (keep : Keep) (tokens : List TokenValue) where
   -- as they come
   pub front-added : (old next new front : Taken → List PlaceSpan) → ((s : Taken) → new s ≡ old s ++ next s) → ((s : Taken) → front s ≡ next s) →
       ((s : Taken) → ArePlaced tokens (old s)) → ((s : Taken) → ArePlaced tokens (next s)) →
-      IsFrontOf tokens old (λ s. old s ++ next s) new front
+      IsFrontOf keep tokens old (λ s. old s ++ next s) new front
   front-added old next new front added same one other = record {
-    back = tidy-lists tokens IsEmptyWord (λ t q l. Reaches tokens (all t) q l) all new added
-        (tidy-stay tokens all (λ s. ArePlaced-append tokens (old s) (next s) (one s) (other s)));
+    back = tidy-lists keep tokens IsEmptyWord (λ t q l. Reaches tokens (all t) q l) all new added
+        (tidy-stay keep tokens all (λ s. ArePlaced-append tokens (old s) (next s) (one s) (other s)));
     placed = λ s. subst (λ x. ArePlaced tokens x) (sym (same s)) (other s);
     among = λ s p l r. subst (λ x. Reaches tokens x p l) (sym (added s))
         (Reaches-append_right tokens (old s) (next s) p l (subst (λ x. Reaches tokens x p l) (same s) r));
@@ -38,13 +39,13 @@ module _ (tokens : List TokenValue) where
 
   -- settled: first those that were reached, and then with the next ones
   pub front-settled : (old next known rest all least new fresh : Taken → List PlaceSpan) →
-      IsTidyBack tokens IsEmptyWord old known → ((s : Taken) → all s ≡ known s ++ next s) → ((s : Taken) → ArePlaced tokens (next s)) →
-      IsTidyBack tokens IsEmptyWord all least → ((s : Taken) → AreFresh (least s) (known s) (fresh s)) →
+      IsTidyBack keep tokens IsEmptyWord old known → ((s : Taken) → all s ≡ known s ++ next s) → ((s : Taken) → ArePlaced tokens (next s)) →
+      IsTidyBack keep tokens IsEmptyWord all least → ((s : Taken) → AreFresh (least s) (known s) (fresh s)) →
       ((s : Taken) → rest s ≡ []) → ((s : Taken) → new s ≡ least s ++ rest s) →
-      IsFrontOf tokens old (λ s. old s ++ next s) new fresh
+      IsFrontOf keep tokens old (λ s. old s ++ next s) new fresh
   front-settled old next known rest all least new fresh settled joined placed back are empty is = record {
-    back = tidy-lists tokens IsEmptyWord Ends least new same (tidy-least tokens IsEmptyWord Ends all least
-        (tidy-lists tokens IsEmptyWord Ends both all joined begun) back);
+    back = tidy-lists keep tokens IsEmptyWord Ends least new same (tidy-least keep tokens IsEmptyWord Ends all least
+        (tidy-lists keep tokens IsEmptyWord Ends both all joined begun) back);
     placed = λ s. fresh-placed tokens (least s) (known s) (fresh s) (are s) (back.placed s);
     among = λ s p l r. subst (λ x. Reaches tokens x p l) (sym (same s)) (fresh-among tokens (least s) (known s) (fresh s) (are s) p l r);
     parted = λ s p l r. by_part s p l (fresh-parted tokens (least s) (known s) (fresh s) (are s) p l (subst (λ x. Reaches tokens x p l) (same s) r));
@@ -60,14 +61,14 @@ module _ (tokens : List TokenValue) where
       same s = is s ∙ (ap (λ x. least s ++ x) (empty s) ∙ append-nil (least s))
 
       sound : (s : Taken) (p l : ℕ) → Reaches tokens (known s) p l ⊎ Reaches tokens (next s) p l → Reaches tokens (old s ++ next s) p l
-      sound s p l (inl r) = Reaches-append_left tokens (old s) (next s) p l (from-least tokens IsEmptyWord old known settled s p l r)
+      sound s p l (inl r) = Reaches-append_left tokens (old s) (next s) p l (from-least keep tokens IsEmptyWord old known settled s p l r)
       sound s p l (inr r) = Reaches-append_right tokens (old s) (next s) p l r
 
-      better : (s : Taken) (p l : ℕ) → Reaches tokens (old s) p l ⊎ Reaches tokens (next s) p l → HasBetter tokens (known s ++ next s) p l
-      better s p l (inl r) = better-left tokens (known s) (next s) p l (to-least tokens IsEmptyWord old known settled s p l l (Beats-same tokens p l) r)
-      better s p l (inr r) = better-right tokens (known s) (next s) p l (l, Beats-same tokens p l, r)
+      better : (s : Taken) (p l : ℕ) → Reaches tokens (old s) p l ⊎ Reaches tokens (next s) p l → HasBetter keep tokens (known s ++ next s) p l
+      better s p l (inl r) = better-left keep tokens (known s) (next s) p l (to-least keep tokens IsEmptyWord old known settled s p l l (Beats-same keep tokens p l) r)
+      better s p l (inr r) = better-right keep tokens (known s) (next s) p l (l, Beats-same keep tokens p l, r)
 
-      begun : IsTidyBackFrom tokens IsEmptyWord Ends both
+      begun : IsTidyBackFrom keep tokens IsEmptyWord Ends both
       begun = record {
         placed = λ s. ArePlaced-append tokens (known s) (next s) (settled.placed s) (placed s);
         sound = λ s p l r. (s, p, sound s p l (Reaches-append tokens (known s) (next s) p l r), [], refl, refl, refl);
@@ -80,4 +81,4 @@ module _ (tokens : List TokenValue) where
 
       by_part : (s : Taken) (p l : ℕ) → Reaches tokens (fresh s) p l ⊎ Reaches tokens (known s) p l → Reaches tokens (fresh s) p l ⊎ Reaches tokens (old s) p l
       by_part s p l (inl r) = inl r
-      by_part s p l (inr r) = inr (from-least tokens IsEmptyWord old known settled s p l r)
+      by_part s p l (inr r) = inr (from-least keep tokens IsEmptyWord old known settled s p l r)

@@ -1,6 +1,5 @@
 -- Letters and blanks that pass, side by side, and the words that they spell.
-use Rattle.std.proofs.Common.{◌≡◌, ◌⊎◌, ℕ, zero, suc, ◌+◌, ◌-◌, ◌<◌, ◌≤◌, Bool, true, IsTrue, List, [], ◌∷◌, ◌++◌, length, get_or, drop, take, inl, inr, refl, sym, ap, arith, subst, ◌∙◌, length-append, append-nil, append_assoc, eqb-true}
-use Rattle.std.specs.Char.{IsScalar}
+use Rattle.std.proofs.Common.{◌≡◌, ◌⊎◌, ℕ, zero, suc, ◌+◌, ◌-◌, ◌<◌, Bool, true, IsTrue, List, [], ◌∷◌, ◌++◌, length, get_or, drop, take, inl, inr, refl, sym, ap, arith, subst, ◌∙◌, length-append, append_assoc, eqb-true}
 use Rattle.std.specs.Str.{IsCharBoundary, IsUtf8}
 use Rattle.std.proofs.Math.Utf8.{encode, encodes}
 use Rattle.std.proofs.Math.Seq.{drop-cons}
@@ -9,17 +8,13 @@ use Rattle.std.proofs.lemmas.List.{drop-drop, get_or_past, length-drop, length-t
 use Rattle.std.proofs.lemmas.Str.{IsUtf8-between, encode_ascii, encode_same, length-encode, len_utf8_bounds}
 use Rattle.lic_words.specs.Words.{Word, blank}
 use Rattle.lic_norm.specs.Tokens.{TokenValue}
-use Rattle.lic_places.specs.Places.{AreTexts, IsBehindBlank, OverBlank, Stands, is_blank_at, over, spelling_of, stays}
-use Rattle.lic_places.specs.Reads.{Reads, Takes}
-use Rattle.lic_search.specs.PlaceSets.{IsLetterPlace}
+use Rattle.lic_places.specs.Places.{AreTexts, IsBehindBlank, OverBlank, Stands, is_blank_at, over, spelling_of}
+use Rattle.lic_places.specs.Reads.{Reads}
 use Rattle.lic_search.specs.Passing.{IsLetterBefore}
-use Rattle.lic_search.specs.Runs.{AllPass, IsChain, IsRun, IsRunStart}
-use Rattle.lic_search.specs.Tidily.{IsTakenBack, IsTakenBefore, Taken, a_blank, a_letter}
-use Rattle.lic_places.proofs.TokenPlaces.{spelling-utf8}
+use Rattle.lic_search.specs.Runs.{AllPass, IsChain}
+use Rattle.lic_search.specs.Tidily.{IsTakenBack, Taken, a_blank, a_letter}
 use Rattle.lic_search.proofs.PlaceLaws.{blanks-apart}
-use Rattle.lic_search.proofs.Back.{reads-forward}
-use Rattle.lic_search.proofs.LastLetters.{letter-one, letter-whole, letter-within, stands-drop}
-use Rattle.lic_search.proofs.RunWords.{pass-within}
+use Rattle.lic_search.proofs.LastLetters.{letter-whole, letter-within, stands-drop}
 
 encode-blank : encode blank ≡ 0x20 ∷ []
 encode-blank = encode_ascii blank (omega arith)

@@ -1,9 +1,9 @@
 -- Words of letters and blanks that all pass.
-use Rattle.std.proofs.Common.{◌≡◌, ◌⊎◌, ℕ, zero, suc, ◌+◌, ◌-◌, ◌<◌, ◌≤◌, Bool, true, false, List, [], ◌∷◌, ◌++◌, length, inl, inr, refl, sym, ap, arith, subst, ◌∙◌}
+use Rattle.std.proofs.Common.{◌≡◌, ◌⊎◌, ℕ, zero, suc, ◌+◌, ◌-◌, ◌<◌, ◌≤◌, Bool, true, false, [], ◌∷◌, ◌++◌, length, inl, inr, refl, sym, ap, arith, subst, ◌∙◌}
 use Rattle.std.proofs.lemmas.Bool.{cases_eq, true≢false}
 use Rattle.lic_words.specs.Words.{Word, Cat, Power, blank}
 use Rattle.lic_search.specs.Runs.{AllPass, IsRun}
-use Rattle.lic_search.specs.Tidily.{IsTakenBack, IsTakenBefore, Taken, UpTo, a_blank, a_letter, nothing}
+use Rattle.lic_search.specs.Tidily.{IsTakenBack, IsTakenBefore, Taken, UpTo, a_blank, a_letter}
 use Rattle.lic_search.proofs.BlankLemmas.{IsBlank}
 use Rattle.lic_search.proofs.TidyBack.{IsEmptyWord}
 use Rattle.lic_search.proofs.TidyPassing.{IsOne}

@@ -1,28 +1,24 @@
 -- Going back from one place to one place at most.
-use Rattle.std.proofs.Common.{◌≡◌, ◌⊎◌, ◌↔◌, ℕ, suc, ◌+◌, ◌-◌, ◌<◌, ◌≤◌, IsTrue, List, [], ◌∷◌, ◌++◌, length, inl, inr, refl, sym, ap, arith, subst, ◌∙◌, get_or}
+use Rattle.std.proofs.Common.{◌≡◌, ℕ, ◌<◌, ◌≤◌, List, [], ◌∷◌, length, refl, sym, arith, subst, get_or}
 use Rattle.std.proofs.lemmas.Bool.{eqb-true}
-use Rattle.std.specs.Prelude.{All, Contains}
-use Rattle.std.specs.List.{slice_range}
-use Rattle.std.specs.Str.{IsCharBoundary, IsUtf8, chars}
+use Rattle.std.specs.Str.{IsCharBoundary}
 use Rattle.std.proofs.lemmas.List.Elements.{All-nil, All-push}
-use Rattle.std.proofs.lemmas.List.Edits.{get_or-between, length-between}
-use Rattle.std.proofs.lemmas.Str.{IsCharBoundary-start, IsCharBoundary-before_ascii}
+use Rattle.std.proofs.lemmas.Str.{IsCharBoundary-before_ascii}
 use Rattle.lic_words.specs.Words.{Word, blank}
 use Rattle.lic_norm.specs.Tokens.{TokenValue}
 use Rattle.lic_norm.specs.Places.{place_end}
-use Rattle.lic_norm.specs.PieceTexts.{IsPieceText}
-use Rattle.lic_places.specs.Places.{AreTexts, IsBehindBlank, OverBlank, Stands, is_blank_at, over, spelling_of, stays}
+use Rattle.lic_places.specs.Places.{OverBlank, over, spelling_of, stays}
 use Rattle.lic_places.specs.Reads.{Reads}
-use Rattle.lic_spans.specs.Spans.{Holds}
 use Rattle.lic_spans.specs.declared.span.Kind.{Kind}
-use Rattle.lic_spans.specs.declared.span.Kind.TheVariants.{End, Place, Letters, Blanks}
+use Rattle.lic_spans.specs.declared.span.Kind.TheVariants.{Place}
 use Rattle.lic_spans.specs.declared.span.PlaceSpan.{PlaceSpan}
 use Rattle.lic_search.specs.PlaceSets.{ArePlaced, IsPlaceOf, LiesInFront, Reaches}
-use Rattle.lic_search.specs.Backward.{Beats, IsBack, IsBackFrom}
-use Rattle.lic_search.proofs.PlaceLaws.{blank-one, text-read}
+use Rattle.lic_search.specs.Backward.{IsBackFrom}
+use Rattle.lic_search.proofs.PlaceLaws.{blank-one}
 use Rattle.lic_search.proofs.Back.{Beats-same, OverBlank-order, back-nothing}
 use Rattle.lic_search.proofs.BlankLemmas.{IsBlank, blank-read, held, holds-one}
 use Rattle.lic_search.proofs.Numbers.{At}
+use Rattle.lic_search.specs.declared.keep.Keep.{Keep}
 
 -- one place, with its last token
 abbrev pub single : ℕ → ℕ → PlaceSpan
@@ -53,12 +49,12 @@ single-placed tokens p last within front whole = record {
         (subst (λ n. LiesInFront tokens Place n last) same (front, whole)))
 
 -- From one place a word of the set leads to one place.
-pub back-single : (tokens : List TokenValue) (P : Word → Type 0) (Ends : ℕ → ℕ → Type 0) (p q last : ℕ) (w : Word) →
+pub back-single : (keep : Keep) (tokens : List TokenValue) (P : Word → Type 0) (Ends : ℕ → ℕ → Type 0) (p q last : ℕ) (w : Word) →
     last < length tokens → p < place_end tokens last → IsCharBoundary (spelling_of tokens) p →
     Ends q last → ((r l : ℕ) → Ends r l → (r ≡ q) × (l ≡ last)) →
     P w → Reads tokens p w q → ((r : ℕ) (v : Word) → P v → Reads tokens r v q → r ≡ p) →
-    IsBackFrom tokens P Ends (single p last ∷ [])
-back-single tokens P Ends p q last w within front whole end ends is reads one = record {
+    IsBackFrom keep tokens P Ends (single p last ∷ [])
+back-single keep tokens P Ends p q last w within front whole end ends is reads one = record {
   placed = single-placed tokens p last within front whole;
   sound = λ r l reached.
       let same = single-reached tokens p last r l reached in
@@ -67,7 +63,7 @@ back-single tokens P Ends p q last w within front whole end ends is reads one = 
       let same = ends s l e in
       let at = one r v has (subst (λ x. Reads tokens r v x) same.0 read) in (
         l,
-        Beats-same tokens r l,
+        Beats-same keep tokens r l,
         subst (λ x. Reaches tokens (single p last ∷ []) r x) (sym same.1)
             (subst (λ x. Reaches tokens (single p last ∷ []) x last) (sym at) (single-reaches tokens p last)),
       );
@@ -81,11 +77,11 @@ blank-whole tokens p _ whole (over is) =
     IsCharBoundary-before_ascii (spelling_of tokens) p (omega (arith, whole.0)) (omega (arith, byte))
 
 -- where a blank leads from one place
-pub back-blank : (tokens : List TokenValue) (span : PlaceSpan) (number p : ℕ) → span.last < length tokens → span.kind ≡ Place →
+pub back-blank : (keep : Keep) (tokens : List TokenValue) (span : PlaceSpan) (number p : ℕ) → span.last < length tokens → span.kind ≡ Place →
     LiesInFront tokens Place number span.last → OverBlank tokens p number →
-    IsBackFrom tokens IsBlank (At tokens span number) (single p span.last ∷ [])
-back-blank tokens span number p within is front leads =
-    back-single tokens IsBlank (At tokens span number) p number span.last (blank ∷ []) within
+    IsBackFrom keep tokens IsBlank (At tokens span number) (single p span.last ∷ [])
+back-blank keep tokens span number p within is front leads =
+    back-single keep tokens IsBlank (At tokens span number) p number span.last (blank ∷ []) within
     (let order = OverBlank-order tokens p number leads in omega (arith, front.0))
     (blank-whole tokens p number front.1 leads)
     (refl, subst (λ k. IsPlaceOf tokens k number number) (sym is) refl)
@@ -95,9 +91,9 @@ back-blank tokens span number p within is front leads =
     (λ r v has reads. blank-one tokens r p number ((blank-read tokens r number).0 (subst (λ x. Reads tokens r x number) has reads)) leads)
 
 -- where a blank leads nowhere
-pub back-no_blank : (tokens : List TokenValue) (span : PlaceSpan) (number : ℕ) → span.kind ≡ Place → ((p : ℕ) → ¬ (OverBlank tokens p number)) →
-    IsBackFrom tokens IsBlank (At tokens span number) []
-back-no_blank tokens span number is none = back-nothing tokens IsBlank (At tokens span number)
+pub back-no_blank : (keep : Keep) (tokens : List TokenValue) (span : PlaceSpan) (number : ℕ) → span.kind ≡ Place → ((p : ℕ) → ¬ (OverBlank tokens p number)) →
+    IsBackFrom keep tokens IsBlank (At tokens span number) []
+back-no_blank keep tokens span number is none = back-nothing keep tokens IsBlank (At tokens span number)
     (λ p q l w e has reads.
     let same : q ≡ number = subst (λ k. IsPlaceOf tokens k number q) is e.1 in
     none p (subst (λ x. OverBlank tokens p x) same ((blank-read tokens p q).0 (subst (λ x. Reads tokens p x q) has reads))))

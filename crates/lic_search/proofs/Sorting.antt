@@ -13,8 +13,8 @@ use Rattle.std.proofs.lemmas.List.Kept.{Contains-dedup, Contains-from_dedup, IsS
 use Rattle.std.proofs.lemmas.List.Sorted.{Contains-permutation, IsPermutation-sym}
 use Rattle.lic_filters.specs.Filters.{SameMembers, triple_cmp}
 use Rattle.lic_filters.proofs.Ranges.{same_triple}
-use Rattle.lic_find.specs.Matches.{AreAscending, Precedes}
-use Rattle.lic_find.specs.declared.triple.Triple.{Triple}
+use Rattle.lic_set.specs.Matches.{AreAscending, Precedes}
+use Rattle.lic_set.specs.declared.triple.Triple.{Triple}
 
 -- ---- the order of triples
 

@@ -1,50 +1,35 @@
 -- Laws of going back over the words of a pattern: words one after another, one set of words or another, one way or another.
-use Rattle.std.proofs.Common.{◌≡◌, ◌⊎◌, ◌↔◌, ℕ, ◌+◌, ◌<◌, ◌≤◌, List, [], ◌∷◌, ◌++◌, length, inl, inr, refl, sym, arith, subst, ◌∙◌}
+use Rattle.std.proofs.Common.{◌≡◌, ◌⊎◌, ℕ, List, [], ◌++◌, inl, inr, refl, sym, subst}
 use Rattle.lic_words.specs.Words.{Word, Cat}
 use Rattle.lic_norm.specs.Tokens.{TokenValue}
-use Rattle.lic_norm.specs.Places.{place_end}
 use Rattle.lic_places.specs.Reads.{Reads}
 use Rattle.lic_spans.specs.declared.span.PlaceSpan.{PlaceSpan}
 use Rattle.lic_search.specs.PlaceSets.{ArePlaced, Reaches}
 use Rattle.lic_places.specs.Places.{AreTexts}
-use Rattle.lic_search.specs.Backward.{Beats, IsBack, IsBackFrom, KeepsLeast}
-use Rattle.lic_search.specs.Tidily.{IsTakenBack, IsTidyBack, IsTidyBackFrom, Taken, a_blank, a_letter, nothing}
+use Rattle.lic_search.specs.Backward.{Beats, IsBack, Keeps}
+use Rattle.lic_search.specs.Tidily.{IsTakenBack, IsTidyBack, IsTidyBackFrom, Taken}
 use Rattle.lic_search.proofs.Placed.{ArePlaced-append, ArePlaced-nil, Reaches-append, Reaches-append_left, Reaches-append_right, Reaches-nil}
-use Rattle.lic_search.proofs.Back.{Beats-same, Reaches-in_front, back-least, back-stay, reads-forward, reads-joined, reads-parted}
+use Rattle.lic_search.proofs.Back.{Beats-joined, Beats-same, Reaches-in_front, back-keeps, back-stay, reads-forward, reads-joined, reads-parted}
 use Rattle.lic_search.proofs.TidyWords.{taken-joined, taken-parted}
+use Rattle.lic_search.specs.declared.keep.Keep.{Keep}
 
 -- a list has the place with a last token that is as good
-abbrev pub HasBetter : List TokenValue → List PlaceSpan → ℕ → ℕ → Type 0
-HasBetter tokens xs p last = (other : ℕ) × Beats tokens p other last × Reaches tokens xs p other
+abbrev pub HasBetter : Keep → List TokenValue → List PlaceSpan → ℕ → ℕ → Type 0
+HasBetter keep tokens xs p last = (other : ℕ) × Beats keep tokens p other last × Reaches tokens xs p other
 
 -- the empty word
 abbrev pub IsEmptyWord : Word → Type 0
 IsEmptyWord w = w ≡ []
 
--- each place with its least last token stays where it is
-pub back-kept_least : (tokens : List TokenValue) (xs ys : List PlaceSpan) → AreTexts tokens → ArePlaced tokens xs → KeepsLeast xs ys → IsBack tokens IsEmptyWord xs ys
-back-kept_least tokens xs ys texts placed kept =
-    back-least tokens IsEmptyWord (Reaches tokens xs) xs ys texts (back-stay tokens xs placed) kept.sound kept.least kept.ordered
+-- each place with those last tokens that are kept stays where it is
+pub back-kept_same : (keep : Keep) (tokens : List TokenValue) (xs ys : List PlaceSpan) → AreTexts tokens → ArePlaced tokens xs → Keeps keep xs ys → IsBack keep tokens IsEmptyWord xs ys
+back-kept_same keep tokens xs ys texts placed kept =
+    back-keeps keep tokens IsEmptyWord (Reaches tokens xs) xs ys texts (back-stay keep tokens xs placed) kept
 
--- what is as good as the one at a place from which a word leads to that of the other
-pub Beats-joined : (tokens : List TokenValue) (p r m o l : ℕ) → r ≤ place_end tokens m → p ≤ r → Beats tokens r m l → Beats tokens p o m → Beats tokens p o l
-Beats-joined tokens p r m o l front forward one other = record {
-  least = omega (arith, one.least, other.least);
-  taken = λ at. let same = other.taken at in
-      let end : r ≡ place_end tokens m = omega (arith, subst (λ x. p ≡ place_end tokens x) same at) in
-      same ∙ one.taken end;
-}
-
-pub Beats-through : (tokens : List TokenValue) (p a b c : ℕ) → Beats tokens p a b → Beats tokens p b c → Beats tokens p a c
-Beats-through tokens p a b c one other = record {
-  least = omega (arith, one.least, other.least);
-  taken = λ at. let same = one.taken at in same ∙ other.taken (subst (λ x. p ≡ place_end tokens x) same at);
-}
-
-module _ (tokens : List TokenValue) where
+module _ (keep : Keep) (tokens : List TokenValue) where
   -- a word of the first set and then one of the second
   pub tidy-after : (P Q : Word → Type 0) (Ends : Taken → ℕ → ℕ → Type 0) (xs ys : Taken → List PlaceSpan) →
-      IsTidyBackFrom tokens P Ends xs → IsTidyBack tokens Q xs ys → IsTidyBackFrom tokens (Cat Q P) Ends ys
+      IsTidyBackFrom keep tokens P Ends xs → IsTidyBack keep tokens Q xs ys → IsTidyBackFrom keep tokens (Cat Q P) Ends ys
   tidy-after P Q Ends xs ys last first = record {
     placed = first.placed;
     sound = λ s p l r.
@@ -58,23 +43,23 @@ module _ (tokens : List TokenValue) where
         let d = first.complete s m.0 p r.0 c.0 is.0 c.2 is.2 m.1 r.1 in
         let front = Reaches-in_front tokens (xs m.0) r.0 c.0 (last.placed m.0) c.2 in
         let forward = reads-forward tokens is.0 p r.0 r.1 in
-        (d.0, Beats-joined tokens p r.0 c.0 d.0 l front forward c.1 d.1, d.2);
+        (d.0, Beats-joined keep tokens p r.0 c.0 d.0 l front forward c.1 d.1, d.2);
   }
 
   -- the empty word
-  pub tidy-stay : (xs : Taken → List PlaceSpan) → ((s : Taken) → ArePlaced tokens (xs s)) → IsTidyBack tokens IsEmptyWord xs xs
+  pub tidy-stay : (xs : Taken → List PlaceSpan) → ((s : Taken) → ArePlaced tokens (xs s)) → IsTidyBack keep tokens IsEmptyWord xs xs
   tidy-stay xs placed = record {
     placed = placed;
     sound = λ s p l r. (s, p, r, [], refl, refl, refl);
     complete = λ s t p q l w r is taken reads.
         let same : p ≡ q = subst (λ x. Reads tokens p x q) is reads in
         let taken_same : s ≡ t = subst (λ x. IsTakenBack s x t) is taken in
-        (l, Beats-same tokens p l, subst (λ x. Reaches tokens (xs x) p l) (sym taken_same) (subst (λ x. Reaches tokens (xs t) x l) (sym same) r));
+        (l, Beats-same keep tokens p l, subst (λ x. Reaches tokens (xs x) p l) (sym taken_same) (subst (λ x. Reaches tokens (xs t) x l) (sym same) r));
   }
 
   -- the same words from the same places, and the same lists
   pub tidy-same : (P Q : Word → Type 0) (Ends : Taken → ℕ → ℕ → Type 0) (xs : Taken → List PlaceSpan) →
-      ((w : Word) → P w → Q w) → ((w : Word) → Q w → P w) → IsTidyBackFrom tokens P Ends xs → IsTidyBackFrom tokens Q Ends xs
+      ((w : Word) → P w → Q w) → ((w : Word) → Q w → P w) → IsTidyBackFrom keep tokens P Ends xs → IsTidyBackFrom keep tokens Q Ends xs
   tidy-same P Q Ends xs to from back = record {
     placed = back.placed;
     sound = λ s p l r. let a = back.sound s p l r in (a.0, a.1, a.2, a.3, to a.3 a.4, a.5, a.6);
@@ -82,7 +67,7 @@ module _ (tokens : List TokenValue) where
   }
 
   pub tidy-lists : (P : Word → Type 0) (Ends : Taken → ℕ → ℕ → Type 0) (xs ys : Taken → List PlaceSpan) →
-      ((s : Taken) → ys s ≡ xs s) → IsTidyBackFrom tokens P Ends xs → IsTidyBackFrom tokens P Ends ys
+      ((s : Taken) → ys s ≡ xs s) → IsTidyBackFrom keep tokens P Ends xs → IsTidyBackFrom keep tokens P Ends ys
   tidy-lists P Ends xs ys same back = record {
     placed = λ s. subst (λ x. ArePlaced tokens x) (sym (same s)) (back.placed s);
     sound = λ s p l r. back.sound s p l (subst (λ x. Reaches tokens x p l) (same s) r);
@@ -92,7 +77,7 @@ module _ (tokens : List TokenValue) where
   }
 
   -- each list with the least last tokens, or the same list once more
-  pub tidy-each : (xs ys : Taken → List PlaceSpan) → ((s : Taken) → IsBack tokens IsEmptyWord (xs s) (ys s)) → IsTidyBack tokens IsEmptyWord xs ys
+  pub tidy-each : (xs ys : Taken → List PlaceSpan) → ((s : Taken) → IsBack keep tokens IsEmptyWord (xs s) (ys s)) → IsTidyBack keep tokens IsEmptyWord xs ys
   tidy-each xs ys each = record {
     placed = λ s. let b = each s in b.placed;
     sound = λ s p l r.
@@ -109,7 +94,7 @@ module _ (tokens : List TokenValue) where
 
   -- going back over the empty word changes no set
   pub tidy-least : (P : Word → Type 0) (Ends : Taken → ℕ → ℕ → Type 0) (xs ys : Taken → List PlaceSpan) →
-      IsTidyBackFrom tokens P Ends xs → IsTidyBack tokens IsEmptyWord xs ys → IsTidyBackFrom tokens P Ends ys
+      IsTidyBackFrom keep tokens P Ends xs → IsTidyBack keep tokens IsEmptyWord xs ys → IsTidyBackFrom keep tokens P Ends ys
   tidy-least P Ends xs ys back least =
       tidy-same (Cat IsEmptyWord P) P Ends ys
       (λ w is. subst P (sym is.4) (subst (λ x. P (x ++ is.1)) (sym is.2) is.3))
@@ -119,7 +104,7 @@ module _ (tokens : List TokenValue) where
   -- words of the one set and of the other
   pub tidy-either : (P Q : Word → Type 0) (Ends : Taken → ℕ → ℕ → Type 0) (xs ys zs : Taken → List PlaceSpan) →
       ((s : Taken) → zs s ≡ xs s ++ ys s) →
-      IsTidyBackFrom tokens P Ends xs → IsTidyBackFrom tokens Q Ends ys → IsTidyBackFrom tokens (λ w. P w ⊎ Q w) Ends zs
+      IsTidyBackFrom keep tokens P Ends xs → IsTidyBackFrom keep tokens Q Ends ys → IsTidyBackFrom keep tokens (λ w. P w ⊎ Q w) Ends zs
   tidy-either P Q Ends xs ys zs are one other = tidy-lists Either Ends both zs are (record {
     placed = λ s. ArePlaced-append tokens (xs s) (ys s) (one.placed s) (other.placed s);
     sound = λ s p l r. sound s p l (Reaches-append tokens (xs s) (ys s) p l r);
@@ -138,7 +123,7 @@ module _ (tokens : List TokenValue) where
       sound s p l (inr r) = let a = other.sound s p l r in (a.0, a.1, a.2, a.3, inr a.4, a.5, a.6)
 
       complete : (s t : Taken) (p q l : ℕ) (w : Word) → Ends t q l → Either w → IsTakenBack s w t → Reads tokens p w q →
-          HasBetter tokens (xs s ++ ys s) p l
+          HasBetter keep tokens (xs s ++ ys s) p l
       complete s t p q l w e (inl is) taken reads =
           let c = one.complete s t p q l w e is taken reads in (c.0, c.1, Reaches-append_left tokens (xs s) (ys s) p c.0 c.2)
       complete s t p q l w e (inr is) taken reads =
@@ -146,7 +131,7 @@ module _ (tokens : List TokenValue) where
 
   -- no words
   pub tidy-none : (P : Word → Type 0) (Ends : Taken → ℕ → ℕ → Type 0) (xs : Taken → List PlaceSpan) →
-      ((s : Taken) → xs s ≡ []) → ((w : Word) → P w → ⊥) → IsTidyBackFrom tokens P Ends xs
+      ((s : Taken) → xs s ≡ []) → ((w : Word) → P w → ⊥) → IsTidyBackFrom keep tokens P Ends xs
   tidy-none P Ends xs empty none = record {
     placed = λ s. subst (λ x. ArePlaced tokens x) (sym (empty s)) (ArePlaced-nil tokens);
     sound = λ s p l r. absurd (Reaches-nil tokens p l (subst (λ x. Reaches tokens x p l) (empty s) r));

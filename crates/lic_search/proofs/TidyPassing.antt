@@ -12,6 +12,7 @@ use Rattle.lic_search.proofs.Placed.{ArePlaced-append, ArePlaced-nil, Reaches-ap
 use Rattle.lic_search.proofs.TidyWords.{taken-tidy, tidy-taken}
 use Rattle.lic_search.proofs.TidyBack.{HasBetter, tidy-lists}
 use Rattle.lic_search.proofs.TakenCases.{by_taken}
+use Rattle.lic_search.specs.declared.keep.Keep.{Keep}
 
 -- one letter that passes
 abbrev pub IsOne : (ℕ → Bool) → Word → Type 0
@@ -21,21 +22,21 @@ IsOne passes w = (c : ℕ) × (passes c ≡ true) × (w ≡ c ∷ [])
 abbrev pub IsPassingBlank : (ℕ → Bool) → Word → Type 0
 IsPassingBlank passes w = (passes blank ≡ true) × (w ≡ blank ∷ [])
 
-pub better-left : (tokens : List TokenValue) (xs ys : List PlaceSpan) (p l : ℕ) → HasBetter tokens xs p l → HasBetter tokens (xs ++ ys) p l
-better-left tokens xs ys p l c = (c.0, c.1, Reaches-append_left tokens xs ys p c.0 c.2)
+pub better-left : (keep : Keep) (tokens : List TokenValue) (xs ys : List PlaceSpan) (p l : ℕ) → HasBetter keep tokens xs p l → HasBetter keep tokens (xs ++ ys) p l
+better-left keep tokens xs ys p l c = (c.0, c.1, Reaches-append_left tokens xs ys p c.0 c.2)
 
-pub better-right : (tokens : List TokenValue) (xs ys : List PlaceSpan) (p l : ℕ) → HasBetter tokens ys p l → HasBetter tokens (xs ++ ys) p l
-better-right tokens xs ys p l c = (c.0, c.1, Reaches-append_right tokens xs ys p c.0 c.2)
+pub better-right : (keep : Keep) (tokens : List TokenValue) (xs ys : List PlaceSpan) (p l : ℕ) → HasBetter keep tokens ys p l → HasBetter keep tokens (xs ++ ys) p l
+better-right keep tokens xs ys p l c = (c.0, c.1, Reaches-append_right tokens xs ys p c.0 c.2)
 
-module _ (tokens : List TokenValue) (passes : ℕ → Bool) (xs : Taken → List PlaceSpan) (one other third fourth : List PlaceSpan) where
+module _ (keep : Keep) (tokens : List TokenValue) (passes : ℕ → Bool) (xs : Taken → List PlaceSpan) (one other third fourth : List PlaceSpan) where
   -- the lists that one letter leads to
   abbrev gathered : Taken → List PlaceSpan
   gathered nothing = []
   gathered a_letter = (one ++ other) ++ third
   gathered a_blank = fourth
 
-  module _ (first : IsBack tokens (IsPassing passes) (xs nothing) one) (second : IsBack tokens (IsPassing passes) (xs a_letter) other)
-      (last : IsBack tokens (IsPassing passes) (xs a_blank) third) (blanks : IsBack tokens (IsPassingBlank passes) (xs a_letter) fourth) where
+  module _ (first : IsBack keep tokens (IsPassing passes) (xs nothing) one) (second : IsBack keep tokens (IsPassing passes) (xs a_letter) other)
+      (last : IsBack keep tokens (IsPassing passes) (xs a_blank) third) (blanks : IsBack keep tokens (IsPassingBlank passes) (xs a_letter) fourth) where
     abbrev Led : Taken → ℕ → ℕ → Type 0
     Led s p l = (t : Taken) × (q : ℕ) × Reaches tokens (xs t) q l × (w : Word) × IsOne passes w × IsTakenBack s w t × Reads tokens p w q
 
@@ -59,31 +60,31 @@ module _ (tokens : List TokenValue) (passes : ℕ → Bool) (xs : Taken → List
         by_part (inl r) = by_first (Reaches-append tokens one other p l r)
         by_part (inr r) = from_letters a_blank p l (last.sound p l r)
 
-    to_letters : (t : Taken) (p q l : ℕ) (w : Word) → Reaches tokens (xs t) q l → IsPassing passes w → Reads tokens p w q → HasBetter tokens (gathered a_letter) p l
-    to_letters nothing p q l w e is reads = better-left tokens (one ++ other) third p l (better-left tokens one other p l (first.complete p q l w e is reads))
-    to_letters a_letter p q l w e is reads = better-left tokens (one ++ other) third p l (better-right tokens one other p l (second.complete p q l w e is reads))
-    to_letters a_blank p q l w e is reads = better-right tokens (one ++ other) third p l (last.complete p q l w e is reads)
+    to_letters : (t : Taken) (p q l : ℕ) (w : Word) → Reaches tokens (xs t) q l → IsPassing passes w → Reads tokens p w q → HasBetter keep tokens (gathered a_letter) p l
+    to_letters nothing p q l w e is reads = better-left keep tokens (one ++ other) third p l (better-left keep tokens one other p l (first.complete p q l w e is reads))
+    to_letters a_letter p q l w e is reads = better-left keep tokens (one ++ other) third p l (better-right keep tokens one other p l (second.complete p q l w e is reads))
+    to_letters a_blank p q l w e is reads = better-right keep tokens (one ++ other) third p l (last.complete p q l w e is reads)
 
     complete : (s t : Taken) (p q l : ℕ) (w : Word) → Reaches tokens (xs t) q l → IsOne passes w → IsTakenBack s w t → Reads tokens p w q →
-        HasBetter tokens (gathered s) p l
+        HasBetter keep tokens (gathered s) p l
     complete s t p q l w e is taken reads = by_case (subst (λ x. IsTakenBack s x t) is.2 taken)
       where
-        by_case : IsTakenBack s (is.0 ∷ []) t → HasBetter tokens (gathered s) p l
+        by_case : IsTakenBack s (is.0 ∷ []) t → HasBetter keep tokens (gathered s) p l
         by_case now = by_last now.1
           where
-            by_last : IsTakenBefore s is.0 now.0 → HasBetter tokens (gathered s) p l
+            by_last : IsTakenBefore s is.0 now.0 → HasBetter keep tokens (gathered s) p l
             by_last (inl at) =
                 let from = subst (λ x. Reaches tokens (xs x) q l) (sym now.2 ∙ at.2) e in
                 let it : IsPassingBlank passes w = (subst (λ x. passes x ≡ true) at.0 is.1, subst (λ x. w ≡ x ∷ []) at.0 is.2) in
-                subst (λ x. HasBetter tokens (gathered x) p l) (sym at.1) (blanks.complete p q l w from it reads)
+                subst (λ x. HasBetter keep tokens (gathered x) p l) (sym at.1) (blanks.complete p q l w from it reads)
             by_last (inr at) =
-                subst (λ x. HasBetter tokens (gathered x) p l) (sym at.1) (to_letters t p q l w e (is.0, at.0, is.1, is.2) reads)
+                subst (λ x. HasBetter keep tokens (gathered x) p l) (sym at.1) (to_letters t p q l w e (is.0, at.0, is.1, is.2) reads)
 
     -- one letter that passes leads to these lists
     pub tidy-passing : (ys : Taken → List PlaceSpan) → ys nothing ≡ [] → ys a_letter ≡ (one ++ other) ++ third → ys a_blank ≡ fourth →
-        IsTidyBack tokens (IsOne passes) xs ys
+        IsTidyBack keep tokens (IsOne passes) xs ys
     tidy-passing ys none letters blank_ones =
-        tidy-lists tokens (IsOne passes) (λ t q l. Reaches tokens (xs t) q l) gathered ys
+        tidy-lists keep tokens (IsOne passes) (λ t q l. Reaches tokens (xs t) q l) gathered ys
         (by_taken (λ s. ys s ≡ gathered s) none letters blank_ones) (record {
           placed = by_taken (λ s. ArePlaced tokens (gathered s)) (ArePlaced-nil tokens)
               (ArePlaced-append tokens (one ++ other) third (ArePlaced-append tokens one other first.placed second.placed) last.placed) blanks.placed;
@@ -92,10 +93,10 @@ module _ (tokens : List TokenValue) (passes : ℕ → Bool) (xs : Taken → List
         })
 
 -- From where nothing was taken a tidy word leads to the places where no blank is taken last.
-pub tidy-answer : (tokens : List TokenValue) (P : Word → Type 0) (spans answer : List PlaceSpan) (xs ys : Taken → List PlaceSpan) →
+pub tidy-answer : (keep : Keep) (tokens : List TokenValue) (P : Word → Type 0) (spans answer : List PlaceSpan) (xs ys : Taken → List PlaceSpan) →
     xs nothing ≡ spans → xs a_letter ≡ [] → xs a_blank ≡ [] → answer ≡ ys nothing ++ ys a_letter →
-    IsTidyBack tokens P xs ys → IsBack tokens (λ w. P w × IsTidy w) spans answer
-tidy-answer tokens P spans answer xs ys begin no_letter no_blank is back = subst (λ x. IsBack tokens Words spans x) (sym is) (record {
+    IsTidyBack keep tokens P xs ys → IsBack keep tokens (λ w. P w × IsTidy w) spans answer
+tidy-answer keep tokens P spans answer xs ys begin no_letter no_blank is back = subst (λ x. IsBack keep tokens Words spans x) (sym is) (record {
   placed = ArePlaced-append tokens (ys nothing) (ys a_letter) (back.placed nothing) (back.placed a_letter);
   sound = λ p l r. by_part p l (Reaches-append tokens (ys nothing) (ys a_letter) p l r);
   complete = λ p q l w e has reads. complete p q l w e has.0 (tidy-taken w has.1) reads;
@@ -123,10 +124,10 @@ tidy-answer tokens P spans answer xs ys begin no_letter no_blank is back = subst
         from a_letter p l (λ same. let e : a_letter ≡ a_blank = same in cc) a.0 a.1 a.2 a.3 a.4 a.5 a.6
 
     complete : (p q l : ℕ) (w : Word) → Reaches tokens spans q l → P w → IsTakenBack nothing w nothing ⊎ IsTakenBack a_letter w nothing → Reads tokens p w q →
-        HasBetter tokens (ys nothing ++ ys a_letter) p l
+        HasBetter keep tokens (ys nothing ++ ys a_letter) p l
     complete p q l w e has (inl taken) reads =
-        better-left tokens (ys nothing) (ys a_letter) p l
+        better-left keep tokens (ys nothing) (ys a_letter) p l
         (back.complete nothing nothing p q l w (subst (λ x. Reaches tokens x q l) (sym begin) e) has taken reads)
     complete p q l w e has (inr taken) reads =
-        better-right tokens (ys nothing) (ys a_letter) p l
+        better-right keep tokens (ys nothing) (ys a_letter) p l
         (back.complete a_letter nothing p q l w (subst (λ x. Reaches tokens x q l) (sym begin) e) has taken reads)

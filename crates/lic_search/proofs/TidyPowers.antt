@@ -1,17 +1,17 @@
 -- Going back over words of a set again and again.
-use Rattle.std.proofs.Common.{◌≡◌, ◌⊎◌, ◌↔◌, ℕ, zero, suc, ◌+◌, ◌*◌, ◌<◌, ◌≤◌, List, [], ◌∷◌, ◌++◌, length, inl, inr, refl, sym, ap, arith, subst, ◌∙◌, append_assoc, length-append, append-nil}
-use Rattle.lic_words.specs.Words.{Word, Cat, Power}
+use Rattle.std.proofs.Common.{◌≡◌, ◌⊎◌, ℕ, zero, suc, ◌+◌, ◌≤◌, List, [], ◌∷◌, ◌++◌, length, inl, inr, refl, sym, ap, arith, subst, ◌∙◌, append_assoc, length-append}
+use Rattle.lic_words.specs.Words.{Word, Power}
 use Rattle.lic_norm.specs.Tokens.{TokenValue}
-use Rattle.lic_norm.specs.Places.{place_end}
 use Rattle.lic_places.specs.Reads.{Reads}
 use Rattle.lic_spans.specs.declared.span.PlaceSpan.{PlaceSpan}
 use Rattle.lic_search.specs.PlaceSets.{ArePlaced, Reaches}
 use Rattle.lic_search.specs.Backward.{Beats}
 use Rattle.lic_search.specs.Tidily.{IsTakenBack, IsTidyBack, IsTidyBackFrom, Taken, UpTo}
 use Rattle.lic_search.proofs.Placed.{Reaches-append, Reaches-append_left, Reaches-append_right, Reaches-nil}
-use Rattle.lic_search.proofs.Back.{Reaches-in_front, reads-forward, reads-joined, reads-parted}
+use Rattle.lic_search.proofs.Back.{Beats-joined, Beats-through, Reaches-in_front, reads-forward, reads-joined, reads-parted}
 use Rattle.lic_search.proofs.TidyWords.{taken-joined, taken-parted}
-use Rattle.lic_search.proofs.TidyBack.{Beats-joined, Beats-through, HasBetter, IsEmptyWord, tidy-after, tidy-same}
+use Rattle.lic_search.proofs.TidyBack.{HasBetter, IsEmptyWord, tidy-after, tidy-same}
+use Rattle.lic_search.specs.declared.keep.Keep.{Keep}
 
 -- ---- powers
 
@@ -56,49 +56,49 @@ power-shorter P (suc k) w power =
     by_first (c ∷ u) v is j short few powers same =
         (suc j, subst (λ x. suc j ≤ length x) (sym same) (omega (arith, length-append (c ∷ u) v)), omega arith, (c ∷ u, v, is, powers, same))
 
-module _ (tokens : List TokenValue) (B : Word → Type 0) where
+module _ (keep : Keep) (tokens : List TokenValue) (B : Word → Type 0) where
   -- ---- a number of times
 
   -- what going back changes nothing of stays as it is
   pub times-settled : (Ends : Taken → ℕ → ℕ → Type 0) (xs : Taken → List PlaceSpan) (i : ℕ) →
-      IsTidyBackFrom tokens (Power B i) Ends xs → IsTidyBack tokens B xs xs → (d n : ℕ) → n ≡ i + d → IsTidyBackFrom tokens (Power B n) Ends xs
+      IsTidyBackFrom keep tokens (Power B i) Ends xs → IsTidyBack keep tokens B xs xs → (d n : ℕ) → n ≡ i + d → IsTidyBackFrom keep tokens (Power B n) Ends xs
   times-settled Ends xs i back stays zero n is =
-      let same : n ≡ i = omega arith in subst (λ x. IsTidyBackFrom tokens (Power B x) Ends xs) (sym same) back
+      let same : n ≡ i = omega arith in subst (λ x. IsTidyBackFrom keep tokens (Power B x) Ends xs) (sym same) back
   times-settled Ends xs i back stays (suc d) n is =
       let m = i + d in
       let next : n ≡ suc m = omega arith in
-      subst (λ x. IsTidyBackFrom tokens (Power B x) Ends xs) (sym next)
-      (tidy-after tokens (Power B m) B Ends xs xs (times-settled Ends xs i back stays d m refl) stays)
+      subst (λ x. IsTidyBackFrom keep tokens (Power B x) Ends xs) (sym next)
+      (tidy-after keep tokens (Power B m) B Ends xs xs (times-settled Ends xs i back stays d m refl) stays)
 
   -- ---- as often as one likes
 
   -- what one word more leads to is found
   abbrev pub IsFollowed : (Taken → List PlaceSpan) → Taken → ℕ → ℕ → Type 0
-  IsFollowed found t q l = (s : Taken) (p : ℕ) (u : Word) → B u → IsTakenBack s u t → Reads tokens p u q → HasBetter tokens (found s) p l
+  IsFollowed found t q l = (s : Taken) (p : ℕ) (u : Word) → B u → IsTakenBack s u t → Reads tokens p u q → HasBetter keep tokens (found s) p l
 
   -- what up to so many words lead to is found, and what one word more leads to, but for that from the front
   pub record IsReached (xs found front : Taken → List PlaceSpan) (i : ℕ) : Type 0 where
-    pub back : IsTidyBack tokens (UpTo B i) xs found
+    pub back : IsTidyBack keep tokens (UpTo B i) xs found
     pub placed : (s : Taken) → ArePlaced tokens (front s)
     pub among : (s : Taken) (p l : ℕ) → Reaches tokens (front s) p l → Reaches tokens (found s) p l
     pub followed : (t : Taken) (q l : ℕ) → Reaches tokens (found t) q l → Reaches tokens (front t) q l ⊎ IsFollowed found t q l
 
   -- what is the same but for the empty word
-  pub from-least : (xs ys : Taken → List PlaceSpan) → IsTidyBack tokens IsEmptyWord xs ys → (s : Taken) (p l : ℕ) → Reaches tokens (ys s) p l → Reaches tokens (xs s) p l
+  pub from-least : (xs ys : Taken → List PlaceSpan) → IsTidyBack keep tokens IsEmptyWord xs ys → (s : Taken) (p l : ℕ) → Reaches tokens (ys s) p l → Reaches tokens (xs s) p l
   from-least xs ys least s p l r =
       let a = least.sound s p l r in
       let same : p ≡ a.1 = subst (λ x. Reads tokens p x a.1) a.4 a.6 in
       let taken : s ≡ a.0 = subst (λ x. IsTakenBack s x a.0) a.4 a.5 in
       subst (λ x. Reaches tokens (xs x) p l) (sym taken) (subst (λ x. Reaches tokens (xs a.0) x l) (sym same) a.2)
 
-  pub to-least : (xs ys : Taken → List PlaceSpan) → IsTidyBack tokens IsEmptyWord xs ys → (s : Taken) (p l m : ℕ) → Beats tokens p m l → Reaches tokens (xs s) p m → HasBetter tokens (ys s) p l
+  pub to-least : (xs ys : Taken → List PlaceSpan) → IsTidyBack keep tokens IsEmptyWord xs ys → (s : Taken) (p l m : ℕ) → Beats keep tokens p m l → Reaches tokens (xs s) p m → HasBetter keep tokens (ys s) p l
   to-least xs ys least s p l m beats r =
       let c = least.complete s s p p m [] r refl refl refl in
-      (c.0, Beats-through tokens p c.0 m l c.1 beats, c.2)
+      (c.0, Beats-through keep tokens p c.0 m l c.1 beats, c.2)
 
-  pub reached-first : (xs found : Taken → List PlaceSpan) → IsTidyBack tokens IsEmptyWord xs found → IsReached xs found found 0
+  pub reached-first : (xs found : Taken → List PlaceSpan) → IsTidyBack keep tokens IsEmptyWord xs found → IsReached xs found found 0
   reached-first xs found same = record {
-    back = tidy-same tokens IsEmptyWord (UpTo B 0) (λ t q l. Reaches tokens (xs t) q l) found (λ w is. (0, omega arith, is)) (λ w is. none w is.0 is.1 is.2) same;
+    back = tidy-same keep tokens IsEmptyWord (UpTo B 0) (λ t q l. Reaches tokens (xs t) q l) found (λ w is. (0, omega arith, is)) (λ w is. none w is.0 is.1 is.2) same;
     placed = same.placed;
     among = λ s p l r. r;
     followed = λ t q l r. inl r;
@@ -109,8 +109,8 @@ module _ (tokens : List TokenValue) (B : Word → Type 0) where
       none w (suc k) few power = absurd (omega arith)
 
   pub reached-more : (xs found front next both all fresh : Taken → List PlaceSpan) (i n : ℕ) → n ≡ suc i →
-      IsReached xs found front i → IsTidyBack tokens B front next →
-      ((s : Taken) → both s ≡ found s ++ next s) → IsTidyBack tokens IsEmptyWord both all →
+      IsReached xs found front i → IsTidyBack keep tokens B front next →
+      ((s : Taken) → both s ≡ found s ++ next s) → IsTidyBack keep tokens IsEmptyWord both all →
       ((s : Taken) → ArePlaced tokens (fresh s)) →
       ((s : Taken) (p l : ℕ) → Reaches tokens (fresh s) p l → Reaches tokens (all s) p l) →
       ((s : Taken) (p l : ℕ) → Reaches tokens (all s) p l → Reaches tokens (fresh s) p l ⊎ Reaches tokens (found s) p l) →
@@ -128,19 +128,19 @@ module _ (tokens : List TokenValue) (B : Word → Type 0) where
   }
     where
       -- what was found, and what one step leads to, is found
-      from_found : (s : Taken) (p l m : ℕ) → Beats tokens p m l → Reaches tokens (found s) p m → HasBetter tokens (all s) p l
+      from_found : (s : Taken) (p l m : ℕ) → Beats keep tokens p m l → Reaches tokens (found s) p m → HasBetter keep tokens (all s) p l
       from_found s p l m beats r = to-least both all least s p l m beats
           (subst (λ x. Reaches tokens x p m) (sym (joined s)) (Reaches-append_left tokens (found s) (next s) p m r))
 
-      from_next : (s : Taken) (p l m : ℕ) → Beats tokens p m l → Reaches tokens (next s) p m → HasBetter tokens (all s) p l
+      from_next : (s : Taken) (p l m : ℕ) → Beats keep tokens p m l → Reaches tokens (next s) p m → HasBetter keep tokens (all s) p l
       from_next s p l m beats r = to-least both all least s p l m beats
           (subst (λ x. Reaches tokens x p m) (sym (joined s)) (Reaches-append_right tokens (found s) (next s) p m r))
 
       onward : (s t : Taken) (p q l : ℕ) (u : Word) → Reaches tokens (found t) q l → B u → IsTakenBack s u t → Reads tokens p u q →
-          HasBetter tokens (all s) p l
+          HasBetter keep tokens (all s) p l
       onward s t p q l u r is taken reads = by_case (reached.followed t q l r)
         where
-          by_case : Reaches tokens (front t) q l ⊎ IsFollowed found t q l → HasBetter tokens (all s) p l
+          by_case : Reaches tokens (front t) q l ⊎ IsFollowed found t q l → HasBetter keep tokens (all s) p l
           by_case (inl from) = let c = step.complete s t p q l u from is taken reads in from_next s p l c.0 c.1 c.2
           by_case (inr follows) = let c = follows s p u is taken reads in from_found s p l c.0 c.1 c.2
 
@@ -161,7 +161,7 @@ module _ (tokens : List TokenValue) (B : Word → Type 0) where
           )
 
       complete : (s t : Taken) (p q l : ℕ) (w : Word) → Reaches tokens (xs t) q l → (k : ℕ) → k ≤ n → Power B k w → IsTakenBack s w t → Reads tokens p w q →
-          HasBetter tokens (all s) p l
+          HasBetter keep tokens (all s) p l
       complete s t p q l w e zero few power taken reads =
           let c = reached.back.complete s t p q l w e (0, omega arith, power) taken reads in from_found s p l c.0 c.1 c.2
       complete s t p q l w e (suc k) few power taken reads =
@@ -171,7 +171,7 @@ module _ (tokens : List TokenValue) (B : Word → Type 0) where
           let d = onward s m.0 p r.0 c.0 power.0 c.2 power.2 m.1 r.1 in
           let front_of = Reaches-in_front tokens (found m.0) r.0 c.0 (reached.back.placed m.0) c.2 in
           let forward = reads-forward tokens power.0 p r.0 r.1 in
-          (d.0, Beats-joined tokens p r.0 c.0 d.0 l front_of forward c.1 d.1, d.2)
+          (d.0, Beats-joined keep tokens p r.0 c.0 d.0 l front_of forward c.1 d.1, d.2)
 
       followed : (t : Taken) (q l : ℕ) → Reaches tokens (fresh t) q l ⊎ Reaches tokens (found t) q l → Reaches tokens (fresh t) q l ⊎ IsFollowed all t q l
       followed t q l (inl r) = inl r
@@ -179,7 +179,7 @@ module _ (tokens : List TokenValue) (B : Word → Type 0) where
 
   -- once nothing is left to go on from, all is found
   pub reached-all : (xs found front : Taken → List PlaceSpan) (i n : ℕ) → i ≤ n → ((s : Taken) → front s ≡ []) →
-      IsReached xs found front i → IsTidyBack tokens (UpTo B n) xs found
+      IsReached xs found front i → IsTidyBack keep tokens (UpTo B n) xs found
   reached-all xs found front i n more empty reached = record {
     placed = reached.back.placed;
     sound = λ s p l r. let a = reached.back.sound s p l r in
@@ -192,7 +192,7 @@ module _ (tokens : List TokenValue) (B : Word → Type 0) where
       follows t q l (inr is) = is
 
       every : (s t : Taken) (p q l : ℕ) (w : Word) → Reaches tokens (xs t) q l → (k : ℕ) → Power B k w → IsTakenBack s w t → Reads tokens p w q →
-          HasBetter tokens (found s) p l
+          HasBetter keep tokens (found s) p l
       every s t p q l w e zero power taken reads = reached.back.complete s t p q l w e (0, omega arith, power) taken reads
       every s t p q l w e (suc k) power taken reads =
           let r = reads-parted tokens power.0 power.1 p q (subst (λ x. Reads tokens p x q) power.4 reads) in
@@ -201,4 +201,4 @@ module _ (tokens : List TokenValue) (B : Word → Type 0) where
           let d = follows m.0 r.0 c.0 (reached.followed m.0 r.0 c.0 c.2) s p power.0 power.2 m.1 r.1 in
           let front_of = Reaches-in_front tokens (found m.0) r.0 c.0 (reached.back.placed m.0) c.2 in
           let forward = reads-forward tokens power.0 p r.0 r.1 in
-          (d.0, Beats-joined tokens p r.0 c.0 d.0 l front_of forward c.1 d.1, d.2)
+          (d.0, Beats-joined keep tokens p r.0 c.0 d.0 l front_of forward c.1 d.1, d.2)

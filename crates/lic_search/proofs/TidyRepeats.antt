@@ -1,10 +1,9 @@
 -- Going back over repetitions, over rows of patterns and over choices.
-use Rattle.std.proofs.Common.{◌≡◌, ◌⊎◌, ℕ, zero, suc, ◌+◌, ◌-◌, ◌*◌, ◌^◌, ◌<◌, ◌≤◌, List, [], ◌∷◌, ◌++◌, length, inl, inr, refl, sym, ap, arith, subst, ◌∙◌}
+use Rattle.std.proofs.Common.{ℕ, ◌+◌, ◌-◌, ◌*◌, ◌^◌, ◌<◌, ◌≤◌, List, length, refl, sym, arith, subst}
 use Rattle.std.specs.Prelude.{Option, Some, None}
 use Rattle.lic_words.specs.Words.{Word, Cat, Power}
-use Rattle.lic_words.specs.Expressions.{Expression, IsAtMost, Language, repeat}
+use Rattle.lic_words.specs.Expressions.{IsAtMost}
 use Rattle.lic_norm.specs.Tokens.{TokenValue}
-use Rattle.lic_norm.specs.Places.{place_end}
 use Rattle.lic_places.specs.Places.{AreTexts, spelling_of}
 use Rattle.lic_places.specs.Reads.{Reads}
 use Rattle.lic_spans.specs.declared.span.PlaceSpan.{PlaceSpan}
@@ -12,18 +11,19 @@ use Rattle.lic_search.specs.PlaceSets.{ArePlaced, Reaches}
 use Rattle.lic_search.specs.Tidily.{IsMore, IsTakenBack, IsTidyBack, IsTidyBackFrom, Taken, UpTo}
 use Rattle.lic_search.proofs.ViewPlaces.{end-within}
 use Rattle.lic_search.proofs.Back.{Holds-last, Reaches-in_front}
-use Rattle.lic_search.proofs.TidyWords.{height, height-least, height-most, taken-length}
+use Rattle.lic_search.proofs.TidyWords.{height-most, taken-length}
 use Rattle.lic_search.proofs.TidyBack.{HasBetter, tidy-after, tidy-same}
 use Rattle.lic_search.proofs.TidyPowers.{power-joined, power-parted, power-shorter}
+use Rattle.lic_search.specs.declared.keep.Keep.{Keep}
 
 -- any number of words of the set in a row
 abbrev pub AnyOf : (Word → Type 0) → Word → Type 0
 AnyOf P w = (k : ℕ) × Power P k w
 
-module _ (tokens : List TokenValue) (texts : AreTexts tokens) (B : Word → Type 0) where
+module _ (keep : Keep) (tokens : List TokenValue) (texts : AreTexts tokens) (B : Word → Type 0) where
   -- more words than a text has letters and gaps lead to no other places
   pub any-number : (xs ys : Taken → List PlaceSpan) (count : ℕ) → 2 * length (spelling_of tokens) + 1 ≤ count → ((s : Taken) → ArePlaced tokens (xs s)) →
-      IsTidyBack tokens (UpTo B count) xs ys → IsTidyBack tokens (AnyOf B) xs ys
+      IsTidyBack keep tokens (UpTo B count) xs ys → IsTidyBack keep tokens (AnyOf B) xs ys
   any-number xs ys count many placed back = record {
     placed = back.placed;
     sound = λ s p l r. let a = back.sound s p l r in (a.0, a.1, a.2, a.3, (a.4.0, a.4.2), a.5, a.6);
@@ -31,7 +31,7 @@ module _ (tokens : List TokenValue) (texts : AreTexts tokens) (B : Word → Type
   }
     where
       complete : (s t : Taken) (p q l : ℕ) (w : Word) → Reaches tokens (xs t) q l → (k : ℕ) → Power B k w → IsTakenBack s w t → Reads tokens p w q →
-          HasBetter tokens (ys s) p l
+          HasBetter keep tokens (ys s) p l
       complete s t p q l w e k power taken reads =
           let long = taken-length tokens w s t p q taken reads in
           let most = height-most t q in
@@ -44,11 +44,11 @@ module _ (tokens : List TokenValue) (texts : AreTexts tokens) (B : Word → Type
   -- from the one number to the other, or to no end
   pub repeat-back : (Ends : Taken → ℕ → ℕ → Type 0) (min : ℕ) (max : Option ℕ) (more : ℕ) (ys zs : Taken → List PlaceSpan) →
       length (spelling_of tokens) < 2 ^ 63 → IsMore min max more →
-      IsTidyBackFrom tokens (Power B min) Ends ys → IsTidyBack tokens (UpTo B more) ys zs →
-      IsTidyBackFrom tokens (λ w. (k : ℕ) × (min ≤ k) × IsAtMost max k × Power B k w) Ends zs
+      IsTidyBackFrom keep tokens (Power B min) Ends ys → IsTidyBack keep tokens (UpTo B more) ys zs →
+      IsTidyBackFrom keep tokens (λ w. (k : ℕ) × (min ≤ k) × IsAtMost max k × Power B k w) Ends zs
   repeat-back Ends min (Some max) more ys zs short is needed up_to =
-      tidy-same tokens (Cat (UpTo B more) (Power B min)) (λ w. (k : ℕ) × (min ≤ k) × (k ≤ max) × Power B k w) Ends zs to from
-      (tidy-after tokens (Power B min) (UpTo B more) Ends ys zs needed up_to)
+      tidy-same keep tokens (Cat (UpTo B more) (Power B min)) (λ w. (k : ℕ) × (min ≤ k) × (k ≤ max) × Power B k w) Ends zs to from
+      (tidy-after keep tokens (Power B min) (UpTo B more) Ends ys zs needed up_to)
     where
       to : (w : Word) → Cat (UpTo B more) (Power B min) w → (k : ℕ) × (min ≤ k) × (k ≤ max) × Power B k w
       to w cat =
@@ -61,8 +61,8 @@ module _ (tokens : List TokenValue) (texts : AreTexts tokens) (B : Word → Type
           let parts = power-parted B j min has.0 w (omega (arith, has.1)) has.3 in
           (parts.0, parts.1, (j, omega (arith, has.1, has.2, is), parts.2), parts.3, parts.4)
   repeat-back Ends min None more ys zs short is needed up_to =
-      tidy-same tokens (Cat (AnyOf B) (Power B min)) (λ w. (k : ℕ) × (min ≤ k) × Unit {0} × Power B k w) Ends zs to from
-      (tidy-after tokens (Power B min) (AnyOf B) Ends ys zs needed
+      tidy-same keep tokens (Cat (AnyOf B) (Power B min)) (λ w. (k : ℕ) × (min ≤ k) × Unit {0} × Power B k w) Ends zs to from
+      (tidy-after keep tokens (Power B min) (AnyOf B) Ends ys zs needed
       (any-number ys zs more (omega (arith, short, is)) needed.placed up_to))
     where
       to : (w : Word) → Cat (AnyOf B) (Power B min) w → (k : ℕ) × (min ≤ k) × Unit {0} × Power B k w

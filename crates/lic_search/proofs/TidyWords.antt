@@ -1,14 +1,13 @@
 -- Words that are taken back with no two blanks together, and none at the end: tidy words, once none is taken last.
-use Rattle.std.proofs.Common.{◌≡◌, ◌⊎◌, ℕ, ◌+◌, ◌*◌, ◌<◌, ◌≤◌, List, [], ◌∷◌, ◌++◌, length, inl, inr, refl, sym, ap, arith, subst, ◌∙◌, suc}
+use Rattle.std.proofs.Common.{◌≡◌, ◌⊎◌, ℕ, ◌+◌, ◌*◌, ◌<◌, ◌≤◌, List, [], ◌∷◌, ◌++◌, length, inl, inr, refl, sym, ap, arith, subst, ◌∙◌}
 use Rattle.std.proofs.Math.Utf8.{encode}
 use Rattle.std.proofs.lemmas.Bool.{cases_eq}
 use Rattle.std.proofs.lemmas.Str.{length-encode, len_utf8_bounds}
 use Rattle.lic_words.specs.Words.{Word, IsTidy, blank}
 use Rattle.lic_norm.specs.Tokens.{TokenValue}
-use Rattle.lic_places.specs.Places.{OverBlank}
 use Rattle.lic_places.specs.Reads.{Reads, Takes}
 use Rattle.lic_search.specs.Tidily.{IsTakenBack, IsTakenBefore, Taken, a_blank, a_letter, nothing}
-use Rattle.lic_search.proofs.Back.{OverBlank-order, reads-forward}
+use Rattle.lic_search.proofs.Back.{OverBlank-order}
 
 -- words one after another
 pub taken-joined : (u v : Word) (a s b : Taken) → IsTakenBack a u s → IsTakenBack s v b → IsTakenBack a (u ++ v) b

@@ -3,14 +3,13 @@ use Rattle.std.proofs.Common.{◌≡◌, ◌<◌, ◌≤◌, ◌⊎◌, true, Li
 use Rattle.std.specs.List.{Contains}
 use Rattle.std.proofs.lemmas.Bool.{cases_lt}
 use Rattle.lic_norm.specs.Tokens.{TokenValue}
-use Rattle.lic_auto.specs.Sets.{Known}
+use Rattle.lic_set.specs.Sets.{Known}
 use Rattle.lic_filters.specs.Filters.{is_inside, is_tight, tight_of}
 use Rattle.lic_filters.proofs.Members.{not-list_any}
 use Rattle.lic_filters.proofs.Ranges.{IsInside, IsInside-test, test-IsInside, same_triple}
-use Rattle.lic_find.specs.Matches.{AreAscending, AreMatches}
-use Rattle.lic_find.specs.declared.triple.Triple.{Triple}
-use Rattle.lic_find.proofs.Collecting.{Collects, Collects-filter}
-use Rattle.lic_find.proofs.Triples.{same_from_members}
+use Rattle.lic_set.specs.Matches.{AreAscending, AreMatches}
+use Rattle.lic_set.specs.declared.triple.Triple.{Triple}
+use Rattle.lic_search.proofs.Ascending.{Collects, Collects-filter, same_from_members}
 use Rattle.lic_search.specs.LeastMatches.{HasLeastMatches}
 
 -- a triple of the same template whose range lies within that of t is t, or lies inside it

@@ -1,14 +1,12 @@
 -- Where the tokens of a text begin and end, and the first token from a place on.
-use Rattle.std.proofs.Common.{◌≡◌, inl, inr, ℕ, zero, suc, ◌+◌, ◌<◌, ◌≤◌, true, false, List, length, take, sym, ap, ◌∙◌, arith, length-append}
+use Rattle.std.proofs.Common.{◌≡◌, inl, inr, ℕ, zero, suc, ◌+◌, ◌<◌, ◌≤◌, true, false, List, length, sym, ap, ◌∙◌, arith}
 use Rattle.std.proofs.Math.Nat.{eq-or-lt_of_le}
 use Rattle.std.proofs.lemmas.Bool.{cases_lt, true≢false}
-use Rattle.std.proofs.lemmas.List.{length-map}
-use Rattle.lic_phrases.specs.Spelling.{spelled}
 use Rattle.lic_norm.specs.Tokens.{TokenValue}
-use Rattle.lic_norm.specs.Places.{IsTokenEnd, place_end, place_start, texts_of}
+use Rattle.lic_norm.specs.Places.{IsTokenEnd, place_end, place_start}
 use Rattle.lic_places.specs.Places.{AreTexts, is_blank_at, spelling_of}
-use Rattle.lic_places.proofs.Spelled.{spelled-front}
 use Rattle.lic_search.specs.Views.{IsFirstFrom}
+pub use Rattle.lic_keys.proofs.RequiredEnds.{end-within}
 use Rattle.lic_search.proofs.Laws.{no_blank-start, tokens_stand-next, tokens_stand-order}
 
 -- a token begins no earlier than the one before it ends
@@ -47,14 +45,6 @@ starts-order tokens i j texts le within =
       | inl same ↦ omega (arith, ap (λ n. place_start tokens n) same)
       | inr before ↦ omega (arith, tokens_stand-order tokens i texts (omega arith), starts-after tokens i j texts before within)
     ]
-
--- a token ends within the text
-pub end-within : (tokens : List TokenValue) (i : ℕ) → i < length tokens → place_end tokens i ≤ length (spelling_of tokens)
-unfolding place_end
-end-within tokens i within =
-    let text_of = λ (t : TokenValue). t.text in
-    let front = spelled-front (texts_of tokens) i (omega (arith, length-map tokens text_of)) in
-    omega (arith, ap length front.1, length-append (spelled (take (suc i) (texts_of tokens))) front.0)
 
 -- a token begins after the blank where the one before it ends
 pub start-over : (tokens : List TokenValue) (before i : ℕ) → AreTexts tokens → i ≡ suc before → i < length tokens

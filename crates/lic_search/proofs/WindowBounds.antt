@@ -27,6 +27,7 @@ use Rattle.lic_places.specs.Reads.{Reads, Takes}
 use Rattle.lic_places.proofs.Reading.{Reads-cut, Reads-most}
 use Rattle.lic_places.proofs.TokenPlaces.{OverBlank-order}
 use Rattle.lic_search.specs.Windows.{HasAtMost, TakesAtMost}
+use Rattle.lic_keys.proofs.RequiredEnds.{parts-joined}
 
 -- ---- letters
 
@@ -194,18 +195,6 @@ bytes-text text utf8 = record {
       let same : length (encode_utf8_all w) ≡ length text = ap (λ x. length (encode_utf8_all x)) (letters_sound (chars text) w is) ∙ ap length (encodes-chars text utf8) in
       omega arith;
 }
-
--- the words of parts, and then of others
-pub parts-joined : (xs ys : List Node) (w : Word) → Language (parts_words (xs ++ ys)) w → Cat (Language (parts_words xs)) (Language (parts_words ys)) w
-parts-joined [] ys w is = ([], w, refl, is, refl)
-parts-joined (x ∷ xs) ys w is =
-    let more = parts-joined xs ys is.1 is.3 in (
-      is.0 ++ more.0,
-      more.1,
-      (is.0, more.0, is.2, more.2, refl),
-      more.3,
-      is.4 ∙ ap (λ x. is.0 ++ x) more.4 ∙ sym (append_assoc is.0 more.0 more.1),
-    )
 
 -- the words of one part
 part-alone : (n : Node) (w : Word) → Language (parts_words (n ∷ [])) w → Language (node_words n) w

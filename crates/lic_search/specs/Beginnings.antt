@@ -1,9 +1,9 @@
 -- With which tokens words begin at places of spans.
-use Rattle.std.specs.Prelude.{◌≡◌, ℕ, ◌≤◌, List, [], ◌∷◌}
+use Rattle.std.specs.Prelude.{◌≡◌, ℕ, ◌≤◌, ◌↔◌, List, [], ◌∷◌}
 use Rattle.lic_norm.specs.Tokens.{TokenValue}
-use Rattle.lic_norm.specs.Places.{place_end}
+use Rattle.lic_norm.specs.Places.{place_end, place_start}
 use Rattle.lic_places.specs.Reads.{BeginsAt}
-use Rattle.lic_spans.specs.declared.span.Kind.TheVariants.{End}
+use Rattle.lic_spans.specs.declared.span.Kind.TheVariants.{End, Letters}
 use Rattle.lic_spans.specs.declared.span.PlaceSpan.{PlaceSpan}
 use Rattle.lic_search.specs.declared.range.Range.{Range}
 use Rattle.lic_search.specs.PlaceSets.{Reaches}
@@ -20,6 +20,15 @@ pub record IsLastBeginning (tokens : List TokenValue) (span : PlaceSpan) (range 
   pub last : range.last ≡ span.last
   pub begins : BeginsIn tokens (span ∷ []) range.first span.last
   pub greatest : (first : ℕ) → BeginsIn tokens (span ∷ []) first span.last → first ≤ range.first
+  pub from : (first : ℕ) → BeginsIn tokens (span ∷ []) first span.last → span.low ≤ place_start tokens first
+  pub all : (first : ℕ) → first ≤ range.first → span.low ≤ place_start tokens first → BeginsIn tokens (span ∷ []) first span.last
+
+-- the tokens with which words begin at places of the span are those from the low one to the high one
+pub record AreFirsts (tokens : List TokenValue) (span firsts : PlaceSpan) : Type 0 where
+  pub kind : firsts.kind ≡ Letters
+  pub last : firsts.last ≡ span.last
+  pub order : firsts.low ≤ firsts.high
+  pub exact : (first : ℕ) → BeginsIn tokens (span ∷ []) first span.last ↔ ((firsts.low ≤ first) × (first ≤ firsts.high))
 
 -- the span is the end of the token, where nothing was taken yet
 pub record IsEndOf (tokens : List TokenValue) (last : ℕ) (span : PlaceSpan) : Type 0 where

@@ -1,9 +1,9 @@
 -- Matches of a set's templates among which there is one within each match.
 use Rattle.std.specs.Prelude.{◌≡◌, ℕ, ◌≤◌, ◌⊎◌, List, Contains}
 use Rattle.lic_norm.specs.Tokens.{TokenValue}
-use Rattle.lic_auto.specs.Sets.{Known}
-use Rattle.lic_find.specs.Matches.{IsMatch}
-use Rattle.lic_find.specs.declared.triple.Triple.{Triple}
+use Rattle.lic_set.specs.Sets.{Known}
+use Rattle.lic_set.specs.Matches.{IsMatch}
+use Rattle.lic_set.specs.declared.triple.Triple.{Triple}
 
 -- one of the triples has the template of t, and its range lies within that of t
 abbrev pub HoldsWithin : List Triple → Triple → Type 0

@@ -1,9 +1,10 @@
 -- Where a letter that passes leads to the place of a number.
 use Rattle.std.specs.Prelude.{◌≡◌, ℕ, Bool, true, List}
-use Rattle.lic_words.specs.Words.{Word, blank}
+use Rattle.lic_words.specs.Words.{blank}
 use Rattle.lic_norm.specs.Tokens.{TokenValue}
 use Rattle.lic_places.specs.Places.{spelling_of}
 use Rattle.lic_spans.specs.declared.span.Kind.{Kind}
+use Rattle.lic_spans.specs.declared.span.Kind.TheVariants.{Place}
 use Rattle.lic_search.specs.PlaceSets.{IsPlaceOf}
 use Rattle.lic_search.specs.Passing.{IsLetterBefore}
 
@@ -20,3 +21,7 @@ pub record LeadsTo (tokens : List TokenValue) (passes : ℕ → Bool) (kind : Ki
   pub dark : ¬ (letter ≡ blank)
   pub passes_it : passes letter ≡ true
   pub stands : IsLetterBefore (spelling_of tokens) place p letter
+
+-- such a letter leads to the place
+abbrev pub LeadsToSome : List TokenValue → (ℕ → Bool) → ℕ → Type 0
+LeadsToSome tokens passes place = (p : ℕ) × LeadsTo tokens passes Place place p

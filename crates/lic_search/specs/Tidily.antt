@@ -7,6 +7,7 @@ use Rattle.lic_spans.specs.declared.span.PlaceSpan.{PlaceSpan}
 use Rattle.lic_search.specs.declared.ways.Ways.{Ways}
 use Rattle.lic_search.specs.PlaceSets.{ArePlaced, Reaches}
 use Rattle.lic_search.specs.Backward.{Beats}
+use Rattle.lic_search.specs.declared.keep.Keep.{Keep}
 
 -- what was taken last, going back
 pub data Taken : Type 0 where
@@ -29,17 +30,17 @@ spans_of ways nothing = ways.nothing.items
 spans_of ways a_letter = ways.letter.items
 spans_of ways a_blank = ways.blank.items
 
--- The ways have the places from which a word of the set leads to a place with its last token, each with its least last token at least.
-pub record IsTidyBackFrom (tokens : List TokenValue) (P : Word → Type 0) (Ends : Taken → ℕ → ℕ → Type 0) (begins : Taken → List PlaceSpan) : Type 0 where
+-- The ways have the places from which a word of the set leads to a place with its last token, each with those last tokens at least that are kept.
+pub record IsTidyBackFrom (keep : Keep) (tokens : List TokenValue) (P : Word → Type 0) (Ends : Taken → ℕ → ℕ → Type 0) (begins : Taken → List PlaceSpan) : Type 0 where
   pub placed : (s : Taken) → ArePlaced tokens (begins s)
   pub sound : (s : Taken) (p last : ℕ) → Reaches tokens (begins s) p last
       → (t : Taken) × (q : ℕ) × Ends t q last × (w : Word) × P w × IsTakenBack s w t × Reads tokens p w q
   pub complete : (s t : Taken) (p q last : ℕ) (w : Word) → Ends t q last → P w → IsTakenBack s w t → Reads tokens p w q
-      → (other : ℕ) × Beats tokens p other last × Reaches tokens (begins s) p other
+      → (other : ℕ) × Beats keep tokens p other last × Reaches tokens (begins s) p other
 
 -- the same from the places of ways
-abbrev pub IsTidyBack : List TokenValue → (Word → Type 0) → (Taken → List PlaceSpan) → (Taken → List PlaceSpan) → Type 0
-IsTidyBack tokens P ends begins = IsTidyBackFrom tokens P (λ t q last. Reaches tokens (ends t) q last) begins
+abbrev pub IsTidyBack : Keep → List TokenValue → (Word → Type 0) → (Taken → List PlaceSpan) → (Taken → List PlaceSpan) → Type 0
+IsTidyBack keep tokens P ends begins = IsTidyBackFrom keep tokens P (λ t q last. Reaches tokens (ends t) q last) begins
 
 -- up to so many words of the set in a row
 abbrev pub UpTo : (Word → Type 0) → ℕ → Word → Type 0

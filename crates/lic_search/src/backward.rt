@@ -1,7 +1,7 @@
 //! Going back over the parts of a template, from the last part to the first.
 
-ghost use Rattle.std.specs.Prelude.{◌≡◌, IfOk, IsTrue, map};
-ghost use Rattle.lic_ere.specs.Trees.{any, tree_of};
+ghost use Rattle.std.specs.Prelude.{IfOk, map};
+ghost use Rattle.lic_ere.specs.Trees.{tree_of};
 ghost use Rattle.lic_words.specs.Expressions.{Language, alt, empty, tidy};
 ghost use Rattle.lic_markup.specs.Meaning.{parts_words, part_words, tree_words};
 ghost use Rattle.lic_markup.specs.Parts.{part_of, row};
@@ -10,30 +10,34 @@ ghost use Rattle.lic_search.specs.Backward.{IsBack};
 ghost use Rattle.lic_search.specs.PlaceSets.{ArePlaced};
 
 use crate::counts::over_any;
-use crate::least::least;
+use crate::keep::Keep;
+use crate::kept::kept;
+use crate::passing::is_any;
 use crate::patterns::over_pattern;
+use crate::stop::Stop;
 use crate::texts::over_text;
 use crate::view::{View, tokens_have_texts};
 use lic_ere::Ere;
 use lic_markup::Part;
 use lic_spans::span::PlaceSpan;
-use std::alloc::{AllocError, Global};
+use std::alloc::Global;
 
 /// The places from which a word of the parts leads to those of the spans.
 #[cycle(backward)]
 pub(crate) fn over_parts(
     alloc: Global,
     view: &View<'_>,
+    keep: Keep,
     parts: &[Part],
     spans: Vec<PlaceSpan>,
-) -> Result<Vec<PlaceSpan>, AllocError>
+) -> Result<Vec<PlaceSpan>, Stop>
     requires texts { HavePieceTexts (row (map part_of parts.now)) }
     requires placed { ArePlaced view.now spans.items }
-    ensures { IfOk result (λ found. IsBack view.now (Language (parts_words (map part_of parts.now))) spans.items found.items) }
+    ensures { IfOk result (λ found. IsBack keep view.now (Language (parts_words (map part_of parts.now))) spans.items found.items) }
 {
     let mut spans = spans;
     for number in (0..parts.len()).rev() {
-        spans = over_part(alloc, view, &parts[number], spans)?;
+        spans = over_part(alloc, view, keep, &parts[number], spans)?;
     }
     Ok(spans)
 }
@@ -43,17 +47,18 @@ pub(crate) fn over_parts(
 fn over_part(
     alloc: Global,
     view: &View<'_>,
+    keep: Keep,
     part: &Part,
     spans: Vec<PlaceSpan>,
-) -> Result<Vec<PlaceSpan>, AllocError>
+) -> Result<Vec<PlaceSpan>, Stop>
     requires texts { HasPieceTexts (part_of part.now) }
     requires placed { ArePlaced view.now spans.items }
-    ensures { IfOk result (λ found. IsBack view.now (Language (part_words part.now)) spans.items found.items) }
+    ensures { IfOk result (λ found. IsBack keep view.now (Language (part_words part.now)) spans.items found.items) }
 {
     match part {
-        Part::Text(text) => over_text(alloc, view, text, spans),
-        Part::Var { ere, .. } => over_variable(alloc, view, ere, spans),
-        Part::Optional(parts) => over_optional(alloc, view, parts, spans),
+        Part::Text(text) => over_text(alloc, view, keep, text, spans),
+        Part::Var { ere, .. } => over_variable(alloc, view, keep, ere, spans),
+        Part::Optional(parts) => over_optional(alloc, view, keep, parts, spans),
     }
 }
 
@@ -62,43 +67,38 @@ fn over_part(
 fn over_optional(
     alloc: Global,
     view: &View<'_>,
+    keep: Keep,
     parts: &[Part],
     spans: Vec<PlaceSpan>,
-) -> Result<Vec<PlaceSpan>, AllocError>
+) -> Result<Vec<PlaceSpan>, Stop>
     requires texts { HavePieceTexts (row (map part_of parts.now)) }
     requires placed { ArePlaced view.now spans.items }
-    ensures { IfOk result (λ found. IsBack view.now
+    ensures { IfOk result (λ found. IsBack keep view.now
         (Language (alt empty (parts_words (map part_of parts.now)))) spans.items found.items) }
 {
     tokens_have_texts(view);
     let mut all = Vec::from_slice(alloc, &spans)?;
-    let mut more = over_parts(alloc, view, parts, spans)?;
+    let mut more = over_parts(alloc, view, keep, parts, spans)?;
     all.append(&mut more)?;
-    Ok(least(alloc, view, all)?)
+    Ok(kept(alloc, view, keep, all)?)
 }
 
 // The places from which a tidy word of a pattern leads to those of the spans.
 fn over_variable(
     alloc: Global,
     view: &View<'_>,
+    keep: Keep,
     ere: &Ere,
     spans: Vec<PlaceSpan>,
-) -> Result<Vec<PlaceSpan>, AllocError>
+) -> Result<Vec<PlaceSpan>, Stop>
     requires { ArePlaced view.now spans.items }
-    ensures { IfOk result (λ found. IsBack view.now (Language (tidy (tree_words (tree_of ere.now)))) spans.items found.items) }
+    ensures { IfOk result (λ found. IsBack keep view.now (Language (tidy (tree_words (tree_of ere.now)))) spans.items found.items) }
 {
     match ere {
         // mostly letters of any kind are counted
         Ere::Repeat { body, min, max } if *min <= 1 && is_any(body) => {
-            Ok(over_any(alloc, view, *min, *max, spans)?)
+            Ok(over_any(alloc, view, keep, *min, *max, spans)?)
         }
-        _ => over_pattern(alloc, view, ere, spans),
+        _ => over_pattern(alloc, view, keep, ere, spans),
     }
-}
-
-// Whether the pattern is one letter of any kind.
-fn is_any(ere: &Ere) -> bool
-    ensures { IsTrue result → tree_of ere.now ≡ any }
-{
-    matches!(ere, Ere::Any)
 }

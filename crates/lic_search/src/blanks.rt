@@ -5,23 +5,26 @@ ghost use Rattle.lic_words.specs.Words.{blank};
 ghost use Rattle.lic_search.specs.Backward.{AddsBack, IsBack};
 ghost use Rattle.lic_search.specs.PlaceSets.{ArePlaced};
 
+use crate::keep::Keep;
 use crate::singles::{end_of, single};
+use crate::stop::Stop;
 use crate::view::{View, tokens_have_texts};
 use lic_spans::span::{Kind, PlaceSpan};
-use std::alloc::{AllocError, Global};
+use std::alloc::Global;
 
 /// The places to which a blank leads from those of the spans.
 pub(crate) fn over_blanks(
     alloc: Global,
     view: &View<'_>,
+    keep: Keep,
     spans: &[PlaceSpan],
-) -> Result<Vec<PlaceSpan>, AllocError>
+) -> Result<Vec<PlaceSpan>, Stop>
     requires { ArePlaced view.now spans.now }
-    ensures { IfOk result (λ found. IsBack view.now (λ w. w ≡ blank ∷ []) spans.now found.items) }
+    ensures { IfOk result (λ found. IsBack keep view.now (λ w. w ≡ blank ∷ []) spans.now found.items) }
 {
     let mut found = Vec::new(alloc);
     for span in spans {
-        add_over_blank(view, *span, &mut found)?;
+        add_over_blank(view, keep, *span, &mut found)?;
     }
     Ok(found)
 }
@@ -29,17 +32,18 @@ pub(crate) fn over_blanks(
 // Adds the places to which a blank leads from those of a span.
 fn add_over_blank(
     view: &View<'_>,
+    keep: Keep,
     span: PlaceSpan,
     found: &mut Vec<PlaceSpan>,
-) -> Result<(), AllocError>
+) -> Result<(), Stop>
     requires { ArePlaced view.now (span ∷ []) }
-    ensures { OnOk result (AddsBack view.now (λ w. w ≡ blank ∷ []) span found.old.items found.new.items) }
+    ensures { OnOk result (AddsBack keep view.now (λ w. w ≡ blank ∷ []) span found.old.items found.new.items) }
 {
     tokens_have_texts(view);
     match span.kind {
-        Kind::End | Kind::Blanks => found.push(span)?,
-        Kind::Letters => found.push(with_blank(span))?,
-        Kind::Place => add_moved(view, span, found)?,
+        Kind::End | Kind::Blanks => keep.push(found, span)?,
+        Kind::Letters => keep.push(found, with_blank(span))?,
+        Kind::Place => add_moved(view, keep, span, found)?,
     }
     Ok(())
 }
@@ -57,14 +61,19 @@ fn with_blank(span: PlaceSpan) -> PlaceSpan
 }
 
 // Adds the places to which a blank leads from single places.
-fn add_moved(view: &View<'_>, span: PlaceSpan, found: &mut Vec<PlaceSpan>) -> Result<(), AllocError>
+fn add_moved(
+    view: &View<'_>,
+    keep: Keep,
+    span: PlaceSpan,
+    found: &mut Vec<PlaceSpan>,
+) -> Result<(), Stop>
     requires kind { span.kind ≡ Kind.Place }
     requires placed { ArePlaced view.now (span ∷ []) }
-    ensures { OnOk result (AddsBack view.now (λ w. w ≡ blank ∷ []) span found.old.items found.new.items) }
+    ensures { OnOk result (AddsBack keep view.now (λ w. w ≡ blank ∷ []) span found.old.items found.new.items) }
 {
     for number in span.low..end_of(view, span) {
         if let Some(place) = view.over_blank(number) {
-            found.push(single(place, span.last))?;
+            keep.push(found, single(place, span.last))?;
         }
     }
     Ok(())

@@ -5,50 +5,56 @@ ghost use Rattle.lic_words.specs.Expressions.{Language, one, repeat, tidy};
 ghost use Rattle.lic_places.specs.Places.{spelling_of};
 ghost use Rattle.lic_search.specs.Backward.{AddsBack, IsBack, IsBackFrom};
 ghost use Rattle.lic_search.specs.Counts.{IsLeastPlace, begins_character};
+ghost use Rattle.lic_search.specs.declared.keep.Keep.{Keep};
 ghost use Rattle.lic_search.specs.PlaceSets.{ArePlaced, IsPlaceOf};
 
-use crate::least::least;
+use crate::keep::Keep;
+use crate::kept::kept;
 use crate::places::place_of;
 use crate::singles::end_of;
+use crate::stop::Stop;
 use crate::view::{View, tokens_have_texts};
 use lic_spans::span::{Kind, PlaceSpan};
-use std::alloc::{AllocError, Global};
+use std::alloc::Global;
 
 /// The places from which tidy words of `min` to `max` letters and blanks of any kind lead to those of the spans; without `max` of
 /// `min` or more.
 pub(crate) fn over_any(
     alloc: Global,
     view: &View<'_>,
+    keep: Keep,
     min: u32,
     max: Option<u32>,
     spans: Vec<PlaceSpan>,
-) -> Result<Vec<PlaceSpan>, AllocError>
+) -> Result<Vec<PlaceSpan>, Stop>
     requires few { min ≤ 1 }
     requires placed { ArePlaced view.now spans.items }
-    ensures { IfOk result (λ found. IsBack view.now
+    ensures { IfOk result (λ found. IsBack keep view.now
         (Language (tidy (repeat min max (one (λ _. true))))) spans.items found.items) }
 {
     tokens_have_texts(view);
-    let found = counted_before(alloc, view, min, max, &spans)?;
-    least(alloc, view, found)
+    let found = counted_before(alloc, view, keep, min, max, &spans)?;
+    kept(alloc, view, keep, found)
 }
 
 // The places from which those words lead to those of the spans, in any order and with any last tokens.
 fn counted_before(
     alloc: Global,
     view: &View<'_>,
+    keep: Keep,
     min: u32,
     max: Option<u32>,
     spans: &[PlaceSpan],
-) -> Result<Vec<PlaceSpan>, AllocError>
+) -> Result<Vec<PlaceSpan>, Stop>
     requires few { min ≤ 1 }
     requires placed { ArePlaced view.now spans.now }
-    ensures { IfOk result (λ found. IsBack view.now
+    ensures { IfOk result (λ found. IsBack keep view.now
         (Language (tidy (repeat min max (one (λ _. true))))) spans.now found.items) }
 {
+    keep.check_numbers(spans, view.bytes().len())?;
     let mut found = Vec::new(alloc);
     for span in spans {
-        add_counted(view, *span, max, &mut found)?;
+        add_counted(view, keep, *span, max, &mut found)?;
     }
     if min == 0 {
         found.extend_from_slice(spans)?;
@@ -62,18 +68,19 @@ fn counted_before(
 // front of it lead to it too.
 fn add_counted(
     view: &View<'_>,
+    keep: Keep,
     span: PlaceSpan,
     max: Option<u32>,
     found: &mut Vec<PlaceSpan>,
-) -> Result<(), AllocError>
+) -> Result<(), Stop>
     requires { ArePlaced view.now (span ∷ []) }
-    ensures { OnOk result (AddsBack view.now (Language (tidy (repeat 1 max (one (λ _. true)))))
+    ensures { OnOk result (AddsBack keep view.now (Language (tidy (repeat 1 max (one (λ _. true)))))
         span found.old.items found.new.items) }
 {
     tokens_have_texts(view);
     for number in (span.low..end_of(view, span)).rev() {
         if let Some(letters) = letters_before(view, span, number, max) {
-            found.push(letters)?;
+            keep.push(found, letters)?;
             if max.is_none() {
                 return Ok(());
             }
@@ -92,9 +99,9 @@ fn letters_before(
     requires placed { ArePlaced view.now (span ∷ []) }
     requires low { span.low ≤ number }
     requires high { number ≤ span.high }
-    ensures none { IfNone result (IsBackFrom view.now (Language (tidy (repeat 1 max (one (λ _. true)))))
+    ensures none { IfNone result ((keep : Keep) → IsBackFrom keep view.now (Language (tidy (repeat 1 max (one (λ _. true)))))
         (λ q last. IsPlaceOf view.now span.kind number q × (last ≡ span.last)) []) }
-    ensures some { IfSome result (λ letters. IsBackFrom view.now (Language (tidy (repeat 1 max (one (λ _. true)))))
+    ensures some { IfSome result (λ letters. (keep : Keep) → IsBackFrom keep view.now (Language (tidy (repeat 1 max (one (λ _. true)))))
         (λ q last. IsPlaceOf view.now span.kind number q × (last ≡ span.last)) (letters ∷ [])) }
     ensures all { IfSome result (λ letters. max ≡ None → (q : ℕ) × IsPlaceOf view.now span.kind number q
         × (letters ≡ record { low = 0; high = q - 1; last = span.last; kind = Kind.Letters })) }

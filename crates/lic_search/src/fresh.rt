@@ -3,6 +3,7 @@
 ghost use Rattle.std.specs.Prelude.{◌≤◌, IfOk, length};
 ghost use Rattle.lic_search.specs.Fresh.{AreFresh};
 
+use crate::keep::Keep;
 use crate::same::is_same;
 use lic_spans::span::PlaceSpan;
 use std::alloc::{AllocError, Global};
@@ -10,6 +11,7 @@ use std::alloc::{AllocError, Global};
 /// Those of the spans that are not among the known ones. Both are sorted; of spans that are not, some that are known may be left.
 pub(crate) fn fresh_spans(
     alloc: Global,
+    keep: Keep,
     spans: &[PlaceSpan],
     known: &[PlaceSpan],
 ) -> Result<Vec<PlaceSpan>, AllocError>
@@ -18,7 +20,7 @@ pub(crate) fn fresh_spans(
     let mut fresh = Vec::new(alloc);
     let mut from = 0;
     for span in spans {
-        from = first_from(known, from, span);
+        from = first_from(keep, known, from, span);
         if from == known.len() || !is_same(&known[from], span) {
             fresh.push(*span)?;
         }
@@ -27,18 +29,23 @@ pub(crate) fn fresh_spans(
 }
 
 // The first span from a number on that does not come before another.
-fn first_from(spans: &[PlaceSpan], from: usize, other: &PlaceSpan) -> usize
+fn first_from(keep: Keep, spans: &[PlaceSpan], from: usize, other: &PlaceSpan) -> usize
     requires { from ≤ length spans.now }
     ensures { result ≤ length spans.now }
 {
     let mut first = from;
-    while first < spans.len() && comes_before(&spans[first], other) {
+    while first < spans.len() && comes_before(keep, &spans[first], other) {
         first += 1;
     }
     first
 }
 
 // Whether a span comes before another where spans are sorted.
-fn comes_before(span: &PlaceSpan, other: &PlaceSpan) -> bool {
-    (span.kind, span.low) < (other.kind, other.low)
+fn comes_before(keep: Keep, span: &PlaceSpan, other: &PlaceSpan) -> bool {
+    match keep {
+        Keep::Least => (span.kind, span.low) < (other.kind, other.low),
+        Keep::Each { .. } => {
+            (span.kind, span.last, span.low) < (other.kind, other.last, other.low)
+        }
+    }
 }

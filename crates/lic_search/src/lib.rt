@@ -1,15 +1,16 @@
 //! Where templates describe ranges of a text: sets of places go back over the parts of a template, from the last part to the first.
 #![tactic(auto)]
 
+pub mod all;
 mod backward;
 mod blanks;
 mod counts;
-mod edges;
 mod fresh;
+mod keep;
+mod kept;
 mod last_letter;
-mod least;
+mod last_text;
 mod letters;
-mod longest;
 mod matches;
 mod passing;
 mod patterns;
@@ -17,12 +18,15 @@ mod places;
 mod range;
 mod reach;
 mod reached;
+pub mod rows;
 mod runs;
 mod same;
 mod search;
 mod singles;
+mod stop;
 mod texts;
 pub mod tight;
 mod view;
 mod ways;
+mod wide;
 mod windows;

@@ -64,8 +64,8 @@ pub(crate) fn ranges_of(
     Ok(found)
 }
 
-// Of the ranges that begin in a span the one that begins last.
-fn last_beginning(view: &View<'_>, span: PlaceSpan) -> Option<Range>
+/// Of the ranges that begin in a span the one that begins last.
+pub(crate) fn last_beginning(view: &View<'_>, span: PlaceSpan) -> Option<Range>
     requires { ArePlaced view.now (span ∷ []) }
     ensures { MatchOption result ((first : ℕ) → ¬ (BeginsIn view.now (span ∷ []) first span.last))
         (λ range. IsLastBeginning view.now span range) }

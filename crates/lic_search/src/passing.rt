@@ -1,21 +1,29 @@
 //! Going back over one letter of a pattern.
 
-ghost use Rattle.std.specs.Prelude.{◌≡◌, ◌≤◌, ◌∷◌, [], true, length, IfOk, OnOk, MatchOption};
+ghost use Rattle.std.specs.Prelude.{◌≡◌, ◌≤◌, ◌↔◌, ℕ, ◌∷◌, [], true, length, Contains, IfOk, IsTrue, OnOk, MatchOption};
+ghost use Rattle.std.specs.List.Sorted.{IsStrictlyIncreasing};
 ghost use Rattle.lic_words.specs.Words.{blank};
 ghost use Rattle.lic_words.specs.Expressions.{Language, one};
-ghost use Rattle.lic_ere.specs.Trees.{tree_of};
+ghost use Rattle.lic_ere.specs.Trees.{any, tree_of};
 ghost use Rattle.lic_places.specs.Places.{spelling_of};
-ghost use Rattle.lic_search.specs.Backward.{AddsBack, IsBack};
+ghost use Rattle.lic_spans.specs.Spans.{gap_of};
+ghost use Rattle.lic_spans.specs.declared.span.PlaceSpan.{PlaceSpan};
+ghost use Rattle.lic_search.specs.Backward.{AddsBack, IsBack, IsBackFrom};
+ghost use Rattle.lic_search.specs.declared.keep.Keep.{Keep};
 ghost use Rattle.lic_search.specs.Passing.{IsPassing, is_one, passes_of};
 ghost use Rattle.lic_search.specs.PlaceSets.{ArePlaced};
-ghost use Rattle.lic_search.specs.PassingPlaces.{LeadsNowhere, LeadsTo};
+ghost use Rattle.lic_search.specs.PassingPlaces.{LeadsNowhere, LeadsTo, LeadsToSome};
 ghost use Rattle.lic_search.specs.Tidily.{AreWays, IsTidyBack, spans_of};
+ghost use Rattle.lic_search.specs.Wide.{HoldThoseOf, This};
 
 use crate::blanks::over_blanks;
-use crate::places::place_of;
+use crate::keep::Keep;
+use crate::places::{has_place, place_of};
 use crate::singles::{end_of, single};
+use crate::stop::Stop;
 use crate::view::{View, tokens_have_texts};
 use crate::ways::Ways;
+use crate::wide::{first_from, stretches_of};
 use lic_ere::Ere;
 use lic_spans::span::{Kind, PlaceSpan};
 use std::alloc::{AllocError, Global};
@@ -24,21 +32,22 @@ use std::alloc::{AllocError, Global};
 pub(crate) fn over_one(
     alloc: Global,
     view: &View<'_>,
+    keep: Keep,
     ere: &Ere,
     ways: &Ways,
-) -> Result<Ways, AllocError>
+) -> Result<Ways, Stop>
     requires { AreWays view.now ways.now }
-    ensures { IfOk result (λ found. IsTidyBack view.now (Language (one (passes_of (tree_of ere.now)))) (spans_of ways.now) (spans_of found)) }
+    ensures { IfOk result (λ found. IsTidyBack keep view.now (Language (one (passes_of (tree_of ere.now)))) (spans_of ways.now) (spans_of found)) }
 {
-    let mut letter = over_passing(alloc, view, ere, &ways.nothing)?;
-    let mut more = over_passing(alloc, view, ere, &ways.letter)?;
-    let mut others = over_passing(alloc, view, ere, &ways.blank)?;
+    let mut letter = over_passing(alloc, view, keep, ere, &ways.nothing)?;
+    let mut more = over_passing(alloc, view, keep, ere, &ways.letter)?;
+    let mut others = over_passing(alloc, view, keep, ere, &ways.blank)?;
     letter.append(&mut more)?;
     letter.append(&mut others)?;
     Ok(Ways {
         nothing: Vec::new(alloc),
         letter,
-        blank: over_passing_blank(alloc, view, ere, &ways.letter)?,
+        blank: over_passing_blank(alloc, view, keep, ere, &ways.letter)?,
     })
 }
 
@@ -46,14 +55,15 @@ pub(crate) fn over_one(
 fn over_passing_blank(
     alloc: Global,
     view: &View<'_>,
+    keep: Keep,
     ere: &Ere,
     spans: &[PlaceSpan],
-) -> Result<Vec<PlaceSpan>, AllocError>
+) -> Result<Vec<PlaceSpan>, Stop>
     requires { ArePlaced view.now spans.now }
-    ensures { IfOk result (λ found. IsBack view.now (λ w. (passes_of (tree_of ere.now) blank ≡ true) × (w ≡ blank ∷ [])) spans.now found.items) }
+    ensures { IfOk result (λ found. IsBack keep view.now (λ w. (passes_of (tree_of ere.now) blank ≡ true) × (w ≡ blank ∷ [])) spans.now found.items) }
 {
     if passes(ere, ' ') {
-        over_blanks(alloc, view, spans)
+        over_blanks(alloc, view, keep, spans)
     } else {
         Ok(Vec::new(alloc))
     }
@@ -63,33 +73,126 @@ fn over_passing_blank(
 fn over_passing(
     alloc: Global,
     view: &View<'_>,
+    keep: Keep,
     ere: &Ere,
     spans: &[PlaceSpan],
-) -> Result<Vec<PlaceSpan>, AllocError>
+) -> Result<Vec<PlaceSpan>, Stop>
     requires { ArePlaced view.now spans.now }
-    ensures { IfOk result (λ found. IsBack view.now (IsPassing (passes_of (tree_of ere.now))) spans.now found.items) }
+    ensures { IfOk result (λ found. IsBack keep view.now (IsPassing (passes_of (tree_of ere.now))) spans.now found.items) }
 {
+    let ends = wide_ends(alloc, view, ere, spans)?;
     let mut found = Vec::new(alloc);
     for span in spans {
-        add_passing(view, ere, *span, &mut found)?;
+        match span.kind {
+            Kind::End | Kind::Place => add_passing(view, keep, ere, *span, &mut found)?,
+            Kind::Letters | Kind::Blanks => add_wide(view, keep, ere, &ends, *span, &mut found)?,
+        }
     }
     Ok(found)
 }
 
-// Adds where such a letter leads to the places of a span.
+// The places after such a letter in the spans of many places, in rising order. Where spans overlap the text is gone over once.
+fn wide_ends(
+    alloc: Global,
+    view: &View<'_>,
+    ere: &Ere,
+    spans: &[PlaceSpan],
+) -> Result<Vec<usize>, AllocError>
+    requires { ArePlaced view.now spans.now }
+    ensures { IfOk result (λ ends. (span : PlaceSpan) → Contains spans.now span → gap_of span.kind ≡ 1
+        → HoldThoseOf (LeadsToSome view.now (passes_of (tree_of ere.now))) span ends.items) }
+{
+    let stretches = stretches_of(alloc, spans)?;
+    let mut ends = Vec::new(alloc);
+    for stretch in &stretches {
+        let mut more = ends_in(alloc, view, ere, stretch)?;
+        ends.append(&mut more)?;
+    }
+    Ok(ends)
+}
+
+// The places after such a letter in one stretch.
+fn ends_in(
+    alloc: Global,
+    view: &View<'_>,
+    ere: &Ere,
+    stretch: &PlaceSpan,
+) -> Result<Vec<usize>, AllocError>
+    requires order { stretch.now.low ≤ stretch.now.high }
+    requires within { stretch.now.high ≤ length (spelling_of view.now) }
+    ensures rising { IfOk result (λ ends. IsStrictlyIncreasing ends.items) }
+    ensures exact { IfOk result (λ ends. (place : ℕ) → Contains ends.items place
+        ↔ ((stretch.now.low ≤ place) × (place ≤ stretch.now.high) × LeadsToSome view.now (passes_of (tree_of ere.now)) place)) }
+{
+    let _length = view.bytes().len();
+    let mut ends = Vec::new(alloc);
+    for place in stretch.low..stretch.high + 1 {
+        if passing_before(view, ere, Kind::Place, place).is_some() {
+            ends.push(place)?;
+        }
+    }
+    Ok(ends)
+}
+
+// Adds where such a letter leads to the places of a span of many.
+fn add_wide(
+    view: &View<'_>,
+    keep: Keep,
+    ere: &Ere,
+    ends: &[usize],
+    span: PlaceSpan,
+    found: &mut Vec<PlaceSpan>,
+) -> Result<(), Stop>
+    requires placed { ArePlaced view.now (span ∷ []) }
+    requires kind { gap_of span.kind ≡ 1 }
+    requires ends { HoldThoseOf (LeadsToSome view.now (passes_of (tree_of ere.now))) span ends.now }
+    ensures { OnOk result (AddsBack keep view.now (IsPassing (passes_of (tree_of ere.now))) span found.old.items found.new.items) }
+{
+    // a blank leads to the place before the first one
+    let first = first_from(ends, span.low.saturating_sub(1));
+    for number in first..ends.len() {
+        let end = ends[number];
+        if span.high < end {
+            return Ok(());
+        }
+        if let Some(place) = passing_in(view, ere, span, end) {
+            keep.push(found, single(place, span.last))?;
+        }
+    }
+    Ok(())
+}
+
+// Where such a letter leads to a place, if this is one of the span's.
+fn passing_in(view: &View<'_>, ere: &Ere, span: PlaceSpan, end: usize) -> Option<usize>
+    requires placed { ArePlaced view.now (span ∷ []) }
+    requires within { end ≤ length (spelling_of view.now) }
+    ensures { MatchOption result
+        ((keep : Keep) → IsBackFrom keep view.now (IsPassing (passes_of (tree_of ere.now))) (This view.now span end) [])
+        (λ place. (keep : Keep) → IsBackFrom keep view.now (IsPassing (passes_of (tree_of ere.now))) (This view.now span end)
+        (record { low = place; high = place; last = span.last; kind = Kind.Place } ∷ [])) }
+{
+    tokens_have_texts(view);
+    if !has_place(view, span, end) {
+        return None;
+    }
+    passing_before(view, ere, Kind::Place, end)
+}
+
+// Adds where such a letter leads to the single places of a span.
 fn add_passing(
     view: &View<'_>,
+    keep: Keep,
     ere: &Ere,
     span: PlaceSpan,
     found: &mut Vec<PlaceSpan>,
-) -> Result<(), AllocError>
+) -> Result<(), Stop>
     requires { ArePlaced view.now (span ∷ []) }
-    ensures { OnOk result (AddsBack view.now (IsPassing (passes_of (tree_of ere.now))) span found.old.items found.new.items) }
+    ensures { OnOk result (AddsBack keep view.now (IsPassing (passes_of (tree_of ere.now))) span found.old.items found.new.items) }
 {
     tokens_have_texts(view);
     for number in span.low..end_of(view, span) {
         if let Some(place) = passing_before(view, ere, span.kind, number) {
-            found.push(single(place, span.last))?;
+            keep.push(found, single(place, span.last))?;
         }
     }
     Ok(())
@@ -130,4 +233,11 @@ pub(crate) fn is_one(ere: &Ere) -> bool
         Ere::Char(_) | Ere::Any | Ere::Set(_) => true,
         _ => false,
     }
+}
+
+/// Whether a pattern is one letter of any kind.
+pub(crate) fn is_any(ere: &Ere) -> bool
+    ensures { IsTrue result → tree_of ere.now ≡ any }
+{
+    matches!(ere, Ere::Any)
 }

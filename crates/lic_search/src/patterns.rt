@@ -9,25 +9,28 @@ ghost use Rattle.lic_search.specs.Backward.{IsBack};
 ghost use Rattle.lic_search.specs.PlaceSets.{ArePlaced};
 ghost use Rattle.lic_search.specs.Tidily.{AreWays, IsMore, IsTidyBack, UpTo, spans_of};
 
-use crate::least::least;
+use crate::keep::Keep;
+use crate::kept::kept;
 use crate::passing::{is_one, over_one};
 use crate::reached::Reached;
-use crate::runs::over_many;
+use crate::runs::{are_short, over_many};
+use crate::stop::Stop;
 use crate::view::{View, tokens_have_texts};
 use crate::ways::Ways;
 use lic_ere::Ere;
 use lic_spans::span::PlaceSpan;
-use std::alloc::{AllocError, Global};
+use std::alloc::Global;
 
 /// The places from which a tidy word of the pattern leads to those of the spans.
 pub(crate) fn over_pattern(
     alloc: Global,
     view: &View<'_>,
+    keep: Keep,
     ere: &Ere,
     spans: Vec<PlaceSpan>,
-) -> Result<Vec<PlaceSpan>, AllocError>
+) -> Result<Vec<PlaceSpan>, Stop>
     requires placed { ArePlaced view.now spans.items }
-    ensures { IfOk result (λ found. IsBack view.now (Language (tidy (tree_words (tree_of ere.now)))) spans.items found.items) }
+    ensures { IfOk result (λ found. IsBack keep view.now (Language (tidy (tree_words (tree_of ere.now)))) spans.items found.items) }
 {
     tokens_have_texts(view);
     let ways = Ways {
@@ -35,24 +38,24 @@ pub(crate) fn over_pattern(
         letter: Vec::new(alloc),
         blank: Vec::new(alloc),
     };
-    let mut found = over(alloc, view, ere, ways)?;
+    let mut found = over(alloc, view, keep, ere, ways)?;
     // a tidy word begins with no blank
     found.nothing.append(&mut found.letter)?;
-    Ok(least(alloc, view, found.nothing)?)
+    Ok(kept(alloc, view, keep, found.nothing)?)
 }
 
 // The ways from which a word of the pattern leads to these.
 #[cycle(over)]
-fn over(alloc: Global, view: &View<'_>, ere: &Ere, ways: Ways) -> Result<Ways, AllocError>
+fn over(alloc: Global, view: &View<'_>, keep: Keep, ere: &Ere, ways: Ways) -> Result<Ways, Stop>
     requires { AreWays view.now ways }
-    ensures { IfOk result (λ found. IsTidyBack view.now (Language (tree_words (tree_of ere.now))) (spans_of ways) (spans_of found)) }
+    ensures { IfOk result (λ found. IsTidyBack keep view.now (Language (tree_words (tree_of ere.now))) (spans_of ways) (spans_of found)) }
 {
     match ere {
         Ere::Empty => Ok(ways),
-        Ere::Char(_) | Ere::Any | Ere::Set(_) => over_one(alloc, view, ere, &ways),
-        Ere::Cat(subs) => over_row(alloc, view, subs, ways),
-        Ere::Alt(subs) => over_choice(alloc, view, subs, &ways),
-        Ere::Repeat { body, min, max } => over_repeat(alloc, view, body, *min, *max, ways),
+        Ere::Char(_) | Ere::Any | Ere::Set(_) => over_one(alloc, view, keep, ere, &ways),
+        Ere::Cat(subs) => over_row(alloc, view, keep, subs, ways),
+        Ere::Alt(subs) => over_choice(alloc, view, keep, subs, &ways),
+        Ere::Repeat { body, min, max } => over_repeat(alloc, view, keep, body, *min, *max, ways),
     }
 }
 
@@ -61,36 +64,61 @@ fn over(alloc: Global, view: &View<'_>, ere: &Ere, ways: Ways) -> Result<Ways, A
 fn over_row(
     alloc: Global,
     view: &View<'_>,
+    keep: Keep,
     subs: &[Ere],
     mut ways: Ways,
-) -> Result<Ways, AllocError>
+) -> Result<Ways, Stop>
     requires { AreWays view.now ways }
-    ensures { IfOk result (λ found. IsTidyBack view.now (Language (row_words (row (map tree_of subs.now)))) (spans_of ways) (spans_of found)) }
+    ensures { IfOk result (λ found. IsTidyBack keep view.now (Language (row_words (row (map tree_of subs.now)))) (spans_of ways) (spans_of found)) }
 {
     for number in (0..subs.len()).rev() {
-        let led = over(alloc, view, &subs[number], ways)?;
-        ways = led.least(alloc, view)?;
+        let led = over(alloc, view, keep, &subs[number], ways)?;
+        ways = led.kept(alloc, view, keep)?;
     }
     Ok(ways)
 }
 
-// Any one of the patterns.
+// Any one of the patterns. What several of them lead to does not pile up.
 #[cycle(over)]
 fn over_choice(
     alloc: Global,
     view: &View<'_>,
+    keep: Keep,
     subs: &[Ere],
     ways: &Ways,
-) -> Result<Ways, AllocError>
+) -> Result<Ways, Stop>
     requires { AreWays view.now ways.now }
-    ensures { IfOk result (λ found. IsTidyBack view.now (Language (choice_words (row (map tree_of subs.now)))) (spans_of ways.now) (spans_of found)) }
+    ensures { IfOk result (λ found. IsTidyBack keep view.now (Language (choice_words (row (map tree_of subs.now)))) (spans_of ways.now) (spans_of found)) }
 {
     let mut found = Ways::none(alloc);
+    let mut most = MANY;
     for sub in subs {
-        let more = over(alloc, view, sub, ways.copy(alloc)?)?;
+        let more = over(alloc, view, keep, sub, ways.copy(alloc)?)?;
         found.append(more)?;
+        found = kept_if_many(alloc, view, keep, found, most)?;
+        most = most.max(found.longest().saturating_mul(2));
     }
-    found.least(alloc, view)
+    found.kept(alloc, view, keep)
+}
+
+// How many spans may be found before those that are there twice go.
+const MANY: usize = 1024;
+
+// The ways, and where they have more spans than so many, each place once.
+fn kept_if_many(
+    alloc: Global,
+    view: &View<'_>,
+    keep: Keep,
+    ways: Ways,
+    most: usize,
+) -> Result<Ways, Stop>
+    requires { AreWays view.now ways }
+    ensures { IfOk result (λ found. IsTidyBack keep view.now (λ w. w ≡ []) (spans_of ways) (spans_of found)) }
+{
+    if ways.longest() <= most {
+        return Ok(ways);
+    }
+    ways.kept(alloc, view, keep)
 }
 
 // From `min` to `max` words of the body in a row; without `max`, `min` or more.
@@ -98,24 +126,25 @@ fn over_choice(
 fn over_repeat(
     alloc: Global,
     view: &View<'_>,
+    keep: Keep,
     body: &Ere,
     min: u32,
     max: Option<u32>,
     ways: Ways,
-) -> Result<Ways, AllocError>
+) -> Result<Ways, Stop>
     requires { AreWays view.now ways }
-    ensures { IfOk result (λ found. IsTidyBack view.now (Language (repeat min max (tree_words (tree_of body.now)))) (spans_of ways) (spans_of found)) }
+    ensures { IfOk result (λ found. IsTidyBack keep view.now (Language (repeat min max (tree_words (tree_of body.now)))) (spans_of ways) (spans_of found)) }
 {
     tokens_have_texts(view);
     let _length = view.bytes().len();
     let Some(more) = more_than(min, max) else {
         return Ok(Ways::none(alloc));
     };
-    let needed = over_times(alloc, view, body, min, ways)?;
-    if more > 1 && is_one(body) && needed.are_few() {
-        return over_many(alloc, view, body, more, &needed);
+    let needed = over_times(alloc, view, keep, body, min, ways)?;
+    if more > 1 && is_one(body) && are_short(view, body, more, &needed) {
+        return over_many(alloc, view, keep, body, more, &needed);
     }
-    over_up_to(alloc, view, body, more, needed)
+    over_up_to(alloc, view, keep, body, more, needed)
 }
 
 // How many words there may be beyond `min`: the text is too short for the greatest number.
@@ -134,16 +163,17 @@ fn more_than(min: u32, max: Option<u32>) -> Option<usize>
 fn over_times(
     alloc: Global,
     view: &View<'_>,
+    keep: Keep,
     body: &Ere,
     count: u32,
     mut ways: Ways,
-) -> Result<Ways, AllocError>
+) -> Result<Ways, Stop>
     requires { AreWays view.now ways }
-    ensures { IfOk result (λ found. IsTidyBack view.now (Power (Language (tree_words (tree_of body.now))) count) (spans_of ways) (spans_of found)) }
+    ensures { IfOk result (λ found. IsTidyBack keep view.now (Power (Language (tree_words (tree_of body.now))) count) (spans_of ways) (spans_of found)) }
 {
     for _ in 0..count {
-        let led = over(alloc, view, body, ways.copy(alloc)?)?;
-        let next = led.least(alloc, view)?;
+        let led = over(alloc, view, keep, body, ways.copy(alloc)?)?;
+        let next = led.kept(alloc, view, keep)?;
         if next.is_same(&ways) {
             return Ok(ways);
         }
@@ -157,23 +187,24 @@ fn over_times(
 fn over_up_to(
     alloc: Global,
     view: &View<'_>,
+    keep: Keep,
     body: &Ere,
     count: usize,
     ways: Ways,
-) -> Result<Ways, AllocError>
+) -> Result<Ways, Stop>
     requires { AreWays view.now ways }
-    ensures { IfOk result (λ found. IsTidyBack view.now (UpTo (Language (tree_words (tree_of body.now))) count) (spans_of ways) (spans_of found)) }
+    ensures { IfOk result (λ found. IsTidyBack keep view.now (UpTo (Language (tree_words (tree_of body.now))) count) (spans_of ways) (spans_of found)) }
 {
     let mut front = ways.copy(alloc)?;
     let mut reached = Reached::new(alloc, ways);
     for _ in 0..count {
         if front.is_empty() {
-            return reached.into_ways();
+            return Ok(reached.into_ways()?);
         }
-        let led = over(alloc, view, body, front.copy(alloc)?)?;
-        let next = led.least(alloc, view)?;
-        let more = next.fresh(alloc, &front)?;
-        front = reached.add(alloc, view, more)?;
+        let led = over(alloc, view, keep, body, front.copy(alloc)?)?;
+        let next = led.kept(alloc, view, keep)?;
+        let more = next.fresh(alloc, keep, &front)?;
+        front = reached.add(alloc, view, keep, more)?;
     }
-    reached.into_ways()
+    Ok(reached.into_ways()?)
 }

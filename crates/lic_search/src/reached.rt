@@ -5,6 +5,8 @@ ghost use Rattle.lic_search.specs.PlaceSets.{ArePlaced};
 ghost use Rattle.lic_search.specs.Reached.{IsFrontOf, reached_of};
 ghost use Rattle.lic_search.specs.Tidily.{AreWays, IsTidyBack, Taken, spans_of};
 
+use crate::keep::Keep;
+use crate::stop::Stop;
 use crate::view::View;
 use crate::ways::Ways;
 use std::alloc::{AllocError, Global};
@@ -12,7 +14,7 @@ use std::alloc::{AllocError, Global};
 /// The ways that were reached.
 #[derive(Debug, Drop)]
 pub(crate) struct Reached {
-    // Each place once, with its least last token.
+    // Each place once with each last token that is kept.
     settled: Ways,
     // Those that came since, as they came: they are settled once they are as many.
     recent: Ways,
@@ -34,11 +36,12 @@ impl Reached {
         &mut self,
         alloc: Global,
         view: &View<'_>,
+        keep: Keep,
         next: Ways,
-    ) -> Result<Ways, AllocError>
+    ) -> Result<Ways, Stop>
         requires reached { (s : Taken) → ArePlaced view.now (reached_of self.old s) }
         requires next { AreWays view.now next }
-        ensures { IfOk result (λ front. IsFrontOf view.now (reached_of self.old)
+        ensures { IfOk result (λ front. IsFrontOf keep view.now (reached_of self.old)
             (λ s. reached_of self.old s ++ spans_of next s) (reached_of self.new) (spans_of front)) }
     {
         if self.recent.longest() < self.settled.longest() {
@@ -46,25 +49,25 @@ impl Reached {
             self.recent.append(next)?;
             return Ok(front);
         }
-        self.settle(alloc, view)?;
+        self.settle(alloc, view, keep)?;
         let mut all = self.settled.copy(alloc)?;
         all.append(next)?;
-        let least = all.least(alloc, view)?;
-        let fresh = least.fresh(alloc, &self.settled)?;
-        self.settled = least;
+        let kept = all.kept(alloc, view, keep)?;
+        let fresh = kept.fresh(alloc, keep, &self.settled)?;
+        self.settled = kept;
         Ok(fresh)
     }
 
     // Settles all of them.
-    fn settle(&mut self, alloc: Global, view: &View<'_>) -> Result<(), AllocError>
+    fn settle(&mut self, alloc: Global, view: &View<'_>, keep: Keep) -> Result<(), Stop>
         requires { (s : Taken) → ArePlaced view.now (reached_of self.old s) }
-        ensures settled { OnOk result (IsTidyBack view.now (λ w. w ≡ []) (reached_of self.old) (spans_of self.new.settled)) }
+        ensures settled { OnOk result (IsTidyBack keep view.now (λ w. w ≡ []) (reached_of self.old) (spans_of self.new.settled)) }
         ensures recent { OnOk result ((s : Taken) → spans_of self.new.recent s ≡ []) }
     {
         let mut all = self.settled.copy(alloc)?;
         all.append(self.recent.copy(alloc)?)?;
-        let least = all.least(alloc, view)?;
-        self.settled = least;
+        let kept = all.kept(alloc, view, keep)?;
+        self.settled = kept;
         self.recent = Ways::none(alloc);
         Ok(())
     }

@@ -1,73 +1,106 @@
 //! The search for one template.
 
-ghost use Rattle.std.specs.Prelude.{IfOk, map};
-ghost use Rattle.std.specs.List.Sorted.{IsStrictlyIncreasing};
+ghost use Rattle.std.specs.Prelude.{◌≡◌, ◌<◌, ◌≤◌, ℕ, length, map, IfOk};
+ghost use Rattle.lic_words.specs.Words.{Word};
+ghost use Rattle.lic_words.specs.Expressions.{Language};
 ghost use Rattle.lic_markup.specs.Meaning.{parts_words};
 ghost use Rattle.lic_markup.specs.Parts.{part_of, row};
-ghost use Rattle.lic_places.specs.Places.{spelling_of};
 ghost use Rattle.lic_markup.specs.PartTexts.{HavePieceTexts};
+ghost use Rattle.lic_norm.specs.Places.{place_end};
+ghost use Rattle.lic_places.specs.Places.{spelling_of};
+ghost use Rattle.lic_places.specs.Reads.{Reads};
+ghost use Rattle.lic_search.specs.AllMatches.{AreRowsOf};
+ghost use Rattle.lic_search.specs.Backward.{IsBackFrom};
 ghost use Rattle.lic_search.specs.Matches.{HasLeastRanges};
-ghost use Rattle.lic_search.specs.Windows.{HoldEnds};
+ghost use Rattle.lic_search.specs.PlaceSets.{ArePlaced, Reaches};
+ghost use Rattle.lic_search.specs.Windows.{AreRequiredEnds};
 
 use crate::backward::over_parts;
-use crate::longest::longest_text;
+use crate::keep::Keep;
+use crate::last_text::last_ends;
 use crate::matches::{ranges_of, token_ends};
 use crate::range::Range;
+use crate::rows::{Row, rows_of};
+use crate::stop::Stop;
 use crate::view::{View, tokens_have_texts};
 use crate::windows::candidate_ends;
-use lic_literals::ends::ends_within;
+use lic_keys::candidate::RequiredEnds;
 use lic_markup::Part;
+use lic_spans::span::PlaceSpan;
 use std::alloc::{AllocError, Global};
 
 /// Ranges of tokens that the parts of a template describe: within each range that they describe lies one of these.
-///
-/// The parts go back from the ends of tokens: from those within reach of the template's longest text where it has one, else from all.
 pub(crate) fn least_ranges(
     alloc: Global,
     view: &View<'_>,
     parts: &[Part],
-) -> Result<Vec<Range>, AllocError>
-    requires { HavePieceTexts (row (map part_of parts.now)) }
-    ensures { IfOk result (λ found. HasLeastRanges view.now (parts_words (map part_of parts.now)) found.items) }
-{
-    let Some(text) = longest_text(parts) else {
-        return least_ranges_anywhere(alloc, view, parts);
-    };
-    let bytes = view.bytes();
-    let places = ends_within(alloc, bytes, text.letters, 0, bytes.len())?;
-    least_ranges_near(alloc, view, parts, text.number, &places)
-}
-
-// The same, from the ends of all tokens.
-fn least_ranges_anywhere(
-    alloc: Global,
-    view: &View<'_>,
-    parts: &[Part],
-) -> Result<Vec<Range>, AllocError>
-    requires { HavePieceTexts (row (map part_of parts.now)) }
-    ensures { IfOk result (λ found. HasLeastRanges view.now (parts_words (map part_of parts.now)) found.items) }
-{
-    tokens_have_texts(view);
-    let ends = token_ends(alloc, view)?;
-    let begins = over_parts(alloc, view, parts, ends)?;
-    Ok(ranges_of(alloc, view, &begins)?)
-}
-
-// The same, where it is known at which places the text of this number ends: the places hold each of them.
-fn least_ranges_near(
-    alloc: Global,
-    view: &View<'_>,
-    parts: &[Part],
-    number: usize,
-    places: &[usize],
-) -> Result<Vec<Range>, AllocError>
+    required: &Option<RequiredEnds>,
+) -> Result<Vec<Range>, Stop>
     requires texts { HavePieceTexts (row (map part_of parts.now)) }
-    requires text { HoldEnds (spelling_of view.now) parts.now number places.now }
-    requires rising { IsStrictlyIncreasing places.now }
+    requires required { AreRequiredEnds (spelling_of view.now) parts.now required.now }
     ensures { IfOk result (λ found. HasLeastRanges view.now (parts_words (map part_of parts.now)) found.items) }
 {
     tokens_have_texts(view);
-    let ends = candidate_ends(alloc, view, parts, number, places)?;
-    let begins = over_parts(alloc, view, parts, ends)?;
+    let begins = begins_of(alloc, view, Keep::Least, parts, required)?;
     Ok(ranges_of(alloc, view, &begins)?)
+}
+
+/// All ranges of tokens that the parts of a template describe, as rows of the template of this number. It stops where more spans than
+/// `most` come up on the way.
+pub(crate) fn rows_within(
+    alloc: Global,
+    view: &View<'_>,
+    parts: &[Part],
+    required: &Option<RequiredEnds>,
+    template: usize,
+    most: usize,
+) -> Result<Vec<Row>, Stop>
+    requires texts { HavePieceTexts (row (map part_of parts.now)) }
+    requires required { AreRequiredEnds (spelling_of view.now) parts.now required.now }
+    ensures { IfOk result (λ rows. AreRowsOf view.now (parts_words (map part_of parts.now)) template rows.items) }
+{
+    tokens_have_texts(view);
+    let begins = begins_of(alloc, view, Keep::Each { most }, parts, required)?;
+    Ok(rows_of(alloc, view, &begins, template)?)
+}
+
+// The places from which a word of the parts leads to the end of a token, with those tokens that are kept.
+fn begins_of(
+    alloc: Global,
+    view: &View<'_>,
+    keep: Keep,
+    parts: &[Part],
+    required: &Option<RequiredEnds>,
+) -> Result<Vec<PlaceSpan>, Stop>
+    requires texts { HavePieceTexts (row (map part_of parts.now)) }
+    requires required { AreRequiredEnds (spelling_of view.now) parts.now required.now }
+    ensures { IfOk result (λ begins. IsBackFrom keep view.now (Language (parts_words (map part_of parts.now)))
+        (λ q last. (last < length view.now) × (q ≡ place_end view.now last)) begins.items) }
+{
+    let ends = ends_of(alloc, view, parts, required)?;
+    Ok(over_parts(alloc, view, keep, parts, ends)?)
+}
+
+// The ends of tokens at which a word of the parts may end: those within reach of a text of the template where there is one, else all.
+fn ends_of(
+    alloc: Global,
+    view: &View<'_>,
+    parts: &[Part],
+    required: &Option<RequiredEnds>,
+) -> Result<Vec<PlaceSpan>, AllocError>
+    requires texts { HavePieceTexts (row (map part_of parts.now)) }
+    requires required { AreRequiredEnds (spelling_of view.now) parts.now required.now }
+    ensures placed { IfOk result (λ ends. ArePlaced view.now ends.items) }
+    ensures sound { IfOk result (λ ends. (p last : ℕ) → Reaches view.now ends.items p last
+        → (last < length view.now) × (p ≡ place_end view.now last)) }
+    ensures complete { IfOk result (λ ends. (p last : ℕ) (w : Word)
+        → Language (parts_words (map part_of parts.now)) w → Reads view.now p w (place_end view.now last)
+        → last < length view.now → Reaches view.now ends.items (place_end view.now last) last) }
+{
+    let Some(required) = required else {
+        return Ok(token_ends(alloc, view)?);
+    };
+    let last = last_ends(alloc, view, parts, required)?;
+    let text = last.as_ref().unwrap_or(required);
+    Ok(candidate_ends(alloc, view, parts, text.part, &text.places)?)
 }

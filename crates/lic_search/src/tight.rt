@@ -1,19 +1,20 @@
 //! The tight matches of a set's templates.
 
-ghost use Rattle.std.specs.Prelude.{◌≡◌, ◌<◌, List, length, IfOk, None};
+ghost use Rattle.std.specs.Prelude.{◌≡◌, List, IfOk, None};
 ghost use Rattle.lic_filters.specs.Filters.{tight_of};
-ghost use Rattle.lic_find.specs.Matches.{AreMatches};
-ghost use Rattle.lic_find.specs.declared.triple.Triple.{Triple};
+ghost use Rattle.lic_set.specs.Candidates.{IsCandidateOf};
+ghost use Rattle.lic_set.specs.Matches.{AreMatches};
+ghost use Rattle.lic_set.specs.declared.triple.Triple.{Triple};
 ghost use Rattle.lic_search.specs.LeastMatches.{AddsLeast, HasLeastMatches};
 
 use crate::search::least_ranges;
 use crate::view::View;
-use lic_auto::set::Set;
 use lic_filters::filters::tight;
-use lic_find::kept::kept_templates;
-use lic_find::triple::Triple;
+use lic_keys::candidate::Candidate;
 use lic_markup::laws::texts_are_those_of_pieces;
 use lic_norm::text::Text;
+use lic_set::set::Set;
+use lic_set::triple::Triple;
 use std::alloc::{AllocError, Global};
 
 /// The tight matches of a set's templates in a text, in the order of triples: the matches in whose range no other match of the same
@@ -41,9 +42,9 @@ fn least_matches(alloc: Global, set: &Set, text: &Text) -> Result<Vec<Triple>, A
 {
     let view = View::new(text);
     let mut found = Vec::new(alloc);
-    let templates = kept_templates(alloc, set, text)?;
-    for number in &templates {
-        add_template(alloc, set, &view, *number, &mut found)?;
+    let candidates = set.candidates(alloc, text)?;
+    for candidate in &candidates {
+        add_template(alloc, set, &view, candidate, &mut found)?;
     }
     Ok(found)
 }
@@ -53,20 +54,21 @@ fn add_template(
     alloc: Global,
     set: &Set,
     view: &View<'_>,
-    number: usize,
+    candidate: &Candidate,
     found: &mut Vec<Triple>,
 ) -> Result<(), AllocError>
-    requires { number < length set.now }
-    ensures { IfOk result (λ _. AddsLeast set.now view.now number found.old.items found.new.items) }
+    requires { IsCandidateOf set.now view.now candidate.now }
+    ensures { IfOk result (λ _. AddsLeast set.now view.now candidate.now.number found.old.items found.new.items) }
 {
-    let template = set.template(number);
+    let template = set.template(candidate.number);
     texts_are_those_of_pieces(template);
-    let ranges = least_ranges(alloc, view, template.parts())?;
+    let required = set.required_ends(alloc, view.text(), candidate)?;
+    let ranges = least_ranges(alloc, view, template.parts(), &required)?;
     found.extend(
         ranges.iter().map(|range| Triple {
             first: range.first,
             last: range.last,
-            template: number,
+            template: candidate.number,
         }),
     )
 }

@@ -1,7 +1,7 @@
 //! A text in canonical spelling, and where its tokens stand in it.
 
 ghost use Rattle.std.specs.Prelude.{◌≡◌, ◌<◌, ◌≤◌, ◌↔◌, ℕ, IsTrue, length, MatchOption};
-ghost use Rattle.std.specs.Str.{IsAscii};
+ghost use Rattle.std.specs.Str.{IsAscii, IsCharBoundary};
 ghost use Rattle.lic_norm.specs.Places.{IsTokenEnd, place_end, place_start};
 ghost use Rattle.lic_places.specs.Places.{AreTexts, IsBehindBlank, OverBlank, is_blank_at, spelling_of};
 ghost use Rattle.lic_search.specs.Passing.{IsLetterBefore};
@@ -53,6 +53,13 @@ impl<'t> View<'t> {
 }
 
 impl View<'_> {
+    /// The text itself.
+    pub(crate) fn text(&self) -> &Text
+        ensures { result.now.tokens ≡ self.now }
+    {
+        self.text
+    }
+
     /// How many tokens there are.
     pub(crate) fn len(&self) -> usize
         ensures { result ≡ length self.now }
@@ -96,6 +103,13 @@ impl View<'_> {
         ensures { result ≡ place_start self.now i }
     {
         self.text.place(i).start
+    }
+
+    /// Whether no letter is cut at a place.
+    pub(crate) fn is_boundary(&self, place: usize) -> bool
+        ensures { IsTrue result ↔ IsCharBoundary (spelling_of self.now) place }
+    {
+        self.text.spelled().is_char_boundary(place)
     }
 
     /// Whether a blank stands at a place.

@@ -5,8 +5,10 @@ ghost use Rattle.lic_search.specs.Tidily.{AreWays, IsTidyBack, Taken, spans_of, 
 ghost use Rattle.lic_search.specs.Fresh.{AreFresh};
 
 use crate::fresh::fresh_spans;
-use crate::least::least;
+use crate::keep::Keep;
+use crate::kept::kept;
 use crate::same::are_same;
+use crate::stop::Stop;
 use crate::view::{View, tokens_have_texts};
 use lic_spans::span::PlaceSpan;
 use std::alloc::{AllocError, Global};
@@ -69,11 +71,6 @@ impl Ways {
             .max(self.blank.len())
     }
 
-    /// Whether there are few places.
-    pub(crate) fn are_few(&self) -> bool {
-        are_few(&self.nothing) && are_few(&self.letter) && are_few(&self.blank)
-    }
-
     /// Adds the places of the other.
     pub(crate) fn append(&mut self, mut other: Ways) -> Result<(), AllocError>
         ensures { OnOk result ((s : Taken) → spans_of self.new s ≡ spans_of self.old s ++ spans_of other s) }
@@ -84,35 +81,27 @@ impl Ways {
         Ok(())
     }
 
-    /// Each place with its least last token.
-    pub(crate) fn least(self, alloc: Global, view: &View<'_>) -> Result<Ways, AllocError>
+    /// Each place once with each of its last tokens that is kept.
+    pub(crate) fn kept(self, alloc: Global, view: &View<'_>, keep: Keep) -> Result<Ways, Stop>
         requires { AreWays view.now self }
-        ensures { IfOk result (λ least. IsTidyBack view.now (λ w. w ≡ []) (spans_of self) (spans_of least)) }
+        ensures { IfOk result (λ kept. IsTidyBack keep view.now (λ w. w ≡ []) (spans_of self) (spans_of kept)) }
     {
         tokens_have_texts(view);
         Ok(Ways {
-            nothing: least(alloc, view, self.nothing)?,
-            letter: least(alloc, view, self.letter)?,
-            blank: least(alloc, view, self.blank)?,
+            nothing: kept(alloc, view, keep, self.nothing)?,
+            letter: kept(alloc, view, keep, self.letter)?,
+            blank: kept(alloc, view, keep, self.blank)?,
         })
     }
 
     /// Those that are not known yet.
-    pub(crate) fn fresh(&self, alloc: Global, known: &Ways) -> Result<Ways, AllocError>
+    pub(crate) fn fresh(&self, alloc: Global, keep: Keep, known: &Ways) -> Result<Ways, AllocError>
         ensures { IfOk result (λ fresh. (s : Taken) → AreFresh (spans_of self.now s) (spans_of known.now s) (spans_of fresh s)) }
     {
         Ok(Ways {
-            nothing: fresh_spans(alloc, &self.nothing, &known.nothing)?,
-            letter: fresh_spans(alloc, &self.letter, &known.letter)?,
-            blank: fresh_spans(alloc, &self.blank, &known.blank)?,
+            nothing: fresh_spans(alloc, keep, &self.nothing, &known.nothing)?,
+            letter: fresh_spans(alloc, keep, &self.letter, &known.letter)?,
+            blank: fresh_spans(alloc, keep, &self.blank, &known.blank)?,
         })
     }
-}
-
-// How many places are few.
-const FEW: usize = 16;
-
-// Whether spans are few, each of one place.
-fn are_few(spans: &[PlaceSpan]) -> bool {
-    spans.len() <= FEW && spans.iter().all(|span| span.low == span.high)
 }

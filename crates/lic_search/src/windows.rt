@@ -10,7 +10,8 @@ ghost use Rattle.lic_norm.specs.Places.{place_end};
 ghost use Rattle.lic_places.specs.Places.{spelling_of};
 ghost use Rattle.lic_places.specs.Reads.{Reads};
 ghost use Rattle.lic_search.specs.PlaceSets.{ArePlaced, Reaches};
-ghost use Rattle.lic_search.specs.Windows.{AddsEnds, AreTokenEnds, HoldEnds, ListsEnd};
+ghost use Rattle.lic_keys.specs.Required.{HoldEnds};
+ghost use Rattle.lic_search.specs.Windows.{AddsEnds, AreTokenEnds, ListsEnd};
 
 use crate::matches::token_end;
 use crate::reach::most_bytes;

@@ -1,11 +1,11 @@
 //! What the search finds, and what the finder does.
 
-use lic_auto::set::Set;
 use lic_filters::filters::tight;
 use lic_find::finder::Finder;
-use lic_find::triple::Triple;
 use lic_norm::text::Text;
 use lic_search::tight::tight_matches;
+use lic_set::set::Set;
+use lic_set::triple::Triple;
 use std::alloc::{AllocError, Global};
 use std::fmt::Write;
 use std::test::Fail;

@@ -2,7 +2,7 @@
 
 use crate::found::both_shown;
 use crate::profile::Profile;
-use lic_auto::set::Set;
+use lic_set::set::Set;
 use std::alloc::{AllocError, Global};
 use std::test::Fail;
 

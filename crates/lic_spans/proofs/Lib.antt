@@ -5,3 +5,4 @@ pub mod Advancing
 pub mod Heaps
 pub mod Sweeping
 pub mod Sorting
+pub mod Lasts

@@ -150,10 +150,10 @@ IsSettled-lengthened xs b s joins order h =
     }
 
 -- a list is its front and its last one, also where that one is written
-last_split : {X : Type 0} (xs : List X) (n : ℕ) (d : X) → n + 1 ≡ length xs → xs ≡ take n xs ++ get_or xs n d ∷ []
+pub last_split : {X : Type 0} (xs : List X) (n : ℕ) (d : X) → n + 1 ≡ length xs → xs ≡ take n xs ++ get_or xs n d ∷ []
 last_split xs n d e = sym (ap (λ k. take k xs) e ∙ take-length xs) ∙ take_more xs n d (omega arith)
 
-last_set : {X : Type 0} (xs : List X) (n : ℕ) (y : X) → n + 1 ≡ length xs → set xs n y ≡ take n xs ++ y ∷ []
+pub last_set : {X : Type 0} (xs : List X) (n : ℕ) (y : X) → n + 1 ≡ length xs → set xs n y ≡ take n xs ++ y ∷ []
 last_set xs n y e =
     let same : n + 1 ≡ length (set xs n y) = e ∙ sym (length-set xs n y) in
     sym (ap (λ k. take k (set xs n y)) same ∙ take-length (set xs n y)) ∙ take_more_set xs n y (omega arith)

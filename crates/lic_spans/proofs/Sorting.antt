@@ -71,7 +71,7 @@ by_start x y = ordering_then (ordering_then (nat_cmp (rank x.kind) (rank y.kind)
 by_start-total : IsTotalOrder by_start
 by_start-total = then_total (then_total (on_total (λ s. rank s.kind) nat_cmp_total) (on_total (λ s. s.low) nat_cmp_total)) (on_total (λ s. s.last) nat_cmp_total)
 
-then_not_less : (o p : Ordering) → is_lt (ordering_then o p) ≡ false → is_lt o ≡ false
+pub then_not_less : (o p : Ordering) → is_lt (ordering_then o p) ≡ false → is_lt o ≡ false
 then_not_less Less p h = h
 then_not_less Equal p h = refl
 then_not_less Greater p h = refl
@@ -222,8 +222,8 @@ AreApart-answer xs false ordered (k, low, fails) = (
       fails d ∙ LiesBefore-test (get_or xs k d) (get_or xs (k + 1) d) (apart k (k + 1) d (omega arith) low),
 )
 
--- a span of a sorted list begins before each later one, whatever each is read with
-pub BeginsBefore-next : (xs : List PlaceSpan) → AllPairs BeginsBefore xs → (i : ℕ) (e : PlaceSpan) → i < length xs → (j : ℕ) (d : PlaceSpan) → i + 1 ≤ j → j < length xs →
-    BeginsBefore (get_or xs i e) (get_or xs j d)
-BeginsBefore-next xs sorted i e low j d up within =
-    subst (λ x. BeginsBefore x (get_or xs j d)) (get_or_default xs i d e low) (sorted i j d (omega arith) within)
+-- what holds of all pairs of a list holds of one and each later one, whatever each is read with
+pub AllPairs-next : (R : PlaceSpan → PlaceSpan → Type 0) (xs : List PlaceSpan) → AllPairs R xs → (i : ℕ) (e : PlaceSpan) → i < length xs → (j : ℕ) (d : PlaceSpan) → i + 1 ≤ j → j < length xs →
+    R (get_or xs i e) (get_or xs j d)
+AllPairs-next R xs pairs i e low j d up within =
+    subst (λ x. R x (get_or xs j d)) (get_or_default xs i d e low) (pairs i j d (omega arith) within)

@@ -1,5 +1,5 @@
 -- What a list of spans holds, and which lists have no place of a kind twice.
-use Rattle.std.specs.Prelude.{◌≡◌, max, ◌+◌, ◌==◌, ◌&&◌, ◌||◌, Bool, nat_le, nat_lt, ℕ, ◌<◌, ◌≤◌, List, Contains, AllPairs}
+use Rattle.std.specs.Prelude.{◌≡◌, max, ◌+◌, ◌==◌, ◌&&◌, ◌||◌, Bool, nat_le, nat_lt, ℕ, ◌<◌, ◌≤◌, List, Contains, All, AllPairs}
 use Rattle.lic_spans.specs.declared.span.Kind.{Kind}
 use Rattle.lic_spans.specs.declared.span.Kind.TheVariants.{End, Place, Letters, Blanks}
 use Rattle.lic_spans.specs.declared.span.PlaceSpan.{PlaceSpan}
@@ -33,6 +33,27 @@ AreApart spans = AllPairs (λ before span. LiesBefore span.kind span.low before)
 pub record BeginsBefore (before span : PlaceSpan) : Type 0 where
   pub kinds : rank before.kind ≤ rank span.kind
   pub places : before.kind ≡ span.kind → before.low ≤ span.low
+
+-- of an earlier kind, or of the same one and of a lesser last token, or of the same one too and ending before the other begins
+pub record EndsBefore (before span : PlaceSpan) : Type 0 where
+  pub kinds : rank before.kind ≤ rank span.kind
+  pub lasts : before.kind ≡ span.kind → before.last ≤ span.last
+  pub places : before.kind ≡ span.kind → before.last ≡ span.last → before.high < span.low
+
+-- sorted by kind, within a kind by last token, and of each by place, each span beginning after those before it end
+abbrev pub AreApartOfLast : List PlaceSpan → Type 0
+AreApartOfLast spans = AllPairs EndsBefore spans
+
+-- of an earlier kind, or of the same one and of a lesser last token, or of the same one too and beginning no later
+pub record StartsBefore (before span : PlaceSpan) : Type 0 where
+  pub kinds : rank before.kind ≤ rank span.kind
+  pub lasts : before.kind ≡ span.kind → before.last ≤ span.last
+  pub places : before.kind ≡ span.kind → before.last ≡ span.last → before.low ≤ span.low
+
+-- the spans are apart, and each starts before this one
+pub record AreBefore (spans : List PlaceSpan) (span : PlaceSpan) : Type 0 where
+  pub apart : AreApartOfLast spans
+  pub start : All (λ s. StartsBefore s span) spans
 
 -- how far after the end of a span another of its kind may begin that is joined with it: a single place is joined with none
 abbrev pub gap_of : Kind → ℕ

@@ -2,7 +2,7 @@
 
 ghost use Rattle.std.specs.Prelude.{◌≡◌, ◌+◌, ◌<◌, ◌≤◌, ◌⊎◌, ◌↔◌, ℕ, [], ◌∷◌, length, All, OnOk, if◌then◌else◌};
 ghost use Rattle.lic_spans.specs.declared.span.Kind.{Kind};
-ghost use Rattle.lic_spans.specs.Spans.{Holds, FitsKind, is_continued_by, lengthened};
+ghost use Rattle.lic_spans.specs.Spans.{AreBefore, Holds, FitsKind, is_continued_by, lengthened};
 ghost use Rattle.lic_spans.specs.Sweeps.{IsSettled};
 
 use crate::span::PlaceSpan;
@@ -14,6 +14,8 @@ pub(crate) fn add(spans: &mut Vec<PlaceSpan>, span: PlaceSpan) -> Result<(), All
     ensures holds { OnOk result ((k : Kind) (p l : ℕ) → Holds spans.new.items k p l ↔ (Holds spans.old.items k p l ⊎ Holds (span ∷ []) k p l)) }
     ensures settled { OnOk result (IsSettled spans.old.items span.kind span.low → IsSettled spans.new.items span.kind (span.high + 1)) }
     ensures fits { OnOk result (FitsKind span → All FitsKind spans.old.items → All FitsKind spans.new.items) }
+    ensures ordered { OnOk result (All (λ s. s.low ≤ s.high) spans.old.items → All (λ s. s.low ≤ s.high) spans.new.items) }
+    ensures before { OnOk result (AreBefore spans.old.items span → AreBefore spans.new.items span) }
     ensures few { OnOk result (length spans.new.items ≤ length spans.old.items + 1) }
 {
     let count = spans.len();

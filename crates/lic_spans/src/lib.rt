@@ -1,6 +1,7 @@
 //! Sets of places of a text, as spans with the last token of a match, and the least last token of each place.
 #![tactic(auto)]
 
+pub mod each;
 mod join;
 pub mod least;
 pub mod span;

@@ -11,9 +11,9 @@ use Rattle.lic_words.specs.Letters.{letters_in}
 use Rattle.lic_norm.specs.Tokens.{TokenValue}
 use Rattle.lic_norm.specs.declared.token.Span.{Span}
 use Rattle.lic_markup.specs.declared.part.Part.{Part}
-use Rattle.lic_auto.specs.Sets.{Known}
-use Rattle.lic_find.specs.Matches.{IsMatch, letters_between}
-use Rattle.lic_find.specs.declared.triple.Triple.{Triple}
+use Rattle.lic_set.specs.Sets.{Known}
+use Rattle.lic_set.specs.Matches.{IsMatch, letters_between}
+use Rattle.lic_set.specs.declared.triple.Triple.{Triple}
 use Rattle.lic_vars.specs.Values.{Assigned, covered, letter_spans, nodes_of, AreValues}
 use Rattle.lic_vars.specs.Moves.{Move, text, variable, optional, moves, CanFinish, Least, NoBlanks}
 use Rattle.lic_vars.specs.Recorded.{recorded}

@@ -14,9 +14,9 @@ use Rattle.lic_marks.proofs.Repetitions.{core_sound, core_complete}
 use Rattle.lic_marks.proofs.Shifting.{can_leave_sound, can_leave_complete}
 use Rattle.lic_marks.proofs.Standing.{StandsAtOnce-begin, StandsFor-letter}
 use Rattle.lic_norm.specs.Tokens.{TokenValue}
-use Rattle.lic_auto.specs.Sets.{Known}
-use Rattle.lic_find.specs.Matches.{IsMatch, letters_between}
-use Rattle.lic_find.specs.declared.triple.Triple.{Triple}
+use Rattle.lic_set.specs.Sets.{Known}
+use Rattle.lic_set.specs.Matches.{IsMatch, letters_between}
+use Rattle.lic_set.specs.declared.triple.Triple.{Triple}
 use Rattle.lic_vars.specs.Moves.{State, NoBlanks, fits, read_word, Move, text, variable, optional, moves, Finishes, finished, Least}
 use Rattle.lic_vars.specs.Cuts.{gapped_of, left_from}
 use Rattle.lic_vars.specs.Ends.{joined, CanEnd, MayFollow}

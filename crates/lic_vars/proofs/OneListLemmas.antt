@@ -1,9 +1,9 @@
 -- There is one list of the values of a match.
 use Rattle.std.proofs.Common.{◌≡◌, ℕ, ◌<◌, ◌+◌, List, [], ◌∷◌, Some, slice_get, slice_range, refl, sym, ◌∙◌, subst, arith, inl, inr, ◌⊎◌}
 use Rattle.lic_norm.specs.Tokens.{TokenValue}
-use Rattle.lic_auto.specs.Sets.{Known}
-use Rattle.lic_find.specs.Matches.{letters_between}
-use Rattle.lic_find.specs.declared.triple.Triple.{Triple}
+use Rattle.lic_set.specs.Sets.{Known}
+use Rattle.lic_set.specs.Matches.{letters_between}
+use Rattle.lic_set.specs.declared.triple.Triple.{Triple}
 use Rattle.lic_vars.specs.Derivations.{Derivation, IsLeast, NotAfter}
 use Rattle.lic_vars.specs.Values.{Assigned, AreValues, nodes_of, choice_values, letter_spans}
 use Rattle.lic_vars.proofs.ValueLemmas.{same-values}

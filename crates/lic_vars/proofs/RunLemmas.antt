@@ -5,8 +5,8 @@ use Rattle.std.specs.List.{Contains}
 use Rattle.std.specs.Str.{chars}
 use Rattle.lic_norm.specs.Tokens.{TokenValue}
 use Rattle.lic_norm.specs.declared.token.Span.{Span}
-use Rattle.lic_auto.specs.Sets.{Known}
-use Rattle.lic_find.specs.declared.triple.Triple.{Triple}
+use Rattle.lic_set.specs.Sets.{Known}
+use Rattle.lic_set.specs.declared.triple.Triple.{Triple}
 use Rattle.lic_words.specs.Letters.{letters_in}
 use Rattle.lic_vars.specs.Derivations.{record_of}
 use Rattle.lic_vars.specs.Values.{Assigned, AreValues, RunsFrom, covered, last_end, letter_spans, nodes_of}

@@ -1,7 +1,7 @@
 -- What an assigner is to its callers, and what it keeps.
 use Rattle.std.specs.Prelude.{◌≡◌, ℕ, List, Some, slice_get}
 use Rattle.std.specs.List.{All}
-use Rattle.lic_auto.specs.Sets.{Known}
+use Rattle.lic_set.specs.Sets.{Known}
 use Rattle.lic_vars.specs.Values.{nodes_of}
 use Rattle.lic_vars.specs.Moves.{moves}
 use Rattle.lic_vars.specs.Cuts.{moves_of, IsCompiled}

@@ -3,9 +3,9 @@ use Rattle.std.specs.Prelude.{◌≡◌, ℕ, ◌+◌, ◌≤◌, List, [], ◌�
 use Rattle.lic_norm.specs.Tokens.{TokenValue}
 use Rattle.lic_norm.specs.declared.token.Span.{Span}
 use Rattle.lic_markup.specs.Parts.{Nodes, no_node, one_more, letters, variable, optional, part_of, row}
-use Rattle.lic_auto.specs.Sets.{Known}
-use Rattle.lic_find.specs.Matches.{letters_between}
-use Rattle.lic_find.specs.declared.triple.Triple.{Triple}
+use Rattle.lic_set.specs.Sets.{Known}
+use Rattle.lic_set.specs.Matches.{letters_between}
+use Rattle.lic_set.specs.declared.triple.Triple.{Triple}
 use Rattle.lic_words.specs.Letters.{letters_in}
 use Rattle.lic_vars.specs.Derivations.{Choice, Derivation, IsLeast, word_of}
 

@@ -6,9 +6,9 @@ ghost use Rattle.lic_norm.specs.Tokens.{TokenValue};
 ghost use Rattle.lic_norm.specs.declared.token.Span.{Span};
 ghost use Rattle.lic_markup.specs.Parts.{Nodes};
 ghost use Rattle.lic_markup.specs.Meaning.{nodes_words};
-ghost use Rattle.lic_auto.specs.Sets.{Known};
-ghost use Rattle.lic_find.specs.Matches.{IsMatch};
-ghost use Rattle.lic_find.specs.declared.triple.Triple.{Triple};
+ghost use Rattle.lic_set.specs.Sets.{Known};
+ghost use Rattle.lic_set.specs.Matches.{IsMatch};
+ghost use Rattle.lic_set.specs.declared.triple.Triple.{Triple};
 ghost use Rattle.lic_vars.specs.Derivations.{Choice, Derivation, record_of};
 ghost use Rattle.lic_vars.specs.Values.{Assigned, AreValues, RunsFrom, choice_values};
 

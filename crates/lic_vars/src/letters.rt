@@ -4,7 +4,7 @@ ghost use Rattle.std.specs.Prelude.{◌≡◌, ◌<◌, ◌≤◌, ◌+◌, ◌&
 ghost use Rattle.std.specs.Str.{chars};
 ghost use Rattle.lic_words.specs.Spelling.{gapped, gapped_from, last_letter};
 ghost use Rattle.lic_words.specs.Letters.{letters_in};
-ghost use Rattle.lic_find.specs.Matches.{letters_between};
+ghost use Rattle.lic_set.specs.Matches.{letters_between};
 ghost use Rattle.lic_vars.specs.Values.{letter_spans};
 ghost use Rattle.lic_vars.specs.Moves.{read_word, fits};
 ghost use Rattle.lic_vars.specs.Cuts.{gap_before, gapped_of, spans_of, states, left_from};

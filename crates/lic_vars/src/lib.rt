@@ -1,4 +1,4 @@
-//! What the variables of a match stand for. The filters of matches are handed on from lic_filters.
+//! The values of the variables of a match. The filters of matches are handed on from lic_filters.
 #![tactic(auto)]
 
 mod branch;

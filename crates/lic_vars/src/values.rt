@@ -1,7 +1,7 @@
 //! What the variables of a template stand for in a match.
 
 ghost use Rattle.std.specs.Prelude.{◌≡◌, ◌==◌, ◌<◌, IfOk, length, map, take, drop, slice_index_or, if◌then◌else◌};
-ghost use Rattle.lic_find.specs.Matches.{IsMatch};
+ghost use Rattle.lic_set.specs.Matches.{IsMatch};
 ghost use Rattle.lic_vars.specs.Values.{AreValues, covered};
 ghost use Rattle.lic_vars.specs.Cuts.{spans_of, moves_of};
 ghost use Rattle.lic_vars.specs.Recorded.{recorded};
@@ -10,10 +10,10 @@ ghost use Rattle.lic_vars.specs.Views.{value_of};
 use crate::letters::{Letter, letter_count, letters_of};
 use crate::search::least_record;
 use crate::steps::{Step, steps_of};
-use lic_auto::set::Set;
-use lic_find::triple::Triple;
 use lic_norm::text::Text;
 use lic_norm::token::Span;
+use lic_set::set::Set;
+use lic_set::triple::Triple;
 use std::alloc::{AllocError, Global};
 use std::marker::Model;
 

@@ -1,4 +1,4 @@
-//! A variable's word on its way.
+//! The letters of a variable's word.
 
 ghost use Rattle.std.specs.Prelude.{◌≡◌, ◌≢◌, ◌≤◌, ◌++◌, ◌∷◌, ◌&&◌, ℕ, List, IsTrue, [], not};
 ghost use Rattle.lic_words.specs.Words.{blank};
@@ -10,7 +10,6 @@ ghost use Rattle.lic_marks.specs.States.{HasTaken, room_of};
 use crate::letters::Letter;
 use lic_marks::node::Node;
 use lic_marks::state::State;
-use lic_marks::stretch::Stretch;
 
 /// Takes one letter more. The gap before the first one does not count.
 pub fn take_letter(tree: &Node, letter: Letter, is_first: bool, state: &mut State)
@@ -28,5 +27,5 @@ pub fn take_letter(tree: &Node, letter: Letter, is_first: bool, state: &mut Stat
         is_apart: letter.is_apart & !is_first,
         are_words: letter.are_words,
     };
-    state.letter(tree, Stretch::none(), letter);
+    state.letter(tree, letter);
 }

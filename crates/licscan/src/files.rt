@@ -2,7 +2,6 @@
 
 use crate::faults::Stop;
 use crate::progress::Progress;
-use lic_auto::set::Set;
 use lic_engine::engine::{run, run_tokens};
 use lic_engine::fault::RunFault;
 use lic_fields::Escaped;
@@ -10,6 +9,7 @@ use lic_find::ask::Ask;
 use lic_kind::Rules;
 use lic_load::fault::{tell, wants_memory};
 use lic_norm::words::Words;
+use lic_set::set::Set;
 use lic_stream::stream::{Counted, Sink, Source};
 use std::alloc::Global;
 use std::fs::File;

@@ -2,7 +2,7 @@ use Rattle.std.proofs.Common.{◌≡◌, ◌∙◌, [], sym, ap, ⊎_elim, arith
 use Rattle.std.specs.Prelude.{slice_index_or}
 use Rattle.std.proofs.lemmas.Bool.{cases_lt, false≢true}
 use Rattle.std.proofs.lemmas.Slice.Eq.{bytes_eq-Decides}
-use Rattle.lic_auto.specs.Sets.{Known}
+use Rattle.lic_set.specs.Sets.{Known}
 use Rattle.lic_arguments.proofs.arguments.number_of.Goals as goal
 
 pub loop-k-preserved : goal.loop-k-preserved

@@ -1,6 +1,6 @@
 use Rattle.std.proofs.Common.{ℕ, ◌<◌}
 use Rattle.std.specs.List.{Contains}
-use Rattle.lic_keys.specs.Rising.{IsRising}
+use Rattle.lic_set.specs.Rising.{IsRising}
 use Rattle.lic_auto.proofs.chosen.all_numbers.Given as goal
 
 abbrev pub invariant-loop-number : goal.invariant-loop-number

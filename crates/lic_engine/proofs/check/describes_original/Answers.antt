@@ -1,5 +1,5 @@
 use Rattle.std.proofs.Common.{◌↔◌, IsTrue, slice_index_or, subst}
-use Rattle.lic_auto.specs.Sets.{words_of}
+use Rattle.lic_set.specs.Sets.{words_of}
 use Rattle.lic_words.specs.Describing.{IsDescribed}
 use Rattle.lic_report.specs.Checking.{all_letters}
 use Rattle.lic_engine.proofs.check.describes_original.Goals as goal

@@ -1,8 +1,8 @@
 use Rattle.std.proofs.Common.{rules, ◌≡◌, ◌<◌, ◌≤◌, ◌+◌, [], length, take, drop, get_or, refl, sym, subst, ◌∙◌, arith}
 use Rattle.std.specs.Io.KnownBytes.{Appends}
 use Rattle.std.proofs.lemmas.List.{take-append-drop, take_all}
-use Rattle.lic_find.specs.Matches.{IsMatch}
-use Rattle.lic_find.specs.declared.triple.Triple.{Triple}
+use Rattle.lic_set.specs.Matches.{IsMatch}
+use Rattle.lic_set.specs.declared.triple.Triple.{Triple}
 use Rattle.lic_report.specs.Fronts.{Named}
 use Rattle.lic_report.specs.Report.{HasItsValues, Valued, triple_of, valued_lines}
 use Rattle.lic_stream.specs.Stream.{BeginsWith}

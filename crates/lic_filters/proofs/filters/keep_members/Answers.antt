@@ -1,6 +1,6 @@
 use Rattle.std.proofs.Common.{◌∙◌, List, rules}
 use Rattle.std.proofs.lemmas.Fn.{filter_same}
-use Rattle.lic_find.specs.declared.triple.Triple.{Triple}
+use Rattle.lic_set.specs.declared.triple.Triple.{Triple}
 use Rattle.lic_filters.proofs.Searching.{is_among, is_among-answer, filter-is_among}
 use Rattle.lic_filters.proofs.filters.keep_members.Goals as goal
 

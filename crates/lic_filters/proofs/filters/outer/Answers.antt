@@ -1,5 +1,5 @@
 use Rattle.std.proofs.Common.{◌≡◌, ◌∙◌, List, ap, subst, sym}
-use Rattle.lic_find.specs.declared.triple.Triple.{Triple}
+use Rattle.lic_set.specs.declared.triple.Triple.{Triple}
 use Rattle.lic_filters.specs.Filters.{SameMembers, is_outer, tight_of, outermost_of}
 use Rattle.lic_filters.proofs.FilterLaws.{tight_of-tight_of}
 use Rattle.lic_filters.proofs.filters.outer.Goals as goal

@@ -1,5 +1,5 @@
 use Rattle.std.proofs.Common.{◌≡◌, Bool, filter, subst}
-use Rattle.lic_find.specs.declared.triple.Triple.{Triple}
+use Rattle.lic_set.specs.declared.triple.Triple.{Triple}
 use Rattle.lic_filters.specs.Filters.{SameMembers, is_tight}
 use Rattle.lic_filters.proofs.filters.tight.Goals as goal
 

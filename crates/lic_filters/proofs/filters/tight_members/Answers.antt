@@ -3,7 +3,7 @@ use Rattle.std.proofs.lemmas.Fn.{dedup_same, always_returns_same}
 use Rattle.std.specs.List.{dedup}
 use Rattle.std.specs.List.Sorted.{IsPermutation, IsSortedBy}
 use Rattle.std.specs.Ordering.{is_lt}
-use Rattle.lic_find.specs.declared.triple.Triple.{Triple}
+use Rattle.lic_set.specs.declared.triple.Triple.{Triple}
 use Rattle.lic_filters.specs.Filters.{SameMembers, tight_of}
 use Rattle.lic_filters.proofs.Orders.{by_template}
 use Rattle.lic_filters.proofs.TightLemmas.{is_over, tight_of-swept}

@@ -3,7 +3,7 @@ use Rattle.std.specs.Str.{chars}
 use Rattle.lic_norm.specs.Tokens.{TokenValue}
 use Rattle.lic_auto.specs.Picked.{IsLeastOf}
 use Rattle.lic_auto.specs.Runs.{StandsFor, set_of}
-use Rattle.lic_find.specs.Matches.{letters_between}
+use Rattle.lic_set.specs.Matches.{letters_between}
 use Rattle.lic_find.specs.Walks.{letters_up_to}
 use Rattle.lic_find.proofs.Asking.{IsMatch-answer, is_number}
 use Rattle.lic_find.proofs.Ranges.{letters_up_to-more, letters_up_to-none}

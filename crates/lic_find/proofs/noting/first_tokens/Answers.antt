@@ -1,35 +1,45 @@
-use Rattle.std.proofs.Common.{◌≡◌, ◌+◌, ◌-◌, ◌≤◌, [], ℕ, length, drop, sym, ap, ◌∙◌, subst, arith}
+use Rattle.std.proofs.Common.{◌≡◌, ◌+◌, ◌*◌, ◌^◌, ◌-◌, ◌<◌, ◌≤◌, ◌∷◌, ◌↔◌, [], ℕ, List, length, drop, get_or, refl, sym, ap, ◌∙◌, subst, arith}
+use Rattle.std.specs.List.{Contains}
+use Rattle.std.specs.Str.{chars}
 use Rattle.std.proofs.Math.Seq.{drop-length}
-use Rattle.lic_keys.specs.Looks.{OthersDescribeNoRange}
-use Rattle.lic_auto.specs.Compiled.{parts_of}
+use Rattle.std.proofs.lemmas.Bool.{eqb-true, eq-eqb, false≢true}
+use Rattle.lic_norm.specs.Tokens.{TokenValue}
+use Rattle.lic_words.specs.Letters.{letters_in}
+use Rattle.lic_auto.specs.Backs.{StandsBehind, IsLive, numbers_behind, set_behind, steps_behind}
 use Rattle.lic_find.specs.Bounds.{letters_of}
 use Rattle.lic_find.specs.Firsts.{AreFirstsFrom}
-use Rattle.lic_find.specs.Ends.{AreKnown}
-use Rattle.lic_find.specs.Matches.{all_letters}
-use Rattle.lic_find.specs.Starts.{starts_in}
-use Rattle.lic_find.specs.Walked.{HasWalked, KnowsEnds, ends_walked, numbers_walked, set_walked}
-use Rattle.lic_find.proofs.FirstLemmas.{AreKnown-walked, NoneBeginFrom-end}
-use Rattle.lic_find.proofs.LetterLemmas.{letters_of-none, letters_of-drop_le}
+use Rattle.lic_set.specs.Matches.{all_letters}
+use Rattle.lic_find.specs.Starts.{HasAtMost, starts_in}
+use Rattle.lic_find.proofs.FirstLemmas.{AreFirstsFrom-pass, IsFirstFrom-live, NoneBeginFrom-end, all_letters-drop, none_live}
+use Rattle.lic_find.proofs.LetterLemmas.{letters_of-none, letters_of-drop, letters_of-drop_le}
+use Rattle.lic_find.proofs.StartLemmas.{HasAtMost-more}
 use Rattle.lic_find.proofs.noting.first_tokens.Goals as goal
+
+-- an empty list, and one that is not
+empty : (xs : List ℕ) → length xs ≡ 0 → xs ≡ []
+empty [] h = refl
+empty (x ∷ xs) h = absurd (omega arith)
+
+some_of : (xs : List ℕ) → (length xs ≡ 0 → ⊥) → (k : ℕ) × Contains xs k
+some_of [] h = absurd (h refl)
+some_of (x ∷ xs) h = (x, (0, omega arith, refl))
 
 pub loop-first-init : goal.loop-first-init
 loop-first-init c =
     let set = c.args.set.now in
     let tokens = c.args.text.now.tokens in
-    let kept = c.args.kept.items in
-    let end = c.len-first.result in
-    let nothing : drop end tokens ≡ [] = ap (λ n. drop n tokens) c.len-first.ensures ∙ drop-length tokens in
-    let none : letters_of (drop end tokens) ≡ 0 = ap letters_of nothing ∙ letters_of-none in
-    let counted = c.in_ok-walk.ensures.steps in
+    let nothing : drop c.len-first.result tokens ≡ [] = ap (λ n. drop n tokens) c.len-first.ensures ∙ drop-length tokens in
+    let none : letters_of (drop c.len-first.result tokens) ≡ 0 = ap letters_of nothing ∙ letters_of-none in
+    let counted = c.in_ok-back.ensures.steps in
     record {
       low = omega arith;
-      set = c.in_ok-walk.ensures.set;
-      numbers = c.in_ok-walk.ensures.numbers;
-      walked = subst (λ n. HasWalked tokens (λ k. length tokens) n c.in_ok-walk.walk) (sym c.len-first.ensures)
-          (c.in_ok-walk.ensures.walked tokens (length tokens) (omega arith));
-      firsts = λ others.
-          subst (AreFirstsFrom set tokens end) (sym c.none-starts.ensures)
-          (subst (λ n. AreFirstsFrom set tokens n []) (sym c.len-first.ensures) (NoneBeginFrom-end set tokens));
+      set = c.in_ok-back.ensures.set;
+      numbers = c.in_ok-back.ensures.numbers;
+      stands = subst (λ ts. StandsBehind c.in_ok-back.back (all_letters ts)) (sym nothing) c.in_ok-back.ensures.stands;
+      firsts =
+          subst (AreFirstsFrom set tokens c.args.numbers.items c.len-first.result) (sym c.none-starts.ensures.none)
+          (subst (λ n. AreFirstsFrom set tokens c.args.numbers.items n []) (sym c.len-first.ensures) (NoneBeginFrom-end set tokens c.args.numbers.items));
+      memory = subst (HasAtMost c.none-starts.result) (let none : 0 ≡ length tokens - c.len-first.result = omega (arith, c.len-first.ensures) in none) c.none-starts.ensures.memory;
       most = omega arith;
       least = λ bounded. omega arith;
     }
@@ -38,56 +48,122 @@ pub loop-first-preserved : goal.loop-first-preserved
 loop-first-preserved c =
     let set = c.args.set.now in
     let tokens = c.args.text.now.tokens in
-    let kept = c.args.kept.items in
+    let kept = c.args.numbers.items in
     let inv = c.loop-first.invariant in
     let end = c.loop-first.first in
     let first : ℕ = end - 1 in
+    let token : TokenValue = record { text = c.token.result.text.now; span = c.token.result.span } in
+    let back = c.push_front.new.self in
+    let live = c.live_numbers-live.result.now in
+    let inside : first < length tokens = omega arith in
     let next : first + 1 ≡ end = omega arith in
-    let walk = c.take_token.new.self in
-    let taken = c.in_ok-take_token.ensures.walked (λ k. length tokens)
-    (subst (λ n. HasWalked tokens (λ k. length tokens) n c.loop-first.walk) (sym next) inv.walked) in
-    let knows : KnowsEnds tokens (λ k. length tokens) first walk = taken.1 in
-    let same_set : set_walked walk ≡ set = c.take_token.ensures.set ∙ inv.set in
-    let same_numbers : numbers_walked walk ≡ kept = c.take_token.ensures.numbers ∙ inv.numbers in
-    let ends : letters_of (drop (first + 1) tokens) ≡ letters_of (drop end tokens) = ap (λ n. letters_of (drop n tokens)) next in
+    let text = c.token.ensures.text token in
+    let stands : StandsBehind back (all_letters (drop first tokens)) =
+    subst (StandsBehind back) (sym (all_letters-drop tokens first end token inside next))
+    (subst (λ text. StandsBehind back (chars text ∷ all_letters (drop end tokens))) text
+    (c.push_front.ensures.stands (all_letters (drop end tokens)) inv.stands)) in
+    let same_set : set_behind back ≡ set = c.push_front.ensures.set ∙ inv.set in
+    let same_numbers : numbers_behind back ≡ kept = c.push_front.ensures.numbers ∙ inv.numbers in
+    let exactly : (k : ℕ) → Contains live k ↔ (Contains kept k × IsLive set (all_letters (drop first tokens)) k) =
+    λ k. subst (λ s. Contains live k ↔ (Contains kept k × IsLive s (all_letters (drop first tokens)) k)) same_set
+    (subst (λ ns. Contains live k ↔ (Contains ns k × IsLive (set_behind back) (all_letters (drop first tokens)) k)) same_numbers
+    (c.live_numbers-live.ensures.exactly (all_letters (drop first tokens)) stands k)) in
+    let more : letters_of (drop first tokens) ≡ letters_in (chars (get_or tokens first token).text) + letters_of (drop end tokens) =
+    letters_of-drop tokens first token inside ∙ ap (λ n. letters_in (chars (get_or tokens first token).text) + letters_of (drop n tokens)) next in
+    let most : steps_behind back ≤ steps_behind c.loop-first.back + 2 * letters_in (chars (get_or tokens first token).text) =
+    subst (λ text. steps_behind back ≤ steps_behind c.loop-first.back + 2 * letters_in (chars text)) text c.push_front.ensures.most in
+    let least : steps_behind back < 2 ^ 64 - 1 → steps_behind c.loop-first.back + letters_in (chars (get_or tokens first token).text) ≤ steps_behind back =
+    subst (λ text. steps_behind back < 2 ^ 64 - 1
+    → steps_behind c.loop-first.back + letters_in (chars text)
+    ≤ steps_behind back) text c.push_front.ensures.least in
     let before = inv.most in
     record {
       low = omega arith;
       set = same_set;
       numbers = same_numbers;
-      walked = taken.0;
-      firsts = λ others.
-          let here : OthersDescribeNoRange (parts_of (set_walked walk)) (numbers_walked walk) (all_letters tokens) =
-          subst (λ s. OthersDescribeNoRange (parts_of s) (numbers_walked walk) (all_letters tokens)) (sym same_set)
-          (subst (λ ns. OthersDescribeNoRange (parts_of set) ns (all_letters tokens)) (sym same_numbers) others) in
-          let behind : AreFirstsFrom set tokens (first + 1) (starts_in c.loop-first.starts) =
-          subst (λ n. AreFirstsFrom set tokens n (starts_in c.loop-first.starts)) (sym next) (inv.firsts others) in
-          let known : AreKnown (set_walked walk) tokens first c.ends.result.now c.unclear.result.now =
-          subst (λ es. AreKnown (set_walked walk) tokens first es c.unclear.result.now) (sym c.ends.ensures)
-          (subst (λ ns. AreKnown (set_walked walk) tokens first (ends_walked walk) ns) (sym c.unclear.ensures) (AreKnown-walked tokens first walk knows here)) in
-          subst (λ s. AreFirstsFrom s tokens first (starts_in c.note.new.starts)) same_set
-          (c.in_ok-note.ensures (set_walked walk) tokens known
-          (subst (λ s. AreFirstsFrom s tokens (first + 1) (starts_in c.loop-first.starts)) (sym same_set) behind));
-      most = omega (arith, c.take_token.ensures.most, ends, before);
+      stands = stands;
+      firsts =
+          let behind : AreFirstsFrom set tokens kept (first + 1) (starts_in c.loop-first.starts) =
+          subst (λ n. AreFirstsFrom set tokens kept n (starts_in c.loop-first.starts)) (sym next) inv.firsts in
+          AreFirstsFrom-pass set tokens kept first (starts_in c.loop-first.starts)
+          (none_live set tokens kept first inside live exactly
+          (empty live (eqb-true (length live) 0 (sym c.is_empty.ensures ∙ c.if-not-is_empty.false)))) behind;
+      memory = HasAtMost-more c.loop-first.starts (length tokens - end) (length tokens - first) (omega arith) inv.memory;
+      most = omega arith;
       least = λ bounded.
-          let grown = c.take_token.ensures.least bounded in
-          let old = inv.least (omega (arith, bounded, c.take_token.ensures.never_fall)) in
-          omega (arith, grown, old, ends);
+          let grown = least bounded in
+          let old = inv.least (omega arith) in
+          omega arith;
+    }
+
+pub loop-first-preserved-in-Continue-branch-2 : goal.loop-first-preserved-in-Continue-branch-2
+loop-first-preserved-in-Continue-branch-2 c =
+    let set = c.args.set.now in
+    let tokens = c.args.text.now.tokens in
+    let kept = c.args.numbers.items in
+    let inv = c.loop-first.invariant in
+    let end = c.loop-first.first in
+    let first : ℕ = end - 1 in
+    let token : TokenValue = record { text = c.token.result.text.now; span = c.token.result.span } in
+    let back = c.push_front.new.self in
+    let live = c.live_numbers-live.result.now in
+    let inside : first < length tokens = omega arith in
+    let next : first + 1 ≡ end = omega arith in
+    let text = c.token.ensures.text token in
+    let stands : StandsBehind back (all_letters (drop first tokens)) =
+    subst (StandsBehind back) (sym (all_letters-drop tokens first end token inside next))
+    (subst (λ text. StandsBehind back (chars text ∷ all_letters (drop end tokens))) text
+    (c.push_front.ensures.stands (all_letters (drop end tokens)) inv.stands)) in
+    let same_set : set_behind back ≡ set = c.push_front.ensures.set ∙ inv.set in
+    let same_numbers : numbers_behind back ≡ kept = c.push_front.ensures.numbers ∙ inv.numbers in
+    let exactly : (k : ℕ) → Contains live k ↔ (Contains kept k × IsLive set (all_letters (drop first tokens)) k) =
+    λ k. subst (λ s. Contains live k ↔ (Contains kept k × IsLive s (all_letters (drop first tokens)) k)) same_set
+    (subst (λ ns. Contains live k ↔ (Contains ns k × IsLive (set_behind back) (all_letters (drop first tokens)) k)) same_numbers
+    (c.live_numbers-live.ensures.exactly (all_letters (drop first tokens)) stands k)) in
+    let more : letters_of (drop first tokens) ≡ letters_in (chars (get_or tokens first token).text) + letters_of (drop end tokens) =
+    letters_of-drop tokens first token inside ∙ ap (λ n. letters_in (chars (get_or tokens first token).text) + letters_of (drop n tokens)) next in
+    let most : steps_behind back ≤ steps_behind c.loop-first.back + 2 * letters_in (chars (get_or tokens first token).text) =
+    subst (λ text. steps_behind back ≤ steps_behind c.loop-first.back + 2 * letters_in (chars text)) text c.push_front.ensures.most in
+    let least : steps_behind back < 2 ^ 64 - 1 → steps_behind c.loop-first.back + letters_in (chars (get_or tokens first token).text) ≤ steps_behind back =
+    subst (λ text. steps_behind back < 2 ^ 64 - 1
+    → steps_behind c.loop-first.back + letters_in (chars text)
+    ≤ steps_behind back) text c.push_front.ensures.least in
+    let before = inv.most in
+    record {
+      low = omega arith;
+      set = same_set;
+      numbers = same_numbers;
+      stands = stands;
+      firsts =
+          let behind : AreFirstsFrom set tokens kept (first + 1) (starts_in c.loop-first.starts) =
+          subst (λ n. AreFirstsFrom set tokens kept n (starts_in c.loop-first.starts)) (sym next) inv.firsts in
+          let (k, there) = some_of live (λ none. false≢true (sym c.if-not-is_empty.true ∙ c.is_empty.ensures ∙ eq-eqb (length live) 0 none)) in
+          subst (AreFirstsFrom set tokens kept first) (sym c.in_ok-add.ensures.noted)
+          (IsFirstFrom-live set tokens kept first inside live exactly k there, behind);
+      memory = let more : length tokens - end + 1 ≡ length tokens - first = omega arith in
+          subst (HasAtMost c.add.new.self) more (c.in_ok-add.ensures.memory (length tokens - end) inv.memory);
+      most = omega arith;
+      least = λ bounded.
+          let grown = least bounded in
+          let old = inv.least (omega arith) in
+          omega arith;
     }
 
 pub returns-clause-most : goal.returns-clause-most
 returns-clause-most c =
     let part = letters_of-drop_le c.args.text.now.tokens c.loop-first.first in
-    omega (arith, c.steps.ensures, c.loop-first.invariant.most, part)
-
-pub returns-clause-least : goal.returns-clause-least
-returns-clause-least c = λ bounded.
-    let same : c.loop-first.first ≡ c.args.from = omega (arith, c.loop-first.invariant.low, c.loop-first-test.false) in
-    let read = c.loop-first.invariant.least (omega (arith, c.steps.ensures, bounded)) in
-    subst (λ n. letters_of (drop n c.args.text.now.tokens) ≤ c.steps.result) same (omega (arith, c.steps.ensures, read))
+    let most = c.loop-first.invariant.most in
+    omega arith
 
 pub returns-clause-firsts : goal.returns-clause-firsts
-returns-clause-firsts c = λ others.
-    let same : c.loop-first.first ≡ c.args.from = omega (arith, c.loop-first.invariant.low, c.loop-first-test.false) in
-    subst (λ n. AreFirstsFrom c.args.set.now c.args.text.now.tokens n
-    (starts_in c.loop-first.starts)) same (c.loop-first.invariant.firsts others)
+returns-clause-firsts c =
+    let low = c.loop-first.invariant.low in
+    let done = c.loop-first-test.false in
+    let same : c.loop-first.first ≡ c.args.from = omega arith in
+    subst (λ n. AreFirstsFrom c.args.set.now c.args.text.now.tokens c.args.numbers.items n
+    (starts_in c.loop-first.starts)) same c.loop-first.invariant.firsts
+
+pub returns-clause-memory : goal.returns-clause-memory
+returns-clause-memory c =
+    let tokens = c.args.text.now.tokens in
+    HasAtMost-more c.loop-first.starts (length tokens - c.loop-first.first) (length tokens) (omega arith) c.loop-first.invariant.memory

@@ -1,7 +1,6 @@
-use Rattle.std.proofs.Common.{◌≡◌, ℕ, List, ◌+◌, ◌-◌, ◌≤◌, ◌<◌, Bool, false, ◌||◌, map, drop, length, get_or}
+use Rattle.std.proofs.Common.{◌≡◌, List, ◌+◌, ◌-◌, ◌≤◌, Bool, ◌||◌, map, drop, length}
 use Rattle.lic_marks.specs.Cores.{cat_all, alt_all, copies, up_to}
 use Rattle.lic_marks.specs.Rows.{weight, Shifts}
-use Rattle.lic_marks.specs.Windows.{IsClearOutside, TakesIn}
 use Rattle.lic_marks.specs.Nodes.{core_of}
 use Rattle.lic_marks.proofs.shift.+shift.Given as goal
 
@@ -10,10 +9,7 @@ abbrev pub invariant-shift_row-loop-child : goal.invariant-shift_row-loop-child
 invariant-shift_row-loop-child l = record {
   begun : l.at ≤ l.place;
   rest : l.place + weight (cat_all (map core_of (drop l.child-index l.children))) ≡ l.at + weight (cat_all (map core_of l.children));
-  live : IsClearOutside l.reading.live l.row l.place (l.at + weight (cat_all (map core_of l.children)));
-  taken : TakesIn l.initial.marked l.marked l.row l.at l.place;
   long : length l.row ≡ length l.initial.row;
-  quiet : (k : ℕ) → l.place ≤ k → k < l.at + weight (cat_all (map core_of l.children)) → k < l.next → get_or l.row k false ≡ false;
   walk : (new : List Bool) (y : Bool)
       → Shifts (cat_all (map core_of
       (drop l.child-index l.children))) l.reading.after l.flag l.reading.letter l.row l.place new y →
@@ -24,8 +20,6 @@ abbrev pub invariant-shift_any-loop-child : goal.invariant-shift_any-loop-child
 invariant-shift_any-loop-child l = record {
   begun : l.at ≤ l.place;
   rest : l.place + weight (alt_all (map core_of (drop l.child-index l.children))) ≡ l.at + weight (alt_all (map core_of l.children));
-  live : IsClearOutside l.reading.live l.row l.place (l.at + weight (alt_all (map core_of l.children)));
-  taken : TakesIn l.initial.marked l.marked l.row l.at l.place;
   long : length l.row ≡ length l.initial.row;
   walk : (new : List Bool) (y : Bool)
       → Shifts (alt_all (map core_of
@@ -37,8 +31,6 @@ abbrev pub invariant-shift_copies_of-loop : goal.invariant-shift_copies_of-loop
 invariant-shift_copies_of-loop l = record {
   begun : l.at ≤ l.place;
   rest : l.place + weight (copies (l.count - l.counter) (core_of l.child)) ≡ l.at + weight (copies l.count (core_of l.child));
-  live : IsClearOutside l.reading.live l.row l.place (l.at + weight (copies l.count (core_of l.child)));
-  taken : TakesIn l.initial.marked l.marked l.row l.at l.place;
   long : length l.row ≡ length l.initial.row;
   walk : (new : List Bool) (y : Bool) → Shifts (copies (l.count - l.counter) (core_of l.child)) l.reading.after l.flag l.reading.letter l.row l.place new y →
       Shifts (copies l.count (core_of l.child)) l.reading.after l.entry l.reading.letter l.initial.row l.at new y;

@@ -7,7 +7,6 @@ pub returns : goal.returns
 returns c = record {
   shifts = Shifts-plus _ _ _ _ _ _ _ _ _ (Leaves-one _ _ _ _ _ _ false (omega (arith, c.requires)) c.get-again.ensures)
       (Shifts-one _ _ _ _ _ _ _ _ false (omega (arith, c.requires)) c.get-again.ensures
-      (c.put.ensures.row ∙ ap (λ b. set c.args.row.now c.args.at ((c.args.entry || c.get-again.result) && b)) c.passes-is_passed.ensures));
-  marked = c.put.ensures.marked;
-  len = ap length c.put.ensures.row ∙ length-set c.args.row.now c.args.at _;
+      (c.put.ensures ∙ ap (λ b. set c.args.row.now c.args.at ((c.args.entry || c.get-again.result) && b)) c.passes-is_passed.ensures));
+  len = ap length c.put.ensures ∙ length-set c.args.row.now c.args.at _;
 }

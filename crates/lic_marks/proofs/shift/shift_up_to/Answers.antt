@@ -4,5 +4,5 @@ use Rattle.lic_marks.proofs.shift.shift_up_to.Goals as goal
 
 pub returns-clause-shifts : goal.returns-clause-shifts
 returns-clause-shifts c =
-    Shifts-up_to (passes c.args.test.now) c.args.count _ _ c.args.reading.letter _ _ _ _ c.requires.room c.move_copies.ensures.len
+    Shifts-up_to (passes c.args.test.now) c.args.count _ _ c.args.reading.letter _ _ _ _ c.requires c.move_copies.ensures.len
     (c.leaves_up_to-out.ensures (passes c.args.test.now)) (rw c.passes-is_passed.ensures at c.move_copies.ensures.moves)

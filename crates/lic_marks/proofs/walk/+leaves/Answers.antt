@@ -1,33 +1,28 @@
-use Rattle.std.proofs.Common.{◌≡◌, ℕ, ◌+◌, ◌-◌, ◌<◌, ◌≤◌, ◌||◌, false, get_or, ap, rules, arith}
-use Rattle.lic_marks.specs.Cores.{cat_all, alt_all, up_to}
-use Rattle.lic_marks.specs.Rows.{weight}
+use Rattle.std.proofs.Common.{◌||◌, false, ap, rules, arith}
+use Rattle.lic_marks.specs.Cores.{cat_all, alt_all}
 use Rattle.lic_marks.specs.Nodes.{core_of, passes}
 use Rattle.lic_marks.specs.declared.node.Node.{the_lemmas}
 use Rattle.lic_marks.proofs.Nodes.{core_of-One, core_of-Copies, core_of-UpTo, core_of-Cat, core_of-Alt, core_of-Repeat, core_of-Plus, core_of-Tidy, children-Cat, children-Alt, child-Repeat, child-Plus, child-Tidy, nullable-Tidy}
 use Rattle.lic_marks.proofs.LetterWalks.{weight-copies, weight-up_to}
 use Rattle.lic_marks.proofs.RowWalks.{Leaves-empty, Leaves-none, Leaves-one, Leaves-cat, Leaves-alt, Leaves-plus, Leaves-tidy, Leaves-tidy-after, Leaves-front}
-use Rattle.lic_marks.proofs.Counted.{weight-copies as weight-copies_of, weight-same, place_behind, copies_more, up_to_more, copies_done, up_to_done}
+use Rattle.lic_marks.proofs.Counted.{weight-copies as weight-copies_of, weight-same, place_past, copies_more, up_to_more, copies_done, up_to_done}
 use Rattle.lic_marks.proofs.Children.{cores_more, cores_done, measured_at}
 use Rattle.lic_marks.proofs.Answers.{or_none, or_again}
-use Rattle.lic_marks.proofs.Taken.{clear_all, clear_part}
+use Rattle.lic_marks.proofs.ClearRows.{none_set}
 use Rattle.lic_marks.proofs.Untouched.{Leaves-clear}
 use Rattle.lic_marks.proofs.walk.+leaves.Goals as goal
 
-pub leaves-returns-then-not-meets : goal.leaves-returns-then-not-meets
-leaves-returns-then-not-meets t c =
-    let apart : (c.args.live.from < c.args.at + weight (core_of c.args.node.now)) × (c.args.at < c.args.live.to) → ⊥ =
-    λ p. let meets = c.meets.ensures.1 (omega (arith, p.0, c.weight.ensures), p.1) in cc in
-    rw c.if-not-entry.true (Leaves-clear _ c.args.after c.args.row.now c.args.at c.requires.room (clear_all _ _ _ _ c.requires.live apart))
+pub leaves-returns-then-not-is_any_set : goal.leaves-returns-then-not-is_any_set
+leaves-returns-then-not-is_any_set t c =
+    rw c.if-not-entry.true (Leaves-clear _ c.args.after c.args.row.now c.args.at c.requires.room
+    (none_set _ _ _ _ c.if-not-is_any_set.true (rw c.weight.ensures at c.is_any_set.ensures)))
 
 pub leaves-leaves_row-requires : goal.leaves-leaves_row-requires
 leaves-leaves_row-requires t c = (
   search (rules, the_lemmas),
   (
     rw c.deref-in-Cat.ensures.value (children-Cat _ _ (rw c.in-Cat.is at c.requires.measured)),
-    (
-      rw c.deref-in-Cat.ensures.value (rw (c.in-Cat.is, core_of-Cat) at c.requires.room),
-      rw c.deref-in-Cat.ensures.value (rw (c.in-Cat.is, core_of-Cat) at c.requires.live),
-    ),
+    rw c.deref-in-Cat.ensures.value (rw (c.in-Cat.is, core_of-Cat) at c.requires.room),
   ),
 )
 
@@ -36,10 +31,7 @@ leaves-leaves_any-requires t c = (
   search (rules, the_lemmas),
   (
     rw c.deref-in-Alt.ensures.value (children-Alt _ _ (rw c.in-Alt.is at c.requires.measured)),
-    (
-      rw c.deref-in-Alt.ensures.value (rw (c.in-Alt.is, core_of-Alt) at c.requires.room),
-      rw c.deref-in-Alt.ensures.value (rw (c.in-Alt.is, core_of-Alt) at c.requires.live),
-    ),
+    rw c.deref-in-Alt.ensures.value (rw (c.in-Alt.is, core_of-Alt) at c.requires.room),
   ),
 )
 
@@ -48,10 +40,7 @@ leaves-leaves-requires t c = (
   search (rules, the_lemmas),
   (
     rw c.deref-in-Plus.ensures (child-Plus _ _ (rw c.in-Plus.is at c.requires.measured)),
-    (
-      rw c.deref-in-Plus.ensures (rw (c.in-Plus.is, core_of-Plus) at c.requires.room),
-      rw c.deref-in-Plus.ensures (rw (c.in-Plus.is, core_of-Plus) at c.requires.live),
-    ),
+    rw c.deref-in-Plus.ensures (rw (c.in-Plus.is, core_of-Plus) at c.requires.room),
   ),
 )
 
@@ -62,10 +51,7 @@ leaves-leaves_tidy-requires t c = (
     rw c.deref-in-Tidy.ensures (child-Tidy _ _ _ (rw c.in-Tidy.is at c.requires.measured)),
     (
       rw c.deref-in-Tidy.ensures (nullable-Tidy _ _ _ (rw c.in-Tidy.is at c.requires.measured)),
-      (
-        rw c.deref-in-Tidy.ensures (rw (c.in-Tidy.is, core_of-Tidy) at c.requires.room),
-        rw c.deref-in-Tidy.ensures (rw (c.in-Tidy.is, core_of-Tidy) at c.requires.live),
-      ),
+      rw c.deref-in-Tidy.ensures (rw (c.in-Tidy.is, core_of-Tidy) at c.requires.room),
     ),
   ),
 )
@@ -75,14 +61,10 @@ leaves-leaves_copies-requires t c =
     let room = rw (c.in-Copies.is, core_of-Copies) at c.requires.room in
     omega (arith, room, weight-copies (passes c.in-Copies.test) c.in-Copies.count)
 
-pub leaves-leaves_up_to-requires-clause-room : goal.leaves-leaves_up_to-requires-clause-room
-leaves-leaves_up_to-requires-clause-room t c =
+pub leaves-leaves_up_to-requires : goal.leaves-leaves_up_to-requires
+leaves-leaves_up_to-requires t c =
     let room = rw (c.in-UpTo.is, core_of-UpTo) at c.requires.room in
     omega (arith, room, weight-up_to (passes c.in-UpTo.test) c.in-UpTo.count)
-
-pub leaves-leaves_up_to-requires-clause-live : goal.leaves-leaves_up_to-requires-clause-live
-leaves-leaves_up_to-requires-clause-live t c =
-    rw weight-up_to at (rw (c.in-UpTo.is, core_of-UpTo) at c.requires.live)
 
 pub leaves-returns-in-Copies : goal.leaves-returns-in-Copies
 leaves-returns-in-Copies t c = rw (c.in-Copies.is, core_of-Copies) (c.leaves_copies.ensures (passes c.in-Copies.test))
@@ -114,10 +96,7 @@ leaves_row-leaves-flag-requires t c =
       search (rules, the_lemmas),
       (
         measured_at c.args.children.now c.loop-child.child-index _ c.requires.measured c.loop-child-test.true c.child-item.is,
-        (
-          omega (arith, rest, c.requires.room),
-          clear_part _ _ _ _ _ _ c.requires.live c.loop-child.invariant.begun (omega (arith, rest)),
-        ),
+        omega (arith, rest, c.requires.room),
       ),
     )
 
@@ -125,26 +104,10 @@ pub leaves_row-loop-child-preserved : goal.leaves_row-loop-child-preserved
 leaves_row-loop-child-preserved t c =
     let more = ap cat_all (cores_more c.args.children.now c.loop-child.child-index _ c.loop-child-test.true c.child-item.is) in
     let rest = rw more at c.loop-child.invariant.rest in
-    rw c.weight.ensures record {
+    rw c.weight-place.ensures record {
       begun = omega (arith, c.loop-child.invariant.begun);
       rest = omega (arith, rest);
-      quiet = (rw c.weight.ensures at c.next_marked-next.ensures) _ (omega (arith, c.requires.room))
-          (clear_part _ _ _ _ _ _ c.requires.live (omega (arith, c.loop-child.invariant.begun)) (omega arith));
       walk = λ y q. c.loop-child.invariant.walk y (rw more (Leaves-cat _ _ _ _ _ _ _ _ c.leaves-flag.ensures q));
-    }
-
-pub leaves_row-loop-child-preserved-then-end-next : goal.leaves_row-loop-child-preserved-then-end-next
-leaves_row-loop-child-preserved-then-end-next t c =
-    let more = ap cat_all (cores_more c.args.children.now c.loop-child.child-index _ c.loop-child-test.true c.child-item.is) in
-    let rest = rw more at c.loop-child.invariant.rest in
-    let quiet : (k : ℕ) → c.loop-child.place ≤ k → k < c.loop-child.place + weight (core_of c.child-item.result) → get_or c.args.row.now k false ≡ false =
-    λ k low high. c.loop-child.invariant.quiet k low (omega (arith, rest, high)) (omega (arith, high, c.if-end-next.true, c.weight.ensures)) in
-    let none = Leaves-clear (core_of c.child-item.result) c.args.after c.args.row.now c.loop-child.place (omega (arith, rest, c.requires.room)) quiet in
-    rw c.weight.ensures record {
-      begun = omega (arith, c.loop-child.invariant.begun);
-      rest = omega (arith, rest);
-      quiet = λ k low high far. c.loop-child.invariant.quiet k (omega (arith, low)) high far;
-      walk = λ y q. c.loop-child.invariant.walk y (rw more (Leaves-cat _ _ _ _ _ _ _ _ (rw c.if-not-flag-2.true none) q));
     }
 
 pub leaves_row-returns : goal.leaves_row-returns
@@ -159,10 +122,7 @@ leaves_any-leaves-out-requires t c =
       search (rules, the_lemmas),
       (
         measured_at c.args.children.now c.loop-child.child-index _ c.requires.measured c.loop-child-test.true c.child-item.is,
-        (
-          omega (arith, rest, c.requires.room),
-          clear_part _ _ _ _ _ _ c.requires.live c.loop-child.invariant.begun (omega (arith, rest)),
-        ),
+        omega (arith, rest, c.requires.room),
       ),
     )
 
@@ -182,30 +142,12 @@ leaves_any-returns t c =
     rw (← or_none c.loop-child.found) (c.loop-child.invariant.walk false
     (rw (cores_done c.args.children.now c.loop-child.child-index c.loop-child-test.false) (Leaves-none _ _ _ _)))
 
-pub leaves_row-returns-then-live-place : goal.leaves_row-returns-then-live-place
-leaves_row-returns-then-live-place t c =
-    c.loop-child.invariant.walk false
-    (rw c.if-not-flag.true (Leaves-clear _ c.args.after c.args.row.now c.loop-child.place
-    (omega (arith, c.loop-child.invariant.rest, c.requires.room)) (λ k low high.
-    c.requires.live.behind k (omega (arith, c.loop-child.invariant.begun)) (omega (arith, c.loop-child.invariant.rest)) (omega (arith, c.if-live-place.true)))))
-
-pub leaves_any-returns-then-live-place : goal.leaves_any-returns-then-live-place
-leaves_any-returns-then-live-place t c =
-    rw (← or_none c.loop-child.found) (c.loop-child.invariant.walk false
-    (rw c.if-not-entry.true (Leaves-clear _ c.args.after c.args.row.now c.loop-child.place
-    (omega (arith, c.loop-child.invariant.rest, c.requires.room)) (λ k low high.
-    c.requires.live.behind k (omega (arith, c.loop-child.invariant.begun)) (omega (arith, c.loop-child.invariant.rest))
-    (omega (arith, c.if-live-place.true))))))
-
 pub leaves-leaves_repeat-requires : goal.leaves-leaves_repeat-requires
 leaves-leaves_repeat-requires t c = (
   search (rules, the_lemmas),
   (
     rw c.deref-in-Repeat.ensures (child-Repeat _ _ _ (rw c.in-Repeat.is at c.requires.measured)),
-    (
-      rw c.deref-in-Repeat.ensures (rw (c.in-Repeat.is, core_of-Repeat) at c.requires.room),
-      rw c.deref-in-Repeat.ensures (rw (c.in-Repeat.is, core_of-Repeat) at c.requires.live),
-    ),
+    rw c.deref-in-Repeat.ensures (rw (c.in-Repeat.is, core_of-Repeat) at c.requires.room),
   ),
 )
 
@@ -219,10 +161,7 @@ leaves_copies_of-leaves-flag-requires t c =
       search (rules, the_lemmas),
       (
         c.requires.measured,
-        (
-          omega (arith, rest, c.requires.room),
-          clear_part _ _ _ _ _ _ c.requires.live c.loop.invariant.begun (omega (arith, rest)),
-        ),
+        omega (arith, rest, c.requires.room),
       ),
     )
 
@@ -257,21 +196,6 @@ leaves_copies_of-returns t c =
           (Leaves-empty _ _ _ _));
     }
 
-pub leaves_copies_of-returns-then-live-place : goal.leaves_copies_of-returns-then-live-place
-leaves_copies_of-returns-then-live-place t c =
-    let same = weight-same (core_of c.args.child.now) (c.args.count - c.loop.counter) in
-    record {
-      all = c.loop.invariant.walk false
-          (rw c.if-not-flag.true (Leaves-clear _ c.args.after c.args.row.now c.loop.place
-          (omega (arith, c.loop.invariant.rest, c.requires.room)) (λ k low high.
-          c.requires.live.behind k (omega (arith, c.loop.invariant.begun)) (omega (arith, c.loop.invariant.rest)) (omega (arith, c.if-live-place.true)))));
-      any = rw (← or_none c.loop.found) (c.loop.invariant.front false
-          (rw c.if-not-flag.true (Leaves-clear (up_to (c.args.count - c.loop.counter) (core_of c.args.child.now)) c.args.after c.args.row.now c.loop.place
-          (omega (arith, c.loop.invariant.rest, c.requires.room, same)) (λ k low high.
-          c.requires.live.behind k (omega (arith, c.loop.invariant.begun))
-          (omega (arith, c.loop.invariant.rest, same, high)) (omega (arith, c.if-live-place.true))))));
-    }
-
 pub leaves_repeat-overflow_mul-place : goal.leaves_repeat-overflow_mul-place
 leaves_repeat-overflow_mul-place t c =
     let room = rw c.in-Bounded.is at c.requires.room in
@@ -284,23 +208,20 @@ leaves_repeat-overflow_add-place t c =
 
 pub leaves_repeat-leaves_copies_of-out-requires : goal.leaves_repeat-leaves_copies_of-out-requires
 leaves_repeat-leaves_copies_of-out-requires t c =
-    let next = place_behind (core_of c.args.child.now) c.in-Bounded.needed c.args.at _ c.weight.ensures in
+    let next = place_past (core_of c.args.child.now) c.in-Bounded.needed c.args.at _ c.weight.ensures in
     let same = weight-same (core_of c.args.child.now) c.in-Bounded.more in
     let room = rw c.in-Bounded.is at c.requires.room in (
       search (rules, the_lemmas),
       (
         c.requires.measured,
-        (
-          rw next (omega (arith, room, same)),
-          rw next (clear_part _ _ _ _ _ _ (rw c.in-Bounded.is at c.requires.live) (omega arith) (omega (arith, same))),
-        ),
+        rw next (omega (arith, room, same)),
       ),
     )
 
 pub leaves_repeat-returns-in-Bounded : goal.leaves_repeat-returns-in-Bounded
 leaves_repeat-returns-in-Bounded t c =
-    let next = place_behind (core_of c.args.child.now) c.in-Bounded.needed c.args.at _ c.weight.ensures in
-    rw c.in-Bounded.is (Leaves-cat _ _ _ _ _ _ _ _ c.leaves_copies_of-behind.ensures.all (rw next at c.leaves_copies_of-out.ensures.any))
+    let next = place_past (core_of c.args.child.now) c.in-Bounded.needed c.args.at _ c.weight.ensures in
+    rw c.in-Bounded.is (Leaves-cat _ _ _ _ _ _ _ _ c.leaves_copies_of-past.ensures.all (rw next at c.leaves_copies_of-out.ensures.any))
 
 pub leaves_repeat-overflow_mul-place-in-Unbounded : goal.leaves_repeat-overflow_mul-place-in-Unbounded
 leaves_repeat-overflow_mul-place-in-Unbounded t c =
@@ -314,19 +235,16 @@ leaves_repeat-overflow_add-place-in-Unbounded t c =
 
 pub leaves_repeat-leaves-requires : goal.leaves_repeat-leaves-requires
 leaves_repeat-leaves-requires t c =
-    let next = place_behind (core_of c.args.child.now) c.in-Unbounded.before c.args.at _ c.weight-in-Unbounded.ensures in
+    let next = place_past (core_of c.args.child.now) c.in-Unbounded.before c.args.at _ c.weight-in-Unbounded.ensures in
     let room = rw c.in-Unbounded.is at c.requires.room in (
       search (rules, the_lemmas),
       (
         c.requires.measured,
-        (
-          rw next (omega (arith, room)),
-          rw next (clear_part _ _ _ _ _ _ (rw c.in-Unbounded.is at c.requires.live) (omega arith) (omega arith)),
-        ),
+        rw next (omega (arith, room)),
       ),
     )
 
 pub leaves_repeat-returns-in-Unbounded : goal.leaves_repeat-returns-in-Unbounded
 leaves_repeat-returns-in-Unbounded t c =
-    let next = place_behind (core_of c.args.child.now) c.in-Unbounded.before c.args.at _ c.weight-in-Unbounded.ensures in
-    rw c.in-Unbounded.is (Leaves-cat _ _ _ _ _ _ _ _ c.leaves_copies_of-behind-in-Unbounded.ensures.all (Leaves-plus _ _ _ _ _ _ (rw next at c.leaves.ensures)))
+    let next = place_past (core_of c.args.child.now) c.in-Unbounded.before c.args.at _ c.weight-in-Unbounded.ensures in
+    rw c.in-Unbounded.is (Leaves-cat _ _ _ _ _ _ _ _ c.leaves_copies_of-past-in-Unbounded.ensures.all (Leaves-plus _ _ _ _ _ _ (rw next at c.leaves.ensures)))

@@ -1,4 +1,4 @@
-use Rattle.std.proofs.Common.{◌≡◌, ℕ, ◌+◌, ◌-◌, ◌≤◌, ◌<◌, Bool, false, ◌||◌, map, drop, get_or}
+use Rattle.std.proofs.Common.{◌≡◌, ◌+◌, ◌-◌, ◌≤◌, Bool, ◌||◌, map, drop}
 use Rattle.lic_marks.specs.Cores.{cat_all, alt_all, copies, up_to}
 use Rattle.lic_marks.specs.Rows.{weight, Leaves}
 use Rattle.lic_marks.specs.Nodes.{core_of}
@@ -10,7 +10,6 @@ invariant-leaves_row-loop-child l =
     record {
       begun : l.at ≤ l.place;
       rest : l.place + weight (cat_all (map core_of (drop l.child-index l.children))) ≡ l.at + weight (cat_all (map core_of l.children));
-      quiet : (k : ℕ) → l.place ≤ k → k < l.at + weight (cat_all (map core_of l.children)) → k < l.next → get_or l.row k false ≡ false;
       walk : (y : Bool) → Leaves (cat_all (map core_of (drop l.child-index l.children))) l.after l.flag l.row l.place y →
           Leaves (cat_all (map core_of l.children)) l.after l.entry l.row l.at y;
     }

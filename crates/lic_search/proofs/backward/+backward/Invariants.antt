@@ -7,4 +7,4 @@ use Rattle.lic_search.proofs.backward.+backward.Given as goal
 
 -- the places from which a word of the parts from this one on leads to those of the spans
 abbrev pub invariant-over_parts-loop-number : goal.invariant-over_parts-loop-number
-invariant-over_parts-loop-number l = IsBack l.view (Language (parts_words (map part_of (drop l.number l.parts)))) l.fn.spans.items l.spans.items
+invariant-over_parts-loop-number l = IsBack l.keep l.view (Language (parts_words (map part_of (drop l.number l.parts)))) l.fn.spans.items l.spans.items

@@ -1,9 +1,5 @@
-use Rattle.std.proofs.Common.{◌≡◌, ◌+◌, ◌≤◌, [], ◌∷◌, ◌++◌, arith, ap, sym, subst, ◌∙◌}
+use Rattle.std.proofs.Common.{◌≤◌, [], ◌∷◌, ◌++◌, arith, ap, sym, subst, ◌∙◌}
 use Rattle.std.proofs.lemmas.List.{append-nil}
-use Rattle.std.specs.Option.{MatchOption}
-use Rattle.std.specs.Prelude.{Some, None, Option}
-use Rattle.lic_spans.specs.declared.span.Kind.TheVariants.{Place}
-use Rattle.lic_places.specs.Places.{OverBlank}
 use Rattle.lic_search.specs.PlaceSets.{LiesInFront}
 use Rattle.lic_search.proofs.ViewSpans.{Holds-one, last-one}
 use Rattle.lic_search.proofs.BlankLemmas.{IsBlank}
@@ -13,7 +9,7 @@ use Rattle.lic_search.proofs.blanks.add_moved.Goals as goal
 use Rattle.lic_search.proofs.blanks.add_moved.Goals.{in-Some+in_ok-push, in_default}
 
 pub loop-number-init : goal.loop-number-init
-loop-number-init c = below-first c.args.view.now IsBlank c.args.span c.args.found.now.items
+loop-number-init c = below-first c.args.keep c.args.view.now IsBlank c.args.span c.args.found.now.items
 
 pub loop-number-preserved : goal.loop-number-preserved
 loop-number-preserved c =
@@ -25,19 +21,19 @@ loop-number-preserved c =
     let front = subst (λ k. LiesInFront tokens k number span.last) c.requires.kind (c.requires.placed.front span.kind number span.last (Holds-one span number from to)) in
     elim c.match-over_blank.branch [
       | in-Some+in_ok-push w ↦
-          below-more tokens IsBlank span number c.args.found.now.items c.loop-number.found.items c.match-over_blank.found.items (single w.in-Some.place span.last ∷ []) from
+          below-more c.args.keep tokens IsBlank span number c.args.found.now.items c.loop-number.found.items c.match-over_blank.found.items (single w.in-Some.place span.last ∷ []) from
           c.loop-number.invariant
-          (back-blank tokens span number w.in-Some.place (last-one tokens span c.requires.placed) c.requires.kind front w.in-Some.ensures)
+          (back-blank c.args.keep tokens span number w.in-Some.place (last-one tokens span c.requires.placed) c.requires.kind front w.in-Some.ensures)
           (ap (λ v. v.items) w.found-is ∙ (w.in_ok-push.ensures.items ∙ ap (λ s. c.loop-number.found.items ++ (s ∷ [])) w.single.ensures))
       | in_default w ↦
-          below-more tokens IsBlank span number c.args.found.now.items c.loop-number.found.items c.match-over_blank.found.items [] from
+          below-more c.args.keep tokens IsBlank span number c.args.found.now.items c.loop-number.found.items c.match-over_blank.found.items [] from
           c.loop-number.invariant
-          (back-no_blank tokens span number c.requires.kind w.in_default.ensures)
+          (back-no_blank c.args.keep tokens span number c.requires.kind w.in_default.ensures)
           (ap (λ v. v.items) w.found-is ∙ sym (append-nil c.loop-number.found.items))
     ]
 
 pub returns : goal.returns
 returns c =
-    below-all c.args.view.now IsBlank c.args.span c.loop-number.number c.args.found.now.items c.loop-number.found.items
+    below-all c.args.keep c.args.view.now IsBlank c.args.span c.loop-number.number c.args.found.now.items c.loop-number.found.items
     (omega (arith, c.loop-number.auto, c.loop-number-test.false, c.end_of-number-end.ensures, c.requires.placed.ordered 0 c.args.span (omega arith)))
     c.loop-number.invariant

@@ -5,4 +5,4 @@ use Rattle.lic_search.proofs.CountWords.{Counted}
 use Rattle.lic_search.proofs.counts.counted_before.Given as goal
 
 abbrev pub invariant-loop-span : goal.invariant-loop-span
-invariant-loop-span l = IsBack l.view (Counted 1 l.max) (take l.span-index l.spans) l.found.items
+invariant-loop-span l = IsBack l.keep l.view (Counted 1 l.max) (take l.span-index l.spans) l.found.items

@@ -11,9 +11,9 @@ place_of-requires c =
     within-one c.args.view.now c.args.span c.args.number c.requires.placed c.requires.low c.requires.high
 
 pub returns-then-is_behind_blank-clause-none : goal.returns-then-is_behind_blank-clause-none
-returns-then-is_behind_blank-clause-none c =
+returns-then-is_behind_blank-clause-none c = λ keep.
     let tokens = c.args.view.now in
-    back-behind_blank tokens c.args.max c.in_ok-place.place c.args.span.last (IsOfNumber tokens c.args.span c.args.number)
+    back-behind_blank keep tokens c.args.max c.in_ok-place.place c.args.span.last (IsOfNumber tokens c.args.span c.args.number)
     (number-at tokens c.args.span c.args.number c.in_ok-place.place c.in_ok-place.ensures)
     (c.is_behind_blank.ensures.0 c.if-is_behind_blank.true)
 
@@ -24,25 +24,25 @@ least_place-low-requires c =
     c.requires.high c.in_ok-place.ensures).whole.0
 
 pub returns-then-low-place-clause-none : goal.returns-then-low-place-clause-none
-returns-then-low-place-clause-none c =
+returns-then-low-place-clause-none c = λ keep.
     let tokens = c.args.view.now in
     let span = c.args.span in
     let place = c.in_ok-place.place in
     let lies = number-lies tokens span c.args.number place c.tokens_have_texts.ensures c.requires.placed c.requires.low c.requires.high
     c.in_ok-place.ensures in
     let none : place ≤ c.least_place-low.result = omega arith in
-    back-no_letter tokens c.args.max place c.least_place-low.result span.last (IsOfNumber tokens span c.args.number)
+    back-no_letter keep tokens c.args.max place c.least_place-low.result span.last (IsOfNumber tokens span c.args.number)
     c.tokens_have_texts.ensures lies (number-at tokens span c.args.number place c.in_ok-place.ensures) c.least_place-low.ensures none
 
 pub returns-clause-some : goal.returns-clause-some
-returns-clause-some c =
+returns-clause-some c = λ keep.
     let tokens = c.args.view.now in
     let span = c.args.span in
     let place = c.in_ok-place.place in
     let lies = number-lies tokens span c.args.number place c.tokens_have_texts.ensures c.requires.placed c.requires.low c.requires.high
     c.in_ok-place.ensures in
     let order = c.least_place-low.ensures.order in
-    back-counted tokens c.args.max place c.least_place-low.result span.last (IsOfNumber tokens span c.args.number)
+    back-counted keep tokens c.args.max place c.least_place-low.result span.last (IsOfNumber tokens span c.args.number)
     c.tokens_have_texts.ensures lies (number-at tokens span c.args.number place c.in_ok-place.ensures) c.least_place-low.ensures
     (omega (arith, order)) (λ behind. true≢false (sym (c.is_behind_blank.ensures.1 behind) ∙ c.if-is_behind_blank.false))
     (c.in_ok-place.ensures, refl)

@@ -1,9 +1,5 @@
-use Rattle.std.proofs.Common.{ap, sym, subst, ◌∙◌, ◌≡◌, ◌<◌, length, arith}
-use Rattle.std.specs.Prelude.{Contains}
-use Rattle.std.proofs.Math.Nat.{eq-or-lt_of_le}
-use Rattle.std.proofs.lemmas.List.Elements.{Contains-get_or}
-use Rattle.lic_search.specs.Fresh.{AreFresh}
-use Rattle.lic_search.proofs.FreshLemmas.{fresh-all, fresh-left, fresh-more, fresh-none, fresh-same}
+use Rattle.std.proofs.Common.{ap, ◌∙◌, arith}
+use Rattle.lic_search.proofs.FreshLemmas.{fresh-all, fresh-more, fresh-none, fresh-same}
 use Rattle.lic_search.proofs.fresh.fresh_spans.Goals as goal
 use Rattle.lic_search.proofs.fresh.fresh_spans.Goals.{then-from-known+in_ok-push, else-from-known+else-not-is_same}
 

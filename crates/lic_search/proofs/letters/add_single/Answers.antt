@@ -1,9 +1,9 @@
-use Rattle.std.proofs.Common.{◌≡◌, ◌⊎◌, ◌+◌, ◌-◌, ◌≤◌, ◌<◌, [], ◌∷◌, ◌++◌, length, false, inl, inr, arith, ap, refl, sym, subst, ◌∙◌}
+use Rattle.std.proofs.Common.{◌≡◌, ◌⊎◌, ◌≤◌, [], ◌∷◌, ◌++◌, false, inl, inr, arith, ap, refl, sym, subst, ◌∙◌}
 use Rattle.std.proofs.lemmas.List.{append-nil}
 use Rattle.lic_spans.specs.declared.span.Kind.TheVariants.{End, Place}
 use Rattle.lic_places.specs.Places.{spelling_of}
 use Rattle.lic_literals.specs.Ends.{EndsAt}
-use Rattle.lic_search.specs.PlaceSets.{IsPlaceOf, LiesInFront}
+use Rattle.lic_search.specs.PlaceSets.{IsPlaceOf}
 use Rattle.lic_search.proofs.ViewSpans.{Holds-one, front-to, last-one, within-one}
 use Rattle.lic_search.proofs.LetterLemmas.{IsWordOf, back-letters, back-no_letters}
 use Rattle.lic_search.proofs.Numbers.{At, below-all, below-first, below-more}
@@ -12,7 +12,7 @@ use Rattle.lic_search.proofs.letters.add_single.Goals as goal
 use Rattle.lic_search.proofs.letters.add_single.Goals.{then-ends_at+in_ok-push, else-ends_at}
 
 pub loop-end-init : goal.loop-end-init
-loop-end-init c = below-first c.args.view.now (IsWordOf c.args.letters.now) c.args.span c.args.found.now.items
+loop-end-init c = below-first c.args.keep c.args.view.now (IsWordOf c.args.letters.now) c.args.span c.args.found.now.items
 
 pub ends_at-requires : goal.ends_at-requires
 ends_at-requires c =
@@ -33,15 +33,15 @@ loop-end-preserved c =
     elim c.if-ends_at.branch [
       | then-ends_at+in_ok-push w ↦
           let ends = subst (λ x. EndsAt x letters end) c.bytes.ensures (c.ends_at.ensures.0 w.if-ends_at.true) in
-          below-more tokens (IsWordOf letters) span end c.args.found.now.items c.loop-end.found.items c.if-ends_at.found.items (single ends.start span.last ∷ []) from
+          below-more c.args.keep tokens (IsWordOf letters) span end c.args.found.now.items c.loop-end.found.items c.if-ends_at.found.items (single ends.start span.last ∷ []) from
           c.loop-end.invariant
-          (back-letters tokens letters (At tokens span end) end span.last c.tokens_have_texts.ensures c.requires.letters (last-one tokens span c.requires.placed)
+          (back-letters c.args.keep tokens letters (At tokens span end) end span.last c.tokens_have_texts.ensures c.requires.letters (last-one tokens span c.requires.placed)
           (front-to tokens span.kind end span.last front) (refl, at_end c.requires.kind) one ends)
           (ap (λ v. v.items) w.found-is ∙ (w.in_ok-push.ensures.items ∙ ap (λ s. c.loop-end.found.items ++ (s ∷ [])) (w.single.ensures ∙ ap (λ p. single p span.last) (omega (arith, ends.end)))))
       | else-ends_at w ↦
-          below-more tokens (IsWordOf letters) span end c.args.found.now.items c.loop-end.found.items c.if-ends_at.found.items [] from
+          below-more c.args.keep tokens (IsWordOf letters) span end c.args.found.now.items c.loop-end.found.items c.if-ends_at.found.items [] from
           c.loop-end.invariant
-          (back-no_letters tokens letters (At tokens span end) c.tokens_have_texts.ensures c.requires.letters (λ q l e. let same = (one q l e).0 in let within = within-one tokens span end c.requires.placed from to in omega (arith, same, within))
+          (back-no_letters c.args.keep tokens letters (At tokens span end) c.tokens_have_texts.ensures c.requires.letters (λ q l e. let same = (one q l e).0 in let within = within-one tokens span end c.requires.placed from to in omega (arith, same, within))
           (λ q l e ends. no w.if-ends_at.false (subst (λ x. EndsAt (spelling_of tokens) letters x) (one q l e).0 ends)))
           (ap (λ v. v.items) w.found-is ∙ sym (append-nil c.loop-end.found.items))
     ]
@@ -59,6 +59,6 @@ loop-end-preserved c =
 
 pub returns : goal.returns
 returns c =
-    below-all c.args.view.now (IsWordOf c.args.letters.now) c.args.span c.loop-end.end c.args.found.now.items c.loop-end.found.items
+    below-all c.args.keep c.args.view.now (IsWordOf c.args.letters.now) c.args.span c.loop-end.end c.args.found.now.items c.loop-end.found.items
     (omega (arith, c.loop-end.auto, c.loop-end-test.false, c.end_of-end-end.ensures, c.requires.placed.ordered 0 c.args.span (omega arith)))
     c.loop-end.invariant

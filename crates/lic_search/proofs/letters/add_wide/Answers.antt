@@ -1,64 +1,65 @@
-use Rattle.std.proofs.Common.{◌≡◌, ◌⊎◌, ◌+◌, ◌-◌, ◌≤◌, ◌<◌, ℕ, [], ◌∷◌, ◌++◌, length, false, true, inl, inr, arith, ap, refl, sym, subst, ◌∙◌, get_or, IsTrue}
-use Rattle.std.specs.Prelude.{Contains}
+use Rattle.std.proofs.Common.{◌≡◌, [], ◌∷◌, ◌++◌, false, arith, ap, sym, ◌∙◌, get_or}
 use Rattle.std.proofs.lemmas.List.{append-nil}
 use Rattle.std.proofs.lemmas.List.Elements.{Contains-get_or}
+use Rattle.lic_literals.proofs.Rising.{le_later}
 use Rattle.lic_places.specs.Places.{spelling_of}
 use Rattle.lic_literals.specs.Ends.{EndsAt}
-use Rattle.lic_search.proofs.ViewSpans.{within-one}
 use Rattle.lic_search.proofs.LetterLemmas.{IsWordOf}
 use Rattle.lic_search.proofs.SingleLemmas.{single}
-use Rattle.lic_search.proofs.WideLemmas.{HasPlace, listed-all, listed-first, listed-more, wide-none, wide-step}
+use Rattle.lic_search.proofs.WideLemmas.{HasPlace, letters-meant, listed-all, listed-first, listed-more, wide-none, wide-step}
 use Rattle.lic_search.proofs.letters.add_wide.Goals as goal
 use Rattle.lic_search.proofs.letters.add_wide.Goals.{then-has_place+in_ok-push, else-has_place}
 
-pub ends_within-requires-clause-within : goal.ends_within-requires-clause-within
-ends_within-requires-clause-within c =
-    let order : c.args.span.low ≤ c.args.span.high = c.requires.placed.ordered 0 c.args.span (omega arith) in
-    let within = within-one c.args.view.now c.args.span c.args.span.high c.requires.placed order (omega arith) in
-    rw c.bytes.ensures within
-
-pub loop-end-init : goal.loop-end-init
-loop-end-init c = listed-first c.args.view.now (IsWordOf c.args.letters.now) c.args.span c.deref-end-items.result.now c.args.found.now.items
+pub loop-number-init : goal.loop-number-init
+loop-number-init c =
+    listed-first c.args.keep c.args.view.now (IsWordOf c.args.letters.now) c.args.span c.args.ends.now c.first_from-first.result c.args.found.now.items c.requires.kind
+    (λ k low. omega (arith, c.first_from-first.ensures.before k low, c.saturating_sub.ensures))
 
 pub overflow_sub-end : goal.overflow_sub-end
 overflow_sub-end c =
-    let e = get_or c.deref-end-items.result.now c.loop-end.end-index 0 in
-    let member : Contains c.deref-end-items.result.now e = Contains-get_or c.deref-end-items.result.now c.loop-end.end-index 0 c.loop-end-test.true in
-    let ends = (c.in_ok-ends.ensures.exact e).0 (subst (λ x. Contains x e) c.deref-end-items.ensures.value member) in
-    omega (arith, ends.2.end)
+    let ends = c.requires.ends.sound (get_or c.args.ends.now c.loop-number.number 0) (Contains-get_or c.args.ends.now c.loop-number.number 0 c.loop-number-test.true) in
+    omega (arith, ends.end)
 
-pub loop-end-preserved : goal.loop-end-preserved
-loop-end-preserved c =
+pub loop-number-preserved : goal.loop-number-preserved
+loop-number-preserved c =
     let tokens = c.args.view.now in
     let letters = c.args.letters.now in
     let span = c.args.span in
-    let items = c.deref-end-items.result.now in
-    let e = get_or items c.loop-end.end-index 0 in
-    let member : Contains items e = Contains-get_or items c.loop-end.end-index 0 c.loop-end-test.true in
-    let found = (c.in_ok-ends.ensures.exact e).0 (subst (λ x. Contains x e) c.deref-end-items.ensures.value member) in
-    let ends = subst (λ x. EndsAt x letters e) c.bytes.ensures found.2 in
+    let places = c.args.ends.now in
+    let number = c.loop-number.number in
+    let e = get_or places number 0 in
+    let ends : EndsAt (spelling_of tokens) letters e = c.requires.ends.sound e (Contains-get_or places number 0 c.loop-number-test.true) in
     elim c.if-has_place.branch [
       | then-has_place+in_ok-push w ↦
-          listed-more tokens (IsWordOf letters) span items c.loop-end.end-index c.args.found.now.items c.loop-end.found.items c.if-has_place.found.items
-          (single ends.start span.last ∷ []) c.loop-end.invariant
-          (wide-step tokens letters span e c.tokens_have_texts.ensures c.requires.letters c.requires.placed (c.has_place.ensures.0 w.if-has_place.true) ends)
-          (ap (λ v. v.items) w.found-is ∙ (w.in_ok-push.ensures.items ∙ ap (λ s. c.loop-end.found.items ++ (s ∷ [])) (w.single.ensures ∙ ap (λ p. single p span.last) (omega (arith, ends.end)))))
+          listed-more c.args.keep tokens (IsWordOf letters) span places number c.args.found.now.items c.loop-number.found.items c.if-has_place.found.items
+          (single ends.start span.last ∷ []) c.loop-number.invariant
+          (wide-step c.args.keep tokens letters span e c.tokens_have_texts.ensures c.requires.letters c.requires.placed (c.has_place.ensures.0 w.if-has_place.true) ends)
+          (ap (λ v. v.items) w.found-is ∙ (w.in_ok-push.ensures.items ∙ ap (λ s. c.loop-number.found.items ++ (s ∷ [])) (w.single.ensures ∙ ap (λ p. single p span.last) (omega (arith, ends.end)))))
       | else-has_place w ↦
-          listed-more tokens (IsWordOf letters) span items c.loop-end.end-index c.args.found.now.items c.loop-end.found.items c.if-has_place.found.items
-          [] c.loop-end.invariant
-          (wide-none tokens letters span e (λ has. no w.if-has_place.false has))
-          (ap (λ v. v.items) w.found-is ∙ sym (append-nil c.loop-end.found.items))
+          listed-more c.args.keep tokens (IsWordOf letters) span places number c.args.found.now.items c.loop-number.found.items c.if-has_place.found.items
+          [] c.loop-number.invariant
+          (wide-none c.args.keep tokens (IsWordOf letters) span e (λ has. no w.if-has_place.false has))
+          (ap (λ v. v.items) w.found-is ∙ sym (append-nil c.loop-number.found.items))
     ]
   where
-    no : c.has_place.result ≡ false → HasPlace c.args.view.now c.args.span (get_or c.deref-end-items.result.now c.loop-end.end-index 0) → ⊥
+    no : c.has_place.result ≡ false → HasPlace c.args.view.now c.args.span (get_or c.args.ends.now c.loop-number.number 0) → ⊥
     no is has = let yes = c.has_place.ensures.1 has in cc
+
+-- those from one that lies after the span on lie after it
+pub returns-then-span-end : goal.returns-then-span-end
+returns-then-span-end c =
+    let places = c.args.ends.now in
+    let number = c.loop-number.number in
+    listed-all c.args.keep c.args.view.now (IsWordOf c.args.letters.now) (EndsAt (spelling_of c.args.view.now) c.args.letters.now) c.args.span places number
+    c.args.found.now.items c.loop-number.found.items c.requires.kind c.requires.ends
+    (λ k from low. omega (arith, c.if-span-end.true, le_later places c.requires.ends.rising number k from low))
+    (letters-meant c.args.view.now c.args.letters.now (c.args.span ∷ []) c.tokens_have_texts.ensures c.requires.letters c.requires.placed)
+    c.loop-number.invariant
 
 pub returns : goal.returns
 returns c =
-    let order : c.args.span.low ≤ c.args.span.high = c.requires.placed.ordered 0 c.args.span (omega arith) in
-    let within = within-one c.args.view.now c.args.span c.args.span.high c.requires.placed order (omega arith) in
-    listed-all c.args.view.now c.args.letters.now c.args.span c.deref-end-items.result.now c.loop-end.end-index c.args.found.now.items c.loop-end.found.items
-    c.tokens_have_texts.ensures c.requires.letters c.requires.kind c.loop-end-test.false within
-    (λ e h. subst (λ x. Contains x e) (sym c.deref-end-items.ensures.value)
-    ((c.in_ok-ends.ensures.exact e).1 (omega (arith, h.0, c.saturating_sub-from.ensures), h.1, subst (λ x. EndsAt x c.args.letters.now e) (sym c.bytes.ensures) h.2)))
-    c.loop-end.invariant
+    listed-all c.args.keep c.args.view.now (IsWordOf c.args.letters.now) (EndsAt (spelling_of c.args.view.now) c.args.letters.now) c.args.span c.args.ends.now c.loop-number.number
+    c.args.found.now.items c.loop-number.found.items c.requires.kind c.requires.ends
+    (λ k from low. absurd (omega (arith, c.loop-number-test.false)))
+    (letters-meant c.args.view.now c.args.letters.now (c.args.span ∷ []) c.tokens_have_texts.ensures c.requires.letters c.requires.placed)
+    c.loop-number.invariant

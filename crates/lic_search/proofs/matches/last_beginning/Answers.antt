@@ -3,6 +3,7 @@ use Rattle.std.proofs.Common.{◌≡◌, ◌-◌, ◌<◌, ◌≤◌, length, re
 use Rattle.lic_norm.specs.Places.{place_start}
 use Rattle.lic_spans.specs.declared.span.Kind.TheVariants.{End}
 use Rattle.lic_search.proofs.MatchSpans.{end-begins, greatest-first, some-first}
+use Rattle.lic_search.proofs.ViewPlaces.{starts-order}
 use Rattle.lic_search.proofs.ViewSpans.{last-one}
 use Rattle.lic_search.proofs.matches.last_beginning.Goals as goal
 
@@ -38,4 +39,8 @@ returns c =
       begins = (c.last_start-place.ensures.begins (count - 1) inside).1 (record { from = low; to = high });
       greatest = λ first begins.
           (greatest-first tokens c.args.span c.last_start-place.result count c.tokens_have_texts.ensures c.requires bound c.last_start-place.ensures.begins first begins).0;
+      from = λ first begins. ((c.last_start-place.ensures.begins first (omega (arith, begins.order))).0 begins).from;
+      all = λ first up from.
+          let starts = starts-order tokens first (count - 1) c.tokens_have_texts.ensures up inside in
+          (c.last_start-place.ensures.begins first (omega arith)).1 (record { from = from; to = omega arith });
     }

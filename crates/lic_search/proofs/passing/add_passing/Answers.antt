@@ -1,4 +1,4 @@
-use Rattle.std.proofs.Common.{◌≡◌, ◌+◌, ◌≤◌, [], ◌∷◌, ◌++◌, arith, ap, sym, ◌∙◌}
+use Rattle.std.proofs.Common.{◌≤◌, [], ◌∷◌, ◌++◌, arith, ap, sym, ◌∙◌}
 use Rattle.std.proofs.lemmas.List.{append-nil}
 use Rattle.lic_ere.specs.Trees.{tree_of}
 use Rattle.lic_search.specs.Passing.{IsPassing, passes_of}
@@ -10,7 +10,7 @@ use Rattle.lic_search.proofs.passing.add_passing.Goals as goal
 use Rattle.lic_search.proofs.passing.add_passing.Goals.{in-Some+in_ok-push, in_default}
 
 pub loop-number-init : goal.loop-number-init
-loop-number-init c = below-first c.args.view.now (IsPassing (passes_of (tree_of c.args.ere.now))) c.args.span c.args.found.now.items
+loop-number-init c = below-first c.args.keep c.args.view.now (IsPassing (passes_of (tree_of c.args.ere.now))) c.args.span c.args.found.now.items
 
 pub passing_before-requires : goal.passing_before-requires
 passing_before-requires c =
@@ -28,19 +28,19 @@ loop-number-preserved c =
     let to : number ≤ span.high = omega (arith, c.loop-number-test.true, c.end_of-number-end.ensures) in
     elim c.match-passing_before.branch [
       | in-Some+in_ok-push w ↦
-          below-more tokens (IsPassing passes) span number c.args.found.now.items c.loop-number.found.items c.match-passing_before.found.items (single w.in-Some.place span.last ∷ []) from
+          below-more c.args.keep tokens (IsPassing passes) span number c.args.found.now.items c.loop-number.found.items c.match-passing_before.found.items (single w.in-Some.place span.last ∷ []) from
           c.loop-number.invariant
-          (back-passing tokens passes span number w.in-Some.place c.tokens_have_texts.ensures c.requires from to w.in-Some.ensures)
+          (back-passing c.args.keep tokens passes span number w.in-Some.place c.tokens_have_texts.ensures c.requires from to w.in-Some.ensures)
           (ap (λ v. v.items) w.found-is ∙ (w.in_ok-push.ensures.items ∙ ap (λ s. c.loop-number.found.items ++ (s ∷ [])) w.single.ensures))
       | in_default w ↦
-          below-more tokens (IsPassing passes) span number c.args.found.now.items c.loop-number.found.items c.match-passing_before.found.items [] from
+          below-more c.args.keep tokens (IsPassing passes) span number c.args.found.now.items c.loop-number.found.items c.match-passing_before.found.items [] from
           c.loop-number.invariant
-          (back-no_passing tokens passes span number w.in_default.ensures)
+          (back-no_passing c.args.keep tokens passes span number w.in_default.ensures)
           (ap (λ v. v.items) w.found-is ∙ sym (append-nil c.loop-number.found.items))
     ]
 
 pub returns : goal.returns
 returns c =
-    below-all c.args.view.now (IsPassing (passes_of (tree_of c.args.ere.now))) c.args.span c.loop-number.number c.args.found.now.items c.loop-number.found.items
+    below-all c.args.keep c.args.view.now (IsPassing (passes_of (tree_of c.args.ere.now))) c.args.span c.loop-number.number c.args.found.now.items c.loop-number.found.items
     (omega (arith, c.loop-number.auto, c.loop-number-test.false, c.end_of-number-end.ensures, c.requires.ordered 0 c.args.span (omega arith)))
     c.loop-number.invariant

@@ -1,7 +1,6 @@
 use Rattle.std.proofs.Common.{◌++◌, subst, refl, ap, ◌∙◌}
 use Rattle.lic_ere.specs.Trees.{tree_of}
 use Rattle.lic_search.specs.Passing.{IsPassing, passes_of}
-use Rattle.lic_search.specs.PlaceSets.{ArePlaced}
 use Rattle.lic_search.specs.Backward.{IsBack}
 use Rattle.lic_search.specs.Tidily.{a_blank, a_letter, nothing, spans_of}
 use Rattle.lic_search.proofs.TidyPassing.{IsPassingBlank, tidy-passing}
@@ -23,10 +22,10 @@ pub returns : goal.returns
 returns c =
     let tokens = c.args.view.now in
     let passes = passes_of (tree_of c.args.ere.now) in
-    tidy-passing tokens passes (spans_of c.args.ways.now) c.in_ok-letter.letter.items c.in_ok-more.more.items c.in_ok-others.others.items
+    tidy-passing c.args.keep tokens passes (spans_of c.args.ways.now) c.in_ok-letter.letter.items c.in_ok-more.more.items c.in_ok-others.others.items
     c.in_ok-over_passing_blank.field-0.items
-    (subst (λ x. IsBack tokens (IsPassing passes) x c.in_ok-letter.letter.items) c.deref.ensures.value c.in_ok-letter.ensures)
-    (subst (λ x. IsBack tokens (IsPassing passes) x c.in_ok-more.more.items) c.deref-2.ensures.value c.in_ok-more.ensures)
-    (subst (λ x. IsBack tokens (IsPassing passes) x c.in_ok-others.others.items) c.deref-3.ensures.value c.in_ok-others.ensures)
-    (subst (λ x. IsBack tokens (IsPassingBlank passes) x c.in_ok-over_passing_blank.field-0.items) c.deref-4.ensures.value c.in_ok-over_passing_blank.ensures)
+    (subst (λ x. IsBack c.args.keep tokens (IsPassing passes) x c.in_ok-letter.letter.items) c.deref.ensures.value c.in_ok-letter.ensures)
+    (subst (λ x. IsBack c.args.keep tokens (IsPassing passes) x c.in_ok-more.more.items) c.deref-2.ensures.value c.in_ok-more.ensures)
+    (subst (λ x. IsBack c.args.keep tokens (IsPassing passes) x c.in_ok-others.others.items) c.deref-3.ensures.value c.in_ok-others.ensures)
+    (subst (λ x. IsBack c.args.keep tokens (IsPassingBlank passes) x c.in_ok-over_passing_blank.field-0.items) c.deref-4.ensures.value c.in_ok-over_passing_blank.ensures)
     _ c.new.ensures.items (c.in_ok-append-2.ensures.items ∙ ap (λ x. x ++ c.in_ok-others.others.items) c.in_ok-append.ensures.items) refl

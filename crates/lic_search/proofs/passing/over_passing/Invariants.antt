@@ -6,4 +6,4 @@ use Rattle.lic_search.proofs.passing.over_passing.Given as goal
 
 -- the places to which a letter that passes leads from the spans so far were found
 abbrev pub invariant-loop-span : goal.invariant-loop-span
-invariant-loop-span l = IsBack l.view (IsPassing (passes_of (tree_of l.ere))) (take l.span-index l.spans) l.found.items
+invariant-loop-span l = IsBack l.keep l.view (IsPassing (passes_of (tree_of l.ere))) (take l.span-index l.spans) l.found.items

@@ -1,9 +1,8 @@
-use Rattle.std.proofs.Common.{◌≡◌, [], ◌∷◌, true, sym, ◌∙◌}
-use Rattle.lic_words.specs.Words.{Word, blank}
+use Rattle.std.proofs.Common.{◌≡◌, true, sym, ◌∙◌}
+use Rattle.lic_words.specs.Words.{blank}
 use Rattle.lic_ere.specs.Trees.{tree_of}
 use Rattle.lic_search.specs.Passing.{passes_of}
 use Rattle.lic_search.specs.PlaceSets.{Reaches}
-use Rattle.lic_search.specs.Backward.{IsBack}
 use Rattle.lic_search.proofs.Back.{back-same}
 use Rattle.lic_search.proofs.BlankLemmas.{IsBlank}
 use Rattle.lic_search.proofs.TidyPassing.{IsPassingBlank}
@@ -17,6 +16,6 @@ returns-then-passes c =
     let spans = c.args.spans.now in
     let is : passes blank ≡ true = sym c.passes.ensures ∙ c.if-passes.true in
     ok-changed _ _ c.over_blanks.result
-    (λ found back. back-same tokens IsBlank (IsPassingBlank passes) (Reaches tokens spans) (Reaches tokens spans) found.items
+    (λ found back. back-same c.args.keep tokens IsBlank (IsPassingBlank passes) (Reaches tokens spans) (Reaches tokens spans) found.items
     (λ w. (λ same. (is, same), λ both. both.1)) (λ q last. (λ r. r, λ r. r)) back)
     c.over_blanks.ensures

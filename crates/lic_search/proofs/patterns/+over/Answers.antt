@@ -1,13 +1,12 @@
-use Rattle.std.proofs.Common.{◌≡◌, suc, ◌+◌, ◌-◌, ◌<◌, ◌++◌, length, map, drop, take, rules, ap, sym, refl, subst, ◌∙◌, arith}
-use Rattle.lic_words.specs.Words.{Power}
+use Rattle.std.proofs.Common.{◌≡◌, suc, ◌+◌, ◌-◌, ◌<◌, length, map, drop, take, rules, ap, sym, refl, subst, ◌∙◌, arith}
 use Rattle.lic_words.specs.Expressions.{Language}
 use Rattle.lic_ere.specs.declared.ere.Ere.{the_lemmas}
 use Rattle.lic_ere.specs.Trees.{row, tree_of}
 use Rattle.lic_markup.specs.Meaning.{choice_words, row_words, tree_words}
 use Rattle.lic_search.specs.PlaceSets.{Reaches}
 use Rattle.lic_search.specs.Reached.{reached_of}
-use Rattle.lic_search.specs.Tidily.{IsTidyBack, IsTidyBackFrom, UpTo, spans_of}
-use Rattle.lic_search.proofs.EreLemmas.{choice-all, choice-item, is_one-test, ok-changed, one-words, placed-copied, reached-done, reached-empty, reached-pruned, reached-start, row-all, row-item, tidy-copied, times-all, times-more, times-same, tree_of-Alt, tree_of-Cat, tree_of-Empty, tree_of-Repeat, words-changed}
+use Rattle.lic_search.specs.Tidily.{IsTidyBack, UpTo, spans_of}
+use Rattle.lic_search.proofs.EreLemmas.{choice-all, choice-item, is_one-test, ok-changed, one-words, placed-copied, placed-joined, reached-done, reached-empty, reached-pruned, reached-start, row-all, row-item, tidy-copied, times-all, times-more, times-same, tree_of-Alt, tree_of-Cat, tree_of-Repeat, words-changed}
 use Rattle.lic_search.proofs.TidyBack.{tidy-least}
 use Rattle.lic_search.proofs.FreshLemmas.{fresh-placed}
 use Rattle.lic_search.proofs.TidyRepeats.{repeat-back}
@@ -15,22 +14,22 @@ use Rattle.lic_search.proofs.patterns.+over.Goals as goal
 
 pub over-returns-in-Cat : goal.over-returns-in-Cat
 over-returns-in-Cat t c =
-    words-changed c.args.view.now _ c.over_row.result _ _ (sym (ap tree_words (ap tree_of c.in-Cat.is ∙ tree_of-Cat c.in-Cat.subs)))
+    words-changed c.args.keep c.args.view.now _ c.over_row.result _ _ (sym (ap tree_words (ap tree_of c.in-Cat.is ∙ tree_of-Cat c.in-Cat.subs)))
     (rw c.deref.ensures.value at c.over_row.ensures)
 
 pub over-returns-in-Alt : goal.over-returns-in-Alt
 over-returns-in-Alt t c =
-    words-changed c.args.view.now _ c.over_choice.result _ _ (sym (ap tree_words (ap tree_of c.in-Alt.is ∙ tree_of-Alt c.in-Alt.subs)))
+    words-changed c.args.keep c.args.view.now _ c.over_choice.result _ _ (sym (ap tree_words (ap tree_of c.in-Alt.is ∙ tree_of-Alt c.in-Alt.subs)))
     (rw c.deref-in-Alt.ensures.value at c.over_choice.ensures)
 
 pub over-returns-in-Repeat : goal.over-returns-in-Repeat
 over-returns-in-Repeat t c =
-    words-changed c.args.view.now _ c.over_repeat.result _ _ (sym (ap tree_words (ap tree_of c.in-Repeat.is ∙ tree_of-Repeat c.in-Repeat.body c.in-Repeat.min c.in-Repeat.max)))
+    words-changed c.args.keep c.args.view.now _ c.over_repeat.result _ _ (sym (ap tree_words (ap tree_of c.in-Repeat.is ∙ tree_of-Repeat c.in-Repeat.body c.in-Repeat.min c.in-Repeat.max)))
     (rw c.deref-in-Repeat.ensures at c.over_repeat.ensures)
 
 pub over-returns-in-Char : goal.over-returns-in-Char
 over-returns-in-Char t c =
-    words-changed c.args.view.now _ c.over_one.result _ _ (one-words (tree_of c.args.ere.now) (is_one-test c.args.ere.now c.in-Char.is)) c.over_one.ensures
+    words-changed c.args.keep c.args.view.now _ c.over_one.result _ _ (one-words (tree_of c.args.ere.now) (is_one-test c.args.ere.now c.in-Char.is)) c.over_one.ensures
 
 pub over_choice-over-requires : goal.over_choice-over-requires
 over_choice-over-requires t c = (
@@ -38,29 +37,37 @@ over_choice-over-requires t c = (
   placed-copied c.args.view.now (spans_of c.args.ways.now) (spans_of c.in_ok-copy.field-0) c.in_ok-copy.ensures c.requires,
 )
 
+pub over_choice-kept_if_many-requires : goal.over_choice-kept_if_many-requires
+over_choice-kept_if_many-requires t c =
+    placed-joined c.args.view.now (spans_of c.loop-sub.found) (spans_of c.in_ok-more.more) (spans_of c.append.new.self)
+    c.in_ok-append.ensures c.loop-sub.invariant.placed c.in_ok-more.ensures.placed
+
 pub over_choice-loop-sub-preserved : goal.over_choice-loop-sub-preserved
 over_choice-loop-sub-preserved t c =
     let tokens = c.args.view.now in
-    choice-item tokens (λ s q l. Reaches tokens (spans_of c.args.ways.now s) q l) c.args.subs.now c.loop-sub.sub-index c.sub-item.result
+    tidy-least c.args.keep tokens (Language (choice_words (row (map tree_of (take (c.loop-sub.sub-index + 1) c.args.subs.now)))))
+    (λ s q l. Reaches tokens (spans_of c.args.ways.now s) q l) (spans_of c.append.new.self) (spans_of c.in_ok-found.found)
+    (choice-item c.args.keep tokens (λ s q l. Reaches tokens (spans_of c.args.ways.now s) q l) c.args.subs.now c.loop-sub.sub-index c.sub-item.result
     (spans_of c.loop-sub.found) (spans_of c.in_ok-more.more) (spans_of c.append.new.self)
     c.loop-sub-test.true c.sub-item.is c.in_ok-append.ensures c.loop-sub.invariant
-    (tidy-copied tokens (Language (tree_words (tree_of c.sub-item.result))) (spans_of c.args.ways.now) (spans_of c.in_ok-copy.field-0) (spans_of c.in_ok-more.more)
-    c.in_ok-copy.ensures c.in_ok-more.ensures)
+    (tidy-copied c.args.keep tokens (Language (tree_words (tree_of c.sub-item.result))) (spans_of c.args.ways.now) (spans_of c.in_ok-copy.field-0) (spans_of c.in_ok-more.more)
+    c.in_ok-copy.ensures c.in_ok-more.ensures))
+    c.in_ok-found.ensures
 
 pub over_choice-returns : goal.over_choice-returns
 over_choice-returns t c =
     let tokens = c.args.view.now in
-    ok-changed _ _ c.least.result
-    (λ found least. tidy-least tokens (Language (choice_words (row (map tree_of c.args.subs.now)))) (λ s q l. Reaches tokens (spans_of c.args.ways.now s) q l)
+    ok-changed _ _ c.kept.result
+    (λ found least. tidy-least c.args.keep tokens (Language (choice_words (row (map tree_of c.args.subs.now)))) (λ s q l. Reaches tokens (spans_of c.args.ways.now s) q l)
     (spans_of c.loop-sub.found) (spans_of found)
-    (choice-all tokens (λ s q l. Reaches tokens (spans_of c.args.ways.now s) q l) c.args.subs.now c.loop-sub.sub-index (spans_of c.loop-sub.found) c.loop-sub-test.false c.loop-sub.invariant)
+    (choice-all c.args.keep tokens (λ s q l. Reaches tokens (spans_of c.args.ways.now s) q l) c.args.subs.now c.loop-sub.sub-index (spans_of c.loop-sub.found) c.loop-sub-test.false c.loop-sub.invariant)
     least)
-    c.least.ensures
+    c.kept.ensures
 
 pub over_repeat-returns : goal.over_repeat-returns
 over_repeat-returns t c =
     ok-changed _ _ c.over_up_to.result
-    (λ found back. repeat-back c.args.view.now c.tokens_have_texts.ensures (Language (tree_words (tree_of c.args.body.now)))
+    (λ found back. repeat-back c.args.keep c.args.view.now c.tokens_have_texts.ensures (Language (tree_words (tree_of c.args.body.now)))
     (λ s q last. Reaches c.args.view.now (spans_of c.args.ways s) q last) c.args.min c.args.max c.in-Some.more
     (spans_of c.in_ok-needed.needed) (spans_of found) (let same = ap length c.bytes-length.ensures in omega (arith, same, c.bytes-length.type_inv.0)) c.in-Some.ensures c.in_ok-needed.ensures back)
     c.over_up_to.ensures
@@ -72,16 +79,16 @@ over_row-loop-number-preserved t c =
     let next : c.loop-number.number ≡ (c.loop-number.number - 1) + 1 = omega (arith, c.loop-number-test.true) in
     record {
       within = omega (arith, c.loop-number.invariant.within);
-      back = tidy-least tokens (Language (row_words (row (map tree_of (drop (c.loop-number.number - 1) c.args.subs.now)))))
+      back = tidy-least c.args.keep tokens (Language (row_words (row (map tree_of (drop (c.loop-number.number - 1) c.args.subs.now)))))
           (λ s q l. Reaches tokens (spans_of c.args.ways s) q l) (spans_of c.in_ok-led.led) (spans_of c.in_ok-ways.ways)
-          (row-item tokens (λ s q l. Reaches tokens (spans_of c.args.ways s) q l) c.args.subs.now (c.loop-number.number - 1) c.loop-number.number c.index-subs-number.result
+          (row-item c.args.keep tokens (λ s q l. Reaches tokens (spans_of c.args.ways s) q l) c.args.subs.now (c.loop-number.number - 1) c.loop-number.number c.index-subs-number.result
           (spans_of c.loop-number.ways) (spans_of c.in_ok-led.led) next below c.index-subs-number.is c.loop-number.invariant.back c.in_ok-led.ensures)
           c.in_ok-ways.ensures;
     }
 
 pub over_row-returns : goal.over_row-returns
 over_row-returns t c =
-    row-all c.args.view.now _ c.args.subs.now c.loop-number.number (spans_of c.loop-number.ways) (omega (arith, c.loop-number-test.false)) c.loop-number.invariant.back
+    row-all c.args.keep c.args.view.now _ c.args.subs.now c.loop-number.number (spans_of c.loop-number.ways) (omega (arith, c.loop-number-test.false)) c.loop-number.invariant.back
 
 pub over_times-over-requires : goal.over_times-over-requires
 over_times-over-requires t c = (
@@ -92,7 +99,7 @@ over_times-over-requires t c = (
 pub over_times-returns-then-is_same : goal.over_times-returns-then-is_same
 over_times-returns-then-is_same t c =
     let tokens = c.args.view.now in
-    times-same tokens (Language (tree_words (tree_of c.args.body.now))) (λ s q l. Reaches tokens (spans_of c.args.ways s) q l)
+    times-same c.args.keep tokens (Language (tree_words (tree_of c.args.body.now))) (λ s q l. Reaches tokens (spans_of c.args.ways s) q l)
     (spans_of c.loop.ways) (spans_of c.in_ok-copy.field-0) (spans_of c.in_ok-led.led) (spans_of c.in_ok-next.next)
     c.in_ok-copy.ensures c.in_ok-led.ensures c.in_ok-next.ensures c.loop.counter c.loop.invariant
     (c.is_same.ensures c.if-is_same.true) c.args.count c.loop.auto.counter-end
@@ -100,7 +107,7 @@ over_times-returns-then-is_same t c =
 pub over_times-loop-preserved : goal.over_times-loop-preserved
 over_times-loop-preserved t c =
     let tokens = c.args.view.now in
-    times-more tokens (Language (tree_words (tree_of c.args.body.now))) (λ s q l. Reaches tokens (spans_of c.args.ways s) q l)
+    times-more c.args.keep tokens (Language (tree_words (tree_of c.args.body.now))) (λ s q l. Reaches tokens (spans_of c.args.ways s) q l)
     (spans_of c.loop.ways) (spans_of c.in_ok-copy.field-0) (spans_of c.in_ok-led.led) (spans_of c.in_ok-next.next)
     c.in_ok-copy.ensures c.in_ok-led.ensures c.in_ok-next.ensures c.loop.counter c.loop.invariant
     (c.loop.counter + 1) refl
@@ -108,12 +115,12 @@ over_times-loop-preserved t c =
 pub over_times-returns : goal.over_times-returns
 over_times-returns t c =
     let tokens = c.args.view.now in
-    times-all tokens (Language (tree_words (tree_of c.args.body.now))) (λ s q l. Reaches tokens (spans_of c.args.ways s) q l)
+    times-all c.args.keep tokens (Language (tree_words (tree_of c.args.body.now))) (λ s q l. Reaches tokens (spans_of c.args.ways s) q l)
     (spans_of c.loop.ways) c.loop.counter c.args.count c.loop.auto.counter-end c.loop-test.false c.loop.invariant
 
 pub over_up_to-loop-init : goal.over_up_to-loop-init
 over_up_to-loop-init t c =
-    reached-start c.args.view.now (Language (tree_words (tree_of c.args.body.now))) (spans_of c.args.ways) (reached_of c.new-reached.result) (spans_of c.in_ok-front.front)
+    reached-start c.args.keep c.args.view.now (Language (tree_words (tree_of c.args.body.now))) (spans_of c.args.ways) (reached_of c.new-reached.result) (spans_of c.in_ok-front.front)
     c.new-reached.ensures c.in_ok-front.ensures c.requires
 
 pub over_up_to-over-requires : goal.over_up_to-over-requires
@@ -129,7 +136,7 @@ over_up_to-add-requires-clause-next t c = λ s.
 pub over_up_to-loop-preserved : goal.over_up_to-loop-preserved
 over_up_to-loop-preserved t c =
     let one_more : c.loop.counter + 1 ≡ suc c.loop.counter = omega arith in
-    reached-pruned c.args.view.now (Language (tree_words (tree_of c.args.body.now))) (spans_of c.args.ways) (reached_of c.loop.reached) (spans_of c.loop.front)
+    reached-pruned c.args.keep c.args.view.now (Language (tree_words (tree_of c.args.body.now))) (spans_of c.args.ways) (reached_of c.loop.reached) (spans_of c.loop.front)
     (spans_of c.in_ok-copy.field-0) (spans_of c.in_ok-led.led) (spans_of c.in_ok-next.next) (spans_of c.in_ok-more.more)
     (reached_of c.add.new.self) (spans_of c.in_ok-front-2.front) c.loop.counter (c.loop.counter + 1) one_more
     c.loop.invariant c.in_ok-copy.ensures c.in_ok-led.ensures c.in_ok-next.ensures c.in_ok-more.ensures c.in_ok-front-2.ensures
@@ -137,27 +144,23 @@ over_up_to-loop-preserved t c =
 pub over_up_to-returns : goal.over_up_to-returns
 over_up_to-returns t c =
     let tokens = c.args.view.now in
-    ok-changed _ _ c.into_ways-2.result
-    (λ ways same. reached-done tokens (Language (tree_words (tree_of c.args.body.now))) (spans_of c.args.ways) (reached_of c.loop.reached) (spans_of c.loop.front)
-    (spans_of ways) c.loop.counter c.args.count c.loop.invariant c.loop.auto.counter-end c.loop-test.false same)
-    c.into_ways-2.ensures
+    reached-done c.args.keep tokens (Language (tree_words (tree_of c.args.body.now))) (spans_of c.args.ways) (reached_of c.loop.reached) (spans_of c.loop.front)
+    (spans_of c.in_ok-into_ways-2.field-0) c.loop.counter c.args.count c.loop.invariant c.loop.auto.counter-end c.loop-test.false c.in_ok-into_ways-2.ensures
 
 pub over_up_to-returns-then-is_empty : goal.over_up_to-returns-then-is_empty
 over_up_to-returns-then-is_empty t c =
     let tokens = c.args.view.now in
-    ok-changed _ _ c.into_ways.result
-    (λ ways same. reached-empty tokens (Language (tree_words (tree_of c.args.body.now))) (spans_of c.args.ways) (reached_of c.loop.reached) (spans_of c.loop.front)
-    (spans_of ways) c.loop.counter c.args.count c.loop.invariant c.loop.auto.counter-end (c.is_empty.ensures c.if-is_empty.true) same)
-    c.into_ways.ensures
+    reached-empty c.args.keep tokens (Language (tree_words (tree_of c.args.body.now))) (spans_of c.args.ways) (reached_of c.loop.reached) (spans_of c.loop.front)
+    (spans_of c.in_ok-into_ways.field-0) c.loop.counter c.args.count c.loop.invariant c.loop.auto.counter-end (c.is_empty.ensures c.if-is_empty.true) c.in_ok-into_ways.ensures
 
-pub over_repeat-returns-then-are_few : goal.over_repeat-returns-then-are_few
-over_repeat-returns-then-are_few t c =
+pub over_repeat-returns-then-are_short : goal.over_repeat-returns-then-are_short
+over_repeat-returns-then-are_short t c =
     let tokens = c.args.view.now in
     let tree = tree_of c.args.body.now in
     ok-changed _ _ c.over_many.result
-    (λ found back. repeat-back tokens c.tokens_have_texts.ensures (Language (tree_words tree))
+    (λ found back. repeat-back c.args.keep tokens c.tokens_have_texts.ensures (Language (tree_words tree))
     (λ s q last. Reaches tokens (spans_of c.args.ways s) q last) c.args.min c.args.max c.in-Some.more
     (spans_of c.in_ok-needed.needed) (spans_of found) (let same = ap length c.bytes-length.ensures in omega (arith, same, c.bytes-length.type_inv.0)) c.in-Some.ensures c.in_ok-needed.ensures
-    (subst (λ e. IsTidyBack tokens (UpTo (Language e) c.in-Some.more) (spans_of c.in_ok-needed.needed) (spans_of found))
+    (subst (λ e. IsTidyBack c.args.keep tokens (UpTo (Language e) c.in-Some.more) (spans_of c.in_ok-needed.needed) (spans_of found))
     (one-words tree (sym c.is_one.ensures ∙ c.if-is_one.true)) back))
     c.over_many.ensures

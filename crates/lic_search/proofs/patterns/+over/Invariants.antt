@@ -12,20 +12,20 @@ use Rattle.lic_search.proofs.patterns.+over.Given as goal
 abbrev pub invariant-over_row-loop-number : goal.invariant-over_row-loop-number
 invariant-over_row-loop-number l = record {
   within : l.number ≤ length l.subs;
-  back : IsTidyBack l.view (Language (row_words (row (map tree_of (drop l.number l.subs))))) (spans_of l.fn.ways) (spans_of l.ways);
+  back : IsTidyBack l.keep l.view (Language (row_words (row (map tree_of (drop l.number l.subs))))) (spans_of l.fn.ways) (spans_of l.ways);
 }
 
 -- what the patterns so far lead to is found
 abbrev pub invariant-over_choice-loop-sub : goal.invariant-over_choice-loop-sub
 invariant-over_choice-loop-sub l =
-    IsTidyBack l.view (Language (choice_words (row (map tree_of (take l.sub-index l.subs))))) (spans_of l.ways) (spans_of l.found)
+    IsTidyBack l.keep l.view (Language (choice_words (row (map tree_of (take l.sub-index l.subs))))) (spans_of l.ways) (spans_of l.found)
 
 -- so many words are gone over
 abbrev pub invariant-over_times-loop : goal.invariant-over_times-loop
 invariant-over_times-loop l =
-    IsTidyBack l.view (Power (Language (tree_words (tree_of l.body))) l.counter) (spans_of l.fn.ways) (spans_of l.ways)
+    IsTidyBack l.keep l.view (Power (Language (tree_words (tree_of l.body))) l.counter) (spans_of l.fn.ways) (spans_of l.ways)
 
 -- what up to so many words lead to is found
 abbrev pub invariant-over_up_to-loop : goal.invariant-over_up_to-loop
 invariant-over_up_to-loop l =
-    IsReached l.view (Language (tree_words (tree_of l.body))) (spans_of l.fn.ways) (reached_of l.reached) (spans_of l.front) l.counter
+    IsReached l.keep l.view (Language (tree_words (tree_of l.body))) (spans_of l.fn.ways) (reached_of l.reached) (spans_of l.front) l.counter

@@ -1,5 +1,5 @@
 use Rattle.std.proofs.Common.{refl}
-use Rattle.lic_words.specs.Words.{IsTidy, Word}
+use Rattle.lic_words.specs.Words.{IsTidy}
 use Rattle.lic_words.specs.Expressions.{Language, tidy}
 use Rattle.lic_ere.specs.Trees.{tree_of}
 use Rattle.lic_markup.specs.Meaning.{tree_words}
@@ -7,26 +7,26 @@ use Rattle.lic_search.specs.PlaceSets.{Reaches}
 use Rattle.lic_search.specs.Backward.{IsBack}
 use Rattle.lic_search.specs.declared.ways.Ways.{Ways}
 use Rattle.lic_search.specs.Tidily.{spans_of}
-use Rattle.lic_search.proofs.Back.{back-least}
+use Rattle.lic_search.proofs.Back.{back-keeps}
 use Rattle.lic_search.proofs.TidyPassing.{tidy-answer}
 use Rattle.lic_search.proofs.patterns.over_pattern.Goals as goal
 use Rattle.lic_search.proofs.patterns.over_pattern.Goals.{In_ok-append}
 
 -- the places that are not behind a blank of the word
-answer : (c : In_ok-append) → IsBack c.args.view.now (λ w. Language (tree_words (tree_of c.args.ere.now)) w × IsTidy w) c.args.spans.items c.append.new.self.items
+answer : (c : In_ok-append) → IsBack c.args.keep c.args.view.now (λ w. Language (tree_words (tree_of c.args.ere.now)) w × IsTidy w) c.args.spans.items c.append.new.self.items
 answer c =
     let begin : Ways = record { nothing = c.args.spans; letter = c.new.result; blank = c.new-2.result } in
-    tidy-answer c.args.view.now (Language (tree_words (tree_of c.args.ere.now))) c.args.spans.items c.append.new.self.items (spans_of begin) (spans_of c.in_ok-found.found)
+    tidy-answer c.args.keep c.args.view.now (Language (tree_words (tree_of c.args.ere.now))) c.args.spans.items c.append.new.self.items (spans_of begin) (spans_of c.in_ok-found.found)
     refl c.new.ensures.items c.new-2.ensures.items c.in_ok-append.ensures.items c.in_ok-found.ensures
 
-pub least-requires : goal.least-requires
-least-requires c = let back = answer c in back.placed
+pub kept-requires : goal.kept-requires
+kept-requires c = let back = answer c in back.placed
 
 pub returns : goal.returns
 returns c =
     let begin : Ways = record { nothing = c.args.spans; letter = c.new.result; blank = c.new-2.result } in
-    back-least c.args.view.now (Language (tidy (tree_words (tree_of c.args.ere.now)))) (Reaches c.args.view.now c.args.spans.items)
-    c.append.new.self.items c.in_ok-least.field-0.items c.tokens_have_texts.ensures
-    (tidy-answer c.args.view.now (Language (tree_words (tree_of c.args.ere.now))) c.args.spans.items c.append.new.self.items (spans_of begin) (spans_of c.in_ok-found.found)
+    back-keeps c.args.keep c.args.view.now (Language (tidy (tree_words (tree_of c.args.ere.now)))) (Reaches c.args.view.now c.args.spans.items)
+    c.append.new.self.items c.in_ok-kept.field-0.items c.tokens_have_texts.ensures
+    (tidy-answer c.args.keep c.args.view.now (Language (tree_words (tree_of c.args.ere.now))) c.args.spans.items c.append.new.self.items (spans_of begin) (spans_of c.in_ok-found.found)
     refl c.new.ensures.items c.new-2.ensures.items c.in_ok-append.ensures.items c.in_ok-found.ensures)
-    c.in_ok-least.ensures.sound c.in_ok-least.ensures.least c.in_ok-least.ensures.ordered
+    c.in_ok-kept.ensures

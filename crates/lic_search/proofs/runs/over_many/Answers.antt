@@ -1,4 +1,4 @@
-use Rattle.std.proofs.Common.{◌≡◌, ◌⊎◌, ◌<◌, ◌++◌, true, false, inl, inr, sym, ◌∙◌, arith}
+use Rattle.std.proofs.Common.{◌≡◌, ◌⊎◌, ◌<◌, false, inl, inr, sym, ◌∙◌, arith}
 use Rattle.lic_words.specs.Words.{blank}
 use Rattle.lic_ere.specs.Trees.{tree_of}
 use Rattle.lic_search.specs.Passing.{passes_of}
@@ -14,11 +14,11 @@ use Rattle.lic_search.proofs.runs.over_many.Goals.{then-count-eq0-via-then-count
 pub over_one_blank-requires : goal.over_one_blank-requires
 over_one_blank-requires c = c.in_ok-begun.ensures.placed
 
-pub least-requires : goal.least-requires
-least-requires c = c.in_ok-found.ensures.placed
+pub kept-requires : goal.kept-requires
+kept-requires c = c.in_ok-found.ensures.placed
 
-pub least-requires-2 : goal.least-requires-2
-least-requires-2 c =
+pub kept-requires-2 : goal.kept-requires-2
+kept-requires-2 c =
     placed-joined c.args.view.now (spans_of c.in_ok-found.found) (spans_of c.in_ok-over_one_blank.field-0) (spans_of c.append.new.self)
     c.in_ok-append.ensures c.in_ok-found.ensures.placed c.in_ok-over_one_blank.ensures.placed
 
@@ -31,21 +31,21 @@ returns-then-count-eq0 c =
       | then-count-eq0-via-then-count-eq0 w ↦ inr w.if-count-eq0.true
       | then-count-eq0-via-else-count-eq0+then-not-passes w ↦ inl (sym w.passes.ensures ∙ w.if-not-passes.true)
     ] in
-    ok-changed _ _ c.least.result
-    (λ found least. tidy-least tokens (UpTo (IsOne passes) c.args.count) (λ s q l. Reaches tokens (spans_of c.args.ways.now s) q l)
+    ok-changed _ _ c.kept.result
+    (λ found least. tidy-least c.args.keep tokens (UpTo (IsOne passes) c.args.count) (λ s q l. Reaches tokens (spans_of c.args.ways.now s) q l)
     (spans_of c.in_ok-found.found) (spans_of found)
-    (many-letters tokens passes c.args.count (spans_of c.args.ways.now) (spans_of c.in_ok-found.found) c.in_ok-found.ensures none) least)
-    c.least.ensures
+    (many-letters c.args.keep tokens passes c.args.count (spans_of c.args.ways.now) (spans_of c.in_ok-found.found) c.in_ok-found.ensures none) least)
+    c.kept.ensures
 
 pub returns : goal.returns
 returns c =
     let tokens = c.args.view.now in
     let passes = passes_of (tree_of c.args.ere.now) in
     let some : 0 < c.args.count = omega (arith, c.if-count-eq0.false) in
-    ok-changed _ _ c.least-2.result
-    (λ found least. tidy-least tokens (UpTo (IsOne passes) c.args.count) (λ s q l. Reaches tokens (spans_of c.args.ways.now s) q l)
+    ok-changed _ _ c.kept-2.result
+    (λ found least. tidy-least c.args.keep tokens (UpTo (IsOne passes) c.args.count) (λ s q l. Reaches tokens (spans_of c.args.ways.now s) q l)
     (spans_of c.append.new.self) (spans_of found)
-    (many-blanks tokens passes c.args.count (spans_of c.args.ways.now) (spans_of c.in_ok-found.found) c.in_ok-found.ensures
+    (many-blanks c.args.keep tokens passes c.args.count (spans_of c.args.ways.now) (spans_of c.in_ok-found.found) c.in_ok-found.ensures
     (spans_of c.in_ok-begun.begun) (spans_of c.in_ok-over_one_blank.field-0) (spans_of c.append.new.self)
     some (sym c.passes.ensures ∙ c.if-not-passes.false) c.in_ok-begun.ensures c.in_ok-over_one_blank.ensures c.in_ok-append.ensures) least)
-    c.least-2.ensures
+    c.kept-2.ensures

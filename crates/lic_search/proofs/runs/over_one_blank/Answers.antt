@@ -10,5 +10,5 @@ over_blanks-requires c = rw c.deref.ensures.value (c.requires a_letter)
 
 pub returns : goal.returns
 returns c =
-    tidy-blank c.args.view.now (spans_of c.args.ways.now) _ c.new.ensures.items c.new-2.ensures.items
-    (subst (λ x. IsBack c.args.view.now IsBlank x c.in_ok-over_blanks.field-0.items) c.deref.ensures.value c.in_ok-over_blanks.ensures)
+    tidy-blank c.args.keep c.args.view.now (spans_of c.args.ways.now) _ c.new.ensures.items c.new-2.ensures.items
+    (subst (λ x. IsBack c.args.keep c.args.view.now IsBlank x c.in_ok-over_blanks.field-0.items) c.deref.ensures.value c.in_ok-over_blanks.ensures)

@@ -21,8 +21,8 @@ returns c =
     let tokens = c.args.view.now in
     let passes = passes_of (tree_of c.args.ere.now) in
     let count = c.args.count in
-    tidy-runs tokens passes count (spans_of c.args.ways.now) c.in_ok-letter.letter.items c.in_ok-more.more.items c.in_ok-others.others.items
-    (subst (λ x. IsBack tokens (IsRunTo passes count false) x c.in_ok-letter.letter.items) c.deref.ensures.value c.in_ok-letter.ensures)
-    (subst (λ x. IsBack tokens (IsRunTo passes count true) x c.in_ok-more.more.items) c.deref-2.ensures.value c.in_ok-more.ensures)
-    (subst (λ x. IsBack tokens (IsRunTo passes count false) x c.in_ok-others.others.items) c.deref-3.ensures.value c.in_ok-others.ensures)
+    tidy-runs c.args.keep tokens passes count (spans_of c.args.ways.now) c.in_ok-letter.letter.items c.in_ok-more.more.items c.in_ok-others.others.items
+    (subst (λ x. IsBack c.args.keep tokens (IsRunTo passes count false) x c.in_ok-letter.letter.items) c.deref.ensures.value c.in_ok-letter.ensures)
+    (subst (λ x. IsBack c.args.keep tokens (IsRunTo passes count true) x c.in_ok-more.more.items) c.deref-2.ensures.value c.in_ok-more.ensures)
+    (subst (λ x. IsBack c.args.keep tokens (IsRunTo passes count false) x c.in_ok-others.others.items) c.deref-3.ensures.value c.in_ok-others.ensures)
     _ c.new.ensures.items (c.in_ok-append-2.ensures.items ∙ ap (λ x. x ++ c.in_ok-others.others.items) c.in_ok-append.ensures.items) c.new-2.ensures.items

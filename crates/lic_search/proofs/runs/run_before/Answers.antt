@@ -14,16 +14,16 @@ place_of-requires c = within-one c.args.view.now c.args.span c.args.number c.req
 pub returns-in_err-place : goal.returns-in_err-place
 returns-in_err-place c =
     rw c.from_residual.ensures
-    (run-no_place c.args.view.now c.tokens_have_texts.ensures (passes_of (tree_of c.args.ere.now)) c.args.count c.args.after c.args.span c.args.number c.in_err-place.ensures)
+    (λ keep. run-no_place keep c.args.view.now c.tokens_have_texts.ensures (passes_of (tree_of c.args.ere.now)) c.args.count c.args.after c.args.span c.args.number c.in_err-place.ensures)
 
 pub returns-then-is_behind_blank : goal.returns-then-is_behind_blank
 returns-then-is_behind_blank c =
-    run-behind c.args.view.now c.tokens_have_texts.ensures (passes_of (tree_of c.args.ere.now)) c.args.count c.args.after c.args.span c.args.number c.in_ok-place.place
+    λ keep. run-behind keep c.args.view.now c.tokens_have_texts.ensures (passes_of (tree_of c.args.ere.now)) c.args.count c.args.after c.args.span c.args.number c.in_ok-place.place
     c.if-not-after.true c.in_ok-place.ensures (c.is_behind_blank.ensures.0 c.if-is_behind_blank.true)
 
 pub returns-then-low-place : goal.returns-then-low-place
 returns-then-low-place c =
-    run-none c.args.view.now c.tokens_have_texts.ensures (passes_of (tree_of c.args.ere.now)) c.args.count c.args.after c.args.span c.args.number c.in_ok-place.place
+    λ keep. run-none keep c.args.view.now c.tokens_have_texts.ensures (passes_of (tree_of c.args.ere.now)) c.args.count c.args.after c.args.span c.args.number c.in_ok-place.place
     c.run_start-low.result c.in_ok-place.ensures c.run_start-low.ensures c.if-low-place.true
 
 pub returns : goal.returns
@@ -34,6 +34,6 @@ returns c =
           inr (λ behind. true≢false (sym (w.is_behind_blank.ensures.1 behind) ∙ w.if-is_behind_blank.false))
       | else-not-after-via-else-not-after w ↦ inl w.if-not-after.false
     ] in
-    run-some c.args.view.now c.tokens_have_texts.ensures (passes_of (tree_of c.args.ere.now)) c.args.count c.args.after c.args.span c.args.number c.in_ok-place.place
+    λ keep. run-some keep c.args.view.now c.tokens_have_texts.ensures (passes_of (tree_of c.args.ere.now)) c.args.count c.args.after c.args.span c.args.number c.in_ok-place.place
     c.run_start-low.result c.requires.placed c.requires.low c.requires.high c.in_ok-place.ensures
     (may-go_on (spelling_of c.args.view.now) c.args.after c.in_ok-place.place free) c.run_start-low.ensures c.if-low-place.false

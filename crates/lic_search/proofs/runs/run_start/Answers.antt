@@ -1,9 +1,11 @@
-use Rattle.std.proofs.Common.{◌≡◌, ◌+◌, inl, inr, refl, sym, ap, ◌∙◌, arith}
+use Rattle.std.proofs.Common.{◌+◌, inl, inr, refl, sym, ap, subst, ◌∙◌, arith}
 use Rattle.std.proofs.lemmas.Bool.{true≢false}
 use Rattle.lic_ere.specs.Trees.{tree_of}
 use Rattle.lic_places.specs.Places.{spelling_of}
 use Rattle.lic_search.specs.Passing.{passes_of}
+use Rattle.lic_search.specs.Runs.{IsRunStart}
 use Rattle.lic_places.proofs.TokenPlaces.{spelling-utf8}
+use Rattle.lic_search.proofs.AnyChains.{any-start}
 use Rattle.lic_search.proofs.LastLetters.{letter-one}
 use Rattle.lic_search.proofs.RunChains.{chain-more}
 use Rattle.lic_search.proofs.runs.run_start.Goals as goal
@@ -30,3 +32,9 @@ returns-in_default c = record {
       let one = letter-one (spelling_of c.args.view.now) c.loop.low p d c.in-Some.start c.in-Some.letter (spelling-utf8 c.args.view.now c.tokens_have_texts.ensures) is c.in-Some.ensures in
       true≢false (sym passing ∙ ap (passes_of (tree_of c.args.ere.now)) one.1 ∙ sym c.passes.ensures ∙ c.if-passes.false));
 }
+
+pub returns-then-is_boundary : goal.returns-then-is_boundary
+returns-then-is_boundary c =
+    let bytes = spelling_of c.args.view.now in
+    subst (λ t. IsRunStart bytes (passes_of t) c.args.count c.args.place 0) (sym (c.is_any.ensures c.if-is_any.true))
+    (any-start bytes c.args.count c.args.place (spelling-utf8 c.args.view.now c.tokens_have_texts.ensures) (c.is_boundary.ensures.0 c.if-is_boundary.true) c.if-place-count.true)

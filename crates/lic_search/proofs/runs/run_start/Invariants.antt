@@ -1,4 +1,3 @@
-use Rattle.std.proofs.Common.{◌≡◌}
 use Rattle.lic_ere.specs.Trees.{tree_of}
 use Rattle.lic_places.specs.Places.{spelling_of}
 use Rattle.lic_search.specs.Passing.{passes_of}

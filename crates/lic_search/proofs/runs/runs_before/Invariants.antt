@@ -7,4 +7,4 @@ use Rattle.lic_search.proofs.runs.runs_before.Given as goal
 
 -- the places to which runs lead from the spans so far were found
 abbrev pub invariant-loop-span : goal.invariant-loop-span
-invariant-loop-span l = IsBack l.view (IsRunTo (passes_of (tree_of l.ere)) l.count l.after) (take l.span-index l.spans) l.found.items
+invariant-loop-span l = IsBack l.keep l.view (IsRunTo (passes_of (tree_of l.ere)) l.count l.after) (take l.span-index l.spans) l.found.items

@@ -6,5 +6,5 @@ use Rattle.lic_search.proofs.runs.with_runs.Goals as goal
 
 pub returns : goal.returns
 returns c =
-    tidy-with_runs c.args.view.now (passes_of (tree_of c.args.ere.now)) c.args.count (spans_of c.args.ways.now) (spans_of c.in_ok-found.found)
+    tidy-with_runs c.args.keep c.args.view.now (passes_of (tree_of c.args.ere.now)) c.args.count (spans_of c.args.ways.now) (spans_of c.in_ok-found.found)
     (spans_of c.in_ok-over_runs.field-0) (spans_of c.append.new.self) c.requires c.in_ok-found.ensures c.in_ok-over_runs.ensures c.in_ok-append.ensures

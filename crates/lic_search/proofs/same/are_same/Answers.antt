@@ -1,4 +1,4 @@
-use Rattle.std.proofs.Common.{◌<◌, length, refl, arith}
+use Rattle.std.proofs.Common.{◌<◌, length, arith}
 use Rattle.lic_search.proofs.SameLemmas.{same-all, same-more}
 use Rattle.lic_search.proofs.same.are_same.Goals as goal
 

@@ -1,4 +1,4 @@
-use Rattle.std.proofs.Common.{◌+◌, ◌≤◌, length, ap, arith}
+use Rattle.std.proofs.Common.{◌≤◌, length, ap, arith}
 use Rattle.lic_search.proofs.ViewSpans.{within-one}
 use Rattle.lic_search.proofs.singles.end_of.Goals as goal
 

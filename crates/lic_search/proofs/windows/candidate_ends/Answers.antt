@@ -9,7 +9,8 @@ use Rattle.lic_search.specs.Windows.{TakesAtMost}
 use Rattle.lic_search.proofs.ViewPlaces.{end-within}
 use Rattle.lic_search.proofs.WindowBounds.{IsBound, most_number}
 use Rattle.lic_search.proofs.WindowEnds.{end-reached, ends-placed, ends-sound}
-use Rattle.lic_search.proofs.WindowLemmas.{ends-text, window-reach}
+use Rattle.lic_keys.proofs.RequiredEnds.{ends-text}
+use Rattle.lic_search.proofs.WindowLemmas.{window-reach}
 use Rattle.lic_search.proofs.windows.candidate_ends.Goals as goal
 
 pub returns-clause-placed : goal.returns-clause-placed

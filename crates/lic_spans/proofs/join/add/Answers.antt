@@ -1,10 +1,11 @@
 -- The span is put alone after the others, or makes the last one longer.
 use Rattle.std.proofs.Common.{◌≡◌, ◌↔◌, ◌⊎◌, ◌+◌, ◌-◌, ◌∙◌, [], ◌∷◌, ◌++◌, ap, arith, length, subst, sym}
-use Rattle.lic_spans.specs.Spans.{FitsKind, Holds}
+use Rattle.lic_spans.specs.Spans.{AreBefore, FitsKind, Holds}
 use Rattle.std.specs.List.{All}
 use Rattle.std.proofs.lemmas.List.Elements.{All-push}
 use Rattle.lic_spans.specs.Sweeps.{IsSettled}
 use Rattle.lic_spans.proofs.Settling.{Holds-push, IsSettled-push, Holds-joined_last, IsSettled-joined_last, Fits-joined_last, not_joined_last}
+use Rattle.lic_spans.proofs.Lasts.{AreBefore-first, AreBefore-joined_last, AreBefore-not_joined, empty_list}
 use Rattle.lic_spans.proofs.join.add.Goals as goal
 use Rattle.lic_spans.proofs.join.add.Goals.{else-count-gt0-via-then-count-gt0+else-join, else-count-gt0-via-else-count-gt0}
 
@@ -57,3 +58,27 @@ returns-clause-settled c = λ h.
 
 pub returns-clause-fits : goal.returns-clause-fits
 returns-clause-fits c = λ one all. subst (All FitsKind) (sym (pushed c)) (All-push FitsKind c.args.spans.now.items c.args.span all one)
+
+pub returns-then-join-clause-before : goal.returns-then-join-clause-before
+returns-then-join-clause-before c =
+    let long = c.args.spans.now.ok.0 in
+    let here : c.len-count.result - 1 + 1 ≡ length c.args.spans.now.items = omega arith in
+    AreBefore-joined_last c.args.spans.now.items (c.len-count.result - 1) c.index_mut.result.now c.join.new.before c.args.span c.join.result
+    here c.index_mut.ensures.value c.join.ensures.continued c.join.ensures.length c.if-join.true
+
+-- a span that continues none ends after those before it
+alone : (c : goal.In_ok-push) → AreBefore c.args.spans.now.items c.args.span → AreBefore (c.args.spans.now.items ++ c.args.span ∷ []) c.args.span
+alone c before =
+    let long = c.args.spans.now.ok.0 in
+    elim c.else-count-gt0.branch [
+      | else-count-gt0-via-then-count-gt0+else-join w ↦
+          let here : c.len-count.result - 1 + 1 ≡ length c.args.spans.now.items = omega arith in
+          AreBefore-not_joined c.args.spans.now.items (c.len-count.result - 1) w.index_mut.result.now w.join.new.before c.args.span w.join.result
+          here w.index_mut.ensures.value w.join.ensures.continued w.join.ensures.length w.if-join.false before
+      | else-count-gt0-via-else-count-gt0 w ↦
+          let none : c.args.spans.now.items ≡ [] = empty_list c.args.spans.now.items (omega (arith, w.if-count-gt0.false, c.len-count.ensures)) in
+          subst (λ xs. AreBefore (xs ++ c.args.span ∷ []) c.args.span) (sym none) (AreBefore-first c.args.span)
+    ]
+
+pub returns-clause-before : goal.returns-clause-before
+returns-clause-before c = λ before. subst (λ xs. AreBefore xs c.args.span) (sym (pushed c)) (alone c before)

@@ -8,7 +8,7 @@ use Rattle.lic_spans.specs.declared.span.Kind.TheVariants.{End}
 use Rattle.lic_spans.specs.declared.span.PlaceSpan.{PlaceSpan}
 use Rattle.lic_spans.specs.Spans.{BeginsBefore, rank}
 use Rattle.lic_spans.specs.Sweeps.{IsLeastOf, IsSweepOf}
-use Rattle.lic_spans.proofs.Sorting.{BeginsBefore-next}
+use Rattle.lic_spans.proofs.Sorting.{AllPairs-next}
 use Rattle.lic_spans.proofs.least.swept.Goals as goal
 
 pub loop-span-init : goal.loop-span-init
@@ -38,10 +38,10 @@ loop-span-preserved c =
           subst (λ xs. IsSweepOf xs c.take.new.self.kind c.take.new.self.at (heap_items c.take.new.self.active) c.take.new.self.least.items) (sym (take_more spans i none low))
           (e.sweep (take i spans) c.loop-span.invariant.sweep);
       kinds = λ j d from within.
-          let before : BeginsBefore (get_or spans i none) (get_or spans j d) = BeginsBefore-next spans c.requires.sorted i none low j d from within in
+          let before : BeginsBefore (get_or spans i none) (get_or spans j d) = AllPairs-next BeginsBefore spans c.requires.sorted i none low j d from within in
           subst (λ k. rank k ≤ rank (get_or spans j d).kind) (sym kind) before.kinds;
       places = λ j d from within same.
-          let before : BeginsBefore (get_or spans i none) (get_or spans j d) = BeginsBefore-next spans c.requires.sorted i none low j d from within in
+          let before : BeginsBefore (get_or spans i none) (get_or spans j d) = AllPairs-next BeginsBefore spans c.requires.sorted i none low j d from within in
           subst (λ n. n ≤ (get_or spans j d).low) (sym at) (before.places (sym kind ∙ same));
       few = omega (arith, c.loop-span.invariant.few);
     }

@@ -1,52 +1,51 @@
-use Rattle.std.proofs.Common.{Some, sym, ap, subst}
-use Rattle.lic_auto.specs.Picked.{IsLeastOf}
-use Rattle.lic_auto.proofs.PickedLemmas.{IsLeastDescribing-of, IsLeastOf-at, IsLeastOf-none, IsLeastOf-none_at}
+use Rattle.std.proofs.Common.{◌≡◌, Some, None, length, refl, sym, ap, ◌∙◌, arith}
+use Rattle.std.specs.List.{slice_get}
+use Rattle.std.proofs.lemmas.Bool.{false≢true}
+use Rattle.std.proofs.lemmas.Option.{slice_get_read}
+use Rattle.lic_auto.proofs.PickedLemmas.{IsLeastDescribing-of}
+use Rattle.lic_auto.proofs.Accepting.{FailBefore-more, accepts_first, none_accepts}
 use Rattle.lic_auto.proofs.run.Run.accepted.Goals as goal
+use Rattle.lic_auto.proofs.run.Run.accepted.Goals.{else-run-from-via-then-run-from+else-accepts, else-run-from-via-else-run-from}
 
-pub number-requires : goal.number-requires
-number-requires c = c.in_ok-place.ensures.within
+pub returns-then-accepts-clause-among : goal.returns-then-accepts-clause-among
+returns-then-accepts-clause-among c = λ numbers ts s.
+    let self = c.args.self.now in
+    let i = c.loop-run.run-index in
+    let run = c.run-item.result in
+    let here : slice_get self.runs.items i ≡ Some run = ap (λ rs. slice_get rs i) (sym c.deref-run-items.ensures.value)
+    ∙ slice_get_read c.deref-run-items.result.now _ i run refl c.loop-run-test.true c.run-item.is in
+    accepts_first self.set.now self.runs.items numbers ts s.some s.runs self.rising c.args.from i run here c.if-run-from.true c.loop-run.invariant
+    (c.accepts.ensures.live c.if-accepts.true) (λ e us follows. (c.accepts.ensures.described e us follows).0 c.if-accepts.true)
+
+pub returns-then-accepts-clause-least : goal.returns-then-accepts-clause-least
+returns-then-accepts-clause-least c = λ ts s. returns-then-accepts-clause-among c _ ts s
+
+pub returns-then-accepts-clause-all : goal.returns-then-accepts-clause-all
+returns-then-accepts-clause-all c = λ ts s others.
+    IsLeastDescribing-of c.args.self.now.set.now _ ts c.args.from (Some c.run-item.result.number) (returns-then-accepts-clause-least c ts s) others
+
+pub loop-run-preserved : goal.loop-run-preserved
+loop-run-preserved c =
+    let runs = c.args.self.now.runs.items in
+    let i = c.loop-run.run-index in
+    let here : slice_get runs i ≡ Some c.run-item.result = ap (λ rs. slice_get rs i) (sym c.deref-run-items.ensures.value)
+    ∙ slice_get_read c.deref-run-items.result.now _ i c.run-item.result refl c.loop-run-test.true c.run-item.is in
+    FailBefore-more runs c.args.from i c.run-item.result here c.loop-run.invariant
+    (elim c.else-run-from.branch [
+      | else-run-from-via-then-run-from+else-accepts w ↦ λ from e ts follows described.
+          false≢true (sym w.if-accepts.false ∙ (w.accepts.ensures.described e ts follows).1 described)
+      | else-run-from-via-else-run-from w ↦ λ from e ts follows described. omega (arith, w.if-run-from.false, from)
+    ])
 
 pub returns-clause-among : goal.returns-clause-among
 returns-clause-among c = λ numbers ts s.
-    let chosen = c.args.self.now.chosen in
-    subst (IsLeastOf chosen.set.now numbers ts c.args.from) (ap Some (sym c.number.ensures))
-    (IsLeastOf-at chosen.set.now chosen.numbers.items chosen.rising numbers s.some ts c.args.from c.in_ok-first.first c.in_ok-first.ensures.some c.in_ok-place.place
-    (c.in_ok-place.ensures.least numbers ts s))
+    let self = c.args.self.now in
+    none_accepts self.set.now self.runs.items numbers ts s.some s.runs self.rising c.args.from c.loop-run.run-index
+    (omega (arith, c.loop-run-test.false, ap length c.deref-run-items.ensures.value)) c.loop-run.invariant
 
 pub returns-clause-least : goal.returns-clause-least
-returns-clause-least c = λ ts s. returns-clause-among c c.args.self.now.chosen.numbers.items ts s
+returns-clause-least c = λ ts s. returns-clause-among c _ ts s
 
 pub returns-clause-all : goal.returns-clause-all
 returns-clause-all c = λ ts s others.
-    let chosen = c.args.self.now.chosen in
-    IsLeastDescribing-of chosen.set.now chosen.numbers.items ts c.args.from (Some c.number.result) (returns-clause-least c ts s) others
-
-pub returns-in_err-first-clause-among : goal.returns-in_err-first-clause-among
-returns-in_err-first-clause-among c = λ numbers ts s.
-    let chosen = c.args.self.now.chosen in
-    subst (IsLeastOf chosen.set.now numbers ts c.args.from) (sym c.from_residual.ensures)
-    (IsLeastOf-none chosen.set.now chosen.numbers.items chosen.rising numbers s.some ts c.args.from c.in_err-first.ensures.none)
-
-pub returns-in_err-first-clause-least : goal.returns-in_err-first-clause-least
-returns-in_err-first-clause-least c = λ ts s. returns-in_err-first-clause-among c c.args.self.now.chosen.numbers.items ts s
-
-pub returns-in_err-first-clause-all : goal.returns-in_err-first-clause-all
-returns-in_err-first-clause-all c = λ ts s others.
-    let chosen = c.args.self.now.chosen in
-    IsLeastDescribing-of chosen.set.now chosen.numbers.items ts c.args.from c.from_residual.result (returns-in_err-first-clause-least c ts s) others
-
-pub returns-in_err-place-clause-among : goal.returns-in_err-place-clause-among
-returns-in_err-place-clause-among c = λ numbers ts s.
-    let chosen = c.args.self.now.chosen in
-    subst (IsLeastOf chosen.set.now numbers ts c.args.from) (sym c.from_residual-in_err-place.ensures)
-    (IsLeastOf-none_at chosen.set.now chosen.numbers.items chosen.rising numbers s.some ts c.args.from c.in_ok-first.first c.in_ok-first.ensures.some
-    (c.in_err-place.ensures.least numbers ts s))
-
-pub returns-in_err-place-clause-least : goal.returns-in_err-place-clause-least
-returns-in_err-place-clause-least c = λ ts s. returns-in_err-place-clause-among c c.args.self.now.chosen.numbers.items ts s
-
-pub returns-in_err-place-clause-all : goal.returns-in_err-place-clause-all
-returns-in_err-place-clause-all c = λ ts s others.
-    let chosen = c.args.self.now.chosen in
-    IsLeastDescribing-of chosen.set.now chosen.numbers.items ts c.args.from c.from_residual-in_err-place.result
-    (returns-in_err-place-clause-least c ts s) others
+    IsLeastDescribing-of c.args.self.now.set.now _ ts c.args.from None (returns-clause-least c ts s) others

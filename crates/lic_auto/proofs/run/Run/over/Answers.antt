@@ -1,24 +1,28 @@
-use Rattle.std.proofs.Common.{◌≡◌, length, sym, ap, ◌∙◌, subst, arith}
+use Rattle.std.proofs.Common.{◌≡◌, ◌∷◌, ◌++◌, [], Some, get_or, take, sym, ap, ◌∙◌, subst}
+use Rattle.std.proofs.lemmas.List.{map-append, take_more}
 use Rattle.std.specs.List.{slice_get}
-use Rattle.lic_marks.specs.Cores.{HasWordsOf}
-use Rattle.lic_marks.specs.Nodes.{core_of}
-use Rattle.lic_auto.specs.Sets.{words_of}
-use Rattle.lic_auto.specs.Directions.{read}
-use Rattle.lic_auto.specs.Choices.{templates_of}
-use Rattle.lic_auto.specs.Walks.{HaveTrees}
-use Rattle.lic_auto.proofs.Walking.{HaveTrees-push}
+use Rattle.lic_set.specs.Sets.{Known, words_of}
+use Rattle.lic_auto.specs.Walks.{AreFollowing, AreOver, Follows, IsOver, run_numbers}
+use Rattle.lic_auto.specs.declared.walk.TemplateRun.{TemplateRun}
+use Rattle.lic_auto.proofs.Following.{AreOver-push, AreFollowing-push}
 use Rattle.lic_auto.proofs.run.Run.over.Goals as goal
 
-pub loop-k-preserved : goal.loop-k-preserved
-loop-k-preserved c =
-    let set = templates_of c.in_ok-chosen.chosen in
-    let runs = c.loop-k.runs.items in
-    let place : c.loop-k.k ≡ length runs = omega (arith, c.loop-k.invariant.count, c.loop-k.runs.ok) in
+pub loop-number-preserved : goal.loop-number-preserved
+loop-number-preserved c =
+    let set = c.args.set.now in
+    let runs = c.loop-number.runs.items in
+    let run = c.in_ok-run.run' in
+    let i = c.loop-number.number-index in
+    let numbers = c.deref-number-items.result.now in
+    let grown = c.in_ok-push.ensures.items in
+    let is : run.number ≡ get_or numbers i 0 = c.in_ok-run.ensures.number in
     record {
-      count = omega (arith, c.in_ok-push.ensures.len, c.loop-k.invariant.count);
-      trees = subst (HaveTrees set) (sym c.in_ok-push.ensures.items)
-          (HaveTrees-push set runs c.in_ok-run.run' c.loop-k.invariant.trees
-          (λ known is. subst (λ t. ∥ HasWordsOf (core_of t) (words_of known) ∥₁) (sym c.in_ok-run.ensures.tree)
-          (subst (λ d. ∥ HasWordsOf (core_of c.tree.result.now) (read d (words_of known)) ∥₁) c.in_ok-chosen.ensures.direction
-          (c.tree.ensures.words known (ap (slice_get set) place ∙ is)))));
+      numbers = ap run_numbers grown ∙ map-append (λ (one : TemplateRun). one.number) runs (run ∷ [])
+          ∙ ap (λ xs. xs ++ run.number ∷ []) c.loop-number.invariant.numbers ∙ ap (λ n. take i numbers ++ n ∷ []) is ∙ sym (take_more numbers i 0 c.loop-number-test.true);
+      over = subst (AreOver set) (sym grown)
+          (AreOver-push set runs run c.loop-number.invariant.over
+          (subst (λ n. (known : Known) → slice_get set n ≡ Some known → IsOver run (words_of known)) (sym is) c.in_ok-run.ensures.over));
+      follow = subst (λ rs. AreFollowing set rs (run_numbers rs) []) (sym grown)
+          (AreFollowing-push set runs run [] c.loop-number.invariant.follow
+          (subst (λ n. (known : Known) → slice_get set n ≡ Some known → Follows run (words_of known) []) (sym is) c.in_ok-run.ensures.follows));
     }

@@ -1,10 +1,10 @@
-use Rattle.std.proofs.Common.{◌≡◌, vec_len}
-use Rattle.lic_auto.specs.Choices.{templates_of}
-use Rattle.lic_auto.specs.Walks.{HaveTrees}
+use Rattle.std.proofs.Common.{◌≡◌, take, []}
+use Rattle.lic_auto.specs.Walks.{AreFollowing, AreOver, run_numbers}
 use Rattle.lic_auto.proofs.run.Run.over.Given as goal
 
-abbrev pub invariant-loop-k : goal.invariant-loop-k
-invariant-loop-k l = record {
-  count : vec_len l.runs ≡ l.k;
-  trees : HaveTrees (templates_of l.chosen) l.runs.items;
+abbrev pub invariant-loop-number : goal.invariant-loop-number
+invariant-loop-number l = record {
+  numbers : run_numbers l.runs.items ≡ take l.number-index l.number-items;
+  over : AreOver l.set l.runs.items;
+  follow : AreFollowing l.set l.runs.items (run_numbers l.runs.items) [];
 }

@@ -1,4 +1,5 @@
 use Rattle.std.proofs.Common.{◌≡◌, ◌+◌, refl, sym, subst, arith}
+use Rattle.lic_auto.specs.Runs.{numbers_of}
 use Rattle.lic_find.specs.Rest.{place_of}
 use Rattle.lic_find.specs.Starts.{starts_in}
 use Rattle.lic_find.specs.Walks.{letters_up_to, IsNextOfRange}
@@ -10,7 +11,7 @@ returns-in_err-from c = λ come.
     let f = c.args.self.now in
     let tokens = f.text.now.tokens in
     let ends : c.in_ok-last.last + 1 ≡ f.end = omega (arith, c.in_ok-last.ensures) in
-    subst (IsNextOfRange f.set.now tokens (place_of f) f.first f.end) (sym c.from_residual-in_err-from.ensures)
+    subst (IsNextOfRange f.set.now tokens (numbers_of f.run) (place_of f) f.first f.end) (sym c.from_residual-in_err-from.ensures)
     (NoneHasRange-before f.set.now tokens (place_of f) f.run (starts_in f.starts) f.first f.end come c.in_ok-last.last ends c.in_err-from.ensures.none)
 
 pub returns-in_err-template : goal.returns-in_err-template
@@ -18,10 +19,10 @@ returns-in_err-template c = λ come.
     let f = c.args.self.now in
     let tokens = f.text.now.tokens in
     let ends : c.in_ok-last.last + 1 ≡ f.end = omega (arith, c.in_ok-last.ensures) in
-    subst (IsNextOfRange f.set.now tokens (place_of f) f.first f.end) (sym c.from_residual-in_err-template.ensures)
+    subst (IsNextOfRange f.set.now tokens (numbers_of f.run) (place_of f) f.first f.end) (sym c.from_residual-in_err-template.ensures)
     (NoneHasRange-least f.set.now tokens (place_of f) f.run
     (starts_in f.starts) f.first f.end come c.in_ok-last.last ends c.in_ok-from.from c.in_ok-from.ensures.some
-    (c.in_err-template.ensures.least (letters_up_to tokens f.first f.end) come.stands))
+    (c.in_err-template.ensures.among come.numbers (letters_up_to tokens f.first f.end) come.stands))
 
 pub returns : goal.returns
 returns c = λ come.
@@ -32,11 +33,5 @@ returns c = λ come.
       ends,
       IsNext-least f.set.now tokens (place_of f) f.run
           (starts_in f.starts) f.first f.end come c.in_ok-last.last ends c.in_ok-from.from c.in_ok-from.ensures.some
-          c.in_ok-template.template (c.in_ok-template.ensures.least (letters_up_to tokens f.first f.end) come.stands),
+          c.in_ok-template.template (c.in_ok-template.ensures.among come.numbers (letters_up_to tokens f.first f.end) come.stands),
     )
-
-pub returns-then-self : goal.returns-then-self
-returns-then-self c = λ come t m after here ends.
-    let order = m.order in
-    let same = c.if-self.true in
-    omega arith

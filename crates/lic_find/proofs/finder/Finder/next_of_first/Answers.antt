@@ -1,18 +1,18 @@
-use Rattle.std.proofs.Common.{◌+◌, ◌<◌, ◌≤◌, ◌∷◌, ◌++◌, [], length, get_or, Some, sym, ◌∙◌, subst, arith}
+use Rattle.std.proofs.Common.{◌+◌, ◌*◌, ◌^◌, ◌-◌, ◌<◌, ◌≤◌, ◌∷◌, ◌++◌, [], length, get_or, Some, sym, ap, ◌∙◌, subst, arith}
 use Rattle.std.proofs.Math.Bridge.{le_prop}
 use Rattle.std.proofs.Math.Logic.{∥∥₁_elim, ∥∥₁_map}
 use Rattle.std.proofs.lemmas.Grind.{not_there}
 use Rattle.std.specs.Str.{chars}
 use Rattle.lic_norm.specs.Tokens.{TokenValue}
 use Rattle.lic_words.specs.Letters.{letters_in}
-use Rattle.lic_auto.specs.Runs.{StandsFor, steps_of}
-use Rattle.lic_find.specs.Firsts.{firsts_in}
-use Rattle.lic_find.specs.Listing.{matches_behind}
+use Rattle.lic_auto.specs.Runs.{StandsAmong, numbers_of, steps_of}
+use Rattle.lic_find.specs.Counts.{AreCounted}
+use Rattle.lic_find.specs.Listing.{matches_among}
 use Rattle.lic_find.specs.Rest.{place_of}
 use Rattle.lic_find.specs.Starts.{starts_in}
 use Rattle.lic_find.specs.Walks.{letters_up_to}
 use Rattle.lic_find.proofs.LetterLemmas.{letters_of-drop, letters_of-drop_le}
-use Rattle.lic_find.proofs.Matching.{matches_behind-next, same_list}
+use Rattle.lic_find.proofs.Matching.{matches_among-next, same_list}
 use Rattle.lic_find.proofs.StepLemmas.{AreCounted-push}
 use Rattle.lic_find.proofs.Walking.{HasCome-found, HasCome-push, AllEndBy-at_end, AllEndBy-dead, NoneBegins-ended}
 use Rattle.lic_find.proofs.finder.Finder.next_of_first.Goals as goal
@@ -24,8 +24,7 @@ invariant_of-self c =
     record {
       come = ∥∥₁_map f.come (λ come.
           let next = c.in-Some.ensures come in
-          HasCome-found f.set.now f.text.now.tokens (place_of f) f.run (starts_in f.starts) f.first f.end come c.in-Some.triple next.2.matches next.0 next.1
-          next.2.after);
+          HasCome-found f.set.now f.text.now.tokens (place_of f) f.run (starts_in f.starts) f.first f.end come c.in-Some.triple next.0 next.1);
       order = f.order;
       counted = f.counted;
     }
@@ -37,8 +36,8 @@ returns-in-Some-clause-some c =
     let tokens = f.text.now.tokens in
     let triple = c.in-Some.triple in
     sym c.loop-triple.invariant.rest
-    ∙ same_list (matches_behind set tokens (place_of f)) (triple ∷ matches_behind set tokens (Some triple))
-    (∥∥₁_map f.come (λ come. matches_behind-next set tokens (λ after. c.matches_are_listed.ensures set tokens after)
+    ∙ same_list (matches_among set tokens (numbers_of f.run) (place_of f)) (triple ∷ matches_among set tokens (numbers_of f.run) (Some triple))
+    (∥∥₁_map f.come (λ come. matches_among-next set tokens (λ after. c.matches_are_listed.ensures set tokens after) (numbers_of f.run)
     (place_of f) triple (c.in-Some.ensures come).2))
 
 pub returns-in-Some-clause-most : goal.returns-in-Some-clause-most
@@ -60,7 +59,7 @@ returns-then-self-len-clause-ended c = λ t m here.
       | then-self-len-via-else-self-len+then-dead w ↦
           ∥∥₁_elim f.come le_prop (λ come.
           AllEndBy-dead set tokens (place_of f) f.run (starts_in f.starts) f.first f.end come
-          (w.dead.ensures.none w.if-dead.true) t m here)
+          (w.dead.ensures.among w.if-dead.true) t m here)
     ]
 
 pub returns-then-self-len-clause-none : goal.returns-then-self-len-clause-none
@@ -89,19 +88,15 @@ invariant_of-self-in-loop-triple c =
           HasCome-push f.set.now tokens (place_of f) f.run
           (starts_in f.starts) f.first f.end come c.push.new.self token
           (c.in_default.ensures come) room c.push.ensures.set c.push.ensures.numbers
-          (subst (λ text. StandsFor c.push.new.self (letters_up_to tokens f.first f.end ++ chars text ∷ [])) text
-          (c.push.ensures.stands (letters_up_to tokens f.first f.end) come.stands)));
+          (subst (λ text. StandsAmong c.push.new.self come.numbers (letters_up_to tokens f.first f.end ++ chars text ∷ [])) text
+          (c.push.ensures.among come.numbers (letters_up_to tokens f.first f.end) come.stands)));
       order = let order = f.order in omega arith;
-      counted = AreCounted-push f.set.now tokens f.began f.noting (steps_of f.run + f.passed) f.first f.end (firsts_in (starts_in f.starts)) f.counted token
-          (steps_of c.push.new.self + f.passed) f.order room (let grows = c.push.ensures.never_fall in omega arith)
-          (let most : steps_of c.push.new.self ≤ steps_of f.run + letters_in (chars (get_or tokens f.end token).text) =
-          subst (λ text. steps_of c.push.new.self ≤ steps_of f.run + letters_in (chars text)) text c.push.ensures.most in
-          omega arith)
-          (λ bounded.
-          let least : steps_of f.run + letters_in (chars (get_or tokens f.end token).text) ≤ steps_of c.push.new.self =
-          subst (λ text. steps_of f.run + letters_in (chars text) ≤ steps_of c.push.new.self) text
-          (c.push.ensures.least (sym c.dead.ensures.value ∙ c.if-dead.false) (omega arith)) in
-          omega arith);
+      counted = subst (λ ns. AreCounted f.set.now tokens ns f.began f.noting (steps_of c.push.new.self) f.first (f.end + 1)) (sym c.push.ensures.numbers)
+          (AreCounted-push f.set.now tokens (numbers_of f.run) f.began f.noting (steps_of f.run) f.first f.end f.counted token
+          (steps_of c.push.new.self) f.order room c.push.ensures.never_fall
+          (subst (λ text. steps_of c.push.new.self ≤ steps_of f.run + 2 * letters_in (chars text)) text c.push.ensures.most)
+          (subst (λ text. steps_of c.push.new.self < 2 ^ 64 - 1 → steps_of f.run + letters_in (chars text) ≤ steps_of c.push.new.self) text
+          (c.push.ensures.least (sym c.dead.ensures.value ∙ c.if-dead.false))));
     }
 
 pub loop-triple-preserved : goal.loop-triple-preserved
@@ -111,22 +106,23 @@ loop-triple-preserved c =
     let inv = c.loop-triple.invariant in
     let token : TokenValue = record { text = c.token.result.text.now; span = c.token.result.span } in
     let room : f.end < length tokens = omega arith in
-    let most : steps_of c.push.new.self ≤ steps_of f.run + letters_in (chars (get_or tokens f.end token).text) =
-    subst (λ text. steps_of c.push.new.self ≤ steps_of f.run + letters_in (chars text)) (c.token.ensures.text token) c.push.ensures.most in
+    let most : steps_of c.push.new.self ≤ steps_of f.run + 2 * letters_in (chars (get_or tokens f.end token).text) =
+    subst (λ text. steps_of c.push.new.self ≤ steps_of f.run + 2 * letters_in (chars text)) (c.token.ensures.text token) c.push.ensures.most in
     let left = letters_of-drop tokens f.end token room in
     let before = inv.most in
     let fall = inv.never_fall in
     let grows = c.push.ensures.never_fall in
     record {
-      rest = inv.rest;
+      rest = ap (λ ns. matches_among f.set.now tokens ns (place_of f)) c.push.ensures.numbers ∙ inv.rest;
       given = inv.given;
       same = record {
         set = inv.same.set;
         text = inv.same.text;
+        numbers = c.push.ensures.numbers ∙ inv.same.numbers;
         began = inv.same.began;
-        starts = inv.same.starts;
+        starts =
+            inv.same.starts;
         noting = inv.same.noting;
-        passed = inv.same.passed;
         first = inv.same.first;
       };
       never_fall = omega arith;

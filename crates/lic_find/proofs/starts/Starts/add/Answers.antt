@@ -1,42 +1,31 @@
-use Rattle.std.proofs.Common.{◌≡◌, ◌∷◌, [], inl, inr, refl, ap, ◌∙◌}
-use Rattle.std.proofs.Math.ListN.{set}
-use Rattle.std.proofs.lemmas.Option.{get_or_from_slice_get}
-use Rattle.std.proofs.lemmas.Result.{on_ok_weaker}
-use Rattle.lic_find.specs.Ends.{matches_from}
+use Rattle.std.proofs.Common.{◌≡◌, ◌<◌, ◌≤◌, ◌∷◌, ◌++◌, [], ℕ, List, length, nat_le, reverse, refl, sym, ap, ◌∙◌}
+use Rattle.std.proofs.lemmas.Bool.{cond-true, cond-false, le-leb, lt-leb}
 use Rattle.lic_find.specs.Firsts.{noted_at}
-use Rattle.lic_find.specs.Starts.{starts_in}
-use Rattle.lic_find.specs.declared.starts.Firsts.{Firsts}
-use Rattle.lic_find.proofs.StartLemmas.{noted_of, noted_of-joined}
+use Rattle.lic_find.specs.Starts.{starts_in, noted_in, few_of}
+use Rattle.lic_find.specs.declared.starts.Entry.{Entry}
+use Rattle.lic_find.proofs.StartLemmas.{noted_in-more}
 use Rattle.lic_find.proofs.starts.Starts.add.Goals as goal
+use Rattle.lic_find.proofs.starts.Starts.add.Goals.{then-numbers-le4, else-numbers-le4}
 
-pub returns-in-Some : goal.returns-in-Some
-unfolding starts_in
-returns-in-Some c =
-    let self = c.args.self.now in
-    let rows = self.rows.items in
-    let ends = self.ends.items in
-    let place = c.in-Some.place in
-    let few = c.args.ends.now in
-    let goes = c.in-Some.ensures in
-    let row = goes.row in
-    let read : Firsts = c.index_mut.result.now in
-    let there : read ≡ row = c.index_mut.ensures.value ∙ get_or_from_slice_get rows place row read goes.there in (
-      noted_at c.args.first (matches_from c.args.first few),
-      inl refl,
-      ap (λ (one : Firsts). noted_of ends (set rows place (record one { least = c.args.first }))) there
-          ∙ noted_of-joined ends rows row place goes.last goes.there self.within c.args.first few goes.behind goes.whole goes.same,
-    )
+few : (numbers : List ℕ) → length numbers ≤ 4 → numbers ≡ few_of numbers
+few numbers h = sym (cond-true (nat_le (length numbers) 4) numbers [] (le-leb (length numbers) 4 h))
 
-pub returns-then-has_room : goal.returns-then-has_room
-unfolding starts_in
-returns-then-has_room c =
-    on_ok_weaker c.add_row.result
-    (λ (now : starts_in c.add_row.new.self ≡ noted_at c.args.first (matches_from c.args.first c.args.ends.now) ∷ starts_in c.args.self.now).
-    (noted_at c.args.first (matches_from c.args.first c.args.ends.now), inl refl, now)) c.add_row.ensures
+many : (numbers : List ℕ) → 4 < length numbers → [] ≡ few_of numbers
+many numbers h = sym (cond-false (nat_le (length numbers) 4) numbers [] (lt-leb (length numbers) 4 h))
 
-pub returns : goal.returns
+pub returns-clause-noted : goal.returns-clause-noted
 unfolding starts_in
-returns c =
-    on_ok_weaker c.add_row-2.result
-    (λ (now : starts_in c.add_row-2.new.self ≡ noted_at c.args.first [] ∷ starts_in c.args.self.now).
-    (noted_at c.args.first [], inr refl, now)) c.add_row-2.ensures
+returns-clause-noted c =
+    let numbers = c.args.numbers.now in
+    let kept = c.if-numbers-le4.few.now in
+    let entries = c.args.self.now.entries.items in
+    let is : kept ≡ few_of numbers =
+    elim c.if-numbers-le4.branch [
+      | then-numbers-le4 w ↦ ap (λ b. b.now) w.few-is ∙ few numbers w.if-numbers-le4.true
+      | else-numbers-le4 w ↦ ap (λ b. b.now) w.few-is ∙ many numbers w.if-numbers-le4.false
+    ] in
+    let one : Entry = record { first = c.args.first; count = length kept } in
+    ap (λ l. noted_in (reverse l) c.extend_from_slice.new.self.items) c.in_ok-push.ensures.items
+    ∙ ap (λ l. noted_in (reverse (entries ++ one ∷ [])) l) c.in_ok-extend_from_slice.ensures.items
+    ∙ noted_in-more entries c.args.self.now.numbers.items kept one refl
+    ∙ ap (λ l. noted_at c.args.first l ∷ noted_in (reverse entries) c.args.self.now.numbers.items) is

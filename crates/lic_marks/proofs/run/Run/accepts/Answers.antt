@@ -1,12 +1,11 @@
-use Rattle.std.proofs.Common.{◌≡◌, not, Bool, true, false, Some, None, refl, subst}
+use Rattle.std.proofs.Common.{◌≡◌, not, Bool, true, false, [], ◌∷◌, inl, refl}
+use Rattle.lic_words.specs.Words.{blanks}
 use Rattle.lic_words.specs.Spelling.{gapped}
 use Rattle.lic_marks.specs.Cores.{WordsOf}
 use Rattle.lic_marks.specs.Nodes.{core_of}
-use Rattle.lic_marks.specs.Standing.{After}
-use Rattle.lic_marks.specs.Runs.{HaveLeft}
 use Rattle.lic_marks.proofs.Cuts.{and_left, and_right, and_both}
-use Rattle.lic_marks.proofs.Standing.{After-spells}
-use Rattle.lic_marks.proofs.ThreadRows.{none_end}
+use Rattle.lic_marks.proofs.Standing.{After-spells, spells-After}
+use Rattle.lic_marks.proofs.StateLemmas.{one_list}
 use Rattle.lic_marks.proofs.run.Run.accepts.Goals as goal
 
 not_true : (b : Bool) → not b ≡ true → b ≡ true → ⊥
@@ -17,32 +16,21 @@ true_not : (b : Bool) → (b ≡ true → ⊥) → not b ≡ true
 true_not true h = absurd (h refl)
 true_not false h = refl
 
-pub returns-in-Some : goal.returns-in-Some
-returns-in-Some c = λ e ts s.
-    let run = c.args.self.now in
-    let r = core_of run.tree.now in
-    let have : HaveLeft r run.state (Some c.in-Some.field-0) (After (WordsOf r) (gapped ts)) =
-    subst (λ threads. HaveLeft r run.state threads (After (WordsOf r) (gapped ts))) c.in-Some.is s.taken in (
-      λ h. absurd (let never : false ≡ true = h in cc),
-      λ d. absurd (
-          let end = After-spells (gapped ts) (WordsOf r) d.1 ((s.words d.1).1 d.2) d.3 in
-          none_end r c.in-Some.field-0 have.1 end.0 (have.2.complete _ end.1)),
-    )
-
-pub returns-in-None : goal.returns-in-None
-returns-in-None c = λ e ts s.
-    let run = c.args.self.now in
-    let r = core_of run.tree.now in
-    let have : HaveLeft r run.state None (After (WordsOf r) (gapped ts)) =
-    subst (λ threads. HaveLeft r run.state threads (After (WordsOf r) (gapped ts))) c.in-None.is s.taken in
-    let spelled = c.accepts.ensures.one (gapped ts) have in (
+pub returns : goal.returns
+returns c = λ e ts s.
+    let r = core_of c.args.self.now.tree in
+    let is_empty = c.args.self.now.is_empty in
+    let is_spelled = c.accepts-is_spelled.result in
+    let spelled = c.accepts-is_spelled.ensures (gapped ts ∷ []) s.taken in (
       λ h.
-          let word = spelled.0 (and_right (not run.is_empty) c.accepts.result h) in (
-            λ none. not_true run.is_empty (and_left (not run.is_empty) c.accepts.result h) (s.empty.1 none),
+          let some = spelled.0 (and_right (not is_empty) is_spelled h) in
+          let word = spells-After (gapped ts) (WordsOf r) some.0 (one_list (WordsOf r) (gapped ts) (blanks some.0) some.1) in (
+            λ none. not_true is_empty (and_left (not is_empty) is_spelled h) (s.empty.1 none),
             word.0,
             (s.words word.0).0 word.1,
             word.2,
           ),
-      λ h. and_both (not run.is_empty) c.accepts.result (true_not run.is_empty (λ none. h.0 (s.empty.0 none)))
-          (spelled.1 (h.1, (s.words h.1).1 h.2, h.3)),
+      λ h.
+          let some = After-spells (gapped ts) (WordsOf r) h.1 ((s.words h.1).1 h.2) h.3 in
+          and_both (not is_empty) is_spelled (true_not is_empty (λ none. h.0 (s.empty.0 none))) (spelled.1 (some.0, inl some.1)),
     )

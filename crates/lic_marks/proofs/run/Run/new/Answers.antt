@@ -1,4 +1,4 @@
-use Rattle.std.proofs.Common.{[], refl, arith}
+use Rattle.std.proofs.Common.{[], ◌∷◌, refl}
 use Rattle.lic_marks.specs.Nodes.{core_of}
 use Rattle.lic_marks.proofs.run.Run.new.Goals as goal
 
@@ -7,14 +7,5 @@ returns-clause-stands c = λ e words. record {
   words = words;
   empty = (λ _. refl, λ _. refl);
   last = refl;
-  taken = c.gap.ensures.taken [] (c.in_ok-state.ensures.taken (core_of c.args.tree.now));
-}
-
-pub invariant_of-result : goal.invariant_of-result
-invariant_of-result c = record {
-  measured = c.requires;
-  fits = omega (arith, c.gap.ensures.room, c.in_ok-state.ensures.room);
-  «open» = c.gap.ensures.open;
-  stretched = c.none-stretch.ensures (core_of c.args.tree.now);
-  known = c.in_ok-knowledge.ensures;
+  taken = c.gap.ensures.taken ([] ∷ []) (c.in_ok-state.ensures.taken (core_of c.args.tree));
 }

@@ -1,4 +1,4 @@
-use Rattle.std.proofs.Common.{[], refl}
+use Rattle.std.proofs.Common.{[], ◌∷◌, refl}
 use Rattle.lic_marks.specs.Nodes.{core_of}
 use Rattle.lic_marks.proofs.run.Run.reset.Goals as goal
 
@@ -7,5 +7,5 @@ returns-clause-stands c = λ e words. record {
   words = words;
   empty = (λ _. refl, λ _. refl);
   last = refl;
-  taken = c.gap.ensures.taken [] (c.begin.ensures.taken (core_of c.args.self.now.tree.now));
+  taken = c.gap.ensures.taken ([] ∷ []) (c.begin.ensures.taken (core_of c.args.self.now.tree));
 }

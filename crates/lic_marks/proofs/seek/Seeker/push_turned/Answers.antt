@@ -1,24 +1,17 @@
-use Rattle.std.proofs.Common.{◌≡◌, ℕ, List, [], ◌∷◌, ◌++◌, ◌⊎◌, inl, inr, true, false, length, reverse, refl, sym, ap, ◌∙◌, subst, arith}
+use Rattle.std.proofs.Common.{◌≡◌, ℕ, List, [], ◌∷◌, ◌++◌, true, length, reverse, refl, sym, ap, ◌∙◌, subst, arith}
 use Rattle.std.specs.Str.{chars}
-use Rattle.lic_words.specs.Words.{Word}
 use Rattle.lic_words.specs.Letters.{letters_in}
 use Rattle.lic_words.specs.Spelling.{Gap, free, gapped_from, last_letter}
-use Rattle.lic_words.specs.Reading.{gapped_letter, turned_last_in, turned_letters_left}
+use Rattle.lic_words.specs.Reading.{gapped_letter, turned_letters_left}
 use Rattle.lic_words.proofs.Counts.{length-gapped_from, letters_in-reverse}
 use Rattle.lic_marks.specs.Nodes.{core_of}
 use Rattle.lic_marks.specs.Cores.{WordsOf}
 use Rattle.lic_marks.specs.Standing.{AfterAny, each_with}
+use Rattle.lic_marks.specs.Seeks.{ends_of, AllEndWith}
+use Rattle.lic_marks.proofs.StateLemmas.{LeadsSoFar-same}
 use Rattle.lic_marks.specs.States.{HasTakenAny}
-use Rattle.lic_marks.specs.Alone.{StandsFor}
-use Rattle.lic_marks.specs.Seeks.{GoOnAsEnds}
-use Rattle.lic_marks.proofs.Seeking.{first_apart, last_letter-own, with_token, goes_on, enters, passed, token_entered, known_last}
-use Rattle.lic_marks.proofs.StateLemmas.{none_of}
+use Rattle.lic_marks.proofs.Seeking.{first_apart, last_letter-own, with_token, enters, ends_more, more_ends, last_more}
 use Rattle.lic_marks.proofs.seek.Seeker.push_turned.Goals as goal
-use Rattle.lic_marks.proofs.seek.Seeker.push_turned.Goals.{then-may_begin, else-may_begin}
-
-pub returns-then-is_dead-clause-stands : goal.returns-then-is_dead-clause-stands
-returns-then-is_dead-clause-stands c = λ entered e ts s begins none.
-    c.is_dead.ensures.skips entered e ts (reverse (chars c.args.token.now)) s c.if-is_dead.true (none c.if-not-may_begin.true)
 
 -- a token has letters
 pub returns-in_default-clause-stands : goal.returns-in_default-clause-stands
@@ -35,46 +28,21 @@ enter-requires-clause-apart c =
     (sym c.new-letters.ensures.letters ∙ c.in-Some.ensures.steps.first) c.in-Some.letter.is_apart c.in-Some.letter.are_words refl
 
 pub returns-clause-stands : goal.returns-clause-stands
-returns-clause-stands c = λ entered e ts given begins none.
-    let self = c.put_back.new.self in
-    let r = core_of self.tree.now in
-    let s = c.put_back.ensures.stands entered e ts given in
-    let before : HasTakenAny r self.state s.lists = subst (λ l. StandsFor r l self.state s.lists) c.put_back.ensures.none s.taken in
-    let ends : GoOnAsEnds entered e r c.args.self.now.last s.lists ts = subst (λ l. GoOnAsEnds entered e r l s.lists ts) c.put_back.ensures.last s.ends in
+returns-clause-stands c = λ e ts s.
+    let r = core_of c.args.self.now.tree in
     let last = c.args.self.now.last in
     let t : List ℕ = reverse (chars c.args.token.now) in
     let p : Gap × ℕ = gapped_letter c.in-Some.letter in
     let rest : List (Gap × ℕ) = turned_letters_left c.next.new.self in
     let split : gapped_from last true t ≡ p ∷ rest = sym c.new-letters.ensures.letters ∙ c.in-Some.ensures.steps.first in
-    let right : ℕ = last_letter last t in
-    let step : turned_last_in c.next.new.self ≡ right = c.in-Some.ensures.steps.last ∙ c.new-letters.ensures.last in
-    let known : (lists : List (List (Gap × ℕ))) → HasTakenAny r c.rest_of_token-self.new.self lists
-    → (c.rest_of_token-self.result ≡ right) ⊎ ((v : Word) → AfterAny (WordsOf r) lists v → ⊥) = λ lists taken.
-    elim c.rest_of_token-self.ensures.last [
-      | inl same ↦ inl (same ∙ step)
-      | inr none ↦ inr (none_of r _ (AfterAny (WordsOf r) lists) (none r) taken)
-    ] in
-    c.take_out.ensures.stands entered e (ts ++ t ∷ []) (elim c.if-may_begin.branch [
-      | then-may_begin w ↦
-          let lists = with_token true last t s.lists in
-          let taken : HasTakenAny r c.rest_of_token-self.new.self lists =
-          subst (HasTakenAny r c.rest_of_token-self.new.self) (enters last t p rest split s.lists)
-          ((rw w.self-is at c.rest_of_token-self.ensures.any) (((free, p.1) ∷ []) ∷ each_with (p ∷ []) s.lists) (w.enter.ensures.any s.lists before)) in
-          record {
-            words = s.words;
-            lists = lists;
-            taken = subst (λ l. StandsFor r l c.rest_of_token-self.new.self lists) (sym c.put_back.ensures.none) taken;
-            ends = known_last entered e r right _ lists (ts ++ t ∷ []) (token_entered entered e r last s.lists ts ends t (begins w.if-may_begin.true) (last_letter-own last t p rest split)) (known lists taken);
-          }
-      | else-may_begin w ↦
-          let lists = with_token false last t s.lists in
-          let taken : HasTakenAny r c.rest_of_token-self.new.self lists =
-          subst (HasTakenAny r c.rest_of_token-self.new.self) (goes_on last t p rest split s.lists)
-          ((rw w.self-is at c.rest_of_token-self.ensures.any) (each_with (p ∷ []) s.lists) (w.letter.ensures.any s.lists before)) in
-          record {
-            words = s.words;
-            lists = lists;
-            taken = subst (λ l. StandsFor r l c.rest_of_token-self.new.self lists) (sym c.put_back.ensures.none) taken;
-            ends = known_last entered e r right _ lists (ts ++ t ∷ []) (passed entered e r last s.lists ts ends t (none w.if-may_begin.false)) (known lists taken);
-          }
-    ])
+    let new_last : c.rest_of_token-self.result ≡ last_letter last t =
+    c.rest_of_token-self.ensures.last ∙ c.in-Some.ensures.steps.last ∙ c.new-letters.ensures.last in
+    let taken : HasTakenAny r c.rest_of_token-self.new.self (with_token last t (ends_of ts)) =
+    subst (HasTakenAny r c.rest_of_token-self.new.self) (enters last t p rest (ends_of ts) split)
+    (c.rest_of_token-self.ensures.taken (((free, p.1) ∷ []) ∷ each_with (p ∷ []) (ends_of ts)) (c.enter.ensures.taken (ends_of ts) s.taken)) in
+    record {
+      words = s.words;
+      taken = LeadsSoFar-same r _ _ _ _ (AfterAny (WordsOf r) (with_token last t (ends_of ts))) (AfterAny (WordsOf r) (ends_of (ts ++ t ∷ [])))
+          (λ v h. ends_more last t (WordsOf r) v ts s.last h) (λ v h. more_ends last t (WordsOf r) v ts s.last h) taken;
+      last = subst (λ l. AllEndWith l (ts ++ t ∷ [])) (sym new_last) (last_more last t (last_letter-own last t p rest split) ts s.last);
+    }

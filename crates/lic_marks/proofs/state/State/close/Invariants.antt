@@ -2,7 +2,7 @@ use Rattle.std.proofs.Common.{◌≡◌, ◌+◌, false, if◌then◌else◌}
 use Rattle.lic_marks.specs.Rows.{marks_of, unset_count}
 use Rattle.lic_marks.specs.Nodes.{core_of}
 use Rattle.lic_marks.specs.Deciding.{over_blanks}
-use Rattle.lic_marks.proofs.Closing.{GathersTo, LeadsOn}
+use Rattle.lic_marks.proofs.Closing.{GathersTo}
 use Rattle.lic_marks.proofs.state.State.close.Given as goal
 
 abbrev pub invariant-loop-grew : goal.invariant-loop-grew
@@ -10,10 +10,8 @@ invariant-loop-grew l = record {
   gathers : GathersTo (core_of l.tree)
       (over_blanks (core_of l.tree) l.fn.self.entry (marks_of (core_of l.tree) l.fn.self.at_once))
       (marks_of (core_of l.tree) l.self.after_blanks);
-  front : LeadsOn (core_of l.tree) (marks_of (core_of l.tree) l.self.after_blanks) (marks_of (core_of l.tree) l.self.spare);
   at_once : l.self.at_once ≡ l.fn.self.at_once;
   entry : l.self.entry ≡ l.fn.self.entry;
-  memory : l.self.memory ≡ l.fn.self.memory;
   all : l.grew ≡ false → over_blanks (core_of l.tree) l.fn.self.entry (marks_of (core_of l.tree) l.fn.self.at_once)
       ≡ marks_of (core_of l.tree) l.self.after_blanks;
 }

@@ -1,6 +1,6 @@
-use Rattle.std.proofs.Common.{◌≡◌, ℕ, ◌+◌, ◌-◌, ◌/◌, ◌≤◌, ◌<◌, ◌∙◌, length, ap, sym, arith}
+use Rattle.std.proofs.Common.{◌≡◌, ◌∙◌, length, ap, sym, arith}
 use Rattle.std.proofs.lemmas.List.{with_items_is}
-use Rattle.lic_rows.proofs.Flags.{length-flags, flag-inside, flag-is, rest_kept, flags_kept}
+use Rattle.lic_rows.proofs.Flags.{length-flags, flag-inside, rest_kept, flags_kept}
 use Rattle.lic_rows.proofs.bits.Bits.clear.Goals as goal
 
 pub clear-requires-clause-room : goal.clear-requires-clause-room

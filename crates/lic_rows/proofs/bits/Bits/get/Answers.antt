@@ -1,5 +1,4 @@
-use Rattle.std.proofs.Common.{◌≡◌, ℕ, ◌+◌, ◌-◌, ◌/◌, ◌≤◌, ◌<◌, ◌∙◌, length, ap, sym, arith}
-use Rattle.std.proofs.lemmas.List.{with_items_is}
+use Rattle.std.proofs.Common.{◌≡◌, ◌∙◌, length, ap, sym, arith}
 use Rattle.lic_rows.specs.Bits.{has, flag_at}
 use Rattle.lic_rows.proofs.Flags.{length-flags, flag-inside}
 use Rattle.lic_rows.proofs.bits.Bits.get.Goals as goal

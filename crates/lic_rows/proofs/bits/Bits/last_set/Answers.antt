@@ -1,7 +1,5 @@
-use Rattle.std.proofs.Common.{◌≡◌, ℕ, ◌+◌, ◌-◌, ◌/◌, ◌≤◌, ◌<◌, ◌∙◌, ◌||◌, true, false, length, refl, ap, sym, arith}
-use Rattle.std.proofs.lemmas.List.{with_items_is}
-use Rattle.lic_rows.specs.Bits.{has, flag_at}
-use Rattle.lic_rows.proofs.Flags.{length-flags, flag-inside, flag-is, rest_kept, flags_kept, last_flag, none_flag}
+use Rattle.std.proofs.Common.{◌≡◌, ◌∙◌, length, ap, sym, arith}
+use Rattle.lic_rows.proofs.Flags.{length-flags, last_flag, none_flag}
 use Rattle.lic_rows.proofs.bits.Bits.last_set.Goals as goal
 
 pub last_set-requires-clause-room : goal.last_set-requires-clause-room

@@ -1,5 +1,4 @@
-use Rattle.std.proofs.Common.{◌≡◌, ℕ, ◌+◌, ◌-◌, ◌/◌, ◌≤◌, ◌<◌, ◌∙◌, length, ap, sym, arith}
-use Rattle.std.proofs.lemmas.List.{with_items_is}
+use Rattle.std.proofs.Common.{◌∙◌, length, ap, sym}
 use Rattle.lic_rows.proofs.Flags.{length-flags}
 use Rattle.lic_rows.proofs.bits.Bits.len.Goals as goal
 

@@ -1,7 +1,6 @@
-use Rattle.std.proofs.Common.{◌≡◌, ℕ, suc, ◌+◌, ◌-◌, ◌/◌, ◌≤◌, ◌<◌, ◌∙◌, length, ap, sym, arith}
+use Rattle.std.proofs.Common.{◌≡◌, suc, ◌∙◌, length, ap, sym, arith}
 use Rattle.std.proofs.lemmas.List.{with_items_is}
-use Rattle.lic_rows.proofs.Flags.{length-flags, flag-inside, flag-is, rest_kept, flags_kept}
-use Rattle.lic_rows.specs.Bits.{has, flag_at}
+use Rattle.lic_rows.proofs.Flags.{length-flags, flag-inside, rest_kept, flags_kept}
 use Rattle.lic_rows.proofs.bits.Bits.move_up.Goals as goal
 
 pub move_up-requires-clause-room : goal.move_up-requires-clause-room
@@ -29,11 +28,6 @@ returns-clause-kept c =
     (flags_kept c.self.inside.len c.self.inside.words.items c.move_up.new.row c.self.invariant.1 c.args.from c.args.to
     (omega (arith, size, c.requires.room)) kept)
 
-pub get-out-requires : goal.get-out-requires
-get-out-requires c =
-    let size : c.self.inside.len ≡ length c.args.self.now = sym (length-flags c.self.inside.len c.self.inside.words.items) ∙ ap length c.self.view_is in
-    omega (arith, size, c.requires.room, c.self.invariant.0, ap length c.deref.ensures.value)
-
 pub returns-clause-first : goal.returns-clause-first
 returns-clause-first c =
     let size : c.self.inside.len ≡ length c.args.self.now = sym (length-flags c.self.inside.len c.self.inside.words.items) ∙ ap length c.self.view_is in
@@ -48,10 +42,3 @@ returns-clause-rest c =
     rw (items, ← c.self.view_is) (λ k low high.
     flag-inside c.self.inside.len c.move_up.new.row (suc k) (omega (arith, size, c.requires.room, high)) ∙ rest k low high
     ∙ sym (flag-inside c.self.inside.len c.self.inside.words.items k (omega (arith, size, c.requires.room, high))))
-
-pub returns-clause-out : goal.returns-clause-out
-returns-clause-out c =
-    let size : c.self.inside.len ≡ length c.args.self.now = sym (length-flags c.self.inside.len c.self.inside.words.items) ∙ ap length c.self.view_is in
-    c.get-out.ensures ∙ ap (λ row. has row (c.args.to - 1)) c.deref.ensures.value
-    ∙ sym (flag-inside c.self.inside.len c.self.inside.words.items (c.args.to - 1) (omega (arith, size, c.requires.order, c.requires.room)))
-    ∙ ap (λ row. flag_at row (c.args.to - 1)) c.self.view_is

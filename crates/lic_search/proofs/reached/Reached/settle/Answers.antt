@@ -11,11 +11,11 @@ use Rattle.lic_search.proofs.reached.Reached.settle.Goals.{In_ok-append}
 joined : (c : In_ok-append) (s : Taken) → spans_of c.append.new.self s ≡ reached_of c.args.self.now s
 joined c s = c.in_ok-append.ensures s ∙ ap₂ (λ x y. x ++ y) (c.in_ok-all.ensures s) (c.in_ok-copy.ensures s)
 
-pub least-requires : goal.least-requires
-least-requires c = λ s. subst (λ x. ArePlaced c.args.view.now x) (sym (joined c s)) (c.requires s)
+pub kept-requires : goal.kept-requires
+kept-requires c = λ s. subst (λ x. ArePlaced c.args.view.now x) (sym (joined c s)) (c.requires s)
 
 pub returns-clause-settled : goal.returns-clause-settled
 returns-clause-settled c =
-    tidy-copied c.args.view.now IsEmptyWord (reached_of c.args.self.now) (spans_of c.append.new.self) (spans_of c.in_ok-least.least)
+    tidy-copied c.args.keep c.args.view.now IsEmptyWord (reached_of c.args.self.now) (spans_of c.append.new.self) (spans_of c.in_ok-kept.kept)
     (λ s. c.in_ok-append.ensures s ∙ ap₂ (λ x y. x ++ y) (c.in_ok-all.ensures s) (c.in_ok-copy.ensures s))
-    c.in_ok-least.ensures
+    c.in_ok-kept.ensures

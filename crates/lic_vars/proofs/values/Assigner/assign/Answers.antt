@@ -1,5 +1,5 @@
 use Rattle.std.proofs.Common.{◌≡◌, map}
-use Rattle.lic_find.specs.Matches.{letters_between}
+use Rattle.lic_set.specs.Matches.{letters_between}
 use Rattle.lic_vars.specs.Cuts.{moves_of}
 use Rattle.lic_vars.specs.Moves.{moves}
 use Rattle.lic_vars.specs.Values.{nodes_of}

@@ -1,0 +1,3 @@
+//! Matches, handed on to the crates above.
+
+pub use lic_set::triple::Triple;

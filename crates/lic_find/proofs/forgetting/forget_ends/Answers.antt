@@ -1,8 +1,0 @@
-use Rattle.std.proofs.Common.{rules}
-use Rattle.std.proofs.lemmas.Fn.{filter_same}
-use Rattle.lic_find.specs.Trails.{is_before}
-use Rattle.lic_find.specs.declared.end.End.{End}
-use Rattle.lic_find.proofs.forgetting.forget_ends.Goals as goal
-
-pub returns : goal.returns
-returns c = filter_same _ (λ (e : End). is_before c.args.template c.args.end e.template e.last) _ (λ x b q h. (search rules, search rules)) _ _ c.retain.ensures.filtered

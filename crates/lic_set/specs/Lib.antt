@@ -1,0 +1,4 @@
+pub mod Sets
+pub mod Rising
+pub mod Matches
+pub mod Candidates

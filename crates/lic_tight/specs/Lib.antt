@@ -1,4 +1,0 @@
-pub mod TightMatches
-pub mod Searches
-pub mod Steps
-pub mod Walked
