@@ -3,7 +3,7 @@ use Rattle.std.proofs.Common.{◌≡◌, ◌⊎◌, ◌↔◌, ℕ, suc, ◌+◌
 use Rattle.std.specs.Prelude.{MatchOption, is_some}
 use Rattle.std.proofs.lemmas.Bool.{true≢false}
 use Rattle.std.proofs.Math.Seq.{drop-cons}
-use Rattle.std.proofs.lemmas.List.{drop_all, map-append, take_all, take_more}
+use Rattle.std.proofs.lemmas.List.{drop_all, get_or_default, map-append, take_all, take_more}
 use Rattle.lic_words.specs.Words.{Word, Power}
 use Rattle.lic_words.specs.Expressions.{Expression, Language, one}
 use Rattle.lic_ere.specs.Sets.{Brackets}
@@ -16,7 +16,7 @@ use Rattle.lic_norm.specs.Tokens.{TokenValue}
 use Rattle.lic_spans.specs.declared.span.PlaceSpan.{PlaceSpan}
 use Rattle.lic_search.specs.declared.ways.Ways.{Ways}
 use Rattle.lic_search.specs.Passing.{is_one, passes_of}
-use Rattle.lic_search.specs.Tidily.{IsTakenBack, IsTidyBack, IsTidyBackFrom, Taken, UpTo, spans_of}
+use Rattle.lic_search.specs.Tidily.{IsRepeated, IsTakenBack, IsTidyBack, IsTidyBackFrom, Taken, UpTo, spans_of}
 use Rattle.lic_search.specs.PlaceSets.{ArePlaced, Reaches}
 use Rattle.lic_places.specs.Reads.{Reads}
 use Rattle.lic_search.specs.Fresh.{AreFresh}
@@ -112,6 +112,44 @@ pub choice-item : (keep : Keep) (tokens : List TokenValue) (Ends : Taken → ℕ
 choice-item keep tokens Ends subs i e xs ys zs below is joined back other =
     choice-also keep tokens Ends subs i e xs ys zs below joined back
     (subst (λ x. IsTidyBackFrom keep tokens (Language (tree_words (tree_of x))) Ends ys) is other)
+
+-- two patterns in a row that are the same
+pub again : (subs : List Ere) (i j : ℕ) (x y : Ere) → i < length subs → i ≡ suc j → x ≡ get_or subs j x → y ≡ get_or subs i y →
+    tree_of x ≡ tree_of y → IsRepeated subs i
+again subs i j x y below next is-x is-y same =
+    (j, next, λ d. ap tree_of (get_or_default subs j d x (omega (arith, below, next)) ∙ sym is-x) ∙ same
+    ∙ ap tree_of (is-y ∙ get_or_default subs i y d below))
+
+-- a pattern that is the one before it once more adds no word
+pub choice-again : (keep : Keep) (tokens : List TokenValue) (Ends : Taken → ℕ → ℕ → Type 0) (subs : List Ere) (i : ℕ) (d : Ere) (xs : Taken → List PlaceSpan) →
+    i < length subs → IsRepeated subs i →
+    IsTidyBackFrom keep tokens (Language (choice_words (row (map tree_of (take i subs))))) Ends xs →
+    IsTidyBackFrom keep tokens (Language (choice_words (row (map tree_of (take (i + 1) subs))))) Ends xs
+choice-again keep tokens Ends subs i d xs below (j, next, same) =
+    subst (λ s. IsTidyBackFrom keep tokens (Language (choice_words (row (map tree_of (take i subs))))) Ends xs →
+    IsTidyBackFrom keep tokens (Language (choice_words (row s))) Ends xs) (sym parted)
+    (tidy-same keep tokens (Language (choice_words (row (map tree_of (take i subs)))))
+    (Language (choice_words (row (map tree_of (take i subs) ++ tree_of (get_or subs i d) ∷ [])))) Ends xs
+    (λ w has. (choice-more (map tree_of (take i subs)) (tree_of (get_or subs i d)) w).0 (inl has))
+    known)
+  where
+    j-below : j < length subs
+    j-below = omega (arith, next, below)
+    next-of : i ≡ j + 1
+    next-of = omega (arith, next)
+    parted : map tree_of (take (i + 1) subs) ≡ map tree_of (take i subs) ++ tree_of (get_or subs i d) ∷ []
+    parted = ap (map tree_of) (take_more subs i d below) ∙ map-append tree_of (take i subs) (get_or subs i d ∷ [])
+    before : map tree_of (take i subs) ≡ map tree_of (take j subs) ++ tree_of (get_or subs j d) ∷ []
+    before = ap (λ n. map tree_of (take n subs)) next-of ∙ ap (map tree_of) (take_more subs j d j-below)
+        ∙ map-append tree_of (take j subs) (get_or subs j d ∷ [])
+    known : (w : Word) → Language (choice_words (row (map tree_of (take i subs) ++ tree_of (get_or subs i d) ∷ []))) w →
+        Language (choice_words (row (map tree_of (take i subs)))) w
+    known w has = elim ((choice-more (map tree_of (take i subs)) (tree_of (get_or subs i d)) w).1 has) [
+      inl is ↦ is
+      | inr is ↦ subst (λ s. Language (choice_words (row s)) w) (sym before)
+        ((choice-more (map tree_of (take j subs)) (tree_of (get_or subs j d)) w).0
+        (inr (subst (λ t. Language (tree_words t) w) (sym (same d)) is)))
+    ]
 
 -- from the end on there is none
 pub row-none : (keep : Keep) (tokens : List TokenValue) (subs : List Ere) (i : ℕ) (xs : Taken → List PlaceSpan) → length subs ≤ i → ((s : Taken) → ArePlaced tokens (xs s)) →

@@ -1,6 +1,8 @@
 -- Going back over the words of a pattern in which no two blanks stand together: with each place what was taken last is kept.
-use Rattle.std.specs.Prelude.{◌≡◌, ◌⊎◌, ℕ, ◌+◌, ◌^◌, ◌≤◌, List, [], ◌∷◌, Option, Some, None}
+use Rattle.std.specs.Prelude.{◌≡◌, ◌⊎◌, ℕ, suc, ◌+◌, ◌^◌, ◌≤◌, List, [], ◌∷◌, Option, Some, None, slice_index_or}
 use Rattle.lic_words.specs.Words.{Word, Power, blank}
+use Rattle.lic_ere.specs.Trees.{tree_of}
+use Rattle.lic_ere.specs.declared.ere.Ere.{Ere}
 use Rattle.lic_norm.specs.Tokens.{TokenValue}
 use Rattle.lic_places.specs.Reads.{Reads}
 use Rattle.lic_spans.specs.declared.span.PlaceSpan.{PlaceSpan}
@@ -54,3 +56,8 @@ IsMore min (Some max) more = more + min ≡ max
 -- all spans lie in the text
 abbrev pub AreWays : List TokenValue → Ways → Type 0
 AreWays tokens ways = (s : Taken) → ArePlaced tokens (spans_of ways s)
+
+-- the pattern of this number is the one before it once more
+abbrev pub IsRepeated : List Ere → ℕ → Type 0
+IsRepeated subs number = (before : ℕ) × (number ≡ suc before)
+    × ((d : Ere) → tree_of (slice_index_or subs before d) ≡ tree_of (slice_index_or subs number d))

@@ -1,13 +1,13 @@
 //! Going back over a variable's pattern, by sets of places alone.
 
-ghost use Rattle.std.specs.Prelude.{◌≡◌, ◌≤◌, ◌∷◌, [], map, IfOk, MatchOption};
+ghost use Rattle.std.specs.Prelude.{◌≡◌, ◌<◌, ◌≤◌, ◌∷◌, [], map, length, IfOk, IsTrue, MatchOption};
 ghost use Rattle.lic_words.specs.Words.{Power};
 ghost use Rattle.lic_words.specs.Expressions.{Language, IsAtMost, repeat, tidy};
 ghost use Rattle.lic_markup.specs.Meaning.{tree_words, row_words, choice_words};
 ghost use Rattle.lic_ere.specs.Trees.{tree_of, row};
 ghost use Rattle.lic_search.specs.Backward.{IsBack};
 ghost use Rattle.lic_search.specs.PlaceSets.{ArePlaced};
-ghost use Rattle.lic_search.specs.Tidily.{AreWays, IsMore, IsTidyBack, UpTo, spans_of};
+ghost use Rattle.lic_search.specs.Tidily.{AreWays, IsMore, IsRepeated, IsTidyBack, UpTo, spans_of};
 
 use crate::keep::Keep;
 use crate::kept::kept;
@@ -92,13 +92,38 @@ fn over_choice(
 {
     let mut found = Ways::none(alloc);
     let mut most = MANY;
-    for sub in subs {
-        let more = over(alloc, view, keep, sub, ways.copy(alloc)?)?;
+    for number in 0..subs.len() {
+        if is_repeated(subs, number) {
+            continue;
+        }
+        let more = over(alloc, view, keep, &subs[number], ways.copy(alloc)?)?;
         found.append(more)?;
+        let are_many = found.longest() > most;
         found = kept_if_many(alloc, view, keep, found, most)?;
-        most = most.max(found.longest().saturating_mul(2));
+        if are_many {
+            most = most.max(found.longest().saturating_mul(2));
+        }
     }
     found.kept(alloc, view, keep)
+}
+
+// Whether a pattern is known to be the one before it once more.
+fn is_repeated(subs: &[Ere], number: usize) -> bool
+    requires { number < length subs.now }
+    ensures { IsTrue result → IsRepeated subs.now number }
+{
+    number > 0 && are_one_letter(&subs[number - 1], &subs[number])
+}
+
+// Whether two patterns are the same letter, or both nothing.
+fn are_one_letter(one: &Ere, other: &Ere) -> bool
+    ensures { IsTrue result → tree_of one.now ≡ tree_of other.now }
+{
+    match (one, other) {
+        (Ere::Empty, Ere::Empty) => true,
+        (Ere::Char(letter), Ere::Char(again)) => letter == again,
+        _ => false,
+    }
 }
 
 // How many spans may be found before those that are there twice go.

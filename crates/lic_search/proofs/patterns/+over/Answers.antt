@@ -1,12 +1,13 @@
 use Rattle.std.proofs.Common.{◌≡◌, suc, ◌+◌, ◌-◌, ◌<◌, length, map, drop, take, rules, ap, sym, refl, subst, ◌∙◌, arith}
 use Rattle.lic_words.specs.Expressions.{Language}
 use Rattle.lic_ere.specs.declared.ere.Ere.{the_lemmas}
+use Rattle.lic_ere.specs.declared.ere.Ere.TheVariants.{Empty}
 use Rattle.lic_ere.specs.Trees.{row, tree_of}
 use Rattle.lic_markup.specs.Meaning.{choice_words, row_words, tree_words}
 use Rattle.lic_search.specs.PlaceSets.{Reaches}
 use Rattle.lic_search.specs.Reached.{reached_of}
 use Rattle.lic_search.specs.Tidily.{IsTidyBack, UpTo, spans_of}
-use Rattle.lic_search.proofs.EreLemmas.{choice-all, choice-item, is_one-test, ok-changed, one-words, placed-copied, placed-joined, reached-done, reached-empty, reached-pruned, reached-start, row-all, row-item, tidy-copied, times-all, times-more, times-same, tree_of-Alt, tree_of-Cat, tree_of-Repeat, words-changed}
+use Rattle.lic_search.proofs.EreLemmas.{choice-again, choice-all, choice-item, is_one-test, ok-changed, one-words, placed-copied, placed-joined, reached-done, reached-empty, reached-pruned, reached-start, row-all, row-item, tidy-copied, times-all, times-more, times-same, tree_of-Alt, tree_of-Cat, tree_of-Repeat, words-changed}
 use Rattle.lic_search.proofs.TidyBack.{tidy-least}
 use Rattle.lic_search.proofs.FreshLemmas.{fresh-placed}
 use Rattle.lic_search.proofs.TidyRepeats.{repeat-back}
@@ -39,18 +40,23 @@ over_choice-over-requires t c = (
 
 pub over_choice-kept_if_many-requires : goal.over_choice-kept_if_many-requires
 over_choice-kept_if_many-requires t c =
-    placed-joined c.args.view.now (spans_of c.loop-sub.found) (spans_of c.in_ok-more.more) (spans_of c.append.new.self)
-    c.in_ok-append.ensures c.loop-sub.invariant.placed c.in_ok-more.ensures.placed
+    placed-joined c.args.view.now (spans_of c.loop-number.found) (spans_of c.in_ok-more.more) (spans_of c.append.new.self)
+    c.in_ok-append.ensures c.loop-number.invariant.placed c.in_ok-more.ensures.placed
 
-pub over_choice-loop-sub-preserved : goal.over_choice-loop-sub-preserved
-over_choice-loop-sub-preserved t c =
+pub over_choice-loop-number-preserved-then-is_repeated : goal.over_choice-loop-number-preserved-then-is_repeated
+over_choice-loop-number-preserved-then-is_repeated t c =
+    choice-again c.args.keep c.args.view.now (λ s q l. Reaches c.args.view.now (spans_of c.args.ways.now s) q l) c.args.subs.now c.loop-number.number Empty
+    (spans_of c.loop-number.found) c.loop-number-test.true (c.is_repeated.ensures c.if-is_repeated.true) c.loop-number.invariant
+
+pub over_choice-loop-number-preserved : goal.over_choice-loop-number-preserved
+over_choice-loop-number-preserved t c =
     let tokens = c.args.view.now in
-    tidy-least c.args.keep tokens (Language (choice_words (row (map tree_of (take (c.loop-sub.sub-index + 1) c.args.subs.now)))))
+    tidy-least c.args.keep tokens (Language (choice_words (row (map tree_of (take (c.loop-number.number + 1) c.args.subs.now)))))
     (λ s q l. Reaches tokens (spans_of c.args.ways.now s) q l) (spans_of c.append.new.self) (spans_of c.in_ok-found.found)
-    (choice-item c.args.keep tokens (λ s q l. Reaches tokens (spans_of c.args.ways.now s) q l) c.args.subs.now c.loop-sub.sub-index c.sub-item.result
-    (spans_of c.loop-sub.found) (spans_of c.in_ok-more.more) (spans_of c.append.new.self)
-    c.loop-sub-test.true c.sub-item.is c.in_ok-append.ensures c.loop-sub.invariant
-    (tidy-copied c.args.keep tokens (Language (tree_words (tree_of c.sub-item.result))) (spans_of c.args.ways.now) (spans_of c.in_ok-copy.field-0) (spans_of c.in_ok-more.more)
+    (choice-item c.args.keep tokens (λ s q l. Reaches tokens (spans_of c.args.ways.now s) q l) c.args.subs.now c.loop-number.number c.index-subs-number.result
+    (spans_of c.loop-number.found) (spans_of c.in_ok-more.more) (spans_of c.append.new.self)
+    c.loop-number-test.true c.index-subs-number.is c.in_ok-append.ensures c.loop-number.invariant
+    (tidy-copied c.args.keep tokens (Language (tree_words (tree_of c.index-subs-number.result))) (spans_of c.args.ways.now) (spans_of c.in_ok-copy.field-0) (spans_of c.in_ok-more.more)
     c.in_ok-copy.ensures c.in_ok-more.ensures))
     c.in_ok-found.ensures
 
@@ -59,8 +65,8 @@ over_choice-returns t c =
     let tokens = c.args.view.now in
     ok-changed _ _ c.kept.result
     (λ found least. tidy-least c.args.keep tokens (Language (choice_words (row (map tree_of c.args.subs.now)))) (λ s q l. Reaches tokens (spans_of c.args.ways.now s) q l)
-    (spans_of c.loop-sub.found) (spans_of found)
-    (choice-all c.args.keep tokens (λ s q l. Reaches tokens (spans_of c.args.ways.now s) q l) c.args.subs.now c.loop-sub.sub-index (spans_of c.loop-sub.found) c.loop-sub-test.false c.loop-sub.invariant)
+    (spans_of c.loop-number.found) (spans_of found)
+    (choice-all c.args.keep tokens (λ s q l. Reaches tokens (spans_of c.args.ways.now s) q l) c.args.subs.now c.loop-number.number (spans_of c.loop-number.found) c.loop-number-test.false c.loop-number.invariant)
     least)
     c.kept.ensures
 

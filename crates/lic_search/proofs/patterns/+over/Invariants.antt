@@ -16,9 +16,9 @@ invariant-over_row-loop-number l = record {
 }
 
 -- what the patterns so far lead to is found
-abbrev pub invariant-over_choice-loop-sub : goal.invariant-over_choice-loop-sub
-invariant-over_choice-loop-sub l =
-    IsTidyBack l.keep l.view (Language (choice_words (row (map tree_of (take l.sub-index l.subs))))) (spans_of l.ways) (spans_of l.found)
+abbrev pub invariant-over_choice-loop-number : goal.invariant-over_choice-loop-number
+invariant-over_choice-loop-number l =
+    IsTidyBack l.keep l.view (Language (choice_words (row (map tree_of (take l.number l.subs))))) (spans_of l.ways) (spans_of l.found)
 
 -- so many words are gone over
 abbrev pub invariant-over_times-loop : goal.invariant-over_times-loop
