@@ -1,6 +1,5 @@
 pub mod Report
 pub mod Checking
-pub mod Bundling
 pub mod Merging
 pub mod Found
 pub mod Wanted

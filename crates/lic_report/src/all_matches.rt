@@ -5,17 +5,14 @@ ghost use Rattle.lic_set.specs.Matches.{AreMatches};
 ghost use Rattle.lic_set.specs.Rising.{IsRising};
 ghost use Rattle.lic_set.specs.declared.triple.Triple.{Triple};
 ghost use Rattle.lic_find.specs.Among.{AreMatchesAmong};
-ghost use Rattle.lic_report.specs.Bundling.{bundle_of};
 ghost use Rattle.lic_report.specs.Found.{found_in};
 ghost use Rattle.lic_report.specs.Merging.{comes_first as is_first};
 
-use lic_bundles::bundle::Bundle;
 use lic_bundles::triples::Triples;
 use lic_find::finder::Finder;
 use lic_find::laws::matches_are_one_list;
 use lic_norm::text::Text;
 use lic_search::all::all_matches;
-use lic_search::rows::Row;
 use lic_set::set::Set;
 use lic_set::triple::Triple;
 use std::alloc::{AllocError, Global};
@@ -58,8 +55,7 @@ impl<'a> AllMatches<'a> {
             → AreMatches set.now text.now.tokens after others → others ≡ found) }
     {
         let matches = all_matches(alloc, set, text)?;
-        let bundles = bundles_of(alloc, matches.rows)?;
-        let mut known = Triples::new(alloc, bundles, after)?;
+        let mut known = Triples::new(alloc, matches.bundles, after)?;
         let mut finder = finder_over(alloc, set, text, matches.left, after)?;
         matches_are_one_list();
         let next_known = known.next();
@@ -103,25 +99,6 @@ fn comes_first(triple: Option<Triple>, other: Option<Triple>) -> bool
     match (triple, other) {
         (Some(triple), Some(other)) => triple < other,
         (triple, _) => triple.is_some(),
-    }
-}
-
-// Rows of matches as bundles.
-fn bundles_of(alloc: Global, rows: Vec<Row>) -> Result<Vec<Bundle>, AllocError>
-    ensures { IfOk result (λ bundles. bundles.items ≡ map bundle_of rows.items) }
-{
-    rows.into_iter().map(bundle_of).collect(alloc)
-}
-
-// The matches of a row as a bundle.
-fn bundle_of(row: Row) -> Bundle
-    ensures { result ≡ bundle_of row }
-{
-    Bundle {
-        from: row.from,
-        to: row.to,
-        last: row.last,
-        template: row.template,
     }
 }
 

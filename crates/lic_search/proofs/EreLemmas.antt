@@ -116,9 +116,12 @@ choice-item keep tokens Ends subs i e xs ys zs below is joined back other =
 -- two patterns in a row that are the same
 pub again : (subs : List Ere) (i j : ℕ) (x y : Ere) → i < length subs → i ≡ suc j → x ≡ get_or subs j x → y ≡ get_or subs i y →
     tree_of x ≡ tree_of y → IsRepeated subs i
-again subs i j x y below next is-x is-y same =
-    (j, next, λ d. ap tree_of (get_or_default subs j d x (omega (arith, below, next)) ∙ sym is-x) ∙ same
-    ∙ ap tree_of (is-y ∙ get_or_default subs i y d below))
+again subs i j x y below next is-x is-y same = (
+  j,
+  next,
+  λ d. ap tree_of (get_or_default subs j d x (omega (arith, below, next)) ∙ sym is-x) ∙ same
+      ∙ ap tree_of (is-y ∙ get_or_default subs i y d below),
+)
 
 -- a pattern that is the one before it once more adds no word
 pub choice-again : (keep : Keep) (tokens : List TokenValue) (Ends : Taken → ℕ → ℕ → Type 0) (subs : List Ere) (i : ℕ) (d : Ere) (xs : Taken → List PlaceSpan) →
@@ -135,20 +138,24 @@ choice-again keep tokens Ends subs i d xs below (j, next, same) =
   where
     j-below : j < length subs
     j-below = omega (arith, next, below)
+
     next-of : i ≡ j + 1
     next-of = omega (arith, next)
+
     parted : map tree_of (take (i + 1) subs) ≡ map tree_of (take i subs) ++ tree_of (get_or subs i d) ∷ []
     parted = ap (map tree_of) (take_more subs i d below) ∙ map-append tree_of (take i subs) (get_or subs i d ∷ [])
+
     before : map tree_of (take i subs) ≡ map tree_of (take j subs) ++ tree_of (get_or subs j d) ∷ []
     before = ap (λ n. map tree_of (take n subs)) next-of ∙ ap (map tree_of) (take_more subs j d j-below)
         ∙ map-append tree_of (take j subs) (get_or subs j d ∷ [])
+
     known : (w : Word) → Language (choice_words (row (map tree_of (take i subs) ++ tree_of (get_or subs i d) ∷ []))) w →
         Language (choice_words (row (map tree_of (take i subs)))) w
     known w has = elim ((choice-more (map tree_of (take i subs)) (tree_of (get_or subs i d)) w).1 has) [
-      inl is ↦ is
+      | inl is ↦ is
       | inr is ↦ subst (λ s. Language (choice_words (row s)) w) (sym before)
-        ((choice-more (map tree_of (take j subs)) (tree_of (get_or subs j d)) w).0
-        (inr (subst (λ t. Language (tree_words t) w) (sym (same d)) is)))
+          ((choice-more (map tree_of (take j subs)) (tree_of (get_or subs j d)) w).0
+          (inr (subst (λ t. Language (tree_words t) w) (sym (same d)) is)))
     ]
 
 -- from the end on there is none

@@ -26,7 +26,7 @@ pub mod MatchStarts
 pub mod MatchSpans
 pub mod MatchLists
 pub mod MatchLemmas
-pub mod RowLemmas
+pub mod BundleLemmas
 pub mod WindowBounds
 pub mod WindowEnds
 pub mod WindowLemmas

@@ -4,6 +4,7 @@
 pub mod all;
 mod backward;
 mod blanks;
+mod bundles;
 mod counts;
 mod fresh;
 mod keep;
@@ -18,7 +19,6 @@ mod places;
 mod range;
 mod reach;
 mod reached;
-pub mod rows;
 mod runs;
 mod same;
 mod search;

@@ -9,21 +9,22 @@ ghost use Rattle.lic_markup.specs.PartTexts.{HavePieceTexts};
 ghost use Rattle.lic_norm.specs.Places.{place_end};
 ghost use Rattle.lic_places.specs.Places.{spelling_of};
 ghost use Rattle.lic_places.specs.Reads.{Reads};
-ghost use Rattle.lic_search.specs.AllMatches.{AreRowsOf};
+ghost use Rattle.lic_search.specs.AllMatches.{AreBundlesOf};
 ghost use Rattle.lic_search.specs.Backward.{IsBackFrom};
 ghost use Rattle.lic_search.specs.Matches.{HasLeastRanges};
 ghost use Rattle.lic_search.specs.PlaceSets.{ArePlaced, Reaches};
 ghost use Rattle.lic_search.specs.Windows.{AreRequiredEnds};
 
 use crate::backward::over_parts;
+use crate::bundles::bundles_of;
 use crate::keep::Keep;
 use crate::last_text::last_ends;
 use crate::matches::{ranges_of, token_ends};
 use crate::range::Range;
-use crate::rows::{Row, rows_of};
 use crate::stop::Stop;
 use crate::view::{View, tokens_have_texts};
 use crate::windows::candidate_ends;
+use lic_bundles::bundle::Bundle;
 use lic_keys::candidate::RequiredEnds;
 use lic_markup::Part;
 use lic_spans::span::PlaceSpan;
@@ -45,23 +46,23 @@ pub(crate) fn least_ranges(
     Ok(ranges_of(alloc, view, &begins)?)
 }
 
-/// All ranges of tokens that the parts of a template describe, as rows of the template of this number. It stops where more spans than
+/// All ranges of tokens that the parts of a template describe, as bundles of the template of this number. It stops where more spans than
 /// `most` come up on the way.
-pub(crate) fn rows_within(
+pub(crate) fn bundles_within(
     alloc: Global,
     view: &View<'_>,
     parts: &[Part],
     required: &Option<RequiredEnds>,
     template: usize,
     most: usize,
-) -> Result<Vec<Row>, Stop>
+) -> Result<Vec<Bundle>, Stop>
     requires texts { HavePieceTexts (row (map part_of parts.now)) }
     requires required { AreRequiredEnds (spelling_of view.now) parts.now required.now }
-    ensures { IfOk result (λ rows. AreRowsOf view.now (parts_words (map part_of parts.now)) template rows.items) }
+    ensures { IfOk result (λ bundles. AreBundlesOf view.now (parts_words (map part_of parts.now)) template bundles.items) }
 {
     tokens_have_texts(view);
     let begins = begins_of(alloc, view, Keep::Each { most }, parts, required)?;
-    Ok(rows_of(alloc, view, &begins, template)?)
+    Ok(bundles_of(alloc, view, &begins, template)?)
 }
 
 // The places from which a word of the parts leads to the end of a token, with those tokens that are kept.

@@ -34,13 +34,13 @@ loop-candidate-preserved c =
     let order = numbers_rise items index candidate (length set) c.loop-candidate-test.true c.candidate-item.is (subst (λ (x : List Candidate). IsRising (map number_of x) (length set)) (sym all) rising) in
     record {
       has =
-          subst (λ (numbers : List ℕ). HasAllOf set tokens numbers new.rows.items new.left.items)
+          subst (λ (numbers : List ℕ). HasAllOf set tokens numbers new.bundles.items new.left.items)
           (sym (numbers_more items index candidate c.loop-candidate-test.true c.candidate-item.is))
           (all_more set tokens (map number_of (take index items)) candidate.number old new invariant.has order.0 order.1
           (subst (λ (tokens : List TokenValue). AddsTemplate set tokens candidate.number old new) c.new-view.ensures c.in_ok-add_template.ensures.adds));
-      few = subst (λ (tokens : List TokenValue). length new.rows.items ≤ length tokens + 262144) c.new-view.ensures
+      few = subst (λ (tokens : List TokenValue). length new.bundles.items ≤ length tokens + 262144) c.new-view.ensures
           (c.in_ok-add_template.ensures.few
-          (subst (λ (tokens : List TokenValue). length old.rows.items ≤ length tokens + 262144) (sym c.new-view.ensures) invariant.few));
+          (subst (λ (tokens : List TokenValue). length old.bundles.items ≤ length tokens + 262144) (sym c.new-view.ensures) invariant.few));
     }
 
 pub returns-clause-complete : goal.returns-clause-complete
@@ -53,4 +53,4 @@ returns-clause-complete c = λ t m.
 
 pub returns-clause-others : goal.returns-clause-others
 returns-clause-others c = λ k d low left.
-    c.loop-candidate.invariant.has.others (get_or c.loop-candidate.found.rows.items k d) (Contains-get_or c.loop-candidate.found.rows.items k d low) left
+    c.loop-candidate.invariant.has.others (get_or c.loop-candidate.found.bundles.items k d) (Contains-get_or c.loop-candidate.found.bundles.items k d low) left

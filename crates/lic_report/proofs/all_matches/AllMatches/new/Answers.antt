@@ -1,10 +1,8 @@
 use Rattle.std.proofs.Common.{◌≡◌, ap, ◌∙◌, sym, subst}
 use Rattle.lic_set.specs.Matches.{AreMatches}
-use Rattle.lic_bundles.specs.Bundles.{AreApart, AreTriples}
 use Rattle.lic_report.specs.Found.{found_in}
 use Rattle.lic_report.specs.Merging.{merged, with_next}
 use Rattle.lic_report.proofs.AllMatchesLemmas.{merged_matches}
-use Rattle.lic_report.proofs.BundlingLemmas.{bundles_are_apart}
 use Rattle.lic_report.proofs.MergingLemmas.{with_next-step}
 use Rattle.lic_report.proofs.all_matches.AllMatches.new.Goals as goal
 
@@ -24,10 +22,9 @@ are_matches : (c : goal.After-next_of-next_found) → AreMatches c.args.set.now 
     (with_next c.next_of-next_found.result (found_in c.next_of-next_found.new.finder)))
 are_matches c =
     let clauses = c.in_ok-matches.ensures in
-    let known = subst (λ bundles. AreTriples bundles c.args.after c.in_ok-known.known) c.in_ok-bundles.ensures c.in_ok-known.ensures.all in
     subst (AreMatches c.args.set.now c.args.text.now.tokens c.args.after) (sym (same c))
-    (merged_matches c.args.set.now c.args.text.now.tokens c.in_ok-matches.matches.rows.items c.in_ok-matches.matches.left.items
-    clauses.sound clauses.others clauses.complete c.args.after c.in_ok-known.known (found_in c.in_ok-finder.finder) known
+    (merged_matches c.args.set.now c.args.text.now.tokens c.in_ok-matches.matches.bundles.items c.in_ok-matches.matches.left.items
+    clauses.sound clauses.others clauses.complete c.args.after c.in_ok-known.known (found_in c.in_ok-finder.finder) c.in_ok-known.ensures.all
     c.in_ok-finder.ensures.ascending c.in_ok-finder.ensures.exact)
 
 pub returns-clause-all : goal.returns-clause-all
@@ -40,4 +37,4 @@ returns-clause-only c = λ others matches.
     (with_next c.next_of-next_found.result (found_in c.next_of-next_found.new.finder))) matches (are_matches c)
 
 pub new-requires : goal.new-requires
-new-requires c = subst AreApart (sym c.in_ok-bundles.ensures) (bundles_are_apart c.in_ok-matches.matches.rows.items c.in_ok-matches.ensures.once)
+new-requires c = c.in_ok-matches.ensures.once

@@ -4,7 +4,7 @@ use Rattle.std.proofs.lemmas.Bool.{cases_lt}
 use Rattle.std.proofs.Math.Logic.{⊎_elim}
 use Rattle.lic_search.specs.Beginnings.{BeginsIn}
 use Rattle.lic_search.proofs.ViewSpans.{last-one}
-use Rattle.lic_search.proofs.rows.firsts_in.Goals as goal
+use Rattle.lic_search.proofs.bundles.firsts_in.Goals as goal
 
 pub returns : goal.returns
 returns c =

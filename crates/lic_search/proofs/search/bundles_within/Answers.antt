@@ -6,13 +6,13 @@ use Rattle.lic_search.specs.Beginnings.{BeginsIn}
 use Rattle.lic_search.specs.Matches.{range_of}
 use Rattle.lic_search.specs.declared.keep.Keep.TheVariants.{Each}
 use Rattle.lic_search.proofs.MatchLemmas.{described-begins}
-use Rattle.lic_search.proofs.search.rows_within.Goals as goal
+use Rattle.lic_search.proofs.search.bundles_within.Goals as goal
 
 pub returns : goal.returns
 returns c =
     let tokens = c.args.view.now in
     let words = parts_words (map part_of c.args.parts.now) in
-    let found = c.in_ok-rows_of.ensures in
+    let found = c.in_ok-bundles_of.ensures in
     let begins = described-begins (Each c.args.most) tokens words c.in_ok-begins.begins.items c.tokens_have_texts.ensures c.in_ok-begins.ensures tt in
     record {
       exact = λ t. (

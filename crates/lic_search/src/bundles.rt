@@ -1,60 +1,49 @@
-//! Matches of one template in rows.
+//! The matches of one template as bundles.
 
-ghost use Rattle.std.specs.Prelude.{◌≡◌, ◌≤◌, ◌↔◌, ℕ, [], ◌∷◌, All, AllPairs, IfOk, MatchOption};
+ghost use Rattle.std.specs.Prelude.{◌≡◌, ◌≤◌, ◌↔◌, ℕ, [], ◌∷◌, All, IfOk, MatchOption};
 ghost use Rattle.lic_spans.specs.Spans.{AreApartOfLast, Holds};
 ghost use Rattle.lic_spans.specs.declared.span.Kind.TheVariants.{Letters};
 ghost use Rattle.lic_set.specs.declared.triple.Triple.{Triple};
-ghost use Rattle.lic_search.specs.AllMatches.{InRow, IsOrderedRow, RowsHold};
+ghost use Rattle.lic_bundles.specs.Bundles.{AreApart};
+ghost use Rattle.lic_search.specs.AllMatches.{BundlesHold, IsOrdered};
 ghost use Rattle.lic_search.specs.Beginnings.{AreFirsts, BeginsIn};
 ghost use Rattle.lic_search.specs.PlaceSets.{ArePlaced};
 
 use crate::matches::last_beginning;
 use crate::view::{View, tokens_have_texts};
+use lic_bundles::bundle::Bundle;
 use lic_spans::each::with_each_last;
 use lic_spans::span::{Kind, PlaceSpan};
 use std::alloc::{AllocError, Global};
 
-/// Matches of one template that end with the same token, and begin with each token from the first to the last of a row.
-#[derive(Clone, Copy, Debug, PartialEq, Eq)]
-pub struct Row {
-    /// The first of the tokens with which they begin.
-    pub from: usize,
-    /// The last of the tokens with which they begin.
-    pub to: usize,
-    /// The token with which they end.
-    pub last: usize,
-    /// The number of the template.
-    pub template: usize,
-}
-
-/// The rows of a template whose words begin at the places of spans, each up to the last token of its span.
+/// The bundles of a template whose words begin at the places of spans, each up to the last token of its span.
 ///
-/// The rows of two spans may overlap: one range of tokens may be described by several words. So those of one last token are joined.
-pub(crate) fn rows_of(
+/// The bundles of two spans may overlap: one range of tokens may be described by several words. So those of one last token are joined.
+pub(crate) fn bundles_of(
     alloc: Global,
     view: &View<'_>,
     spans: &[PlaceSpan],
     template: usize,
-) -> Result<Vec<Row>, AllocError>
+) -> Result<Vec<Bundle>, AllocError>
     requires { ArePlaced view.now spans.now }
-    ensures exact { IfOk result (λ rows. (t : Triple)
-        → RowsHold rows.items t ↔ (BeginsIn view.now spans.now t.first t.last × (t.template ≡ template))) }
-    ensures ordered { IfOk result (λ rows. All IsOrderedRow rows.items) }
-    ensures once { IfOk result (λ rows. AllPairs (λ one other. (t : Triple) → InRow one t → InRow other t → ⊥) rows.items) }
+    ensures exact { IfOk result (λ bundles. (t : Triple)
+        → BundlesHold bundles.items t ↔ (BeginsIn view.now spans.now t.first t.last × (t.template ≡ template))) }
+    ensures ordered { IfOk result (λ bundles. All IsOrdered bundles.items) }
+    ensures once { IfOk result (λ bundles. AreApart bundles.items) }
 {
     let firsts = firsts_of(alloc, view, spans)?;
-    let mut rows = Vec::with_capacity(alloc, firsts.len())?;
+    let mut bundles = Vec::with_capacity(alloc, firsts.len())?;
     for first in &firsts {
-        rows.push(row_of(first, template))?;
+        bundles.push(bundle_of(first, template))?;
     }
-    Ok(rows)
+    Ok(bundles)
 }
 
 // The tokens from the low one of a span to its high one as those with which matches of a template begin.
-fn row_of(firsts: &PlaceSpan, template: usize) -> Row
+fn bundle_of(firsts: &PlaceSpan, template: usize) -> Bundle
     ensures { result ≡ record { from = firsts.now.low; to = firsts.now.high; last = firsts.now.last; template = template } }
 {
-    Row {
+    Bundle {
         from: firsts.low,
         to: firsts.high,
         last: firsts.last,

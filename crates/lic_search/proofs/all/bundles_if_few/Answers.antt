@@ -8,13 +8,13 @@ use Rattle.lic_markup.specs.Parts.{part_of}
 use Rattle.lic_markup.specs.Meaning.{parts_words}
 use Rattle.lic_places.specs.Places.{spelling_of}
 use Rattle.lic_set.specs.Sets.{Known}
-use Rattle.lic_search.specs.AllMatches.{AreMatchRows, AreRowsOf}
+use Rattle.lic_search.specs.AllMatches.{AreMatchBundles, AreBundlesOf}
 use Rattle.lic_search.specs.Matches.{HasLeastRanges}
-use Rattle.lic_search.specs.declared.rows.Row.{Row}
-use Rattle.lic_search.proofs.AllMatchLemmas.{few-are, match-none, match-rows}
+use Rattle.lic_bundles.specs.declared.bundle.Bundle.{Bundle}
+use Rattle.lic_search.proofs.AllMatchLemmas.{few-are, match-none, match-bundles}
 use Rattle.lic_search.proofs.EreLemmas.{ok-changed}
 use Rattle.lic_search.proofs.TemplateMatches.{known_for, required_of}
-use Rattle.lic_search.proofs.all.rows_if_few.Goals as goal
+use Rattle.lic_search.proofs.all.bundles_if_few.Goals as goal
 
 pub least_ranges-requires-clause-required : goal.least_ranges-requires-clause-required
 least_ranges-requires-clause-required c =
@@ -24,8 +24,8 @@ least_ranges-requires-clause-required c =
     required_of c.args.set.now number other c.parts.result.now (spelling_of c.text.result.now.tokens) (spelling_of c.args.view.now) c.in_ok-required.required
     (ap spelling_of c.text.ensures) same c.in_ok-required.ensures.ends c.in_ok-required.ensures.rising
 
-pub rows_within-requires-clause-required : goal.rows_within-requires-clause-required
-rows_within-requires-clause-required c =
+pub bundles_within-requires-clause-required : goal.bundles_within-requires-clause-required
+bundles_within-requires-clause-required c =
     let other : Known = known_for c.template-template.result.now in
     let number = c.args.candidate.now.number in
     let same : (get_or c.args.set.now number other).template.parts ≡ c.parts-2.result.now = ap (λ t. t.parts) (sym (c.template-template.ensures other)) ∙ sym c.parts-2.ensures in
@@ -56,8 +56,8 @@ returns-clause-are c =
     let known : Known = get_or set number other in
     let is : slice_get set number ≡ Some known = slice_get-get_or set number other c.requires.below in
     let same : known.template.parts ≡ c.parts-2.result.now = ap (λ t. t.parts) (sym (c.template-template.ensures other)) ∙ sym c.parts-2.ensures in
-    few-are (λ (rows : Vec Row Global). AreMatchRows set tokens number rows.items) c.rows_within.result c.few_of.result
-    (ok-changed _ _ c.rows_within.result
-    (λ (rows : Vec Row Global) are. match-rows set tokens number known is rows.items (subst (λ parts. AreRowsOf tokens (parts_words (map part_of parts)) number rows.items) (sym same) are))
-    c.rows_within.ensures)
+    few-are (λ (bundles : Vec Bundle Global). AreMatchBundles set tokens number bundles.items) c.bundles_within.result c.few_of.result
+    (ok-changed _ _ c.bundles_within.result
+    (λ (bundles : Vec Bundle Global) are. match-bundles set tokens number known is bundles.items (subst (λ parts. AreBundlesOf tokens (parts_words (map part_of parts)) number bundles.items) (sym same) are))
+    c.bundles_within.ensures)
     c.few_of.ensures.same

@@ -5,9 +5,9 @@ use Rattle.std.proofs.lemmas.List.Elements.{Contains-get_or}
 use Rattle.lic_spans.specs.declared.span.Kind.TheVariants.{End}
 use Rattle.lic_spans.specs.declared.span.PlaceSpan.{PlaceSpan}
 use Rattle.lic_search.proofs.MatchLists.{ArePlaced-one}
-use Rattle.lic_search.proofs.RowLemmas.{AreFirstsOf, firsts-joined, firsts-more, firsts-none, firsts-skip}
-use Rattle.lic_search.proofs.rows.firsts_of.Goals as goal
-use Rattle.lic_search.proofs.rows.firsts_of.Goals.{In_ok-with_each_last, in-Some+in_ok-push, in_default}
+use Rattle.lic_search.proofs.BundleLemmas.{AreFirstsOf, firsts-joined, firsts-more, firsts-none, firsts-skip}
+use Rattle.lic_search.proofs.bundles.firsts_of.Goals as goal
+use Rattle.lic_search.proofs.bundles.firsts_of.Goals.{In_ok-with_each_last, in-Some+in_ok-push, in_default}
 
 abbrev none : PlaceSpan
 none = record { low = 0; high = 0; last = 0; kind = End }

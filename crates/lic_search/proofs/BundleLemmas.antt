@@ -1,6 +1,6 @@
--- With which tokens words begin at places of spans, and the rows of a template.
+-- With which tokens words begin at places of spans, and the bundles of a template.
 use Rattle.std.proofs.Common.{◌≡◌, ◌↔◌, ℕ, ◌<◌, ◌≤◌, List, [], ◌∷◌, ◌++◌, length, map, refl, sym, ◌∙◌, subst, arith, get_or, ⊎_elim}
-use Rattle.std.specs.Prelude.{All, AllPairs}
+use Rattle.std.specs.Prelude.{All}
 use Rattle.std.proofs.lemmas.List.{get_or-map, length-map}
 use Rattle.std.proofs.lemmas.List.Elements.{All-contains, All-nil, All-push, Contains-get_or}
 use Rattle.lic_phrases.proofs.WordClasses.{contains-map, contains-map_from}
@@ -11,8 +11,9 @@ use Rattle.lic_spans.specs.declared.span.Kind.TheVariants.{Letters}
 use Rattle.lic_spans.specs.declared.span.PlaceSpan.{PlaceSpan}
 use Rattle.lic_spans.proofs.Members.{HasPlace-single, Holds-append_cases, Holds-left, Holds-member, Holds-right, Holds-single}
 use Rattle.lic_set.specs.declared.triple.Triple.{Triple}
-use Rattle.lic_search.specs.declared.rows.Row.{Row}
-use Rattle.lic_search.specs.AllMatches.{HaveNoneInCommon, InRow, IsOrderedRow, RowsHold}
+use Rattle.lic_bundles.specs.declared.bundle.Bundle.{Bundle}
+use Rattle.lic_bundles.specs.Bundles.{AreApart, IsOf}
+use Rattle.lic_search.specs.AllMatches.{BundlesHold, IsOrdered}
 use Rattle.lic_search.specs.Beginnings.{AreFirsts, BeginsIn}
 use Rattle.lic_search.proofs.MatchLists.{BeginsIn-push}
 
@@ -97,48 +98,48 @@ firsts-joined tokens spans firsts joined are same ordered = record {
       sym held.kind_is ∙ All-contains (λ (t : PlaceSpan). t.kind ≡ Letters) firsts held.span are.kinds held.among;
 }
 
--- ---- rows
+-- ---- bundles
 
 -- the tokens of a span as those with which matches begin
-abbrev pub row_from : ℕ → PlaceSpan → Row
-row_from template s = record { from = s.low; to = s.high; last = s.last; template = template }
+abbrev pub bundle_from : ℕ → PlaceSpan → Bundle
+bundle_from template s = record { from = s.low; to = s.high; last = s.last; template = template }
 
 module _ (tokens : List TokenValue) (spans firsts : List PlaceSpan) (template : ℕ) (are : AreFirstsOf tokens spans firsts) where
-  pub rows-exact : (t : Triple) → RowsHold (map (row_from template) firsts) t ↔ (BeginsIn tokens spans t.first t.last × (t.template ≡ template))
-  rows-exact t = (
+  pub bundles-exact : (t : Triple) → BundlesHold (map (bundle_from template) firsts) t ↔ (BeginsIn tokens spans t.first t.last × (t.template ≡ template))
+  bundles-exact t = (
     λ holds.
-        let (s, among, e) = contains-map_from (row_from template) firsts holds.row holds.among in
-        let is : InRow (row_from template s) t = subst (λ row. InRow row t) (sym e) holds.is in
+        let (s, among, e) = contains-map_from (bundle_from template) firsts holds.bundle holds.among in
+        let is : IsOf (bundle_from template s) t = subst (λ bundle. IsOf bundle t) (sym e) holds.is in
         let kind : s.kind ≡ Letters = All-contains (λ (x : PlaceSpan). x.kind ≡ Letters) firsts s are.kinds among in
-        ((are.exact t.first t.last).0 (record { span = s; among = among; kind_is = kind; from = is.from; to = is.to; last_is = is.last }), sym is.template),
+        ((are.exact t.first t.last).0 (record { span = s; among = among; kind_is = kind; from = is.from; to = is.to; last_is = sym is.last }), is.template),
     λ begins.
         let held = (are.exact t.first t.last).1 begins.0 in
         record {
-          row = row_from template held.span;
-          among = contains-map (row_from template) firsts held.span held.among;
-          is = record { from = held.from; to = held.to; last = held.last_is; template = sym begins.1 };
+          bundle = bundle_from template held.span;
+          among = contains-map (bundle_from template) firsts held.span held.among;
+          is = record { from = held.from; to = held.to; last = sym held.last_is; template = begins.1 };
         },
   )
 
-  pub rows-ordered : All IsOrderedRow (map (row_from template) firsts)
-  rows-ordered = λ k d low.
-      let row = get_or (map (row_from template) firsts) k d in
-      let (s, among, e) = contains-map_from (row_from template) firsts row (Contains-get_or (map (row_from template) firsts) k d low) in
+  pub bundles-ordered : All IsOrdered (map (bundle_from template) firsts)
+  bundles-ordered = λ k d low.
+      let bundle = get_or (map (bundle_from template) firsts) k d in
+      let (s, among, e) = contains-map_from (bundle_from template) firsts bundle (Contains-get_or (map (bundle_from template) firsts) k d low) in
       let order : s.low ≤ s.high = All-contains (λ (x : PlaceSpan). x.low ≤ x.high) firsts s are.ordered among in
       let kind : s.kind ≡ Letters = All-contains (λ (x : PlaceSpan). x.kind ≡ Letters) firsts s are.kinds among in
       let begins = (are.exact s.high s.last).0 (record { span = s; among = among; kind_is = kind; from = order; to = omega arith; last_is = refl }) in
-      subst IsOrderedRow e (record { order = order; ends = begins.order })
+      subst IsOrdered e (record { order = order; ends = begins.order })
 
-  pub rows-once : AreApartOfLast firsts → AllPairs HaveNoneInCommon (map (row_from template) firsts)
-  rows-once apart = λ i j d before low t one other.
+  pub bundles-once : AreApartOfLast firsts → AreApart (map (bundle_from template) firsts)
+  bundles-once apart = λ i j d before low t one other.
       let span : PlaceSpan = record { low = 0; high = 0; last = 0; kind = Letters } in
-      let long : length (map (row_from template) firsts) ≡ length firsts = length-map firsts (row_from template) in
+      let long : length (map (bundle_from template) firsts) ≡ length firsts = length-map firsts (bundle_from template) in
       let a : PlaceSpan = get_or firsts i span in
       let b : PlaceSpan = get_or firsts j span in
-      let first : InRow (row_from template a) t = subst (λ row. InRow row t) (get_or-map (row_from template) firsts i span d (omega arith)) one in
-      let second : InRow (row_from template b) t = subst (λ row. InRow row t) (get_or-map (row_from template) firsts j span d (omega arith)) other in
+      let first : IsOf (bundle_from template a) t = subst (λ bundle. IsOf bundle t) (get_or-map (bundle_from template) firsts i span d (omega arith)) one in
+      let second : IsOf (bundle_from template b) t = subst (λ bundle. IsOf bundle t) (get_or-map (bundle_from template) firsts j span d (omega arith)) other in
       let pair = apart i j span before (omega arith) in
       let kind_a : a.kind ≡ Letters = are.kinds i span (omega arith) in
       let kind_b : b.kind ≡ Letters = are.kinds j span (omega arith) in
-      let ends : a.high < b.low = pair.places (kind_a ∙ sym kind_b) (first.last ∙ sym second.last) in
+      let ends : a.high < b.low = pair.places (kind_a ∙ sym kind_b) (sym first.last ∙ second.last) in
       omega (arith, first.to, second.from)
