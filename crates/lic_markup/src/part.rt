@@ -54,7 +54,7 @@ impl Model for Template {
 
 impl Template {
     /// A template of these parts.
-    pub(crate) fn new(parts: Vec<Part>, weight: u64, original: String) -> Template
+    pub(crate) fn new(parts: Vec<Part>, weight: u64, mut original: String) -> Template
         requires texts { HavePieceTexts (row (map part_of parts.items)) }
         requires weighed { weight ≡ weight_of parts.items }
         requires light { weight ≤ 131072 }
@@ -63,6 +63,7 @@ impl Template {
         ensures weight { result.weight ≡ weight }
         ensures original { result.original ≡ string_bytes original }
     {
+        original.shrink_to_fit();
         Template {
             parts,
             weight,

@@ -68,14 +68,18 @@ pub fn text_of(alloc: Global, input: &[u8], words: &Words, rules: &Rules) -> Res
 }
 
 /// A set and a text.
+///
+/// They are put where the caller says, since `retried` gives what can be dropped whatever it is, and a set is dropped as a set alone.
 pub fn lend(
     alloc: Global,
     templates: Templates<'_>,
     input: &[u8],
     words: &Words,
     rules: &Rules,
-) -> Result<(Set, Text), Refused> {
+    lent: &mut Option<(Set, Text)>,
+) -> Result<(), Refused> {
     let set = set_of(alloc, templates, words, rules)?;
     let text = text_of(alloc, input, words, rules)?;
-    Ok((set, text))
+    *lent = Some((set, text));
+    Ok(())
 }

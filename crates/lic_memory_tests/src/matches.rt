@@ -217,9 +217,18 @@ fn matches_are_found_when_there_is_memory(rt: HostRuntime) {
     let words = Words::none(rt.alloc());
     let rules = Rules::profile(rt.alloc());
     for row in ROWS {
-        let (set, text) = retried(&rt, || {
-            lend(rt.alloc(), row.templates, row.input, &words, &rules)
+        let mut lent = None;
+        retried(&rt, || {
+            lend(
+                rt.alloc(),
+                row.templates,
+                row.input,
+                &words,
+                &rules,
+                &mut lent,
+            )
         });
+        let (set, text) = lent.expect(&rt, "a set and a text");
         assert!(rt; retried(&rt, || answers(rt.alloc(), &set, &text, row)));
     }
 }
@@ -279,9 +288,11 @@ fn spans(
 fn matches_have_values_when_there_is_memory(rt: HostRuntime) {
     let words = Words::none(rt.alloc());
     let rules = Rules::profile(rt.alloc());
-    let (set, text) = retried(&rt, || {
-        lend(rt.alloc(), OF, b"x of y of z", &words, &rules)
+    let mut lent = None;
+    retried(&rt, || {
+        lend(rt.alloc(), OF, b"x of y of z", &words, &rules, &mut lent)
     });
+    let (set, text) = lent.expect(&rt, "a set and a text");
     let whole = of(0, 4);
     assert!(rt; retried(&rt, || go_on(rt.alloc(), &set, &text)) == (Some(whole), Some(whole)));
     let found = retried(&rt, || spans(rt.alloc(), &set, &text, whole));

@@ -73,7 +73,7 @@ fn made<T: Drop>(rt: &impl Abort, outcome: Result<T, Refused>) -> Option<T> {
 }
 
 /// What a call gives. Where memory runs out it is made again; any other refusal fails the test.
-pub fn retried<T: Drop, F: Fn() -> Result<T, Refused>>(rt: &impl Abort, call: F) -> T
+pub fn retried<T: Drop, F: FnMut() -> Result<T, Refused>>(rt: &impl Abort, mut call: F) -> T
     requires { F.IsAlwaysCallable call }
 {
     match made(rt, call()) {

@@ -142,7 +142,12 @@ fn reports_are_written_when_there_is_memory(rt: HostRuntime) {
     let words = Words::none(rt.alloc());
     let rules = Rules::profile(rt.alloc());
     for row in ROWS {
-        let set = retried(&rt, || set_of(rt.alloc(), row.templates, &words, &rules));
+        let mut made = None;
+        retried(&rt, || {
+            made = Some(set_of(rt.alloc(), row.templates, &words, &rules)?);
+            Ok(())
+        });
+        let set = made.expect(&rt, "a set");
         assert!(rt; retried(&rt, || says(rt.alloc(), &set, &words, &rules, row.said)));
         assert!(rt; retried(&rt, || reports(rt.alloc(), &set, &words, &rules, row)));
     }
