@@ -1,234 +1,202 @@
-//! Random templates in random texts: what the search finds against what the finder does.
+//! Random templates in random texts: each form of matching against the finder's list of all matches.
 
-use crate::found::both_shown;
+use crate::asked::Asked;
+use crate::forms::found;
+use crate::left::left_in;
+use crate::made::{source, template};
 use crate::profile::Profile;
+use crate::seed::Seed;
+use crate::tally::{Case, Tally};
+use crate::wanted::differing_form;
+use lic_norm::text::Text;
 use lic_set::set::Set;
+use lic_set::triple::Triple;
 use std::alloc::{AllocError, Global};
 use std::test::Fail;
 
-/// How many pairs of templates are tried.
-const PAIRS: u64 = 1_200;
-
-/// In how many texts each pair is tried.
-const TEXTS: u64 = 3;
-
-/// Pieces of templates.
-const PIECES: &[&str] = &[
-    "a", "b", "ab", " a ", " b ", " ab", "a b ", "-", " - ", ".", ". ", " (", ") ", "(a) ", " b.a",
-    " ",
-];
-
-/// Patterns of variables.
-const PATTERNS: &[&str] = &[
-    ".+",
-    ".*",
-    ".{0,3}",
-    ".{0,5}",
-    ".{2,4}",
-    ".{3,80}",
-    "[ab]+",
-    "[a-z]{2}",
-    "[^a]*",
-    "[a-z]+( b [a-z]+)?",
-    "(a|b){2,3}",
-    "(a|ab)( b)*",
-    "((a*)*)*",
-    "(a|b a|)",
-    "(a ?b?|[.(])+",
-    "a?b?",
-    "[ab ]{2,6}",
-    "(.a){0,2}",
-];
-
-/// What texts are made of.
-const TOKENS: &[&str] = &["a", "b", "ab", "a", "b", "ba", "-", ".", "(", ")"];
-
-/// What stands between two of these.
-const GAPS: &[&str] = &[" ", " ", " ", "", "  ", "\n"];
-
-/// Random numbers.
-#[derive(Drop)]
-struct Seed {
-    state: u64,
+/// How cases are made.
+#[derive(Clone, Copy)]
+enum Kind {
+    /// Sets of three random templates, each in three texts of 2 to 25 words and marks.
+    Short,
+    /// Sets of two random templates and one that the search leaves to the finder, each in a text of
+    /// 230 to 279 words and marks.
+    Long,
 }
 
-impl Seed {
-    /// Those of a number.
-    fn of(number: u64) -> Seed {
-        Seed {
-            state: number.wrapping_mul(0x9E37_79B9_7F4A_7C15).wrapping_add(1),
+impl Kind {
+    /// How many sets are tried.
+    fn sets(self) -> u64 {
+        match self {
+            Kind::Short => 1_300,
+            Kind::Long => 40,
         }
     }
 
-    /// The next number, below a limit.
-    fn below(&mut self, limit: u64) -> u64 {
-        self.state = self
-            .state
-            .wrapping_mul(6_364_136_223_846_793_005)
-            .wrapping_add(1_442_695_040_888_963_407);
-        (self.state >> 33) % limit.max(1)
-    }
-
-    /// One of these.
-    fn pick<'a>(&mut self, texts: &[&'a str]) -> &'a str {
-        let mut left = self.below(texts.len() as u64);
-        for text in texts {
-            if left == 0 {
-                return *text;
-            }
-            left -= 1;
-        }
-        ""
-    }
-}
-
-/// Adds a piece, a variable, or where an optional part begins or ends. Gives how many parts are open then.
-fn add_element(seed: &mut Seed, open: u64, text: &mut String) -> Result<u64, AllocError> {
-    match seed.below(12) {
-        0..=6 => text.push_str(seed.pick(PIECES))?,
-        7..=9 => {
-            text.push_str("<<var;name=v;original=o;match=")?;
-            text.push_str(seed.pick(PATTERNS))?;
-            text.push_str(">>")?;
-        }
-        10 => {
-            text.push_str("<<beginOptional>>")?;
-            return Ok(open.saturating_add(1));
-        }
-        _ => {
-            if open > 0 {
-                text.push_str("<<endOptional>>")?;
-            }
-            return Ok(open.saturating_sub(1));
+    /// In how many texts each set is tried.
+    fn texts(self) -> u64 {
+        match self {
+            Kind::Short => 3,
+            Kind::Long => 1,
         }
     }
-    Ok(open)
-}
 
-/// The text of a template, or one that is refused.
-fn template(alloc: Global, seed: &mut Seed) -> Result<String, AllocError> {
-    let mut text = String::new(alloc);
-    let mut open = 0;
-    for _ in 0..seed.below(6).saturating_add(2) {
-        open = add_element(seed, open, &mut text)?;
-    }
-    for _ in 0..open {
-        text.push_str("<<endOptional>>")?;
-    }
-    Ok(text)
-}
-
-/// A text of 2 to 25 tokens or so.
-fn source(alloc: Global, seed: &mut Seed) -> Result<String, AllocError> {
-    let mut text = String::new(alloc);
-    for _ in 0..seed.below(24).saturating_add(2) {
-        text.push_str(seed.pick(TOKENS))?;
-        text.push_str(seed.pick(GAPS))?;
-    }
-    Ok(text)
-}
-
-/// What a case shows.
-#[derive(Drop)]
-enum Outcome {
-    NoMatch,
-    Matches,
-    /// What the search finds and what the finder does are not the same: the text, and both.
-    Differs(String),
-}
-
-/// What the search and the finder give of a set in a text.
-fn outcome_in(alloc: Global, profile: &Profile, set: &Set, source: &str) -> Result<Outcome, Fail> {
-    let text = profile.text(alloc, source)?;
-    let (by_search, by_finder) = both_shown(alloc, set, &text)?;
-    if by_search != by_finder {
-        return Ok(Outcome::Differs(format!(in alloc; "{source:?}: {by_search}, {by_finder}")?));
-    }
-    if by_search.is_empty() {
-        return Ok(Outcome::NoMatch);
-    }
-    Ok(Outcome::Matches)
-}
-
-/// How many cases there are, and how many of them have matches; how many differ, and the pair and the text of the last of these.
-#[derive(Drop)]
-struct Tally {
-    cases: u64,
-    matched: u64,
-    differing: u64,
-    last_pair: u64,
-    last: String,
-}
-
-impl Tally {
-    /// Adds a case of a pair.
-    fn add(&mut self, pair: u64, outcome: Outcome) {
-        self.cases = self.cases.saturating_add(1);
-        match outcome {
-            Outcome::NoMatch => (),
-            Outcome::Matches => self.matched = self.matched.saturating_add(1),
-            Outcome::Differs(case) => {
-                self.differing = self.differing.saturating_add(1);
-                self.last_pair = pair;
-                self.last = case;
-            }
+    /// Of how many words and marks a text is made.
+    fn length(self, seed: &mut Seed) -> u64 {
+        match self {
+            Kind::Short => seed.below(24).saturating_add(2),
+            Kind::Long => seed.below(50).saturating_add(230),
         }
     }
 }
 
-/// The set of two random templates, or none if one of them is refused.
-fn pair_of(alloc: Global, profile: &Profile, seed: &mut Seed) -> Result<Option<Set>, Fail> {
+/// A template that the search leaves to the finder in a long text, as two wide counts stand side by
+/// side in it.
+const WIDE: &str =
+    "a<<var;name=v;original=o;match=.{0,300}>><<var;name=w;original=o;match=.{0,300}>>";
+
+/// The third template of a set.
+fn third_template(alloc: Global, kind: Kind, seed: &mut Seed) -> Result<String, AllocError> {
+    match kind {
+        Kind::Short => template(alloc, seed),
+        Kind::Long => String::from_str(alloc, WIDE),
+    }
+}
+
+/// The templates of the set of a number.
+fn shown_templates(alloc: Global, kind: Kind, number: u64) -> Result<String, Fail> {
+    let mut seed = Seed::of(number);
+    let first = template(alloc, &mut seed)?;
+    let second = template(alloc, &mut seed)?;
+    let third = third_template(alloc, kind, &mut seed)?;
+    Ok(format!(in alloc; "{first:?} {second:?} {third:?}")?)
+}
+
+/// A random set, or none if one of its templates is refused.
+fn random_set(
+    alloc: Global,
+    profile: &Profile,
+    kind: Kind,
+    seed: &mut Seed,
+) -> Result<Option<Set>, Fail> {
     let first = template(alloc, seed)?;
     let second = template(alloc, seed)?;
-    profile.set(alloc, &[first.as_str(), second.as_str()])
+    let third = third_template(alloc, kind, seed)?;
+    profile.set(alloc, &[first.as_str(), second.as_str(), third.as_str()])
 }
 
-/// Adds the cases of a pair of templates.
-fn add_pair(alloc: Global, profile: &Profile, pair: u64, tally: &mut Tally) -> Result<(), Fail> {
-    let mut seed = Seed::of(pair);
-    let Some(set) = pair_of(alloc, profile, &mut seed)? else {
-        return Ok(());
-    };
-    for _ in 0..TEXTS {
-        let text = source(alloc, &mut seed)?;
-        tally.add(pair, outcome_in(alloc, profile, &set, text.as_str())?);
+/// What a set shows in a text, whose source this is.
+fn case_in(
+    alloc: Global,
+    set: &Set,
+    text: &Text,
+    source: &str,
+    seed: &mut Seed,
+) -> Result<Case, Fail> {
+    let all = found(alloc, set, text)?;
+    let asked = Asked::random(seed, text.len(), &all);
+    Ok(Case {
+        matched: !all.is_empty(),
+        left: !left_in(alloc, set, text)?.is_empty(),
+        differing: difference(alloc, set, text, source, &all, asked)?,
+    })
+}
+
+/// A form that does not give what it has to, what was asked for, and the source of the text.
+fn difference(
+    alloc: Global,
+    set: &Set,
+    text: &Text,
+    source: &str,
+    all: &[Triple],
+    asked: Asked,
+) -> Result<Option<String>, Fail> {
+    match differing_form(alloc, set, text, all, asked)? {
+        Some(form) => Ok(Some(format!(in alloc; "{form:?} by {asked:?} in {source:?}")?)),
+        None => Ok(None),
+    }
+}
+
+/// What a set shows in a random text.
+fn random_case(
+    alloc: Global,
+    profile: &Profile,
+    kind: Kind,
+    set: &Set,
+    seed: &mut Seed,
+) -> Result<Case, Fail> {
+    let length = kind.length(seed);
+    let source = source(alloc, seed, length)?;
+    let text = profile.text(alloc, source.as_str())?;
+    case_in(alloc, set, &text, source.as_str(), seed)
+}
+
+/// Adds what the set of a number shows in random texts.
+fn add_texts(
+    alloc: Global,
+    profile: &Profile,
+    kind: Kind,
+    number: u64,
+    set: &Set,
+    seed: &mut Seed,
+    tally: &mut Tally,
+) -> Result<(), Fail> {
+    for _ in 0..kind.texts() {
+        tally.add(number, random_case(alloc, profile, kind, set, seed)?);
     }
     Ok(())
 }
 
-/// What so many pairs show.
-fn tally_of(alloc: Global, pairs: u64) -> Result<Tally, Fail> {
+/// Adds what the set of a number shows, if no template of it is refused.
+fn add_set(
+    alloc: Global,
+    profile: &Profile,
+    kind: Kind,
+    number: u64,
+    tally: &mut Tally,
+) -> Result<(), Fail> {
+    let mut seed = Seed::of(number);
+    match random_set(alloc, profile, kind, &mut seed)? {
+        Some(set) => add_texts(alloc, profile, kind, number, &set, &mut seed, tally),
+        None => Ok(()),
+    }
+}
+
+/// What all sets of a kind show.
+fn tally_of(alloc: Global, kind: Kind) -> Result<Tally, Fail> {
     let profile = Profile::new(alloc, "")?;
-    let mut tally = Tally {
-        cases: 0,
-        matched: 0,
-        differing: 0,
-        last_pair: 0,
-        last: String::new(alloc),
-    };
-    for pair in 0..pairs {
-        add_pair(alloc, &profile, pair, &mut tally)?;
+    let mut tally = Tally::new(alloc);
+    for number in 0..kind.sets() {
+        add_set(alloc, &profile, kind, number, &mut tally)?;
     }
     Ok(tally)
 }
 
-/// The templates of a pair.
-fn shown_pair(alloc: Global, pair: u64) -> Result<String, Fail> {
-    let mut seed = Seed::of(pair);
-    let first = template(alloc, &mut seed)?;
-    let second = template(alloc, &mut seed)?;
-    Ok(format!(in alloc; "{first:?} {second:?}")?)
+#[test]
+fn each_form_gives_what_the_finder_says(rt: HostRuntime) -> Result<(), Fail> {
+    let tally = tally_of(rt.alloc(), Kind::Short)?;
+    let templates = shown_templates(rt.alloc(), Kind::Short, tally.last_set)?;
+    assert_eq!(rt; tally.differing, 0, "{templates}: {}", tally.last);
+    assert!(rt;
+        tally.cases > 3_000 && tally.matched > 1_500,
+        "{} with matches of {}",
+        tally.matched,
+        tally.cases
+    );
+    Ok(())
 }
 
 #[test]
-fn finds_what_the_finder_does(rt: HostRuntime) -> Result<(), Fail> {
-    let tally = tally_of(rt.alloc(), PAIRS)?;
-    let pair = shown_pair(rt.alloc(), tally.last_pair)?;
-    assert_eq!(rt; tally.differing, 0, "{pair} in {}", tally.last);
+fn each_form_gives_what_the_finder_says_where_a_template_is_left(
+    rt: HostRuntime,
+) -> Result<(), Fail> {
+    let tally = tally_of(rt.alloc(), Kind::Long)?;
+    let templates = shown_templates(rt.alloc(), Kind::Long, tally.last_set)?;
+    assert_eq!(rt; tally.differing, 0, "{templates}: {}", tally.last);
     assert!(rt;
-        tally.cases > 2_800 && tally.matched > 800,
-        "{} with matches of {}",
-        tally.matched,
+        tally.cases > 30 && tally.left == tally.cases,
+        "{} with a template that is left of {}",
+        tally.left,
         tally.cases
     );
     Ok(())

@@ -1,25 +1,51 @@
-//! Tight matches in worked texts.
+//! Tight matches in worked texts, and each form of matching against the finder's list of all matches.
 
-use crate::found::both_shown;
+use crate::asked::Asked;
+use crate::forms::{Form, found, given};
 use crate::profile::Profile;
+use crate::wanted::differing_form;
+use lic_norm::text::Text;
+use lic_set::set::Set;
+use lic_set::triple::Triple;
 use std::alloc::Global;
+use std::fmt::Write;
 use std::test::Fail;
 
 /// One text and its tight matches, each as template, first token and last token.
 type Row<'a> = (&'a [&'a str], &'a str, &'a str);
 
-/// The tight matches in a text with these equivalent words, where the search and the finder give the same; else both.
+/// Triples, each as template, first token and last token.
+fn listed(alloc: Global, triples: &[Triple]) -> Result<String, Fail> {
+    let mut listed = String::new(alloc);
+    for triple in triples {
+        write!(
+            listed,
+            "{}:{}-{} ",
+            triple.template, triple.first, triple.last
+        )?;
+    }
+    Ok(listed)
+}
+
+/// The tight matches of a set in a text, where each form of matching gives what it has to; else a
+/// form that does not.
+fn shown_in(alloc: Global, set: &Set, text: &Text) -> Result<String, Fail> {
+    let all = found(alloc, set, text)?;
+    let asked = Asked::in_middle(&all);
+    if let Some(form) = differing_form(alloc, set, text, &all, asked)? {
+        return Ok(format!(in alloc; "{form:?}")?);
+    }
+    listed(alloc, &given(alloc, Form::Tight, set, text, asked)?)
+}
+
+/// The same of templates and the source of a text, with these equivalent words.
 fn shown(alloc: Global, templates: &[&str], source: &str, list: &str) -> Result<String, Fail> {
     let profile = Profile::new(alloc, list)?;
     let Some(set) = profile.set(alloc, templates)? else {
         return Err(Fail::from("refused"));
     };
     let text = profile.text(alloc, source)?;
-    let (by_search, by_finder) = both_shown(alloc, &set, &text)?;
-    if by_search == by_finder {
-        return Ok(by_search);
-    }
-    Ok(format!(in alloc; "{by_search}, {by_finder}")?)
+    shown_in(alloc, &set, &text)
 }
 
 #[test]
