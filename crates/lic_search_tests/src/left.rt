@@ -58,7 +58,7 @@ fn leaves_templates_to_the_finder(rt: HostRuntime) -> Result<(), Fail> {
             150,
             "11474 [0] None",
         ),
-        // each range of an even number of tokens is a match of the first and a row of its own, and each
+        // each range of an even number of tokens is a match of the first and a bundle of its own, and each
         // token one of the second: 520 * 520 + 1,040
         (
             &["x <<var;name=v;original=o;match=x( x x)*>>", "x"],
