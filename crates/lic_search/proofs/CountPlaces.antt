@@ -40,6 +40,12 @@ text_whole bytes p text q utf8 stands before =
     let start = IsCharBoundary-start text utf8 in
     (omega arith, λ within high. subst (λ b. 192 ≤ b) (sym byte) (start.1 (omega arith) (subst (λ b. 128 ≤ b) byte high)))
 
+-- nor where a token begins
+pub start-whole : (tokens : List TokenValue) (i : ℕ) → AreTexts tokens → i < length tokens → IsCharBoundary (spelling_of tokens) (place_start tokens i)
+start-whole tokens i texts h =
+    text_whole (spelling_of tokens) (place_start tokens i) (get_or (texts_of tokens) i []) (place_end tokens i) (text_utf8 tokens i texts h)
+    (place_start-text tokens i h) (place_end-order tokens i texts h)
+
 -- nor where a blank stands
 pub blank-whole : (bytes : List ℕ) (p : ℕ) → IsTrue (is_blank_at bytes p) → IsCharBoundary bytes p
 blank-whole bytes p is = IsCharBoundary-before_ascii bytes p (inside (cases_lt p (length bytes))) (omega (arith, byte))

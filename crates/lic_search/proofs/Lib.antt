@@ -4,6 +4,7 @@ pub mod Placed
 pub mod Back
 pub mod ViewPlaces
 pub mod ViewBlanks
+pub mod ViewRanges
 pub mod ViewSpans
 pub mod BlankLemmas
 pub mod Numbers
@@ -27,6 +28,7 @@ pub mod MatchSpans
 pub mod MatchLists
 pub mod MatchLemmas
 pub mod BundleLemmas
+pub mod ReverseLemmas
 pub mod WindowBounds
 pub mod WindowEnds
 pub mod WindowLemmas

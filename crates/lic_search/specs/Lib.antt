@@ -12,5 +12,6 @@ pub mod Fresh
 pub mod Passing
 pub mod PassingPlaces
 pub mod Reached
+pub mod Reverse
 pub mod Runs
 pub mod Tidily

@@ -53,7 +53,7 @@ pub fn all_matches(alloc: Global, set: &Set, text: &Text) -> Result<AllMatches, 
     };
     let candidates = set.candidates(alloc, text)?;
     for candidate in &candidates {
-        add_template(alloc, set, &view, candidate, &mut found)?;
+        add_template(alloc, set, text, &view, candidate, &mut found)?;
     }
     Ok(found)
 }
@@ -62,11 +62,13 @@ pub fn all_matches(alloc: Global, set: &Set, text: &Text) -> Result<AllMatches, 
 fn add_template(
     alloc: Global,
     set: &Set,
+    text: &Text,
     view: &View<'_>,
     candidate: &Candidate,
     found: &mut AllMatches,
 ) -> Result<(), AllocError>
-    requires { IsCandidateOf set.now view.now candidate.now }
+    requires candidate { IsCandidateOf set.now view.now candidate.now }
+    requires text { view.now ≡ text.now.tokens }
     ensures adds { IfOk result (λ _. AddsTemplate set.now view.now candidate.now.number found.old found.new) }
     ensures few { IfOk result (λ _. length found.old.bundles.items ≤ length view.now + 262144
         → length found.new.bundles.items ≤ length view.now + 262144) }
@@ -75,7 +77,7 @@ fn add_template(
         .len()
         .saturating_add(MOST_MORE)
         .saturating_sub(found.bundles.len());
-    match bundles_if_few(alloc, set, view, candidate, most)? {
+    match bundles_if_few(alloc, set, text, view, candidate, most)? {
         Some(mut bundles) => found.bundles.append(&mut bundles)?,
         None => found.left.push(candidate.number)?,
     }
@@ -88,18 +90,20 @@ fn add_template(
 fn bundles_if_few(
     alloc: Global,
     set: &Set,
+    text: &Text,
     view: &View<'_>,
     candidate: &Candidate,
     most: usize,
 ) -> Result<Option<Vec<Bundle>>, AllocError>
-    requires { IsCandidateOf set.now view.now candidate.now }
+    requires candidate { IsCandidateOf set.now view.now candidate.now }
+    requires text { view.now ≡ text.now.tokens }
     ensures are { IfOk result (λ found. IfSome found (λ bundles. AreMatchBundles set.now view.now candidate.now.number bundles.items)) }
     ensures few { IfOk result (λ found. IfSome found (λ bundles. length bundles.items ≤ most)) }
 {
     let number = candidate.number;
     let template = set.template(number);
     texts_are_those_of_pieces(template);
-    let required = set.required_ends(alloc, view.text(), candidate)?;
+    let required = set.required_ends(alloc, text, candidate)?;
     let least = least_ranges(alloc, view, template.parts(), &required)?;
     if least.is_empty() {
         return Ok(Some(Vec::new(alloc)));

@@ -83,8 +83,8 @@ fn over_optional(
     Ok(kept(alloc, view, keep, all)?)
 }
 
-// The places from which a tidy word of a pattern leads to those of the spans.
-fn over_variable(
+/// The places from which a tidy word of a pattern leads to those of the spans.
+pub(crate) fn over_variable(
     alloc: Global,
     view: &View<'_>,
     keep: Keep,

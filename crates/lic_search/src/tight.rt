@@ -44,7 +44,7 @@ fn least_matches(alloc: Global, set: &Set, text: &Text) -> Result<Vec<Triple>, A
     let mut found = Vec::new(alloc);
     let candidates = set.candidates(alloc, text)?;
     for candidate in &candidates {
-        add_template(alloc, set, &view, candidate, &mut found)?;
+        add_template(alloc, set, text, &view, candidate, &mut found)?;
     }
     Ok(found)
 }
@@ -53,16 +53,18 @@ fn least_matches(alloc: Global, set: &Set, text: &Text) -> Result<Vec<Triple>, A
 fn add_template(
     alloc: Global,
     set: &Set,
+    text: &Text,
     view: &View<'_>,
     candidate: &Candidate,
     found: &mut Vec<Triple>,
 ) -> Result<(), AllocError>
-    requires { IsCandidateOf set.now view.now candidate.now }
+    requires candidate { IsCandidateOf set.now view.now candidate.now }
+    requires text { view.now ≡ text.now.tokens }
     ensures { IfOk result (λ _. AddsLeast set.now view.now candidate.now.number found.old.items found.new.items) }
 {
     let template = set.template(candidate.number);
     texts_are_those_of_pieces(template);
-    let required = set.required_ends(alloc, view.text(), candidate)?;
+    let required = set.required_ends(alloc, text, candidate)?;
     let ranges = least_ranges(alloc, view, template.parts(), &required)?;
     found.extend(
         ranges.iter().map(|range| Triple {

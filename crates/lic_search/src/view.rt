@@ -1,77 +1,88 @@
 //! A text in canonical spelling, and where its tokens stand in it.
 
-ghost use Rattle.std.specs.Prelude.{◌≡◌, ◌<◌, ◌≤◌, ◌↔◌, ℕ, IsTrue, length, MatchOption};
+ghost use Rattle.std.specs.Prelude.{◌≡◌, ◌+◌, ◌<◌, ◌≤◌, ◌↔◌, ℕ, IsTrue, length, slice_range, MatchOption};
 ghost use Rattle.std.specs.Str.{IsAscii, IsCharBoundary};
 ghost use Rattle.lic_norm.specs.Places.{IsTokenEnd, place_end, place_start};
 ghost use Rattle.lic_places.specs.Places.{AreTexts, IsBehindBlank, OverBlank, is_blank_at, spelling_of};
 ghost use Rattle.lic_search.specs.Passing.{IsLetterBefore};
 ghost use Rattle.lic_search.specs.PlaceSets.{IsLetterPlace};
-ghost use Rattle.lic_search.specs.Views.{IsFirstFrom};
+ghost use Rattle.lic_search.specs.Views.{AreSpelledFrom, IsFirstFrom};
 
 use crate::last_letter::last_letter;
 use lic_norm::laws::{tokens_are_token_texts, tokens_are_utf8};
 use lic_norm::text::Text;
 use std::marker::Model;
 
-/// A text in canonical spelling. A place is a number of bytes of it.
+/// Tokens of a text that stand one after another, in canonical spelling. A place is a number of bytes of it.
 #[derive(Debug, Drop)]
-pub(crate) struct View<'t> {
+pub struct View<'t> {
     text: &'t Text,
-    bytes: &'t [u8],
+    // the number of the first token, and how many there are
+    first: usize,
+    count: usize,
+    // where the first token stands in the canonical spelling of the whole text
+    start: usize,
+    spelled: &'t str,
     is_ascii: bool,
 }
 
 impl<'t> Model for View<'t> {
-    ghost use Rattle.std.specs.Prelude.{◌≡◌, IsTrue, List};
+    ghost use Rattle.std.specs.Prelude.{◌+◌, ◌≤◌, IsTrue, List, length, slice_range};
     ghost use Rattle.std.specs.Str.{IsAscii};
     ghost use Rattle.lic_norm.specs.Tokens.{TokenValue};
-    ghost use Rattle.lic_places.specs.Places.{AreTexts, spelling_of};
+    ghost use Rattle.lic_places.specs.Places.{AreTexts};
+    ghost use Rattle.lic_search.specs.Views.{AreSpelledFrom};
 
     ghost Value = { List TokenValue };
 
-    ghost view = { λ v. v.text.now.tokens };
+    ghost view = { λ v. slice_range v.text.now.tokens v.first (v.first + v.count) };
 
-    ghost invariant = { λ v. AreTexts v.text.now.tokens
-        × (v.bytes.now ≡ spelling_of v.text.now.tokens)
-        × (IsTrue v.is_ascii → IsAscii v.bytes.now) };
+    ghost invariant = { λ v. (v.first + v.count ≤ length v.text.now.tokens)
+        × AreTexts (slice_range v.text.now.tokens v.first (v.first + v.count))
+        × AreSpelledFrom v.text.now.tokens v.first v.count v.start v.spelled.now
+        × (IsTrue v.is_ascii → IsAscii v.spelled.now) };
 }
 
 impl<'t> View<'t> {
-    /// The text in canonical spelling.
+    /// All tokens of a text.
     pub(crate) fn new(text: &'t Text) -> View<'t>
         ensures { result ≡ text.now.tokens }
     {
+        View::of(text, 0, text.len())
+    }
+
+    /// So many tokens of a text from the token number `first` on.
+    pub fn of(text: &'t Text, first: usize, count: usize) -> View<'t>
+        requires { first + count ≤ length text.now.tokens }
+        ensures { result ≡ slice_range text.now.tokens first (first + count) }
+    {
         tokens_are_utf8(text);
         tokens_are_token_texts(text);
-        let letters = text.spelled();
+        let (start, spelled) = spelled_from(text, first, count);
         View {
             text,
-            bytes: letters.as_bytes(),
-            is_ascii: letters.is_ascii(),
+            first,
+            count,
+            start,
+            spelled,
+            is_ascii: spelled.is_ascii(),
         }
     }
 }
 
 impl View<'_> {
-    /// The text itself.
-    pub(crate) fn text(&self) -> &Text
-        ensures { result.now.tokens ≡ self.now }
-    {
-        self.text
-    }
-
     /// How many tokens there are.
-    pub(crate) fn len(&self) -> usize
+    pub fn len(&self) -> usize
         ensures { result ≡ length self.now }
     {
-        self.text.len()
+        self.count
     }
 
     /// The bytes of the canonical spelling.
-    pub(crate) fn bytes(&self) -> &[u8]
+    pub fn bytes(&self) -> &[u8]
         ensures { result.now ≡ spelling_of self.now }
     {
-        self.bytes
+        self.spelled.as_bytes()
     }
 
     /// Whether all bytes of the canonical spelling are known to be ASCII.
@@ -86,15 +97,16 @@ impl View<'_> {
         ensures { MatchOption result ((p c : ℕ) → ¬ (IsLetterBefore (spelling_of self.now) place p c))
             (λ found. IsLetterBefore (spelling_of self.now) place found.0 found.1) }
     {
-        last_letter(self.text.spelled(), place)
+        last_letter(self.spelled, place)
     }
 
     /// The place at which the token number `i` ends.
-    pub(crate) fn end(&self, i: usize) -> usize
+    pub fn end(&self, i: usize) -> usize
         requires { i < length self.now }
         ensures { result ≡ place_end self.now i }
     {
-        self.text.place(i).end
+        let _length = self.text.len();
+        self.text.place(self.first + i).end - self.start
     }
 
     /// The place at which the token number `i` begins.
@@ -102,21 +114,22 @@ impl View<'_> {
         requires { i < length self.now }
         ensures { result ≡ place_start self.now i }
     {
-        self.text.place(i).start
+        let _length = self.text.len();
+        self.text.place(self.first + i).start - self.start
     }
 
     /// Whether no letter is cut at a place.
     pub(crate) fn is_boundary(&self, place: usize) -> bool
         ensures { IsTrue result ↔ IsCharBoundary (spelling_of self.now) place }
     {
-        self.text.spelled().is_char_boundary(place)
+        self.spelled.is_char_boundary(place)
     }
 
     /// Whether a blank stands at a place.
-    pub(crate) fn is_blank(&self, place: usize) -> bool
+    pub fn is_blank(&self, place: usize) -> bool
         ensures { result ≡ is_blank_at (spelling_of self.now) place }
     {
-        place < self.bytes.len() && self.bytes[place] == b' '
+        place < self.spelled.len() && self.spelled.as_bytes()[place] == b' '
     }
 
     /// Whether a blank stands in front of a place.
@@ -185,15 +198,31 @@ impl View<'_> {
         requires { place ≤ length (spelling_of self.now) }
         ensures { IsTrue result ↔ IsLetterPlace self.now place }
     {
-        match self.bytes.get(place) {
+        match self.spelled.as_bytes().get(place) {
             None => true,
             Some(byte) => *byte != b' ' && (*byte < 0x80 || *byte >= 0xC0),
         }
     }
 }
 
+// Where so many tokens of a text from a token on begin in its canonical spelling, and their own.
+fn spelled_from(text: &Text, first: usize, count: usize) -> (usize, &str)
+    requires { first + count ≤ length text.now.tokens }
+    ensures { AreSpelledFrom text.now.tokens first count result.0 result.1.now }
+{
+    tokens_are_utf8(text);
+    tokens_are_token_texts(text);
+    let _length = text.len();
+    if count == 0 {
+        return (0, "");
+    }
+    let start = text.place(first).start;
+    let end = text.place(first + count - 1).end;
+    (start, &text.spelled()[start..end])
+}
+
 /// The texts of tokens are in UTF-8, and none is empty.
-pub(crate) fn tokens_have_texts(view: &View<'_>)
+pub fn tokens_have_texts(view: &View<'_>)
     ensures { AreTexts view.now }
 {
     let _ = &view.text;

@@ -21,16 +21,16 @@ least_ranges-requires-clause-required c =
     let other : Known = known_for c.template-template.result.now in
     let number = c.args.candidate.now.number in
     let same : (get_or c.args.set.now number other).template.parts ≡ c.parts.result.now = ap (λ t. t.parts) (sym (c.template-template.ensures other)) ∙ sym c.parts.ensures in
-    required_of c.args.set.now number other c.parts.result.now (spelling_of c.text.result.now.tokens) (spelling_of c.args.view.now) c.in_ok-required.required
-    (ap spelling_of c.text.ensures) same c.in_ok-required.ensures.ends c.in_ok-required.ensures.rising
+    required_of c.args.set.now number other c.parts.result.now (spelling_of c.args.text.now.tokens) (spelling_of c.args.view.now) c.in_ok-required.required
+    (ap spelling_of (sym c.requires.text)) same c.in_ok-required.ensures.ends c.in_ok-required.ensures.rising
 
 pub bundles_within-requires-clause-required : goal.bundles_within-requires-clause-required
 bundles_within-requires-clause-required c =
     let other : Known = known_for c.template-template.result.now in
     let number = c.args.candidate.now.number in
     let same : (get_or c.args.set.now number other).template.parts ≡ c.parts-2.result.now = ap (λ t. t.parts) (sym (c.template-template.ensures other)) ∙ sym c.parts-2.ensures in
-    required_of c.args.set.now number other c.parts-2.result.now (spelling_of c.text.result.now.tokens) (spelling_of c.args.view.now) c.in_ok-required.required
-    (ap spelling_of c.text.ensures) same c.in_ok-required.ensures.ends c.in_ok-required.ensures.rising
+    required_of c.args.set.now number other c.parts-2.result.now (spelling_of c.args.text.now.tokens) (spelling_of c.args.view.now) c.in_ok-required.required
+    (ap spelling_of (sym c.requires.text)) same c.in_ok-required.ensures.ends c.in_ok-required.ensures.rising
 
 pub returns-then-is_empty-clause-are : goal.returns-then-is_empty-clause-are
 returns-then-is_empty-clause-are c =
@@ -39,7 +39,7 @@ returns-then-is_empty-clause-are c =
     let number = c.args.candidate.now.number in
     let other : Known = known_for c.template-template.result.now in
     let known : Known = get_or set number other in
-    let is : slice_get set number ≡ Some known = slice_get-get_or set number other c.requires.below in
+    let is : slice_get set number ≡ Some known = slice_get-get_or set number other c.requires.candidate.below in
     let same : known.template.parts ≡ c.parts.result.now = ap (λ t. t.parts) (sym (c.template-template.ensures other)) ∙ sym c.parts.ensures in
     let long = c.in_ok-least.least.ok.0 in
     let none : vec_len c.in_ok-least.least ≡ 0 = eqb-true (vec_len c.in_ok-least.least) 0 (sym c.is_empty.ensures ∙ c.if-is_empty.true) in
@@ -54,7 +54,7 @@ returns-clause-are c =
     let number = c.args.candidate.now.number in
     let other : Known = known_for c.template-template.result.now in
     let known : Known = get_or set number other in
-    let is : slice_get set number ≡ Some known = slice_get-get_or set number other c.requires.below in
+    let is : slice_get set number ≡ Some known = slice_get-get_or set number other c.requires.candidate.below in
     let same : known.template.parts ≡ c.parts-2.result.now = ap (λ t. t.parts) (sym (c.template-template.ensures other)) ∙ sym c.parts-2.ensures in
     few-are (λ (bundles : Vec Bundle Global). AreMatchBundles set tokens number bundles.items) c.bundles_within.result c.few_of.result
     (ok-changed _ _ c.bundles_within.result

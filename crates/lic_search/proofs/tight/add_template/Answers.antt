@@ -19,8 +19,8 @@ least_ranges-requires-clause-required c =
     let other : Known = known_for c.template-template.result.now in
     let number = c.args.candidate.now.number in
     let same : (get_or c.args.set.now number other).template.parts ≡ c.parts.result.now = ap (λ t. t.parts) (sym (c.template-template.ensures other)) ∙ sym c.parts.ensures in
-    required_of c.args.set.now number other c.parts.result.now (spelling_of c.text.result.now.tokens) (spelling_of c.args.view.now) c.in_ok-required.required
-    (ap spelling_of c.text.ensures) same c.in_ok-required.ensures.ends c.in_ok-required.ensures.rising
+    required_of c.args.set.now number other c.parts.result.now (spelling_of c.args.text.now.tokens) (spelling_of c.args.view.now) c.in_ok-required.required
+    (ap spelling_of (sym c.requires.text)) same c.in_ok-required.ensures.ends c.in_ok-required.ensures.rising
 
 pub returns : goal.returns
 returns c =
@@ -32,7 +32,7 @@ returns c =
     let ranges = c.in_ok-ranges.ranges.items in
     let other : Known = known_for c.template-template.result.now in
     let known : Known = get_or set number other in
-    let is : slice_get set number ≡ Some known = slice_get-get_or set number other c.requires.below in
+    let is : slice_get set number ≡ Some known = slice_get-get_or set number other c.requires.candidate.below in
     let same : known.template.parts ≡ c.parts.result.now = ap (λ t. t.parts) (sym (c.template-template.ensures other)) ∙ sym c.parts.ensures in
     let least = subst (λ parts. HasLeastRanges tokens (parts_words (map part_of parts)) ranges) (sym same) c.in_ok-ranges.ensures in
     let added = items_from_extend c.extend.result c.extend.ensures.ran

@@ -1,0 +1,42 @@
+-- The values of a match.
+use Rattle.std.proofs.Common.{◌≡◌, ◌+◌, ◌-◌, map, refl}
+use Rattle.std.specs.List.{slice_range}
+use Rattle.lic_values.specs.Cuts.{moves_of}
+use Rattle.lic_values.specs.Moves.{moves}
+use Rattle.lic_values.specs.Values.{nodes_of}
+use Rattle.lic_values.specs.Views.{value_of}
+use Rattle.lic_values.proofs.AssignLemmas.{assigned, match-can, moves-of, ok-then, some-tokens, tokens-of}
+use Rattle.lic_values.proofs.values.Assigner.assign.Goals as goal
+
+pub least_record-requires-clause-can : goal.least_record-requires-clause-can
+least_record-requires-clause-can c =
+    let own = c.self.inside in
+    let v = c.args.self.now in
+    let is = c.requires.is_match in
+    let tokens = c.args.text.now.tokens in
+    let triple = c.args.triple in
+    let moved : moves_of own.steps.items ≡ moves (nodes_of is.known) =
+    moves-of own.set.now own.template own.steps.items v triple.template is.known c.self.invariant c.self.view_is c.requires.template is.number in
+    let part : c.of-view.result ≡ slice_range tokens triple.first (triple.last + 1) =
+    tokens-of tokens c.of-view.result triple.first triple.last (triple.last - triple.first + 1) is.order refl c.of-view.ensures in
+    let some = some-tokens tokens c.of-view.result triple.first triple.last is.order is.within part in
+    rw c.deref.ensures.value
+    (match-can v.set tokens c.of-view.result triple is.known own.steps.items is is.number moved c.tokens_have_texts.ensures some part)
+
+pub returns : goal.returns
+returns c =
+    let own = c.self.inside in
+    let v = c.args.self.now in
+    let is = c.requires.is_match in
+    let tokens = c.args.text.now.tokens in
+    let triple = c.args.triple in
+    let moved : moves_of own.steps.items ≡ moves (nodes_of is.known) =
+    moves-of own.set.now own.template own.steps.items v triple.template is.known c.self.invariant c.self.view_is c.requires.template is.number in
+    let part : c.of-view.result ≡ slice_range tokens triple.first (triple.last + 1) =
+    tokens-of tokens c.of-view.result triple.first triple.last (triple.last - triple.first + 1) is.order refl c.of-view.ensures in
+    let some = some-tokens tokens c.of-view.result triple.first triple.last is.order is.within part in
+    let least = rw c.deref.ensures.value at c.in_ok-numbers.ensures in
+    ok-then c.values_of.result _ _ c.values_of.ensures
+    (λ x h. assigned v.set tokens c.of-view.result triple is.known own.steps.items c.in_ok-letters.letters.items c.in_ok-numbers.numbers.items
+    (map value_of x.items) is.number moved c.tokens_have_texts.ensures some part
+    c.in_ok-letters.ensures least (rw (c.deref-2.ensures.value, c.deref-3.ensures.value, c.deref-4.ensures.value) at h))

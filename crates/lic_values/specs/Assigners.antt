@@ -1,0 +1,18 @@
+-- What an assigner is to its callers, and what it keeps.
+use Rattle.std.specs.Prelude.{◌≡◌, ℕ, List, Some, slice_get}
+use Rattle.std.specs.List.{All}
+use Rattle.lic_set.specs.Sets.{Known}
+use Rattle.lic_values.specs.Values.{nodes_of}
+use Rattle.lic_values.specs.Moves.{moves}
+use Rattle.lic_values.specs.Cuts.{moves_of, IsPiece}
+use Rattle.lic_values.specs.declared.steps.Step.{Step}
+
+-- the set, and the number of the template that is compiled
+pub record AssignerValue : Type 0 where
+  pub set : List Known
+  pub template : ℕ
+
+-- the steps are those of the template of this number
+pub record AreStepsOf (set : List Known) (k : ℕ) (steps : List Step) : Type 0 where
+  pub pieces : All IsPiece steps
+  pub moves : (known : Known) → slice_get set k ≡ Some known → moves_of steps ≡ moves (nodes_of known)

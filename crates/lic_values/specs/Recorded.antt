@@ -1,0 +1,18 @@
+-- The values that a record gives.
+use Rattle.std.specs.Prelude.{ℕ, zero, suc, ◌==◌, List, [], ◌∷◌, take, drop, None, slice_index_or, if◌then◌else◌}
+use Rattle.lic_norm.specs.declared.token.Span.{Span}
+use Rattle.lic_words.specs.Letters.{letters_in}
+use Rattle.lic_values.specs.Values.{Assigned, covered}
+use Rattle.lic_values.specs.Moves.{Move, text, variable, optional}
+
+-- the values along moves of which the first so many are left out, where the letters behind them have these spans
+abbrev pub recorded : ℕ → List Move → List ℕ → List Span → List Assigned
+recorded left_out [] r spans = []
+recorded (suc k) (text w ∷ ms) r spans = recorded k ms r spans
+recorded (suc k) (variable name re ∷ ms) r spans = record { name = name; span = None } ∷ recorded k ms r spans
+recorded (suc k) (optional n ∷ ms) r spans = recorded k ms r spans
+recorded zero (text w ∷ ms) r spans = recorded 0 ms r (drop (letters_in w) spans)
+recorded zero (variable name re ∷ ms) r spans =
+    record { name = name; span = covered (take (slice_index_or r 0 0) spans) }
+    ∷ recorded 0 ms (drop 1 r) (drop (slice_index_or r 0 0) spans)
+recorded zero (optional n ∷ ms) r spans = recorded (if slice_index_or r 0 0 == 0 then 0 else n) ms (drop 1 r) spans

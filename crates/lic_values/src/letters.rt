@@ -1,0 +1,58 @@
+//! The letters of a match, by the spans of their tokens.
+
+ghost use Rattle.std.specs.Prelude.{◌≡◌, ◌<◌, ◌≤◌, ◌+◌, ◌++◌, length, replicate, slice_range, IfOk, OnOk};
+ghost use Rattle.std.specs.Str.{chars};
+ghost use Rattle.lic_words.specs.Letters.{letters_in};
+ghost use Rattle.lic_values.specs.Values.{letter_spans};
+
+use lic_norm::text::Text;
+use lic_norm::token::Span;
+use std::alloc::{AllocError, Global};
+
+/// For each letter of the tokens from the first to the last that is no blank, the bytes that its token was made from.
+pub fn letter_spans(
+    alloc: Global,
+    text: &Text,
+    first: usize,
+    last: usize,
+) -> Result<Vec<Span>, AllocError>
+    requires order { first ≤ last }
+    requires within { last < length text.now.tokens }
+    ensures { IfOk result (λ spans. spans.items
+        ≡ letter_spans (slice_range text.now.tokens first (last + 1))) }
+{
+    let mut spans = Vec::new(alloc);
+    let count = text.len();
+    prove!(last < count);
+    for i in first..last + 1 {
+        let token = text.token(i);
+        push_times(&mut spans, token.span, letter_count(token.text))?;
+    }
+    Ok(spans)
+}
+
+// Adds a span so many times.
+fn push_times(spans: &mut Vec<Span>, span: Span, count: usize) -> Result<(), AllocError>
+    ensures { OnOk result (spans.new.items ≡ spans.old.items ++ replicate count span) }
+{
+    let mut left = count;
+    while left > 0 {
+        spans.push(span)?;
+        left -= 1;
+    }
+    Ok(())
+}
+
+/// How many letters are not blanks.
+pub fn letter_count(text: &str) -> usize
+    ensures { result ≡ letters_in (chars text.now) }
+{
+    let mut count = 0;
+    for c in text.chars() {
+        if c == ' ' {
+            continue;
+        }
+        count += 1;
+    }
+    count
+}

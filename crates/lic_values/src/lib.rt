@@ -1,0 +1,11 @@
+//! The values of the variables of a match, by the sets of places from which the last parts of a template can finish.
+#![tactic(auto)]
+
+mod cut;
+pub mod laws;
+mod letters;
+mod search;
+mod sets;
+mod steps;
+pub mod values;
+mod variable;

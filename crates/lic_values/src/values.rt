@@ -1,0 +1,204 @@
+//! What the variables of a template stand for in a match.
+
+ghost use Rattle.std.specs.Prelude.{◌≡◌, ◌==◌, ◌<◌, IfOk, length, map, take, drop, slice_index_or, if◌then◌else◌};
+ghost use Rattle.lic_set.specs.Matches.{IsMatch};
+ghost use Rattle.lic_values.specs.Values.{AreValues, covered};
+ghost use Rattle.lic_values.specs.Cuts.{moves_of};
+ghost use Rattle.lic_values.specs.Recorded.{recorded};
+ghost use Rattle.lic_values.specs.Views.{value_of};
+
+use crate::letters::{letter_count, letter_spans};
+use crate::search::least_record;
+use crate::steps::{Step, steps_of};
+use lic_markup::laws::texts_are_those_of_pieces;
+use lic_norm::text::Text;
+use lic_norm::token::Span;
+use lic_search::view::{View, tokens_have_texts};
+use lic_set::set::Set;
+use lic_set::triple::Triple;
+use std::alloc::{AllocError, Global};
+use std::marker::Model;
+
+/// What a variable stands for.
+#[derive(Clone, Copy, Debug)]
+pub struct Value<'s> {
+    /// The variable's name, as the template has it.
+    pub name: &'s str,
+    /// The bytes of the source from the start of the first token of which it has a letter to the end of the last such token.
+    /// `None` where it has no letter, or stands in an optional part that was left out.
+    pub span: Option<Span>,
+}
+
+/// A template of a set, compiled for the values of its matches: its texts and patterns become steps in a row, once for all matches.
+#[derive(Debug, Drop)]
+pub struct Assigner<'s> {
+    // whose steps they are
+    set: &'s Set,
+    template: usize,
+    steps: Vec<Step<'s>>,
+}
+
+impl<'s> Model for Assigner<'s> {
+    ghost use Rattle.std.specs.Coded.{codes};
+    ghost use Rattle.lic_markup.specs.contracts.part.Part as e;
+    ghost use Rattle.lic_values.specs.Assigners.{AssignerValue, AreStepsOf};
+
+    ghost Value = { AssignerValue };
+
+    ghost coded = { Prim.hlevel (codes, e.the_row.coded) };
+
+    ghost view = { λ a. record { set = a.set.now; template = a.template } };
+
+    ghost invariant = { λ a. AreStepsOf a.set.now a.template a.steps.items };
+}
+
+impl<'s> Assigner<'s> {
+    /// Compiles the template of this number. Fails if memory runs out.
+    pub fn new(alloc: Global, set: &'s Set, template: usize) -> Result<Assigner<'s>, AllocError>
+        requires { template < length set.now }
+        ensures { IfOk result (λ assigner. assigner
+            ≡ record { set = set.now; template = template }) }
+    {
+        let parsed = set.template(template);
+        texts_are_those_of_pieces(parsed);
+        let steps = steps_of(alloc, parsed.parts())?;
+        Ok(Assigner {
+            set,
+            template,
+            steps,
+        })
+    }
+
+    /// The values of the template's variables in a match, one for each variable, in the template's order (this project's
+    /// profile of SPDX 2.3 Annex B). Spans are bytes of the text's source. The values are those of the derivation with the
+    /// least record: optional parts are present where that is possible, and earlier variables as short as possible.
+    ///
+    /// # Errors
+    ///
+    /// Fails if memory runs out.
+    pub fn assign(
+        &self,
+        alloc: Global,
+        text: &Text,
+        triple: Triple,
+    ) -> Result<Vec<Value<'s>>, AllocError>
+        requires template { triple.template ≡ self.now.template }
+        requires is_match { IsMatch self.now.set text.now.tokens triple }
+        ensures { IfOk result (λ values.
+            AreValues self.now.set text.now.tokens triple (map value_of values.items)) }
+    {
+        let letters = letter_spans(alloc, text, triple.first, triple.last)?;
+        let _length = text.len();
+        let view = View::of(text, triple.first, triple.last - triple.first + 1);
+        tokens_have_texts(&view);
+        let numbers = least_record(alloc, &view, &self.steps)?;
+        values_of(alloc, &self.steps, &letters, &numbers)
+    }
+}
+
+/// The values of the variables in one match, whose template is compiled for it alone (see `Assigner`).
+///
+/// # Errors
+///
+/// Fails if memory runs out.
+pub fn assign<'s>(
+    alloc: Global,
+    set: &'s Set,
+    text: &Text,
+    triple: Triple,
+) -> Result<Vec<Value<'s>>, AllocError>
+    requires { IsMatch set.now text.now.tokens triple }
+    ensures { IfOk result (λ values.
+        AreValues set.now text.now.tokens triple (map value_of values.items)) }
+{
+    let assigner = Assigner::new(alloc, set, triple.template)?;
+    assigner.assign(alloc, text, triple)
+}
+
+// The values that a record gives.
+fn values_of<'s>(
+    alloc: Global,
+    steps: &[Step<'s>],
+    mut letters: &[Span],
+    mut numbers: &[usize],
+) -> Result<Vec<Value<'s>>, AllocError>
+    ensures { IfOk result (λ values. map value_of values.items
+        ≡ recorded 0 (moves_of steps.now) numbers.now letters.now) }
+{
+    let mut values = Vec::new(alloc);
+    let mut left_out = 0;
+    let mut i = 0;
+    while i < steps.len() {
+        let step = &steps[i];
+        i += 1;
+        if left_out > 0 {
+            left_out -= 1;
+            if let Step::Variable { name, .. } = step {
+                values.push(Value { name, span: None })?;
+            }
+            continue;
+        }
+        match step {
+            Step::Text(text) => letters = behind(letters, letter_count(text)),
+            Step::Variable { name, .. } => {
+                let count = first_number(numbers);
+                let span = covered(front(letters, count));
+                values.push(Value { name, span })?;
+                letters = behind(letters, count);
+                numbers = other_numbers(numbers);
+            }
+            Step::Optional(size) => {
+                left_out = left_out_by(first_number(numbers), *size);
+                numbers = other_numbers(numbers);
+            }
+        }
+    }
+    Ok(values)
+}
+
+// The first number, or 0.
+fn first_number(numbers: &[usize]) -> usize
+    ensures { result ≡ slice_index_or numbers.now 0 0 }
+{
+    if numbers.is_empty() { 0 } else { numbers[0] }
+}
+
+// The numbers behind the first.
+fn other_numbers(numbers: &[usize]) -> &[usize]
+    ensures { result.now ≡ drop 1 numbers.now }
+{
+    &numbers[1.min(numbers.len())..]
+}
+
+// How many steps an optional part leaves out by its choice: 0 is present.
+fn left_out_by(choice: usize, size: usize) -> usize
+    ensures { result ≡ (if choice == 0 then 0 else size) }
+{
+    if choice == 0 { 0 } else { size }
+}
+
+// The first so many letters.
+fn front(letters: &[Span], count: usize) -> &[Span]
+    ensures { result.now ≡ take count letters.now }
+{
+    &letters[..count.min(letters.len())]
+}
+
+// The letters behind the first so many.
+fn behind(letters: &[Span], count: usize) -> &[Span]
+    ensures { result.now ≡ drop count letters.now }
+{
+    &letters[count.min(letters.len())..]
+}
+
+// From the start of the first letter's token to the end of the last letter's.
+fn covered(letters: &[Span]) -> Option<Span>
+    ensures { result ≡ covered letters.now }
+{
+    let first = letters.first()?;
+    let last = letters.last()?;
+    Some(Span {
+        start: first.start,
+        end: last.end,
+    })
+}
