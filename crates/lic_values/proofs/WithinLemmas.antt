@@ -216,6 +216,17 @@ module _ (tokens : List TokenValue) (are : AreTexts tokens) (words : Expression)
             | inr next ↦ omega (arith, next.0)
           ]
 
+  -- no word leads there where no number is left
+  pub leads-none : (high : ℕ) (ends : List PlaceSpan) → AreWithin spans cut.place high ends → ends ≡ [] → ¬ (LeadsWithin tokens words spans cut high)
+  leads-none high ends within none leads =
+      let order : cut.place ≤ leads.end = Reads-order tokens (lead cut.is_apart leads.word) cut.place leads.end leads.reads in
+      let up : cut.place ≤ leads.number = elim (number tokens are cut leads.kind leads.number leads.end leads.place) [
+        | inl same ↦ omega (arith, same, order)
+        | inr next ↦ omega (arith, next.0, order)
+      ] in
+      Holds-nil leads.kind leads.number leads.last
+      (subst (λ x. Holds x leads.kind leads.number leads.last) none (within.all leads.kind leads.number leads.last leads.holds up leads.within))
+
   -- ---- the least number
 
   pub between-all : (low high : ℕ) → low ≡ cut.place → LeadsWithin tokens words spans cut high → IsBetween tokens words spans cut low high

@@ -100,6 +100,9 @@ fn leads_within(
 {
     tokens_have_texts(view);
     let ends = numbers_within(alloc, spans, cut.place, high)?;
+    if ends.is_empty() {
+        return Ok(false);
+    }
     let begins = over_variable(alloc, view, ere, ends)?;
     Ok(have_cut(view, &begins, cut))
 }
