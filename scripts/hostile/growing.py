@@ -5,6 +5,8 @@ from costly import ALL, NOTHING, SCAN, published, variable
 from running import GIB, Case, templates
 
 DOUBLINGS = 4
+# how many times the seconds a size may take of those of half the size: for a series that is linear, and for one whose answer is a square
+LINEAR, SQUARE = 2.6, 4.6
 # what any size may take, in seconds: the start of the program, and its templates
 LEAST_SECONDS = 0.5
 SERIES = []
@@ -12,11 +14,13 @@ SERIES = []
 
 @dataclasses.dataclass
 class Series:
-    """Cases of one form. `make` gives the fields of the case of a size, `seconds` are those that the greatest size may take."""
+    """Cases of one form. `make` gives the fields of the case of a size, `seconds` are those that the greatest size may take, `growth` how many
+    times the seconds a size may take of those of half the size."""
     group: str
     name: str
     least: int
     seconds: float
+    growth: float
     make: object
 
     def sizes(self):
@@ -24,13 +28,14 @@ class Series:
 
     def case(self, size):
         seconds = LEAST_SECONDS + self.seconds * size / self.sizes()[-1]
-        return Case(self.group, f'{size:,} {self.name}', **{'args': SCAN, 'seconds': seconds, **self.make(size)})
+        fields = {'args': SCAN, 'seconds': seconds, 'growth': self.growth, **self.make(size)}
+        return Case(self.group, f'{size:,} {self.name}', series=f'{self.group}: {self.name}', **fields)
 
 
-def series(group, name, least, seconds, *arguments):
+def series(group, name, least, seconds, *arguments, growth=LINEAR):
     """Adds the cases that a function makes out of these arguments and of a size."""
     def add(make):
-        SERIES.append(Series(group, name, least, seconds, lambda size: make(*arguments, size)))
+        SERIES.append(Series(group, name, least, seconds, growth, lambda size: make(*arguments, size)))
         return make
     return add
 
@@ -63,7 +68,7 @@ VALUES = 'values of bounded variables'
 
 @series(VALUES, 'words for 128 variables', 1_000, 2, 128)
 @series(VALUES, 'words for 8 variables', 1_000, 2, 8)
-@series(VALUES, 'words for 2 variables', 1_000, 2, 2)
+@series(VALUES, 'words for 2 variables', 2_125, 2, 2)
 def values(variables, size):
     """Variables with the word `q` between them, on a text of `q` alone, four fifths of what they may hold: the last ones hold what they can."""
     most = -(-5 * size // (4 * variables))
@@ -256,7 +261,7 @@ def at_an_end(template, size):
     return dict(files=templates(W=template), given=text.encode(), out=re.compile(rb'(-\tW(\t\d+){4}\n\tv\t.*\n){%d}' % (size // 1_000)))
 
 
-@series('all matches', 'times foo .+ bar [a-z ]{3,40} baz: its square, halved', 50, 5)
+@series('all matches', 'times foo .+ bar [a-z ]{3,40} baz: its square, halved', 50, 5, growth=SQUARE)
 def all_matches(copies):
     row, tokens = 'foo one bar two baz three ', 6
     pairs = ((first, last) for first in range(copies) for last in range(first, copies))

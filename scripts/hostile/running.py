@@ -5,6 +5,8 @@ from watching import be_watched, wait
 
 GIB = 1 << 30
 OUT_OF_MEMORY = b'out of memory'
+# of a shorter run nobody can tell how time grows
+LEAST_SECONDS = 0.1
 
 
 @dataclasses.dataclass
@@ -13,7 +15,8 @@ class Case:
 
     `files` are made in a new folder (a value is bytes, or a function that makes the file at a path); `prepare` gets that folder.
     `out` and `err` are bytes that must come, something with a `fullmatch` for them, as a pattern, or None for anything. With `or_memory`, the
-    answer may also be that memory ran out: status 2 and a text that says so. `start` may change how the process is started.
+    answer may also be that memory ran out: status 2 and a text that says so. `start` may change how the process is started. A case of a
+    `series` has twice the size of the one before, and may take at most `growth` times its seconds.
     """
     group: str
     name: str
@@ -30,6 +33,8 @@ class Case:
     limits: dict = dataclasses.field(default_factory=dict)
     start: dict = dataclasses.field(default_factory=dict)
     as_nobody: bool = False
+    series: str = ''
+    growth: float = 0
 
 
 @dataclasses.dataclass
@@ -154,6 +159,19 @@ def faults(case, ran):
     if not agrees(case.err, ran.err):
         found.append(f'standard error {ran.err[:300]!r}, wanted {str(case.err)[:300]}')
     return found
+
+
+def growth_faults(program, half, half_ran, case, ran):
+    """What is wrong with the seconds of a case, beside those of the one of half its size. Where it seems too much, both are run again, since
+    other work on the machine can disturb a run, and the quickest of three counts."""
+    smaller, larger = half_ran.seconds, ran.seconds
+    for _ in range(2):
+        if larger <= case.growth * max(smaller, LEAST_SECONDS):
+            return []
+        smaller, larger = min(smaller, run(program, half).seconds), min(larger, run(program, case).seconds)
+    if larger <= case.growth * max(smaller, LEAST_SECONDS):
+        return []
+    return [f'{larger:.2f} seconds, {smaller:.2f} for half the size']
 
 
 def outcome(case, ran):

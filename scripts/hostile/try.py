@@ -4,7 +4,8 @@
   try.py PROGRAM [--heavy] [--only WORD] [--show]
 
 Each case is laid out in a new folder and run there; its status, standard error and, where it matters, its output must be those that the case
-names. No case may end by a signal, take more than its seconds or more than 2 GiB. `--heavy` adds the cases with inputs of 64 MiB, `--only` takes
+names. No case may end by a signal, take more than its seconds or more than 2 GiB, or, in a series whose sizes double, more than 2.6 times the seconds of half
+its size (4.6 times where the answer is a square). `--heavy` adds the cases with inputs of 64 MiB, `--only` takes
 the cases whose group or name has the word, `--show` prints a line for each case. What goes wrong is printed; then comes a table of what was tried,
 how often, and with what outcome; the last line is 'N runs, M bad', and the status is 1 if M is not 0. As root, the cases without rights are run as
 nobody. Some cases need a C compiler.
@@ -12,7 +13,7 @@ nobody. Some cases need a C compiler.
 import collections, os, shutil, sys, tempfile
 
 import changing, costly, files, growing, limits, streams
-from running import faults, outcome, run
+from running import faults, growth_faults, outcome, run
 
 MODULES = (costly, growing, limits, files, streams, changing)
 
@@ -44,6 +45,7 @@ def main():
     words = sys.argv[1:]
     only = words[words.index('--only') + 1].lower() if '--only' in words else ''
     rows = collections.defaultdict(collections.Counter)
+    halves = {}
     with tempfile.TemporaryDirectory(prefix='licscan-hostile-') as tools:
         program = copy_of(os.path.abspath(words[0]), tools)
         for case in all_cases(tools, '--heavy' in words):
@@ -51,6 +53,10 @@ def main():
                 continue
             ran = run(program, case)
             wrong = faults(case, ran)
+            if case.series:
+                if not wrong and case.series in halves:
+                    wrong = growth_faults(program, *halves[case.series], case, ran)
+                halves[case.series] = case, ran
             row = rows[case.group]
             row['runs'] += 1
             row['bad' if wrong else outcome(case, ran)] += 1

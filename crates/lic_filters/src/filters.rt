@@ -27,10 +27,18 @@ pub fn tight(alloc: Global, triples: &[Triple]) -> Result<Vec<Triple>, AllocErro
 pub fn outer(alloc: Global, triples: &[Triple]) -> Result<Vec<Triple>, AllocError>
     ensures { IfOk result (λ found. found.items ≡ outer_of triples.now) }
 {
-    let mut found = tight(alloc, triples)?;
-    let members = outermost_members(alloc, &found)?;
-    keep_members(&mut found, members);
-    Ok(found)
+    let found = tight(alloc, triples)?;
+    outermost(alloc, found)
+}
+
+/// The outer ones of triples that are tight, in their order: what `outer` answers of them, without looking for tight ones once more.
+pub fn outermost(alloc: Global, mut tight: Vec<Triple>) -> Result<Vec<Triple>, AllocError>
+    requires { tight_of tight.items ≡ tight.items }
+    ensures { IfOk result (λ found. found.items ≡ outermost_of tight.items) }
+{
+    let members = outermost_members(alloc, &tight)?;
+    keep_members(&mut tight, members);
+    Ok(tight)
 }
 
 // The tight members of a list, each once. In this order what lies inside a range of its template stands before it, and

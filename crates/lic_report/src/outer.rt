@@ -4,7 +4,7 @@ ghost use Rattle.std.specs.Prelude.{◌≡◌, List, All, IfOk, None};
 ghost use Rattle.lic_set.specs.Matches.{AreMatches, IsMatch};
 ghost use Rattle.lic_filters.specs.Filters.{outer_of};
 
-use lic_filters::filters::outer;
+use lic_filters::filters::outermost;
 use lic_filters::laws::{outer_ones_are_tight, tight_ones_are_tight};
 use lic_find::laws::matches_exist;
 use lic_norm::text::Text;
@@ -25,5 +25,5 @@ pub fn outer_matches(alloc: Global, set: &Set, text: &Text) -> Result<Vec<Triple
     matches_exist();
     tight_ones_are_tight();
     outer_ones_are_tight();
-    outer(alloc, &tight)
+    outermost(alloc, tight)
 }
