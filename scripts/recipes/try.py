@@ -4,7 +4,7 @@
 Examples are the blocks whose lines begin with `$ `: what each command writes must be the lines after it. They are run in a folder with the
 files that the manual shows before them.
 
-Each recipe is run in a new folder with the example templates, some files, and the program on the path. What it writes must be the text that
+Each recipe is run in a new folder with the example templates, some files, and the program on the path. What it writes must be the text
 in scripts/recipes/expected under the recipe's number. `--write` writes those texts anew, to be read before they are kept.
 A recipe that needs jq is left out where there is none.
 """
