@@ -1,11 +1,11 @@
 #!/usr/bin/env python3
-"""Runs each example and each recipe of docs/MANUAL.md as it stands there: python3 scripts/recipes/try.py PROGRAM
+"""Runs each example of docs/MANUAL.md and each recipe of docs/RECIPES.md as it is written there: python3 scripts/recipes/try.py PROGRAM
 
-Examples are the blocks whose lines begin with `$ `: what each command writes must be the lines behind it. They are run in a folder with the
+Examples are the blocks whose lines begin with `$ `: what each command writes must be the lines after it. They are run in a folder with the
 files that the manual shows before them.
 
-Each recipe is run in a new folder with the example templates, some files, and the program on the path. What it writes must be the text that
-stands in scripts/recipes/expected under the recipe's number. `--write` writes those texts anew, to be read before they are kept.
+Each recipe is run in a new folder with the example templates, some files, and the program on the path. What it writes must be the text
+in scripts/recipes/expected under the recipe's number. `--write` writes those texts anew, to be read before they are kept.
 A recipe that needs jq is left out where there is none.
 """
 import os, re, shutil, subprocess, sys, tempfile
@@ -28,9 +28,8 @@ FILES = {
 
 
 def recipes():
-    manual = open(os.path.join(TOP, 'docs', 'MANUAL.md'), encoding='utf-8').read()
-    section = manual[manual.index('\n## Recipes\n'):]
-    return re.findall(r'^```\n(.*?)^```$', section, re.M | re.S)
+    page = open(os.path.join(TOP, 'docs', 'RECIPES.md'), encoding='utf-8').read()
+    return re.findall(r'^```\n(.*?)^```$', page, re.M | re.S)
 
 
 def write(folder, name, text):
@@ -48,9 +47,9 @@ def try_examples(program):
         os.symlink(program, os.path.join(folder, 'bin', 'licscan'))
         os.symlink(os.path.join(TOP, 'examples'), os.path.join(folder, 'examples'))
         path = os.path.join(folder, 'bin') + ':' + os.environ['PATH']
-        # files that the manual gives in one line, and those that stand in a block behind their name
-        for name, text in re.findall(r'\(`(\w+/\w+\.template\.txt)` holds `(.*)`\.\)', manual):
-            write(folder, name, text)
+        # files that the manual gives in a sentence, and those in a block after their name
+        for name, text in re.findall(r'\(`(\w+/\w+\.template\.txt)`\s+holds\s+`([^`]*)`\.\)', manual):
+            write(folder, name, ' '.join(text.split()))
         for before, block in re.findall(r'([^\n]*)\n\n```\n(.*?)^```$', manual, re.M | re.S):
             named = re.findall(r'`([\w.-]+\.template\.txt|[\w.-]+\.sh)`', before)
             if not block.startswith('$ ') and named:
