@@ -21,6 +21,7 @@ pub mod CountPlaces
 pub mod CountSpans
 pub mod CountNumbers
 pub mod TextLemmas
+pub mod MergeLemmas
 pub mod PartLemmas
 pub mod PatternLemmas
 pub mod MatchStarts
@@ -35,6 +36,9 @@ pub mod WindowLemmas
 pub mod TidyWords
 pub mod TidyBack
 pub mod TidyPowers
+pub mod CopyWords
+pub mod CopyPowers
+pub mod CopyLemmas
 pub mod TidyRepeats
 pub mod TidyPassing
 pub mod TakenCases

@@ -2,6 +2,7 @@ pub mod Views
 pub mod Wide
 pub mod PlaceSets
 pub mod Backward
+pub mod Copies
 pub mod Counts
 pub mod Matches
 pub mod Beginnings
@@ -9,6 +10,7 @@ pub mod Windows
 pub mod AllMatches
 pub mod LeastMatches
 pub mod Fresh
+pub mod Merged
 pub mod Passing
 pub mod PassingPlaces
 pub mod Reached

@@ -9,12 +9,15 @@ ghost use Rattle.lic_markup.specs.PartTexts.{HasPieceTexts, HavePieceTexts};
 ghost use Rattle.lic_search.specs.Backward.{IsBack};
 ghost use Rattle.lic_search.specs.PlaceSets.{ArePlaced};
 
+use crate::copies::last_copies;
 use crate::counts::over_any;
 use crate::keep::Keep;
 use crate::kept::kept;
+use crate::merged::merged;
 use crate::passing::is_any;
 use crate::patterns::over_pattern;
 use crate::stop::Stop;
+use crate::text_copies::over_copies;
 use crate::texts::over_text;
 use crate::view::{View, tokens_have_texts};
 use lic_ere::Ere;
@@ -36,8 +39,16 @@ pub(crate) fn over_parts(
     ensures { IfOk result (λ found. IsBack keep view.now (Language (parts_words (map part_of parts.now))) spans.items found.items) }
 {
     let mut spans = spans;
-    for number in (0..parts.len()).rev() {
-        spans = over_part(alloc, view, keep, &parts[number], spans)?;
+    let mut end = parts.len();
+    while end > 0 {
+        // optional copies of one text are gone over together
+        if let Some(copies) = last_copies(parts, end) {
+            spans = over_copies(alloc, view, keep, copies.text, copies.count, spans)?;
+            end = copies.first;
+            continue;
+        }
+        end -= 1;
+        spans = over_part(alloc, view, keep, &parts[end], spans)?;
     }
     Ok(spans)
 }
@@ -77,9 +88,12 @@ fn over_optional(
         (Language (alt empty (parts_words (map part_of parts.now)))) spans.items found.items) }
 {
     tokens_have_texts(view);
-    let mut all = Vec::from_slice(alloc, &spans)?;
-    let mut more = over_parts(alloc, view, keep, parts, spans)?;
-    all.append(&mut more)?;
+    let copy = Vec::from_slice(alloc, &spans)?;
+    let more = over_parts(alloc, view, keep, parts, copy)?;
+    if more.is_empty() {
+        return Ok(spans);
+    }
+    let all = merged(alloc, keep, &spans, &more)?;
     Ok(kept(alloc, view, keep, all)?)
 }
 

@@ -28,10 +28,11 @@ pub(crate) fn fresh_spans(
     Ok(fresh)
 }
 
-// The first span from a number on that does not come before another.
-fn first_from(keep: Keep, spans: &[PlaceSpan], from: usize, other: &PlaceSpan) -> usize
+/// The first span from a number on that does not come before another.
+pub(crate) fn first_from(keep: Keep, spans: &[PlaceSpan], from: usize, other: &PlaceSpan) -> usize
     requires { from ≤ length spans.now }
-    ensures { result ≤ length spans.now }
+    ensures from { from ≤ result }
+    ensures within { result ≤ length spans.now }
 {
     let mut first = from;
     while first < spans.len() && comes_before(keep, &spans[first], other) {

@@ -2,7 +2,10 @@ use Rattle.std.proofs.Common.{◌≤◌, ◌-◌, length}
 use Rattle.lic_search.proofs.fresh.first_from.Given as goal
 
 abbrev pub invariant-loop-first : goal.invariant-loop-first
-invariant-loop-first l = l.first ≤ length l.spans
+invariant-loop-first l = record {
+  from : l.from ≤ l.first;
+  within : l.first ≤ length l.spans;
+}
 
 -- the spans from there on
 abbrev pub decreases-loop-first : goal.decreases-loop-first
