@@ -8,6 +8,7 @@ pub mod Beginnings
 pub mod Windows
 pub mod AllMatches
 pub mod LeastMatches
+pub mod EmptyWord
 pub mod Fresh
 pub mod Passing
 pub mod PassingPlaces

@@ -6,6 +6,7 @@ mod backward;
 mod blanks;
 mod bundles;
 mod counts;
+pub mod empty;
 mod fresh;
 mod keep;
 mod kept;
