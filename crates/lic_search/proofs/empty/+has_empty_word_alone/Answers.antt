@@ -1,7 +1,6 @@
 -- One pattern more, and patterns of patterns.
 use Rattle.std.proofs.Common.{All, rules, subst}
 use Rattle.std.proofs.lemmas.List.{take_all}
-use Rattle.std.proofs.lemmas.List.Elements.{All-more}
 use Rattle.lic_search.proofs.EmptyWords.{IsAlone, alone-Alt, alone-Cat, alone-Repeat}
 use Rattle.lic_search.proofs.empty.+has_empty_word_alone.Goals as goal
 
