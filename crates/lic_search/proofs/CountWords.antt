@@ -42,7 +42,7 @@ counted-complete min max w c = ((length w, c.least, c.most, power_of_length w), 
 nil_no_append : (c : ℕ) (u v : Word) → [] ≡ u ++ c ∷ v → ⊥
 nil_no_append c u v e = let l : 0 ≡ length u + suc (length v) = ap length e ∙ length-append u (c ∷ v) in omega arith
 
-empty_tidy : IsTidy []
+pub empty_tidy : IsTidy []
 empty_tidy = record {
   not_first = λ v e. nil_no_append blank [] v e;
   not_last = λ u e. nil_no_append blank u [] e;

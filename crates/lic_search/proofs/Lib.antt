@@ -47,6 +47,7 @@ pub mod PassingLemmas
 pub mod FreshLemmas
 pub mod SameLemmas
 pub mod EreLemmas
+pub mod EmptyWords
 pub mod ReachedLemmas
 pub mod RunWords
 pub mod RunChains

@@ -9,6 +9,7 @@ pub mod Beginnings
 pub mod Windows
 pub mod AllMatches
 pub mod LeastMatches
+pub mod EmptyWord
 pub mod Fresh
 pub mod Merged
 pub mod Passing

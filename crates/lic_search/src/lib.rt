@@ -7,6 +7,7 @@ mod blanks;
 mod bundles;
 mod copies;
 mod counts;
+pub mod empty;
 mod fresh;
 mod keep;
 mod kept;

@@ -9,6 +9,7 @@ ghost use Rattle.lic_search.specs.Backward.{IsBack};
 ghost use Rattle.lic_search.specs.PlaceSets.{ArePlaced};
 ghost use Rattle.lic_search.specs.Tidily.{AreWays, IsMore, IsRepeated, IsTidyBack, UpTo, spans_of};
 
+use crate::empty::has_empty_word_alone;
 use crate::keep::Keep;
 use crate::kept::kept;
 use crate::passing::{is_one, over_one};
@@ -32,6 +33,9 @@ pub(crate) fn over_pattern(
     requires placed { ArePlaced view.now spans.items }
     ensures { IfOk result (λ found. IsBack keep view.now (Language (tidy (tree_words (tree_of ere.now)))) spans.items found.items) }
 {
+    if has_empty_word_alone(ere) {
+        return Ok(spans);
+    }
     tokens_have_texts(view);
     let ways = Ways {
         nothing: spans,
@@ -59,7 +63,7 @@ fn over(alloc: Global, view: &View<'_>, keep: Keep, ere: &Ere, ways: Ways) -> Re
     }
 }
 
-// One pattern after another, from the last one to the first.
+// One pattern after another, from the last one to the first. Those that have the empty word alone change nothing.
 #[cycle(over)]
 fn over_row(
     alloc: Global,
@@ -72,7 +76,11 @@ fn over_row(
     ensures { IfOk result (λ found. IsTidyBack keep view.now (Language (row_words (row (map tree_of subs.now)))) (spans_of ways) (spans_of found)) }
 {
     for number in (0..subs.len()).rev() {
-        let led = over(alloc, view, keep, &subs[number], ways)?;
+        let sub = &subs[number];
+        if has_empty_word_alone(sub) {
+            continue;
+        }
+        let led = over(alloc, view, keep, sub, ways)?;
         ways = led.kept(alloc, view, keep)?;
     }
     Ok(ways)

@@ -8,6 +8,7 @@ use Rattle.lic_search.specs.PlaceSets.{Reaches}
 use Rattle.lic_search.specs.Reached.{reached_of}
 use Rattle.lic_search.specs.Tidily.{IsTidyBack, UpTo, spans_of}
 use Rattle.lic_search.proofs.EreLemmas.{choice-again, choice-all, choice-item, is_one-test, ok-changed, one-words, placed-copied, placed-joined, reached-done, reached-empty, reached-pruned, reached-start, row-all, row-item, tidy-copied, times-all, times-more, times-same, tree_of-Alt, tree_of-Cat, tree_of-Repeat, words-changed}
+use Rattle.lic_search.proofs.EmptyWords.{alone-stays}
 use Rattle.lic_search.proofs.TidyBack.{tidy-least}
 use Rattle.lic_search.proofs.FreshLemmas.{fresh-placed}
 use Rattle.lic_search.proofs.TidyRepeats.{repeat-back}
@@ -90,6 +91,20 @@ over_row-loop-number-preserved t c =
           (row-item c.args.keep tokens (λ s q l. Reaches tokens (spans_of c.args.ways s) q l) c.args.subs.now (c.loop-number.number - 1) c.loop-number.number c.index-subs-number.result
           (spans_of c.loop-number.ways) (spans_of c.in_ok-led.led) next below c.index-subs-number.is c.loop-number.invariant.back c.in_ok-led.ensures)
           c.in_ok-ways.ensures;
+    }
+
+-- a pattern that has the empty word alone leads from each place to itself
+pub over_row-loop-number-preserved-then-has_empty_word_alone : goal.over_row-loop-number-preserved-then-has_empty_word_alone
+over_row-loop-number-preserved-then-has_empty_word_alone t c =
+    let tokens = c.args.view.now in
+    let below : c.loop-number.number - 1 < length c.args.subs.now = omega (arith, c.loop-number-test.true, c.loop-number.invariant.within) in
+    let next : c.loop-number.number ≡ (c.loop-number.number - 1) + 1 = omega (arith, c.loop-number-test.true) in
+    record {
+      within = omega (arith, c.loop-number.invariant.within);
+      back = row-item c.args.keep tokens (λ s q l. Reaches tokens (spans_of c.args.ways s) q l) c.args.subs.now (c.loop-number.number - 1) c.loop-number.number c.index-subs-number.result
+          (spans_of c.loop-number.ways) (spans_of c.loop-number.ways) next below c.index-subs-number.is c.loop-number.invariant.back
+          (alone-stays c.args.keep tokens (tree_words (tree_of c.index-subs-number.result)) (c.has_empty_word_alone.ensures c.if-has_empty_word_alone.true)
+          (spans_of c.loop-number.ways) c.loop-number.invariant.back.placed);
     }
 
 pub over_row-returns : goal.over_row-returns

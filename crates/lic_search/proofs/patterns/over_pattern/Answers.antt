@@ -8,6 +8,7 @@ use Rattle.lic_search.specs.Backward.{IsBack}
 use Rattle.lic_search.specs.declared.ways.Ways.{Ways}
 use Rattle.lic_search.specs.Tidily.{spans_of}
 use Rattle.lic_search.proofs.Back.{back-keeps}
+use Rattle.lic_search.proofs.EmptyWords.{alone-back}
 use Rattle.lic_search.proofs.TidyPassing.{tidy-answer}
 use Rattle.lic_search.proofs.patterns.over_pattern.Goals as goal
 use Rattle.lic_search.proofs.patterns.over_pattern.Goals.{In_ok-append}
@@ -18,6 +19,11 @@ answer c =
     let begin : Ways = record { nothing = c.args.spans; letter = c.new.result; blank = c.new-2.result } in
     tidy-answer c.args.keep c.args.view.now (Language (tree_words (tree_of c.args.ere.now))) c.args.spans.items c.append.new.self.items (spans_of begin) (spans_of c.in_ok-found.found)
     refl c.new.ensures.items c.new-2.ensures.items c.in_ok-append.ensures.items c.in_ok-found.ensures
+
+pub returns-then-has_empty_word_alone : goal.returns-then-has_empty_word_alone
+returns-then-has_empty_word_alone c =
+    alone-back c.args.keep c.args.view.now (tree_words (tree_of c.args.ere.now)) (c.has_empty_word_alone.ensures c.if-has_empty_word_alone.true)
+    c.args.spans.items c.requires.placed
 
 pub kept-requires : goal.kept-requires
 kept-requires c = let back = answer c in back.placed
