@@ -18,7 +18,7 @@ use Rattle.lic_search.proofs.CountWords.{Counted, IsCounted, counted-complete, c
 use Rattle.lic_search.proofs.ViewSpans.{Holds-one}
 use Rattle.lic_search.specs.declared.keep.Keep.{Keep}
 
--- the places at which letters begin, in front of another
+-- the places at which letters begin, before another
 abbrev pub letters_before : ℕ → ℕ → PlaceSpan
 letters_before q last = record { low = 0; high = q - 1; last = last; kind = Letters }
 

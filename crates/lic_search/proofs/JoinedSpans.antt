@@ -57,50 +57,50 @@ has span kind number last is from to same =
 abbrev pub longer_by : PlaceSpan → PlaceSpan → PlaceSpan
 longer_by before span = record { low = before.low; high = span.high; last = before.last; kind = before.kind }
 
-keeps-lengthened : (keep : Keep) (front : List PlaceSpan) (before span : PlaceSpan) → GoesOn before span →
-    All (λ (s : PlaceSpan). s.low ≤ s.high) (front ++ longer_by before span ∷ []) →
-    Keeps keep ((front ++ before ∷ []) ++ span ∷ []) (front ++ longer_by before span ∷ [])
-keeps-lengthened keep front before span on ordered = record {
+keeps-lengthened : (keep : Keep) (others : List PlaceSpan) (before span : PlaceSpan) → GoesOn before span →
+    All (λ (s : PlaceSpan). s.low ≤ s.high) (others ++ longer_by before span ∷ []) →
+    Keeps keep ((others ++ before ∷ []) ++ span ∷ []) (others ++ longer_by before span ∷ [])
+keeps-lengthened keep others before span on ordered = record {
   ordered = ordered;
-  sound = λ kind number last holds. sound kind number last (Holds-append front (longer_by before span ∷ []) kind number last holds);
-  kept = λ kind number last holds. (last, omega arith, λ _. refl, kept kind number last (Holds-append (front ++ before ∷ []) (span ∷ []) kind number last holds));
+  sound = λ kind number last holds. sound kind number last (Holds-append others (longer_by before span ∷ []) kind number last holds);
+  kept = λ kind number last holds. (last, omega arith, λ _. refl, kept kind number last (Holds-append (others ++ before ∷ []) (span ∷ []) kind number last holds));
 }
   where
     both : List PlaceSpan
-    both = (front ++ before ∷ []) ++ span ∷ []
+    both = (others ++ before ∷ []) ++ span ∷ []
 
     in_both : (kind : Kind) (number last : ℕ) →
         (before.kind ≡ kind) × (before.low ≤ number) × (number ≤ span.high) × (before.last ≡ last) → (number < span.low) ⊎ (span.low ≤ number) →
-        Holds ((front ++ before ∷ []) ++ span ∷ []) kind number last
+        Holds ((others ++ before ∷ []) ++ span ∷ []) kind number last
     in_both kind number last h (inl below) =
-        left (front ++ before ∷ []) (span ∷ []) kind number last
-        (right front (before ∷ []) kind number last (has before kind number last h.0 h.1 (omega (arith, on.gap)) h.3))
+        left (others ++ before ∷ []) (span ∷ []) kind number last
+        (right others (before ∷ []) kind number last (has before kind number last h.0 h.1 (omega (arith, on.gap)) h.3))
     in_both kind number last h (inr from) =
-        right (front ++ before ∷ []) (span ∷ []) kind number last
+        right (others ++ before ∷ []) (span ∷ []) kind number last
         (has span kind number last (sym on.kind_is ∙ h.0) from h.2 (sym on.last_is ∙ h.3))
 
-    sound : (kind : Kind) (number last : ℕ) → Holds front kind number last ⊎ Holds (longer_by before span ∷ []) kind number last →
-        Holds ((front ++ before ∷ []) ++ span ∷ []) kind number last
+    sound : (kind : Kind) (number last : ℕ) → Holds others kind number last ⊎ Holds (longer_by before span ∷ []) kind number last →
+        Holds ((others ++ before ∷ []) ++ span ∷ []) kind number last
     sound kind number last (inl holds) =
-        left (front ++ before ∷ []) (span ∷ []) kind number last (left front (before ∷ []) kind number last holds)
+        left (others ++ before ∷ []) (span ∷ []) kind number last (left others (before ∷ []) kind number last holds)
     sound kind number last (inr holds) =
         in_both kind number last (held (longer_by before span) kind number last holds) (cases_lt number span.low)
 
     in_longer : (kind : Kind) (number last : ℕ) → before.kind ≡ kind → before.low ≤ number → number ≤ span.high → before.last ≡ last →
-        Holds (front ++ longer_by before span ∷ []) kind number last
+        Holds (others ++ longer_by before span ∷ []) kind number last
     in_longer kind number last is from to same =
-        right front (longer_by before span ∷ []) kind number last (has (longer_by before span) kind number last is from to same)
+        right others (longer_by before span ∷ []) kind number last (has (longer_by before span) kind number last is from to same)
 
-    of_front : (kind : Kind) (number last : ℕ) → Holds front kind number last ⊎ Holds (before ∷ []) kind number last →
-        Holds (front ++ longer_by before span ∷ []) kind number last
-    of_front kind number last (inl holds) = left front (longer_by before span ∷ []) kind number last holds
-    of_front kind number last (inr holds) =
+    of_others : (kind : Kind) (number last : ℕ) → Holds others kind number last ⊎ Holds (before ∷ []) kind number last →
+        Holds (others ++ longer_by before span ∷ []) kind number last
+    of_others kind number last (inl holds) = left others (longer_by before span ∷ []) kind number last holds
+    of_others kind number last (inr holds) =
         let h = held before kind number last holds in
         in_longer kind number last h.0 h.1 (omega (arith, h.2, on.to)) h.3
 
-    kept : (kind : Kind) (number last : ℕ) → Holds (front ++ before ∷ []) kind number last ⊎ Holds (span ∷ []) kind number last →
-        Holds (front ++ longer_by before span ∷ []) kind number last
-    kept kind number last (inl holds) = of_front kind number last (Holds-append front (before ∷ []) kind number last holds)
+    kept : (kind : Kind) (number last : ℕ) → Holds (others ++ before ∷ []) kind number last ⊎ Holds (span ∷ []) kind number last →
+        Holds (others ++ longer_by before span ∷ []) kind number last
+    kept kind number last (inl holds) = of_others kind number last (Holds-append others (before ∷ []) kind number last holds)
     kept kind number last (inr holds) =
         let h = held span kind number last holds in
         in_longer kind number last (on.kind_is ∙ h.0) (omega (arith, on.from, h.1)) h.2 (on.last_is ∙ h.3)

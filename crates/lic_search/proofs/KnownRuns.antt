@@ -10,7 +10,7 @@ use Rattle.lic_search.specs.Runs.{IsChain, IsRunStart}
 use Rattle.lic_search.specs.RunsKnown.{IsLongest, IsNoneBefore, IsRunBackTo}
 use Rattle.lic_search.proofs.RunChains.{letter-forward}
 
--- no letters in front of the first place
+-- no letters stand before the first place
 pub longest-first : (bytes : List ℕ) (passes : ℕ → Bool) (count : ℕ) (run : Run) → run.low ≡ 0 → run.place ≡ 0 → run.number ≡ 0 → IsLongest bytes passes count run
 longest-first bytes passes count run low place none = record {
   few = omega arith;

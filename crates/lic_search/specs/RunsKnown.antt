@@ -4,11 +4,11 @@ use Rattle.lic_search.specs.declared.run.Run.{Run}
 use Rattle.lic_search.specs.Passing.{IsLetterBefore}
 use Rattle.lic_search.specs.Runs.{IsChain}
 
--- no letter that passes stands in front of the place
+-- no letter that passes ends at the place
 abbrev pub IsNoneBefore : List ℕ → (ℕ → Bool) → ℕ → Type 0
 IsNoneBefore bytes passes place = (p c : ℕ) → IsLetterBefore bytes place p c → passes c ≡ true → ⊥
 
--- letters that all pass: so many, or fewer with none that passes in front of them
+-- letters that all pass: so many, or fewer with none that passes before them
 pub record IsLongest (bytes : List ℕ) (passes : ℕ → Bool) (count : ℕ) (run : Run) : Type 0 where
   pub few : run.number ≤ count
   pub chain : IsChain bytes passes run.number run.low run.place

@@ -20,7 +20,7 @@ pub(crate) struct Run {
     pub(crate) number: usize,
 }
 
-/// The letters in front of the first place: none.
+/// The letters before the first place of a text: none.
 pub(crate) fn first_run() -> Run
     ensures { (bytes : List ℕ) (passes : ℕ → Bool) (count : ℕ) → IsLongest bytes passes count result }
 {
@@ -33,8 +33,8 @@ pub(crate) fn first_run() -> Run
 
 /// The place from which so many letters at most stand up to a place that all pass.
 ///
-/// It goes on from a run that is known: where places are asked for in rising order, all of them together cost the letters of the
-/// text once. In any other order each costs its own letters.
+/// It goes on from a known run: places that are asked for in rising order cost the letters of the text once together. A place before
+/// the known one costs the letters of its own run.
 pub(crate) fn run_start(
     view: &View<'_>,
     ere: &Ere,
@@ -95,11 +95,11 @@ fn run_back(view: &View<'_>, ere: &Ere, count: usize, until: usize, place: usize
     }
 }
 
-// Two runs, the second one right after the first, as one: as many of the first letters go as are too many.
+// Two runs, the second one right after the first, as one: its first letters go where they are too many.
 fn joined(bytes: &[u8], count: usize, first: Run, second: Run) -> Run
     requires few { second.number ≤ count }
     requires known { first.number ≤ count }
-    ensures low { (passes : ℕ → Bool) → IsLongest bytes.now passes count first → IsRunBackTo bytes.now passes count first.place second
+    ensures longest { (passes : ℕ → Bool) → IsLongest bytes.now passes count first → IsRunBackTo bytes.now passes count first.place second
         → second.low ≡ first.place → IsLongest bytes.now passes count result }
     ensures place { result.place ≡ second.place }
 {

@@ -27,6 +27,15 @@ use lic_ere::Ere;
 use lic_spans::span::{Kind, PlaceSpan};
 use std::alloc::Global;
 
+/// Up to so many letters and blanks in a row that pass, the first of which is no blank.
+#[derive(Debug, Drop)]
+pub(crate) struct Letters<'e> {
+    pub(crate) ere: &'e Ere,
+    pub(crate) count: usize,
+    /// Whether a letter was taken last before them: without one the last of them is no blank either.
+    pub(crate) after: bool,
+}
+
 /// Where up to so many letters in a row that pass lead to these ways.
 pub(crate) fn over_many(
     alloc: Global,
@@ -114,16 +123,7 @@ fn over_runs(
     })
 }
 
-/// Up to so many letters and blanks in a row that pass, the first of which is no blank.
-#[derive(Drop)]
-pub(crate) struct Letters<'e> {
-    pub(crate) ere: &'e Ere,
-    pub(crate) count: usize,
-    /// Whether a letter was taken last before them: without one the last of them is no blank either.
-    pub(crate) after: bool,
-}
-
-/// Where they lead to places.
+/// Where such letters lead to places.
 pub(crate) fn runs_before(
     alloc: Global,
     view: &View<'_>,
@@ -144,7 +144,7 @@ pub(crate) fn runs_before(
     Ok(found)
 }
 
-// Adds where they lead to the places of a span.
+// Adds where such letters lead to the places of a span.
 fn add_runs(
     view: &View<'_>,
     keep: Keep,
@@ -168,7 +168,7 @@ fn add_runs(
     Ok(())
 }
 
-// Where they lead to the place of a number of a span.
+// Where such letters lead to the place of a number of a span.
 fn run_before(
     view: &View<'_>,
     letters: &Letters<'_>,
