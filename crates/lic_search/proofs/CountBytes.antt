@@ -1,11 +1,11 @@
--- Bytes that begin characters, and how many of them stand between two places.
+-- Bytes that begin characters.
 use Rattle.std.proofs.Common.{◌≡◌, ℕ, suc, ◌+◌, ◌-◌, ◌/◌, ◌%◌, ◌<◌, ◌≤◌, Bool, true, false, cond, ltb, List, [], ◌∷◌, ◌++◌, length, get_or, take, drop, refl, ap, ◌∙◌, arith, count_by, slice_range, length-take, drop-cons, take-add, ltb-true, mod-lt, lit<}
 use Rattle.std.proofs.lemmas.Bool.Decides.{nat_tests}
 use Rattle.std.proofs.lemmas.List.{drop-drop}
 use Rattle.std.proofs.lemmas.List.Sums.{sum_by-append, sum_by-cons, count_by-le-length}
 use Rattle.std.specs.Char.{encode_utf8}
 use Rattle.std.specs.Str.{encode_utf8_all}
-use Rattle.lic_search.specs.Counts.{begins_character, letters_between}
+use Rattle.lic_search.specs.Counts.{begins_character}
 
 -- ---- one byte
 
@@ -38,9 +38,6 @@ count-not b bs h =
     let f : as_count (begins_character b) ≡ as_count false = ap as_count h in
     omega (arith, e, f)
 
-pub count-append : (xs ys : List ℕ) → count_by begins_character (xs ++ ys) ≡ count_by begins_character xs + count_by begins_character ys
-count-append xs ys = sum_by-append (λ x. cond (begins_character x) 1 0) xs ys
-
 -- one byte of a character begins it
 pub count-encode : (c : ℕ) → count_by begins_character (encode_utf8 c) ≡ 1
 unfolding encode_utf8
@@ -70,13 +67,6 @@ count-encode c = by_size (ltb c 128) (ltb c 2048) (ltb c 65536) refl
         first (240 + c / 262144) ((128 + c / 4096 % 64) ∷ (128 + c / 64 % 64) ∷ (128 + c % 64) ∷ []) (omega arith)
         (three (c / 4096) (c / 64))
 
--- as many begin as there are characters
-pub count-encodes : (cs : List ℕ) → count_by begins_character (encode_utf8_all cs) ≡ length cs
-count-encodes [] = refl
-count-encodes (c ∷ cs) =
-    let e = count-append (encode_utf8 c) (encode_utf8_all cs) in
-    omega (arith, e, count-encode c, count-encodes cs)
-
 -- ---- between two places
 
 pub slice-split : (bs : List ℕ) (p r q : ℕ) → p ≤ r → r ≤ q → slice_range bs p q ≡ slice_range bs p r ++ slice_range bs r q
@@ -85,29 +75,3 @@ slice-split bs p r q h k =
     let back : p + (r - p) ≡ r = omega arith in
     ap (λ n. take n (drop p bs)) whole ∙ take-add (r - p) (q - r) (drop p bs)
     ∙ ap (λ l. take (r - p) (drop p bs) ++ take (q - r) l) (drop-drop (r - p) p bs ∙ ap (λ n. drop n bs) back)
-
-pub between-split : (bs : List ℕ) (p r q : ℕ) → p ≤ r → r ≤ q → letters_between bs p q ≡ letters_between bs p r + letters_between bs r q
-between-split bs p r q h k =
-    ap (count_by begins_character) (slice-split bs p r q h k) ∙ count-append (slice_range bs p r) (slice_range bs r q)
-
-pub between-none : (bs : List ℕ) (p : ℕ) → letters_between bs p p ≡ 0
-between-none bs p = let e : p - p ≡ 0 = omega arith in ap (λ n. count_by begins_character (take n (drop p bs))) e
-
-pub between-one : (bs : List ℕ) (p : ℕ) → p < length bs → letters_between bs p (suc p) ≡ cond (begins_character (get_or bs p 0)) 1 0
-between-one bs p h =
-    let e : suc p - p ≡ 1 = omega arith in
-    let byte = get_or bs p 0 in
-    let last : count_by begins_character (byte ∷ []) ≡ as_count (begins_character byte) =
-    omega (arith, sum_by-cons (λ x. cond (begins_character x) 1 0) byte []) in
-    ap (λ n. count_by begins_character (take n (drop p bs))) e
-    ∙ ap (λ l. count_by begins_character (take 1 l)) (drop-cons bs p 0 h)
-    ∙ last
-
-pub between-one_at_most : (bs : List ℕ) (p : ℕ) → letters_between bs p (suc p) ≤ 1
-between-one_at_most bs p =
-    let e : suc p - p ≡ 1 = omega arith in
-    omega (arith, length-take (suc p - p) (drop p bs), count_by-le-length begins_character (slice_range bs p (suc p)))
-
--- no more from a later place
-pub between-fewer : (bs : List ℕ) (p r q : ℕ) → p ≤ r → r ≤ q → letters_between bs r q ≤ letters_between bs p q
-between-fewer bs p r q h k = omega (arith, between-split bs p r q h k)

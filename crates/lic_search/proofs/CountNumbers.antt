@@ -98,7 +98,7 @@ back-span keep tokens P span xs back =
 
 -- without an end, from the greatest place on one comes to all that the lesser ones lead to
 pub back-widest : (keep : Keep) (tokens : List TokenValue) (span : PlaceSpan) (n q : ℕ) (xs : List PlaceSpan) → span.low ≤ n
-    → IsPlaceOf tokens span.kind n q → Contains xs (letters_before 0 q span.last)
+    → IsPlaceOf tokens span.kind n q → Contains xs (letters_before q span.last)
     → IsBackFrom keep tokens (Counted 1 None) (IsFromNumber tokens span n) xs
     → IsBackFrom keep tokens (Counted 1 None) (IsFromNumber tokens span span.low) xs
 back-widest keep tokens span n q xs low place among back = record {
@@ -116,63 +116,61 @@ back-widest keep tokens span n q xs low place among back = record {
         back.complete p r last w (record { number = ends.number; low = from; high = ends.high; place = ends.place; last_is = ends.last_is }) is reads
     by_number p r last w ends is reads (inl before) =
         let word = counted-sound 1 None w is in
-        let free = (counted-reads tokens w p r word.tidied word.least reads).0 in
+        let free = counted-reads tokens w p r word.tidied word.least reads in
         let below : r ≤ q = place-order tokens span.kind ends.number n r q ends.place place before in
         let front : p < r = free.before in
         let beats : Beats keep tokens p span.last last = record { least = le_of_eq (sym ends.last_is); taken = λ _. sym ends.last_is; each = λ _. sym ends.last_is } in
         let holds : Holds xs Letters p span.last =
-        record { span = letters_before 0 q span.last; among = among; kind_is = refl; from = omega arith; to = omega arith; last_is = refl } in
+        record { span = letters_before q span.last; among = among; kind_is = refl; from = omega arith; to = omega arith; last_is = refl } in
         (span.last, beats, record { kind = Letters; number = p; holds = holds; place = (refl, free.begins) })
 
 -- ---- what a loop over the numbers of a span has added, from the greatest down
 
-pub record AddsFrom (keep : Keep) (tokens : List TokenValue) (max : Option ℕ) (span : PlaceSpan) (from : ℕ) (old new : List PlaceSpan) : Type 0 where
+pub record AddsFrom (keep : Keep) (tokens : List TokenValue) (span : PlaceSpan) (from : ℕ) (old new : List PlaceSpan) : Type 0 where
   pub more : List PlaceSpan
   pub added : new ≡ old ++ more
-  pub back : IsBackFrom keep tokens (Counted 1 max) (IsFromNumber tokens span from) more
+  pub back : IsBackFrom keep tokens (Counted 1 None) (IsFromNumber tokens span from) more
 
-pub adds-nothing : (keep : Keep) (tokens : List TokenValue) (max : Option ℕ) (span : PlaceSpan) (n : ℕ) (old : List PlaceSpan) → span.high < n
-    → AddsFrom keep tokens max span n old old
-adds-nothing keep tokens max span n old past =
-    record { more = []; added = sym (append-nil old); back = back-none_yet keep tokens (Counted 1 max) span n past }
+pub adds-nothing : (keep : Keep) (tokens : List TokenValue) (span : PlaceSpan) (n : ℕ) (old : List PlaceSpan) → span.high < n
+    → AddsFrom keep tokens span n old old
+adds-nothing keep tokens span n old past =
+    record { more = []; added = sym (append-nil old); back = back-none_yet keep tokens (Counted 1 None) span n past }
 
-pub adds-more : (keep : Keep) (tokens : List TokenValue) (max : Option ℕ) (span : PlaceSpan) (m n : ℕ) (old new newer xs : List PlaceSpan) → m ≡ suc n
-    → n ≤ span.high → AddsFrom keep tokens max span m old new → IsBackFrom keep tokens (Counted 1 max) (IsOfNumber tokens span n) xs
-    → newer ≡ new ++ xs → AddsFrom keep tokens max span n old newer
-adds-more keep tokens max span m n old new newer xs next high adds here grown = record {
+pub adds-more : (keep : Keep) (tokens : List TokenValue) (span : PlaceSpan) (m n : ℕ) (old new newer xs : List PlaceSpan) → m ≡ suc n
+    → n ≤ span.high → AddsFrom keep tokens span m old new → IsBackFrom keep tokens (Counted 1 None) (IsOfNumber tokens span n) xs
+    → newer ≡ new ++ xs → AddsFrom keep tokens span n old newer
+adds-more keep tokens span m n old new newer xs next high adds here grown = record {
   more = adds.more ++ xs;
   added = grown ∙ ap (λ l. l ++ xs) adds.added ∙ append_assoc old adds.more xs;
-  back = back-one_more keep tokens (Counted 1 max) span n adds.more xs high
-      (subst (λ k. IsBackFrom keep tokens (Counted 1 max) (IsFromNumber tokens span k) adds.more) next adds.back) here;
+  back = back-one_more keep tokens (Counted 1 None) span n adds.more xs high
+      (subst (λ k. IsBackFrom keep tokens (Counted 1 None) (IsFromNumber tokens span k) adds.more) next adds.back) here;
 }
 
-pub adds-all : (keep : Keep) (tokens : List TokenValue) (max : Option ℕ) (span : PlaceSpan) (n : ℕ) (old new : List PlaceSpan) → n ≡ span.low
-    → AddsFrom keep tokens max span n old new → AddsBack keep tokens (Counted 1 max) span old new
-adds-all keep tokens max span n old new low adds = record {
+pub adds-all : (keep : Keep) (tokens : List TokenValue) (span : PlaceSpan) (n : ℕ) (old new : List PlaceSpan) → n ≡ span.low
+    → AddsFrom keep tokens span n old new → AddsBack keep tokens (Counted 1 None) span old new
+adds-all keep tokens span n old new low adds = record {
   more = adds.more;
   added = adds.added;
-  back = back-span keep tokens (Counted 1 max) span adds.more
-      (subst (λ k. IsBackFrom keep tokens (Counted 1 max) (IsFromNumber tokens span k) adds.more) low adds.back);
+  back = back-span keep tokens (Counted 1 None) span adds.more
+      (subst (λ k. IsBackFrom keep tokens (Counted 1 None) (IsFromNumber tokens span k) adds.more) low adds.back);
 }
 
 -- without an end the first that lead anywhere are enough
-pub adds-widest : (keep : Keep) (tokens : List TokenValue) (max : Option ℕ) (span letters : PlaceSpan) (m n q : ℕ) (old new newer : List PlaceSpan) → max ≡ None
-    → m ≡ suc n → span.low ≤ n → n ≤ span.high → IsPlaceOf tokens span.kind n q → letters ≡ letters_before 0 q span.last
-    → AddsFrom keep tokens max span m old new → IsBackFrom keep tokens (Counted 1 max) (IsOfNumber tokens span n) (letters ∷ [])
-    → newer ≡ new ++ letters ∷ [] → AddsBack keep tokens (Counted 1 max) span old newer
-adds-widest keep tokens max span letters m n q old new newer without next low high place is adds here grown =
+pub adds-widest : (keep : Keep) (tokens : List TokenValue) (span letters : PlaceSpan) (m n q : ℕ) (old new newer : List PlaceSpan)
+    → m ≡ suc n → span.low ≤ n → n ≤ span.high → IsPlaceOf tokens span.kind n q → letters ≡ letters_before q span.last
+    → AddsFrom keep tokens span m old new → IsBackFrom keep tokens (Counted 1 None) (IsOfNumber tokens span n) (letters ∷ [])
+    → newer ≡ new ++ letters ∷ [] → AddsBack keep tokens (Counted 1 None) span old newer
+adds-widest keep tokens span letters m n q old new newer next low high place is adds here grown =
     let more = adds.more ++ letters ∷ [] in
-    let whole : IsBackFrom keep tokens (Counted 1 max) (IsFromNumber tokens span n) (adds.more ++ letters ∷ []) =
-    back-one_more keep tokens (Counted 1 max) span n adds.more (letters ∷ []) high
-    (subst (λ k. IsBackFrom keep tokens (Counted 1 max) (IsFromNumber tokens span k) adds.more) next adds.back) here in
+    let whole : IsBackFrom keep tokens (Counted 1 None) (IsFromNumber tokens span n) (adds.more ++ letters ∷ []) =
+    back-one_more keep tokens (Counted 1 None) span n adds.more (letters ∷ []) high
+    (subst (λ k. IsBackFrom keep tokens (Counted 1 None) (IsFromNumber tokens span k) adds.more) next adds.back) here in
     let among = subst (Contains more) is (Contains-push adds.more letters) in
-    let widest = back-widest keep tokens span n q more low place among
-    (subst (λ o. IsBackFrom keep tokens (Counted 1 o) (IsFromNumber tokens span n) more) without whole) in
+    let widest = back-widest keep tokens span n q more low place among whole in
     record {
       more = more;
       added = grown ∙ ap (λ l. l ++ letters ∷ []) adds.added ∙ append_assoc old adds.more (letters ∷ []);
-      back = back-span keep tokens (Counted 1 max) span more
-          (subst (λ o. IsBackFrom keep tokens (Counted 1 o) (IsFromNumber tokens span span.low) more) (sym without) widest);
+      back = back-span keep tokens (Counted 1 None) span more widest;
     }
 
 -- the empty word too

@@ -1,4 +1,4 @@
--- Which places a tidy word of so many letters and blanks leads from: where a letter begins, and no more of them follow.
+-- Which places a tidy word of letters and blanks leads from: where a letter begins.
 use Rattle.std.proofs.Common.{◌≡◌, ◌⊎◌, ℕ, suc, ◌+◌, ◌-◌, ◌<◌, ◌≤◌, Bool, true, false, IsTrue, List, [], ◌∷◌, ◌++◌, length, get_or, take, drop, refl, sym, ap, ◌∙◌, subst, arith, inl, inr, slice_range, count_by, append_assoc, append-nil, eq-eqb, eqb-true, lit<, take-append-drop, ◌&&◌}
 use Rattle.std.specs.Char.{IsScalar, encode_utf8}
 use Rattle.std.specs.Str.{IsUtf8, IsCharBoundary, encode_utf8_all}
@@ -13,9 +13,8 @@ use Rattle.lic_places.specs.Places.{AreTexts, IsBehindBlank, OverBlank, Stands, 
 use Rattle.lic_places.specs.Places.OverBlank.{over, stays}
 use Rattle.lic_places.specs.Reads.{Reads, Takes}
 use Rattle.lic_places.proofs.TokenPlaces.{blank-alone, spelling-utf8}
-use Rattle.lic_search.specs.Counts.{begins_character, letters_between}
 use Rattle.lic_search.specs.PlaceSets.{IsLetterPlace}
-use Rattle.lic_search.proofs.CountBytes.{between-none, between-one_at_most, between-split, count-encode, count-encodes}
+use Rattle.lic_search.proofs.Back.{reads-forward}
 
 -- ---- what stands at a place
 
@@ -104,30 +103,6 @@ letter_ends tokens p c q other stands (r, e, is) =
 
 -- ---- words that are read
 
--- one letter or blank takes one of the text at most
-takes-one : (tokens : List TokenValue) (p c q : ℕ) → Takes tokens p c q → (p ≤ q) × (letters_between (spelling_of tokens) p q ≤ 1)
-takes-one tokens p c q (inl (e, o)) = by_blank p q o
-  where
-    by_blank : (i j : ℕ) → OverBlank tokens i j → (i ≤ j) × (letters_between (spelling_of tokens) i j ≤ 1)
-    by_blank i j (over h) = (omega arith, between-one_at_most (spelling_of tokens) i)
-    by_blank i j (stays h g) = (omega arith, omega (arith, between-none (spelling_of tokens) i))
-takes-one tokens p c q (inr (other, scalar, stands)) =
-    let n : letters_between (spelling_of tokens) p q ≡ 1 = ap (count_by begins_character) stands.1 ∙ count-encode c in
-    let end : q ≡ p + length (encode_utf8 c) = stands.0 in
-    (omega arith, omega arith)
-
-pub reads-fewer : (tokens : List TokenValue) (w : Word) (p q : ℕ) → Reads tokens p w q
-    → (p ≤ q) × (letters_between (spelling_of tokens) p q ≤ length w)
-reads-fewer tokens [] p q h =
-    let n : letters_between (spelling_of tokens) p q ≡ 0 = ap (λ k. letters_between (spelling_of tokens) p k) (sym h) ∙ between-none (spelling_of tokens) p in
-    (omega arith, omega arith)
-reads-fewer tokens (c ∷ w) p q (r, takes, reads) =
-    let one = takes-one tokens p c r takes in
-    let more = reads-fewer tokens w r q reads in
-    let first : p ≤ r = one.0 in
-    let second : r ≤ q = more.0 in
-    (omega arith, omega (arith, between-split (spelling_of tokens) p r q first second, one.1, more.1))
-
 reads-ends : (tokens : List TokenValue) (w : Word) (c p q : ℕ) → ((u : Word) → c ∷ w ≡ u ++ blank ∷ [] → ⊥) → Reads tokens p (c ∷ w) q
     → IsBehindBlank (spelling_of tokens) q → ⊥
 reads-ends tokens [] c p q last (r, inl (e, o), reads) behind = last [] (ap (λ x. x ∷ []) e)
@@ -142,23 +117,18 @@ pub record IsFree (tokens : List TokenValue) (p q : ℕ) : Type 0 where
   pub begins : IsLetterPlace tokens p
   pub ends : ¬ (IsBehindBlank (spelling_of tokens) q)
 
-pub counted-reads : (tokens : List TokenValue) (w : Word) (p q : ℕ) → IsTidy w → 1 ≤ length w → Reads tokens p w q
-    → IsFree tokens p q × (letters_between (spelling_of tokens) p q ≤ length w)
+pub counted-reads : (tokens : List TokenValue) (w : Word) (p q : ℕ) → IsTidy w → 1 ≤ length w → Reads tokens p w q → IsFree tokens p q
 counted-reads tokens [] p q tidied some reads = absurd (omega arith)
 counted-reads tokens (c ∷ w) p q tidied some (r, inl (e, o), reads) = absurd (tidied.not_first w (ap (λ x. x ∷ w) e))
 counted-reads tokens (c ∷ w) p q tidied some (r, inr (other, scalar, stands), reads) =
-    let all = reads-fewer tokens (c ∷ w) p q (r, inr (other, scalar, stands), reads) in
-    let more = reads-fewer tokens w r q reads in
     let bytes = some_bytes c in
     let end : r ≡ p + length (encode_utf8 c) = stands.0 in
-    let later : r ≤ q = more.0 in (
-      record {
-        before = omega arith;
-        begins = letter_begins tokens p c r other scalar stands;
-        ends = reads-ends tokens w c p q tidied.not_last (r, inr (other, scalar, stands), reads);
-      },
-      all.1,
-    )
+    let later : r ≤ q = reads-forward tokens w r q reads in
+    record {
+      before = omega arith;
+      begins = letter_begins tokens p c r other scalar stands;
+      ends = reads-ends tokens w c p q tidied.not_last (r, inr (other, scalar, stands), reads);
+    }
 
 -- ---- the word that stands between two places
 
@@ -242,7 +212,6 @@ pub record HasWord (tokens : List TokenValue) (p q : ℕ) : Type 0 where
   pub reads : Reads tokens p word q
   pub tidied : IsTidy word
   pub some : 1 ≤ length word
-  pub count : length word ≡ letters_between (spelling_of tokens) p q
 
 pub counted-word : (tokens : List TokenValue) (p q : ℕ) → AreTexts tokens → IsCharBoundary (spelling_of tokens) q
     → IsFree tokens p q → HasWord tokens p q
@@ -266,7 +235,6 @@ counted-word tokens p q texts whole free =
           reads = subst (Reads tokens p cs) (sym end) (reads-letters tokens cs p (drop q bytes) all follows);
           tidied = spelled-tidy tokens p q cs texts free (record { follows = follows; end = end });
           some = some_letters cs (let before : p < q = free.before in omega arith);
-          count = sym (count-encodes cs) ∙ ap (count_by begins_character) same;
         }
       where
         some_letters : (w : Word) → 1 ≤ length (encode_utf8_all w) → 1 ≤ length w

@@ -15,7 +15,6 @@ pub mod StretchLemmas
 pub mod WideLemmas
 pub mod CountWords
 pub mod CountBytes
-pub mod CountLeast
 pub mod CountReads
 pub mod CountPlaces
 pub mod CountSpans
@@ -54,6 +53,11 @@ pub mod RunChains
 pub mod AnyChains
 pub mod RunPlaces
 pub mod RunSpans
+pub mod JoinedSpans
+pub mod LeadBytes
+pub mod KnownRuns
+pub mod KeptLoops
+pub mod RunCounts
 pub mod TidyRuns
 pub mod TemplateMatches
 pub mod LeastMatchLemmas

@@ -46,3 +46,9 @@ pub record Keeps (keep : Keep) (spans found : List PlaceSpan) : Type 0 where
   pub sound : (kind : Kind) (number last : ℕ) → Holds found kind number last → Holds spans kind number last
   pub kept : (kind : Kind) (number last : ℕ) → Holds spans kind number last
       → (other : ℕ) × (other ≤ last) × (IsEach keep → other ≡ last) × Holds found kind number other
+
+-- the same as in AddsBack, and of what is there then those last tokens at least that are kept
+pub record AddsKept (keep : Keep) (tokens : List TokenValue) (P : Word → Type 0) (span : PlaceSpan) (old new : List PlaceSpan) : Type 0 where
+  pub all : List PlaceSpan
+  pub adds : AddsBack keep tokens P span old all
+  pub kept : Keeps keep all new

@@ -17,4 +17,6 @@ pub mod PassingPlaces
 pub mod Reached
 pub mod Reverse
 pub mod Runs
+pub mod RunsKnown
+pub mod Joined
 pub mod Tidily

@@ -14,7 +14,7 @@ use crate::keep::Keep;
 use crate::kept::kept;
 use crate::passing::{is_one, over_one};
 use crate::reached::Reached;
-use crate::runs::{are_short, over_many};
+use crate::runs::{are_few, over_many};
 use crate::stop::Stop;
 use crate::view::{View, tokens_have_texts};
 use crate::ways::Ways;
@@ -174,7 +174,7 @@ fn over_repeat(
         return Ok(Ways::none(alloc));
     };
     let needed = over_times(alloc, view, keep, body, min, ways)?;
-    if more > 1 && is_one(body) && are_short(view, body, more, &needed) {
+    if more > 1 && is_one(body) && are_few(view, keep, &needed) {
         return over_many(alloc, view, keep, body, more, &needed);
     }
     over_up_to(alloc, view, keep, body, more, needed)

@@ -6,5 +6,5 @@ use Rattle.lic_search.proofs.counts.add_counted.Given as goal
 abbrev pub invariant-loop-number : goal.invariant-loop-number
 invariant-loop-number l = record {
   low : l.span.low ≤ l.number;
-  adds : AddsFrom l.keep l.view l.max l.span l.number l.fn.found.items l.found.items;
+  adds : AddsFrom l.keep l.view l.span l.number l.fn.found.items l.found.items;
 }

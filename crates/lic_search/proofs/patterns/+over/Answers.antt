@@ -174,8 +174,8 @@ over_up_to-returns-then-is_empty t c =
     reached-empty c.args.keep tokens (Language (tree_words (tree_of c.args.body.now))) (spans_of c.args.ways) (reached_of c.loop.reached) (spans_of c.loop.front)
     (spans_of c.in_ok-into_ways.field-0) c.loop.counter c.args.count c.loop.invariant c.loop.auto.counter-end (c.is_empty.ensures c.if-is_empty.true) c.in_ok-into_ways.ensures
 
-pub over_repeat-returns-then-are_short : goal.over_repeat-returns-then-are_short
-over_repeat-returns-then-are_short t c =
+pub over_repeat-returns-then-are_few : goal.over_repeat-returns-then-are_few
+over_repeat-returns-then-are_few t c =
     let tokens = c.args.view.now in
     let tree = tree_of c.args.body.now in
     ok-changed _ _ c.over_many.result
