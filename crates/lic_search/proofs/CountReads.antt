@@ -1,5 +1,5 @@
 -- Which places a tidy word of letters and blanks leads from: where a letter begins.
-use Rattle.std.proofs.Common.{◌≡◌, ◌⊎◌, ℕ, suc, ◌+◌, ◌-◌, ◌<◌, ◌≤◌, Bool, true, false, IsTrue, List, [], ◌∷◌, ◌++◌, length, get_or, take, drop, refl, sym, ap, ◌∙◌, subst, arith, inl, inr, slice_range, count_by, append_assoc, append-nil, eq-eqb, eqb-true, lit<, take-append-drop, ◌&&◌}
+use Rattle.std.proofs.Common.{◌≡◌, ◌⊎◌, ℕ, suc, ◌+◌, ◌-◌, ◌<◌, ◌≤◌, Bool, true, false, IsTrue, List, [], ◌∷◌, ◌++◌, length, get_or, take, drop, refl, sym, ap, ◌∙◌, subst, arith, inl, inr, slice_range, append_assoc, append-nil, eq-eqb, eqb-true, lit<, take-append-drop, ◌&&◌}
 use Rattle.std.specs.Char.{IsScalar, encode_utf8}
 use Rattle.std.specs.Str.{IsUtf8, IsCharBoundary, encode_utf8_all}
 use Rattle.std.proofs.Math.ListN.{get_or-append}
@@ -10,7 +10,7 @@ use Rattle.std.proofs.lemmas.Str.{IsCharBoundary-start, IsUtf8-between, IsUtf8-e
 use Rattle.lic_words.specs.Words.{Word, blank, IsTidy}
 use Rattle.lic_norm.specs.Tokens.{TokenValue}
 use Rattle.lic_places.specs.Places.{AreTexts, IsBehindBlank, OverBlank, Stands, is_blank_at, spelling_of}
-use Rattle.lic_places.specs.Places.OverBlank.{over, stays}
+use Rattle.lic_places.specs.Places.OverBlank.{over}
 use Rattle.lic_places.specs.Reads.{Reads, Takes}
 use Rattle.lic_places.proofs.TokenPlaces.{blank-alone, spelling-utf8}
 use Rattle.lic_search.specs.PlaceSets.{IsLetterPlace}

@@ -1,8 +1,7 @@
 -- How many bytes a letter has, by the first of them.
-use Rattle.std.proofs.Common.{◌≡◌, ℕ, ◌+◌, ◌*◌, ◌/◌, ◌%◌, ◌<◌, ◌≤◌, Bool, true, false, cond, ltb, List, [], ◌∷◌, ◌++◌, length, get_or, drop, refl, sym, ap, subst, ◌∙◌, arith, ltb-true, lit<}
+use Rattle.std.proofs.Common.{◌≡◌, ℕ, ◌+◌, ◌/◌, ◌%◌, ◌<◌, ◌≤◌, Bool, true, false, cond, ltb, List, [], ◌∷◌, length, get_or, drop, refl, sym, ap, ◌∙◌, arith, ltb-true, lit<}
 use Rattle.std.specs.Char.{encode_utf8}
 use Rattle.std.proofs.Math.Nat.{div-lt_iff_lt-mul}
-use Rattle.std.proofs.lemmas.List.{length-append, length-drop}
 use Rattle.lic_search.specs.Passing.{IsLetterBefore}
 use Rattle.lic_search.proofs.CountReads.{follows-byte, stands-follows}
 use Rattle.lic_search.proofs.LastLetters.{letter-within}

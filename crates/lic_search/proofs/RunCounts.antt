@@ -1,11 +1,11 @@
 -- Runs of letters and blanks of any kind are tidy words of so many.
-use Rattle.std.proofs.Common.{◌≡◌, ◌⊎◌, ◌↔◌, ℕ, ◌≤◌, Bool, true, false, Some, [], ◌∷◌, length, inl, inr, refl, sym, ap, arith, subst, ◌∙◌}
-use Rattle.lic_words.specs.Words.{Word, IsTidy, blank}
+use Rattle.std.proofs.Common.{◌≡◌, ◌⊎◌, ◌↔◌, ℕ, ◌≤◌, true, false, Some, [], ◌∷◌, length, inl, inr, refl, sym, ap, arith, ◌∙◌}
+use Rattle.lic_words.specs.Words.{Word}
 use Rattle.lic_ere.specs.Trees.{Tree, node_tree, tree_of}
 use Rattle.lic_ere.specs.declared.ere.Ere.{Ere-F, fold-roll-Ere}
 use Rattle.lic_ere.specs.declared.ere.Ere.TheVariants.{Any, rolls-Any}
 use Rattle.lic_search.specs.Passing.{passes_of}
-use Rattle.lic_search.specs.Runs.{AllPass, IsRun, IsRunTo}
+use Rattle.lic_search.specs.Runs.{AllPass, IsRunTo}
 use Rattle.lic_search.specs.Tidily.{IsTakenBack, a_blank, a_letter, nothing}
 use Rattle.lic_search.proofs.CountWords.{Counted, IsCounted, counted-complete, counted-sound}
 use Rattle.lic_search.proofs.TidyWords.{nothing-taken, taken-tidy, tidy-taken}

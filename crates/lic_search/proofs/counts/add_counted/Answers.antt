@@ -1,5 +1,5 @@
 -- Each number adds the places from which letters lead to its place.
-use Rattle.std.proofs.Common.{◌-◌, ◌≤◌, [], refl, sym, arith, append-nil}
+use Rattle.std.proofs.Common.{◌-◌, ◌≤◌, [], sym, arith, append-nil}
 use Rattle.lic_search.proofs.CountNumbers.{adds-all, adds-more, adds-nothing, adds-widest}
 use Rattle.lic_search.proofs.counts.add_counted.Goals as goal
 

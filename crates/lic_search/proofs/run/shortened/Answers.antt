@@ -1,4 +1,4 @@
-use Rattle.std.proofs.Common.{◌≡◌, ◌+◌, ◌-◌, suc, subst, arith}
+use Rattle.std.proofs.Common.{◌≡◌, ◌+◌, ◌-◌, subst, arith}
 use Rattle.lic_search.specs.Runs.{IsChain}
 use Rattle.lic_search.proofs.KnownRuns.{chain-shorter}
 use Rattle.lic_search.proofs.run.shortened.Goals as goal
