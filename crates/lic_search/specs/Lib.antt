@@ -9,6 +9,8 @@ pub mod Windows
 pub mod AllMatches
 pub mod LeastMatches
 pub mod Fresh
+pub mod LetterGroups
+pub mod Grouped
 pub mod Passing
 pub mod PassingPlaces
 pub mod Reached
