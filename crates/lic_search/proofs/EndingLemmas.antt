@@ -1,5 +1,5 @@
 -- The last letters of the words of a pattern.
-use Rattle.std.proofs.Common.{◌≡◌, ◌⊎◌, ℕ, suc, ◌+◌, ◌-◌, ◌<◌, ◌≤◌, List, [], ◌∷◌, ◌++◌, length, map, take, drop, get_or, Option, None, Some, true, inl, inr, refl, sym, ap, arith, subst, ◌∙◌, append_assoc}
+use Rattle.std.proofs.Common.{◌≡◌, ◌⊎◌, ℕ, suc, ◌+◌, ◌<◌, ◌≤◌, List, [], ◌∷◌, ◌++◌, length, map, take, drop, get_or, Option, None, Some, inl, inr, refl, sym, ap, arith, subst, ◌∙◌, append_assoc}
 use Rattle.std.specs.Prelude.{Contains, IfSome}
 use Rattle.std.proofs.Math.Seq.{drop-cons}
 use Rattle.std.proofs.lemmas.Bool.{eqb-true}
@@ -10,7 +10,7 @@ use Rattle.lic_words.specs.Expressions.{Language}
 use Rattle.lic_ere.specs.declared.ere.Ere.{Ere}
 use Rattle.lic_ere.specs.Trees.{Tree, char, row, tree_of}
 use Rattle.lic_markup.specs.Meaning.{row_words, tree_words}
-use Rattle.lic_search.specs.LetterGroups.{AreLastLetters, EndIn, hash_of, mixed}
+use Rattle.lic_search.specs.LetterGroups.{EndIn, hash_of, mixed}
 
 -- the words of the patterns from one on are one row of letters
 pub record AreLettersFrom (subs : List Ere) (number hash : ℕ) : Type 0 where

@@ -1,7 +1,6 @@
 -- Parts of sets of places for the words that end with letters of one hash.
-use Rattle.std.proofs.Common.{◌≡◌, ◌⊎◌, ◌↔◌, ℕ, ◌<◌, ◌≤◌, List, [], ◌∷◌, ◌++◌, inl, inr, Result, Ok, Err, IfOk, Vec, Global, length, get_or, refl, sym, ap, arith, subst, ◌∙◌}
-use Rattle.std.specs.Prelude.{All, Contains}
-use Rattle.std.proofs.lemmas.List.{append-nil}
+use Rattle.std.proofs.Common.{◌≡◌, ◌⊎◌, ◌↔◌, ℕ, List, [], ◌∷◌, inl, inr, Result, Ok, Err, IfOk, Vec, Global, get_or, refl, sym, arith, subst}
+use Rattle.std.specs.Prelude.{Contains}
 use Rattle.std.proofs.lemmas.List.Elements.{Contains-get_or, Contains-push_cases}
 use Rattle.lic_words.specs.Words.{Word}
 use Rattle.lic_norm.specs.Tokens.{TokenValue}
@@ -15,11 +14,10 @@ use Rattle.lic_search.specs.Tidily.{AreWays, IsTidyBack, Taken, a_blank, a_lette
 use Rattle.lic_search.specs.Grouped.{AreGroupedWays}
 use Rattle.lic_search.specs.declared.endings.GroupedWays.{GroupedWays}
 use Rattle.lic_search.specs.declared.ways.Ways.{Ways}
-use Rattle.lic_search.specs.LetterGroups.{AreGroupsOf, EndIn, HasEntry, IsPartFor, hash_of}
+use Rattle.lic_search.specs.LetterGroups.{AreGroupsOf, EndIn, HasEntry, IsPartFor}
 use Rattle.lic_search.proofs.Placed.{ArePlaced-nil, Holds-among, Reaches-nil}
 use Rattle.lic_search.proofs.Back.{Holds-last, reads-parted}
 use Rattle.lic_search.proofs.BlankLemmas.{holds-one}
-use Rattle.lic_search.proofs.TidyBack.{tidy-lists}
 use Rattle.lic_search.specs.declared.keep.Keep.{Keep}
 
 -- one span of a list holds what it holds alone

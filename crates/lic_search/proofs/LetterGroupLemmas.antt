@@ -1,25 +1,24 @@
 -- Places in groups by the letters before them: what one entry more changes, and what the groups of a list of spans have.
-use Rattle.std.proofs.Common.{◌≡◌, ◌⊎◌, ◌↔◌, ℕ, ◌+◌, ◌<◌, ◌≤◌, List, [], ◌∷◌, ◌++◌, Vec, Global, length, map, take, drop, get_or, set, inl, inr, refl, sym, ap, arith, subst, ◌∙◌}
+use Rattle.std.proofs.Common.{◌≡◌, ◌⊎◌, ◌↔◌, ℕ, ◌+◌, ◌<◌, ◌≤◌, List, [], ◌∷◌, ◌++◌, Vec, Global, length, map, take, get_or, set, inl, inr, refl, sym, ap, arith, subst, ◌∙◌}
 use Rattle.std.specs.Prelude.{Contains}
 use Rattle.std.proofs.Math.Logic.{⊎_elim}
 use Rattle.std.proofs.Math.ListN.{length-set}
 use Rattle.std.proofs.lemmas.Bool.{cases_eq, cases_lt}
-use Rattle.std.proofs.lemmas.List.{append-nil, get_or-map, get_or-set_other, get_or-set_same, get_or_append_left, get_or_past, get_or_push, length-map, length_push, map-append, map-set, take_all, take_more}
-use Rattle.std.proofs.lemmas.List.Elements.{Contains-append_left, Contains-append_right, Contains-get_or, Contains-push, Contains-push_cases}
+use Rattle.std.proofs.lemmas.List.{get_or-map, get_or-set_other, get_or-set_same, get_or_append_left, get_or_past, get_or_push, length-map, length_push, map-append, map-set, take_all, take_more}
+use Rattle.std.proofs.lemmas.List.Elements.{Contains-append_left, Contains-get_or, Contains-push, Contains-push_cases}
 use Rattle.lic_words.specs.Words.{Word, blank}
 use Rattle.lic_norm.specs.Tokens.{TokenValue}
 use Rattle.lic_places.specs.Places.{AreTexts, spelling_of}
 use Rattle.lic_places.specs.Reads.{Reads}
 use Rattle.lic_places.proofs.TokenPlaces.{spelling-utf8}
 use Rattle.lic_spans.specs.Spans.{Holds}
-use Rattle.lic_spans.specs.declared.span.Kind.{Kind}
 use Rattle.lic_spans.specs.declared.span.PlaceSpan.{PlaceSpan}
 use Rattle.lic_search.specs.declared.groups.Entry.{Entry}
-use Rattle.lic_search.specs.PlaceSets.{ArePlaced, IsPlaceOf, Reaches}
+use Rattle.lic_search.specs.PlaceSets.{IsPlaceOf, Reaches}
 use Rattle.lic_search.specs.Passing.{IsLetterBefore}
-use Rattle.lic_search.specs.LetterGroups.{AddsPlaces, AreGroupsOf, AreLastLetters, EndIn, HasEntry, HasNone, HasPlaceWith, IsPartFor, IsPieceOf, group, hash_before, hash_of, mixed, number_of}
+use Rattle.lic_search.specs.LetterGroups.{AddsPlaces, AreGroupsOf, AreLastLetters, HasEntry, HasNone, HasPlaceWith, IsPieceOf, group, hash_before, hash_of, mixed, number_of}
 use Rattle.lic_search.proofs.Placed.{Holds-among, Reaches-append, Reaches-nil}
-use Rattle.lic_search.proofs.Back.{Holds-last, reads-parted}
+use Rattle.lic_search.proofs.Back.{reads-parted}
 use Rattle.lic_search.proofs.BlankLemmas.{held, holds-one}
 use Rattle.lic_search.proofs.Numbers.{At, Below}
 use Rattle.lic_search.proofs.LastLetters.{letter-one}

@@ -1,11 +1,10 @@
 -- The letter of a pattern that is one.
-use Rattle.std.proofs.Common.{sym, ap, subst, ◌∙◌}
+use Rattle.std.proofs.Common.{sym, subst}
 use Rattle.lic_ere.specs.Trees.{tree_of}
 use Rattle.lic_markup.specs.Meaning.{tree_words}
 use Rattle.lic_words.specs.Expressions.{Language}
 use Rattle.lic_search.specs.LetterGroups.{EndIn}
-use Rattle.lic_search.proofs.EreLemmas.{tree_of-Cat}
-use Rattle.lic_search.proofs.EndingLemmas.{letter-end, some-changed}
+use Rattle.lic_search.proofs.EndingLemmas.{letter-end}
 use Rattle.lic_search.proofs.endings.last_letters.Goals as goal
 
 pub returns : goal.returns

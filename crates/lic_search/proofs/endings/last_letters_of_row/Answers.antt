@@ -1,5 +1,5 @@
 -- One letter more, and then all of them.
-use Rattle.std.proofs.Common.{◌≡◌, ◌+◌, ◌-◌, ◌<◌, ◌≤◌, length, arith, subst, sym, refl}
+use Rattle.std.proofs.Common.{◌≡◌, ◌+◌, ◌-◌, length, arith, subst, sym, refl}
 use Rattle.lic_search.specs.LetterGroups.{EndIn}
 use Rattle.lic_search.proofs.EndingLemmas.{AreLettersFrom, letters-end, letters-more, letters-none, some-changed}
 use Rattle.lic_search.proofs.endings.last_letters_of_row.Goals as goal

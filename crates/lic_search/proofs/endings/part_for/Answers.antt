@@ -1,11 +1,10 @@
 -- The part that the groups have, or all.
-use Rattle.std.proofs.Common.{◌≡◌, Some, sym, subst}
+use Rattle.std.proofs.Common.{subst}
 use Rattle.std.specs.Prelude.{IfSome}
 use Rattle.lic_ere.specs.Trees.{tree_of}
 use Rattle.lic_markup.specs.Meaning.{tree_words}
 use Rattle.lic_words.specs.Expressions.{Language}
 use Rattle.lic_search.specs.Grouped.{AreGroupedWays}
-use Rattle.lic_search.specs.LetterGroups.{IsPartFor}
 use Rattle.lic_search.specs.Tidily.{spans_of}
 use Rattle.lic_search.proofs.EreLemmas.{ok-changed}
 use Rattle.lic_search.proofs.GroupParts.{grouped-part, ok-three, whole-part}

@@ -1,5 +1,5 @@
 -- One letter more before the place, and then all of them.
-use Rattle.std.proofs.Common.{◌≡◌, ◌+◌, ◌<◌, ◌≤◌, length, get_or, set, ap, arith, refl, subst, sym, ◌∙◌}
+use Rattle.std.proofs.Common.{◌≡◌, ◌+◌, ◌<◌, length, set, ap, arith, subst, sym, ◌∙◌}
 use Rattle.lic_search.specs.LetterGroups.{mixed, number_of}
 use Rattle.lic_search.proofs.LetterGroupLemmas.{AddsRows, entry_of, pending-blank, pending-long, pending-none, rows-all, rows-more, rows-none}
 use Rattle.lic_search.proofs.groups.add_place.Goals as goal

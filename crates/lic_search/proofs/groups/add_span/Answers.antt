@@ -1,5 +1,5 @@
 -- The place of one number more, and then of all.
-use Rattle.std.proofs.Common.{◌≡◌, [], ◌∷◌, ◌+◌, ◌<◌, ◌≤◌, length, arith, refl, subst, sym}
+use Rattle.std.proofs.Common.{[], ◌∷◌, ◌+◌, ◌≤◌, arith, subst, sym}
 use Rattle.lic_search.specs.LetterGroups.{AddsPlaces, IsPieceOf}
 use Rattle.lic_search.proofs.Numbers.{Below}
 use Rattle.lic_search.proofs.ViewSpans.{within-one}

@@ -1,5 +1,5 @@
 -- One list more without an entry.
-use Rattle.std.proofs.Common.{◌≡◌, ◌+◌, ◌∙◌, ap, arith, length}
+use Rattle.std.proofs.Common.{◌≡◌, ◌∙◌, ap, arith, length}
 use Rattle.std.proofs.lemmas.List.{length_push}
 use Rattle.lic_search.proofs.LetterGroupLemmas.{empty-first, empty-more, empty-none}
 use Rattle.lic_search.proofs.groups.empty_lists.Goals as goal

@@ -1,5 +1,5 @@
 -- One entry more, and then all of them.
-use Rattle.std.proofs.Common.{◌≡◌, ◌+◌, ◌<◌, ◌≤◌, ◌∙◌, ap, length, subst, sym}
+use Rattle.std.proofs.Common.{◌+◌, ◌∙◌, ap, subst, sym}
 use Rattle.lic_search.proofs.LetterGroupLemmas.{AreWith, with-all, with-more, with-none, with-skip}
 use Rattle.lic_search.proofs.groups.spans_with.Goals as goal
 use Rattle.lic_search.proofs.groups.spans_with.Goals.{then-entry-hash+in_ok-push, else-entry-hash}

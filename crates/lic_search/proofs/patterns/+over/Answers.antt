@@ -7,7 +7,7 @@ use Rattle.lic_markup.specs.Meaning.{choice_words, row_words, tree_words}
 use Rattle.lic_search.specs.PlaceSets.{Reaches}
 use Rattle.lic_search.specs.Reached.{reached_of}
 use Rattle.lic_search.specs.Tidily.{IsTidyBack, UpTo, spans_of}
-use Rattle.lic_search.proofs.EreLemmas.{choice-all, choice-item, choice-to, is_one-test, ok-changed, one-words, placed-copied, placed-joined, reached-done, reached-empty, reached-pruned, reached-start, row-all, row-item, tidy-copied, times-all, times-more, times-same, tree_of-Alt, tree_of-Cat, tree_of-Repeat, words-changed}
+use Rattle.lic_search.proofs.EreLemmas.{choice-all, choice-item, choice-to, is_one-test, ok-changed, one-words, placed-copied, placed-joined, reached-done, reached-empty, reached-pruned, reached-start, row-all, row-item, times-all, times-more, times-same, tree_of-Alt, tree_of-Cat, tree_of-Repeat, words-changed}
 use Rattle.std.proofs.lemmas.List.{append-nil}
 use Rattle.lic_search.proofs.GroupParts.{tidy-part, tidy-part_none}
 use Rattle.lic_search.proofs.TidyBack.{tidy-least}

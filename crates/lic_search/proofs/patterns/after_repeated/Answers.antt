@@ -1,5 +1,5 @@
 -- One pattern more that is repeated.
-use Rattle.std.proofs.Common.{◌≡◌, ℕ, suc, ◌+◌, ◌-◌, ◌<◌, ◌≤◌, length, arith, subst, ⊎_elim}
+use Rattle.std.proofs.Common.{◌≡◌, suc, ◌-◌, ◌<◌, ◌≤◌, length, arith, subst, ⊎_elim}
 use Rattle.std.proofs.lemmas.Bool.{cases_lt}
 use Rattle.lic_search.specs.Tidily.{IsRepeated}
 use Rattle.lic_search.proofs.EreLemmas.{again}

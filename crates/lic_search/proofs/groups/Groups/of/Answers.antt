@@ -1,5 +1,5 @@
 -- The places of one span more, and then of all.
-use Rattle.std.proofs.Common.{◌≡◌, ◌+◌, ◌<◌, ◌≤◌, length, arith}
+use Rattle.std.proofs.Common.{arith}
 use Rattle.lic_search.proofs.SpanLoops.{placed-one}
 use Rattle.lic_search.proofs.LetterGroupLemmas.{groups-all, groups-more, groups-none}
 use Rattle.lic_search.proofs.groups.Groups.of.Goals as goal
