@@ -1,6 +1,6 @@
 -- Patterns as trees, rows of them from one on, and choices of one more.
 use Rattle.std.proofs.Common.{◌≡◌, ◌⊎◌, ◌↔◌, ℕ, suc, ◌+◌, ◌-◌, ◌<◌, ◌≤◌, List, [], ◌∷◌, ◌++◌, Option, Some, None, Result, Ok, Err, IfOk, Vec, Box, Global, true, false, length, map, drop, take, get_or, inl, inr, refl, sym, ap, arith, subst, ◌∙◌}
-use Rattle.std.specs.Prelude.{MatchOption, is_some}
+use Rattle.std.specs.Prelude.{MatchOption, is_some, zero}
 use Rattle.std.proofs.lemmas.Bool.{true≢false}
 use Rattle.std.proofs.Math.Seq.{drop-cons}
 use Rattle.std.proofs.lemmas.List.{drop_all, get_or_default, map-append, take_all, take_more}
@@ -351,3 +351,26 @@ reached-pruned keep tokens B xs found front copied led next more all fresh i n o
           (whole s p l (Reaches-append tokens (found s) (next s) p l
           (subst (λ x. Reaches tokens (found x ++ next x) p l) (sym at) (subst (λ x. Reaches tokens (found t ++ next t) x l) (sym here) e))));
     }
+
+-- patterns in a row that are the one before once more add no word
+pub choice-skip : (keep : Keep) (tokens : List TokenValue) (Ends : Taken → ℕ → ℕ → Type 0) (subs : List Ere) (i : ℕ) (d : Ere) (xs : Taken → List PlaceSpan) (more : ℕ) →
+    i + more ≤ length subs → ((k : ℕ) → i ≤ k → k < i + more → IsRepeated subs k) →
+    IsTidyBackFrom keep tokens (Language (choice_words (row (map tree_of (take i subs))))) Ends xs →
+    IsTidyBackFrom keep tokens (Language (choice_words (row (map tree_of (take (i + more) subs))))) Ends xs
+choice-skip keep tokens Ends subs i d xs zero within repeated back =
+    let same : i ≡ i + 0 = omega arith in
+    subst (λ n. IsTidyBackFrom keep tokens (Language (choice_words (row (map tree_of (take n subs))))) Ends xs) same back
+choice-skip keep tokens Ends subs i d xs (suc more) within repeated back =
+    let next : i + more + 1 ≡ i + suc more = omega arith in
+    subst (λ n. IsTidyBackFrom keep tokens (Language (choice_words (row (map tree_of (take n subs))))) Ends xs) next
+    (choice-again keep tokens Ends subs (i + more) d xs (omega (arith, within)) (repeated (i + more) (omega arith) (omega arith))
+    (choice-skip keep tokens Ends subs i d xs more (omega (arith, within)) (λ k from to. repeated k from (omega (arith, to))) back))
+
+pub choice-to : (keep : Keep) (tokens : List TokenValue) (Ends : Taken → ℕ → ℕ → Type 0) (subs : List Ere) (i j : ℕ) (d : Ere) (xs : Taken → List PlaceSpan) →
+    i ≤ j → j ≤ length subs → ((k : ℕ) → i ≤ k → k < j → IsRepeated subs k) →
+    IsTidyBackFrom keep tokens (Language (choice_words (row (map tree_of (take i subs))))) Ends xs →
+    IsTidyBackFrom keep tokens (Language (choice_words (row (map tree_of (take j subs))))) Ends xs
+choice-to keep tokens Ends subs i j d xs order within repeated back =
+    let same : i + (j - i) ≡ j = omega (arith, order) in
+    subst (λ n. IsTidyBackFrom keep tokens (Language (choice_words (row (map tree_of (take n subs))))) Ends xs) same
+    (choice-skip keep tokens Ends subs i d xs (j - i) (omega (arith, order, within)) (λ k from to. repeated k from (omega (arith, to, order))) back)

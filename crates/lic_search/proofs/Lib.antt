@@ -11,6 +11,9 @@ pub mod Numbers
 pub mod SpanLoops
 pub mod SingleLemmas
 pub mod LetterLemmas
+pub mod LetterGroupLemmas
+pub mod GroupParts
+pub mod EndingLemmas
 pub mod StretchLemmas
 pub mod WideLemmas
 pub mod CountWords

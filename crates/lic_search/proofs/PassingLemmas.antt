@@ -38,7 +38,7 @@ place-one tokens Letters number p q one other = one.0 ∙ sym other.0
 place-one tokens Blanks number p q one other = blank-one tokens p q number one.1 other.1
 
 -- a letter that is no blank is read where it stands
-letter-read : (tokens : List TokenValue) (p c q : ℕ) → ¬ (c ≡ blank) → Reads tokens p (c ∷ []) q → IsLetterBefore (spelling_of tokens) q p c
+pub letter-read : (tokens : List TokenValue) (p c q : ℕ) → ¬ (c ≡ blank) → Reads tokens p (c ∷ []) q → IsLetterBefore (spelling_of tokens) q p c
 letter-read tokens p c q dark reads = taken reads.1
   where
     taken : Takes tokens p c reads.0 → IsLetterBefore (spelling_of tokens) q p c

@@ -12,6 +12,8 @@ pub mod LeastMatches
 pub mod EmptyWord
 pub mod Fresh
 pub mod Merged
+pub mod LetterGroups
+pub mod Grouped
 pub mod Passing
 pub mod PassingPlaces
 pub mod Reached

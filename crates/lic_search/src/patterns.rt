@@ -1,6 +1,6 @@
 //! Going back over a variable's pattern, by sets of places alone.
 
-ghost use Rattle.std.specs.Prelude.{◌≡◌, ◌<◌, ◌≤◌, ◌∷◌, [], map, length, IfOk, IsTrue, MatchOption};
+ghost use Rattle.std.specs.Prelude.{◌≡◌, ◌<◌, ◌≤◌, ◌∷◌, [], ℕ, map, length, IfOk, IsTrue, MatchOption};
 ghost use Rattle.lic_words.specs.Words.{Power};
 ghost use Rattle.lic_words.specs.Expressions.{Language, IsAtMost, repeat, tidy};
 ghost use Rattle.lic_markup.specs.Meaning.{tree_words, row_words, choice_words};
@@ -10,6 +10,7 @@ ghost use Rattle.lic_search.specs.PlaceSets.{ArePlaced};
 ghost use Rattle.lic_search.specs.Tidily.{AreWays, IsMore, IsRepeated, IsTidyBack, UpTo, spans_of};
 
 use crate::empty::has_empty_word_alone;
+use crate::endings::{GroupedWays, part_for};
 use crate::keep::Keep;
 use crate::kept::kept;
 use crate::passing::{is_one, over_one};
@@ -86,7 +87,8 @@ fn over_row(
     Ok(ways)
 }
 
-// Any one of the patterns. What several of them lead to does not pile up.
+// Any one of the patterns: where there are many, each goes back from those places alone before which its last letters stand.
+// What several of them lead to does not pile up.
 #[cycle(over)]
 fn over_choice(
     alloc: Global,
@@ -98,29 +100,38 @@ fn over_choice(
     requires { AreWays view.now ways.now }
     ensures { IfOk result (λ found. IsTidyBack keep view.now (Language (choice_words (row (map tree_of subs.now)))) (spans_of ways.now) (spans_of found)) }
 {
+    let grouped = GroupedWays::if_many(alloc, view, subs.len(), ways)?;
     let mut found = Ways::none(alloc);
     let mut most = MANY;
-    for number in 0..subs.len() {
-        if is_repeated(subs, number) {
+    let mut next = 0;
+    while next < subs.len() {
+        let sub = &subs[next];
+        next = after_repeated(subs, next);
+        let part = part_for(alloc, sub, ways, &grouped)?;
+        if part.is_empty() {
             continue;
         }
-        let more = over(alloc, view, keep, &subs[number], ways.copy(alloc)?)?;
+        let more = over(alloc, view, keep, sub, part)?;
         found.append(more)?;
-        let are_many = found.longest() > most;
+        let count = found.longest();
         found = kept_if_many(alloc, view, keep, found, most)?;
-        if are_many {
-            most = most.max(found.longest().saturating_mul(2));
-        }
+        most = limit_after(most, count, found.longest());
     }
     found.kept(alloc, view, keep)
 }
 
-// Whether a pattern is known to be the one before it once more.
-fn is_repeated(subs: &[Ere], number: usize) -> bool
+// The number of the first pattern after another that is not known to be the one before it once more.
+fn after_repeated(subs: &[Ere], number: usize) -> usize
     requires { number < length subs.now }
-    ensures { IsTrue result → IsRepeated subs.now number }
+    ensures after { number < result }
+    ensures within { result ≤ length subs.now }
+    ensures repeated { (i : ℕ) → number < i → i < result → IsRepeated subs.now i }
 {
-    number > 0 && are_one_letter(&subs[number - 1], &subs[number])
+    let mut next = number + 1;
+    while next < subs.len() && are_one_letter(&subs[next - 1], &subs[next]) {
+        next += 1;
+    }
+    next
 }
 
 // Whether two patterns are the same letter, or both nothing.
@@ -136,6 +147,14 @@ fn are_one_letter(one: &Ere, other: &Ere) -> bool
 
 // How many spans may be found before those that are there twice go.
 const MANY: usize = 1024;
+
+// Twice as many spans as were left, where there were more than so many.
+fn limit_after(most: usize, count: usize, left: usize) -> usize {
+    if count <= most {
+        return most;
+    }
+    most.max(left.saturating_mul(2))
+}
 
 // The ways, and where they have more spans than so many, each place once.
 fn kept_if_many(

@@ -1,4 +1,4 @@
-use Rattle.std.proofs.Common.{◌≡◌, suc, ◌+◌, ◌-◌, ◌<◌, length, map, drop, take, rules, ap, sym, refl, subst, ◌∙◌, arith}
+use Rattle.std.proofs.Common.{◌≡◌, [], suc, ◌+◌, ◌-◌, ◌<◌, length, map, drop, take, rules, ap, sym, refl, subst, ◌∙◌, arith}
 use Rattle.lic_words.specs.Expressions.{Language}
 use Rattle.lic_ere.specs.declared.ere.Ere.{the_lemmas}
 use Rattle.lic_ere.specs.declared.ere.Ere.TheVariants.{Empty}
@@ -7,7 +7,9 @@ use Rattle.lic_markup.specs.Meaning.{choice_words, row_words, tree_words}
 use Rattle.lic_search.specs.PlaceSets.{Reaches}
 use Rattle.lic_search.specs.Reached.{reached_of}
 use Rattle.lic_search.specs.Tidily.{IsTidyBack, UpTo, spans_of}
-use Rattle.lic_search.proofs.EreLemmas.{choice-again, choice-all, choice-item, is_one-test, ok-changed, one-words, placed-copied, placed-joined, reached-done, reached-empty, reached-pruned, reached-start, row-all, row-item, tidy-copied, times-all, times-more, times-same, tree_of-Alt, tree_of-Cat, tree_of-Repeat, words-changed}
+use Rattle.lic_search.proofs.EreLemmas.{choice-all, choice-item, choice-to, is_one-test, ok-changed, one-words, placed-copied, placed-joined, reached-done, reached-empty, reached-pruned, reached-start, row-all, row-item, times-all, times-more, times-same, tree_of-Alt, tree_of-Cat, tree_of-Repeat, words-changed}
+use Rattle.std.proofs.lemmas.List.{append-nil}
+use Rattle.lic_search.proofs.GroupParts.{tidy-part, tidy-part_none}
 use Rattle.lic_search.proofs.EmptyWords.{alone-stays}
 use Rattle.lic_search.proofs.TidyBack.{tidy-least}
 use Rattle.lic_search.proofs.FreshLemmas.{fresh-placed}
@@ -36,38 +38,60 @@ over-returns-in-Char t c =
 pub over_choice-over-requires : goal.over_choice-over-requires
 over_choice-over-requires t c = (
   search (rules, the_lemmas),
-  placed-copied c.args.view.now (spans_of c.args.ways.now) (spans_of c.in_ok-copy.field-0) c.in_ok-copy.ensures c.requires,
+  λ s. let part = c.in_ok-part.ensures c.args.view.now s c.requires c.loop-next.invariant.groups in part.placed,
 )
 
 pub over_choice-kept_if_many-requires : goal.over_choice-kept_if_many-requires
 over_choice-kept_if_many-requires t c =
-    placed-joined c.args.view.now (spans_of c.loop-number.found) (spans_of c.in_ok-more.more) (spans_of c.append.new.self)
-    c.in_ok-append.ensures c.loop-number.invariant.placed c.in_ok-more.ensures.placed
+    placed-joined c.args.view.now (spans_of c.loop-next.found) (spans_of c.in_ok-more.more) (spans_of c.append.new.self)
+    c.in_ok-append.ensures c.loop-next.invariant.back.placed c.in_ok-more.ensures.placed
 
-pub over_choice-loop-number-preserved-then-is_repeated : goal.over_choice-loop-number-preserved-then-is_repeated
-over_choice-loop-number-preserved-then-is_repeated t c =
-    choice-again c.args.keep c.args.view.now (λ s q l. Reaches c.args.view.now (spans_of c.args.ways.now s) q l) c.args.subs.now c.loop-number.number Empty
-    (spans_of c.loop-number.found) c.loop-number-test.true (c.is_repeated.ensures c.if-is_repeated.true) c.loop-number.invariant
-
-pub over_choice-loop-number-preserved : goal.over_choice-loop-number-preserved
-over_choice-loop-number-preserved t c =
+pub over_choice-loop-next-preserved-then-is_empty : goal.over_choice-loop-next-preserved-then-is_empty
+over_choice-loop-next-preserved-then-is_empty t c =
     let tokens = c.args.view.now in
-    tidy-least c.args.keep tokens (Language (choice_words (row (map tree_of (take (c.loop-number.number + 1) c.args.subs.now)))))
-    (λ s q l. Reaches tokens (spans_of c.args.ways.now s) q l) (spans_of c.append.new.self) (spans_of c.in_ok-found.found)
-    (choice-item c.args.keep tokens (λ s q l. Reaches tokens (spans_of c.args.ways.now s) q l) c.args.subs.now c.loop-number.number c.index-subs-number.result
-    (spans_of c.loop-number.found) (spans_of c.in_ok-more.more) (spans_of c.append.new.self)
-    c.loop-number-test.true c.index-subs-number.is c.in_ok-append.ensures c.loop-number.invariant
-    (tidy-copied c.args.keep tokens (Language (tree_words (tree_of c.index-subs-number.result))) (spans_of c.args.ways.now) (spans_of c.in_ok-copy.field-0) (spans_of c.in_ok-more.more)
-    c.in_ok-copy.ensures c.in_ok-more.ensures))
-    c.in_ok-found.ensures
+    let next = c.loop-next.next in
+    let after = c.after_repeated-next.ensures.after in
+    record {
+      within = c.after_repeated-next.ensures.within;
+      groups = c.loop-next.invariant.groups;
+      back = choice-to c.args.keep tokens (λ s q l. Reaches tokens (spans_of c.args.ways.now s) q l) c.args.subs.now (next + 1) c.after_repeated-next.result Empty
+          (spans_of c.loop-next.found) (omega (arith, after)) c.after_repeated-next.ensures.within
+          (λ k from to. c.after_repeated-next.ensures.repeated k (omega (arith, from)) to)
+          (choice-item c.args.keep tokens (λ s q l. Reaches tokens (spans_of c.args.ways.now s) q l) c.args.subs.now next c.index-subs-next.result
+          (spans_of c.loop-next.found) (λ s. []) (spans_of c.loop-next.found)
+          c.loop-next-test.true c.index-subs-next.is (λ s. sym (append-nil (spans_of c.loop-next.found s))) c.loop-next.invariant.back
+          (tidy-part_none c.args.keep tokens (Language (tree_words (tree_of c.index-subs-next.result))) (spans_of c.args.ways.now) (spans_of c.in_ok-part.part)
+          (λ s. c.in_ok-part.ensures tokens s c.requires c.loop-next.invariant.groups) (λ s. []) (c.is_empty.ensures c.if-is_empty.true) (λ s. refl)));
+    }
+
+pub over_choice-loop-next-preserved : goal.over_choice-loop-next-preserved
+over_choice-loop-next-preserved t c =
+    let tokens = c.args.view.now in
+    let next = c.loop-next.next in
+    let after = c.after_repeated-next.ensures.after in
+    record {
+      within = c.after_repeated-next.ensures.within;
+      groups = c.loop-next.invariant.groups;
+      back = choice-to c.args.keep tokens (λ s q l. Reaches tokens (spans_of c.args.ways.now s) q l) c.args.subs.now (next + 1) c.after_repeated-next.result Empty
+          (spans_of c.in_ok-found.found) (omega (arith, after)) c.after_repeated-next.ensures.within
+          (λ k from to. c.after_repeated-next.ensures.repeated k (omega (arith, from)) to)
+          (tidy-least c.args.keep tokens (Language (choice_words (row (map tree_of (take (next + 1) c.args.subs.now)))))
+          (λ s q l. Reaches tokens (spans_of c.args.ways.now s) q l) (spans_of c.append.new.self) (spans_of c.in_ok-found.found)
+          (choice-item c.args.keep tokens (λ s q l. Reaches tokens (spans_of c.args.ways.now s) q l) c.args.subs.now next c.index-subs-next.result
+          (spans_of c.loop-next.found) (spans_of c.in_ok-more.more) (spans_of c.append.new.self)
+          c.loop-next-test.true c.index-subs-next.is c.in_ok-append.ensures c.loop-next.invariant.back
+          (tidy-part c.args.keep tokens (Language (tree_words (tree_of c.index-subs-next.result))) (spans_of c.args.ways.now) (spans_of c.in_ok-part.part)
+          (λ s. c.in_ok-part.ensures tokens s c.requires c.loop-next.invariant.groups) (spans_of c.in_ok-more.more) c.in_ok-more.ensures))
+          c.in_ok-found.ensures);
+    }
 
 pub over_choice-returns : goal.over_choice-returns
 over_choice-returns t c =
     let tokens = c.args.view.now in
     ok-changed _ _ c.kept.result
     (λ found least. tidy-least c.args.keep tokens (Language (choice_words (row (map tree_of c.args.subs.now)))) (λ s q l. Reaches tokens (spans_of c.args.ways.now s) q l)
-    (spans_of c.loop-number.found) (spans_of found)
-    (choice-all c.args.keep tokens (λ s q l. Reaches tokens (spans_of c.args.ways.now s) q l) c.args.subs.now c.loop-number.number (spans_of c.loop-number.found) c.loop-number-test.false c.loop-number.invariant)
+    (spans_of c.loop-next.found) (spans_of found)
+    (choice-all c.args.keep tokens (λ s q l. Reaches tokens (spans_of c.args.ways.now s) q l) c.args.subs.now c.loop-next.next (spans_of c.loop-next.found) c.loop-next-test.false c.loop-next.invariant.back)
     least)
     c.kept.ensures
 

@@ -1,8 +1,10 @@
-use Rattle.std.proofs.Common.{◌≤◌, length, map, drop, take}
+use Rattle.std.proofs.Common.{◌≤◌, ◌-◌, length, map, drop, take}
+use Rattle.std.specs.Prelude.{IfSome}
 use Rattle.lic_words.specs.Words.{Power}
 use Rattle.lic_words.specs.Expressions.{Language}
 use Rattle.lic_ere.specs.Trees.{row, tree_of}
 use Rattle.lic_markup.specs.Meaning.{choice_words, row_words, tree_words}
+use Rattle.lic_search.specs.Grouped.{AreGroupedWays}
 use Rattle.lic_search.specs.Reached.{reached_of}
 use Rattle.lic_search.specs.Tidily.{IsTidyBack, spans_of}
 use Rattle.lic_search.proofs.TidyPowers.{IsReached}
@@ -16,9 +18,15 @@ invariant-over_row-loop-number l = record {
 }
 
 -- what the patterns so far lead to is found
-abbrev pub invariant-over_choice-loop-number : goal.invariant-over_choice-loop-number
-invariant-over_choice-loop-number l =
-    IsTidyBack l.keep l.view (Language (choice_words (row (map tree_of (take l.number l.subs))))) (spans_of l.ways) (spans_of l.found)
+abbrev pub invariant-over_choice-loop-next : goal.invariant-over_choice-loop-next
+invariant-over_choice-loop-next l = record {
+  within : l.next ≤ length l.subs;
+  groups : IfSome l.grouped (AreGroupedWays l.view l.ways);
+  back : IsTidyBack l.keep l.view (Language (choice_words (row (map tree_of (take l.next l.subs))))) (spans_of l.ways) (spans_of l.found);
+}
+
+abbrev pub decreases-over_choice-loop-next : goal.decreases-over_choice-loop-next
+decreases-over_choice-loop-next l = length l.subs - l.next
 
 -- so many words are gone over
 abbrev pub invariant-over_times-loop : goal.invariant-over_times-loop
