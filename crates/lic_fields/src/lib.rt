@@ -1,7 +1,8 @@
 //! Fields of a line that is written: texts with some bytes escaped, and numbers.
 #![tactic(auto)]
 
-ghost use Rattle.std.specs.Prelude.{◌≡◌, ◌≤◌, ◌+◌, ◌++◌, [], ◌∷◌, false, OnOk, MatchOption, decimal, drop, length};
+ghost use Rattle.std.specs.Prelude.{◌≡◌, ◌≤◌, ◌+◌, ◌++◌, [], ◌∷◌, false, OnOk, MatchOption, Some, decimal, drop, encode_utf8, length};
+ghost use Rattle.std.specs.Fmt.{WritesOnOk};
 ghost use Rattle.lic_fields.specs.Fields.{escaped_byte, escaped, field};
 
 use itoa::{Buffer, write_digits};
@@ -133,13 +134,34 @@ pub fn add_last_numbers(
 #[derive(Clone, Copy, Debug)]
 pub struct Escaped<'a>(pub &'a str);
 
+/// What stands for a character that may not stand in a field.
+fn escape_of_char(c: char) -> Option<&'static str>
+    ensures { MatchOption result
+        (escaped (encode_utf8 c) ≡ encode_utf8 c) (λ text. escaped (encode_utf8 c) ≡ text.now) }
+{
+    if c.is_ascii() {
+        escape_of(c as u8)
+    } else {
+        None
+    }
+}
+
+/// Writes a character as it stands in a field.
+fn write_escaped<W: fmt::Write>(f: &mut fmt::Formatter<W>, c: char) -> fmt::Result
+    ensures { WritesOnOk W.write_str_gives f.old result (escaped (encode_utf8 c)) f.new }
+{
+    match escape_of_char(c) {
+        Some(text) => f.write_str(text),
+        None => f.write_char(c),
+    }
+}
+
 impl fmt::Display for Escaped<'_> {
+    ghost output = { λ name. Some (escaped name.0.now) };
+
     fn fmt<W: fmt::Write>(&self, f: &mut fmt::Formatter<W>) -> fmt::Result {
         for c in self.0.chars() {
-            match u8::try_from(c).ok().and_then(escape_of) {
-                Some(text) => f.write_str(text)?,
-                None => f.write_char(c)?,
-            }
+            write_escaped(f, c)?;
         }
         Ok(())
     }

@@ -1,10 +1,11 @@
 //! The folder of the templates.
 
-ghost use Rattle.std.specs.Prelude.{◌≡◌, ◌≢◌};
+ghost use Rattle.std.specs.Prelude.{◌≡◌, ◌≢◌, ◌<◌, ◌↔◌, length, IfOk, IsTrue};
 ghost use Rattle.std.specs.IoError.{error_kind};
 ghost use Rattle.std.specs.declared.io.ErrorKind.TheVariants.{OutOfMemory};
 ghost use Rattle.lic_load.specs.declared.templates.TemplateFault.TheVariants.{Unreadable, Memory};
 ghost use Rattle.lic_load.specs.Causes.{fault_of_read};
+ghost use Rattle.lic_load.specs.Listings.{count_of_names};
 
 use crate::fault::{LoadFault, tell, wants_memory};
 use lic_fields::Escaped;
@@ -168,19 +169,19 @@ pub struct Loaded {
     pub is_refused: bool,
 }
 
-/// Reads the templates of a folder by identifier. One that is refused or cannot be read is reported and left out.
-pub fn load_all<Rt: Files + AllocGlobal + Clone + Drop, E: Sink>(
+/// Reads the templates of a listing by identifier. One that is refused or cannot be read is reported and left out.
+fn load_listed<Rt: Files + AllocGlobal, E: Sink>(
     rt: &Rt,
     alloc: Global,
     folder: &str,
+    listing: Listing,
     words: &Words,
     rules: &Rules,
     err: &mut E,
-) -> Result<Loaded, LoadFault> {
-    let listing = list(rt, alloc, folder)?;
-    for _ in 0..listing.unnamed {
-        tell(err, "licscan: templates: a file name is not UTF-8\n");
-    }
+) -> Result<Loaded, LoadFault>
+    ensures left_out { IfOk result (λ loaded. IsTrue loaded.is_refused
+        ↔ (length loaded.set < count_of_names listing)) }
+{
     let mut is_refused = listing.unnamed > 0;
     let mut templates = Vec::new(alloc);
     for id in listing.ids {
@@ -199,4 +200,20 @@ pub fn load_all<Rt: Files + AllocGlobal + Clone + Drop, E: Sink>(
         Ok(set) => Ok(Loaded { set, is_refused }),
         Err(fault) => Err(LoadFault::Set(fault)),
     }
+}
+
+/// Reads the templates of a folder by identifier. One that is refused or cannot be read is reported and left out.
+pub fn load_all<Rt: Files + AllocGlobal + Clone + Drop, E: Sink>(
+    rt: &Rt,
+    alloc: Global,
+    folder: &str,
+    words: &Words,
+    rules: &Rules,
+    err: &mut E,
+) -> Result<Loaded, LoadFault> {
+    let listing = list(rt, alloc, folder)?;
+    for _ in 0..listing.unnamed {
+        tell(err, "licscan: templates: a file name is not UTF-8\n");
+    }
+    load_listed(rt, alloc, folder, listing, words, rules, err)
 }

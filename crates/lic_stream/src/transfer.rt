@@ -6,14 +6,17 @@ ghost use Rattle.lic_stream.specs.Stream.{one_more, BeginsWith, ReadsUpTo};
 
 use crate::stream::{Sink, Source};
 use std::alloc::Global;
+use thiserror::Error;
 
 /// How many bytes are asked for in one call.
 const CHUNK: usize = 16_384;
 
 /// A read that failed, or memory that ran out.
-#[derive(Clone, Copy, Debug, PartialEq, Eq)]
+#[derive(Clone, Copy, Debug, PartialEq, Eq, Error)]
 pub enum ReadFault {
+    #[error("cannot be read")]
     Read,
+    #[error("out of memory")]
     Memory,
 }
 
@@ -53,7 +56,8 @@ pub fn read_up_to<R: Source>(
 }
 
 /// A write that failed.
-#[derive(Clone, Copy, Debug, PartialEq, Eq)]
+#[derive(Clone, Copy, Debug, PartialEq, Eq, Error)]
+#[error("cannot be written")]
 pub struct WriteFailed;
 
 /// Writes all of `piece`.
