@@ -141,6 +141,36 @@ module _ (keep : Keep) (tokens : List TokenValue) (passes : ℕ → Bool) (count
   many-letters none = tidy-taken_same keep tokens (EmptyOrRun passes count) (UpTo (IsOne passes) count) (λ t q l. Reaches tokens (xs t) q l) found
       (λ w. empty_or_run-up_to passes count w) (λ s t w taken. up_to-empty_or_run passes count none w) back
 
+  -- where no letter was taken last anywhere
+  pub many-nowhere : found a_letter ≡ [] → IsTidyBack keep tokens (UpTo (IsOne passes) count) xs found
+  many-nowhere nowhere = record {
+    placed = back.placed;
+    sound = λ s p l r. let a = back.sound s p l r in (a.0, a.1, a.2, a.3, empty_or_run-up_to passes count a.3 a.4, a.5, a.6);
+    complete = λ s t p q l w e is taken reads. by_word s t p q l w e (up_to-with_blank passes count s t w taken is) taken reads;
+  }
+    where
+      more : (v : Word) → EmptyOrRun passes (count - 1) v → EmptyOrRun passes count v
+      more v (inl none) = inl none
+      more v (inr run) =
+          inr (record { passing = run.passing; few = omega (arith, run.few); first = run.first; later = run.later; dark = run.dark; is = run.is })
+
+      never : (s t : Taken) (p q l : ℕ) (v : Word) → Reaches tokens (xs t) q l → EmptyOrRun passes (count - 1) v →
+          IsTakenBack s (blank ∷ v) t → Reads tokens p (blank ∷ v) q → ⊥
+      never s t p q l v e is taken reads = by_case taken.1
+        where
+          by_case : IsTakenBefore s blank taken.0 → ⊥
+          by_case (inr at) = at.0 refl
+          by_case (inl at) =
+              let there = back.complete a_letter t reads.0 q l v e (more v is) (subst (λ x. IsTakenBack x v t) at.2 taken.2) reads.2 in
+              Reaches-nil tokens reads.0 there.0 (subst (λ x. Reaches tokens x reads.0 there.0) nowhere there.2)
+
+      by_word : (s t : Taken) (p q l : ℕ) (w : Word) → Reaches tokens (xs t) q l → WithBlank passes count w → IsTakenBack s w t → Reads tokens p w q →
+          HasBetter keep tokens (found s) p l
+      by_word s t p q l w e (inl is) taken reads = back.complete s t p q l w e is taken reads
+      by_word s t p q l w e (inr cat) taken reads =
+          let same : w ≡ blank ∷ cat.1 = cat.4 ∙ ap (λ x. x ++ cat.1) cat.2 in
+          absurd (never s t p q l cat.1 e cat.3 (subst (λ x. IsTakenBack s x t) same taken) (subst (λ x. Reads tokens p x q) same reads))
+
   -- and with what a blank leads to from there
   pub many-blanks : (begun blanks all : Taken → List PlaceSpan) → 0 < count → passes blank ≡ true → IsTidyBack keep tokens (EmptyOrRun passes (count - 1)) xs begun →
       IsTidyBack keep tokens IsBlank begun blanks → ((s : Taken) → all s ≡ found s ++ blanks s) → IsTidyBack keep tokens (UpTo (IsOne passes) count) xs all

@@ -50,6 +50,10 @@ pub(crate) fn over_many(
         (spans_of ways.now) (spans_of found)) }
 {
     let mut found = with_runs(alloc, view, keep, ere, count, ways)?;
+    if found.letter.is_empty() {
+        // no blank may come first
+        return found.kept(alloc, view, keep);
+    }
     if count == 0 || !passes(ere, ' ') {
         return found.kept(alloc, view, keep);
     }
