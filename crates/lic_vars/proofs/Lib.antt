@@ -24,4 +24,6 @@ pub mod MakingLemmas
 pub mod ShortestLemmas
 pub mod WithinLemmas
 pub mod SetLemmas
+pub mod KeptLemmas
 pub mod StepLemmas
+pub mod NoValueLemmas

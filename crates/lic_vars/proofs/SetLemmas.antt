@@ -1,9 +1,9 @@
 -- The places from which the last steps can finish.
 use Rattle.std.specs.Result.{IfOk}
-use Rattle.std.proofs.Common.{◌≡◌, ℕ, zero, suc, ◌+◌, ◌-◌, ◌<◌, ◌≤◌, ◌⊎◌, inl, inr, ◌↔◌, Result, Ok, Err, Vec, Global, List, [], ◌∷◌, ◌++◌, length, get_or, drop, drop-cons, refl, sym, ap, ◌∙◌, subst, arith}
+use Rattle.std.proofs.Common.{◌≡◌, ℕ, zero, suc, ◌+◌, ◌-◌, ◌<◌, ◌≤◌, ◌⊎◌, inl, inr, ◌↔◌, Result, Ok, Err, List, [], ◌∷◌, ◌++◌, length, get_or, drop, drop-cons, refl, sym, ap, ◌∙◌, subst, arith}
 use Rattle.std.proofs.Math.Seq.{drop-length}
 use Rattle.std.proofs.lemmas.Bool.{cases_lt}
-use Rattle.std.proofs.lemmas.List.{drop-drop, drop-map, length-append, get_or_append_left, get_or-append_right}
+use Rattle.std.proofs.lemmas.List.{drop-drop, drop-map}
 use Rattle.lic_words.specs.Words.{Word}
 use Rattle.lic_words.specs.Expressions.{Expression, Language, tidy}
 use Rattle.lic_words.specs.Letters.{letters_in}
@@ -19,7 +19,7 @@ use Rattle.lic_search.specs.Reverse.{LeadBack}
 use Rattle.lic_search.proofs.Placed.{Reaches-append, Reaches-append_left, Reaches-append_right}
 use Rattle.lic_vars.specs.Moves.{Move, text, variable, optional}
 use Rattle.lic_vars.specs.Making.{CanMake, Makes, ends, writes, picks, enters, skips}
-use Rattle.lic_vars.specs.Cuts.{AreFinishing, AreSuffixSets, last_moves, move_of, moves_of}
+use Rattle.lic_vars.specs.Cuts.{AreFinishing, last_moves, move_of, moves_of}
 use Rattle.lic_vars.specs.declared.steps.Step.{Step}
 use Rattle.lic_vars.proofs.WithinLemmas.{end-reached, one-end, reach-end}
 
@@ -188,29 +188,6 @@ step-moves steps (suc k) step some within is =
 pub ok-then : {T E : Type 0} (r : Result T E) (P Q : T → Type 0) → IfOk r P → ((x : T) → P x → Q x) → IfOk r Q
 ok-then (Ok x) P Q h f = f x h
 ok-then (Err e) P Q h f = h
-
-pub sets-push : (tokens : List TokenValue) (steps : List Step) (sets : List (Vec PlaceSpan Global)) (set : Vec PlaceSpan Global) → AreSuffixSets tokens steps sets
-    → AreFinishing tokens (last_moves steps (length sets)) set.items → AreSuffixSets tokens steps (sets ++ set ∷ [])
-sets-push tokens steps sets set are finish k d below =
-    elim (cases_lt k (length sets)) [
-      | inl before ↦
-          subst (λ (v : Vec PlaceSpan Global). AreFinishing tokens (last_moves steps k) v.items) (sym (get_or_append_left sets (set ∷ []) d k before)) (are k d before)
-      | inr after ↦
-          let many = length-append sets (set ∷ []) in
-          let same : k ≡ length sets = omega (arith, below, after, many) in
-          let zero_left : k - length sets ≡ 0 = omega (arith, same) in
-          let is : get_or (sets ++ set ∷ []) k d ≡ set =
-          get_or-append_right sets (set ∷ []) (length sets) k d refl after ∙ ap (λ n. get_or (set ∷ []) n d) zero_left in
-          subst (λ (v : Vec PlaceSpan Global). AreFinishing tokens (last_moves steps k) v.items) (sym is)
-          (subst (λ n. AreFinishing tokens (last_moves steps n) set.items) (sym same) finish)
-    ]
-
--- one of the sets
-pub set-of : (tokens : List TokenValue) (steps : List Step) (sets : List (Vec PlaceSpan Global)) (k n : ℕ) (set : Vec PlaceSpan Global) (spans : List PlaceSpan)
-    → AreSuffixSets tokens steps sets → k ≡ n → k < length sets → set ≡ get_or sets k set → spans ≡ set.items → AreFinishing tokens (last_moves steps n) spans
-set-of tokens steps sets k n set spans are same below is items =
-    subst (AreFinishing tokens (last_moves steps n)) (sym (items ∙ ap (λ v. v.items) is))
-    (subst (λ m. AreFinishing tokens (last_moves steps m) (get_or sets k set).items) same (are k set below))
 
 -- the moves of one step more
 pub moves-of_step : (steps : List Step) (n : ℕ) (step one : Step) → 0 < n → n ≤ length steps → step ≡ get_or steps (length steps - n) step → step ≡ one

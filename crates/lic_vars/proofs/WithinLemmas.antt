@@ -1,6 +1,7 @@
 -- Spans with some of their numbers, and words that lead to them.
 use Rattle.std.proofs.Common.{◌≡◌, ℕ, ◌+◌, ◌<◌, ◌≤◌, inl, inr, ◌↔◌, max, min, List, [], ◌∷◌, ◌++◌, length, get_or, take, refl, sym, ap, ◌∙◌, subst, arith}
 use Rattle.std.specs.Prelude.{Contains}
+use Rattle.std.proofs.lemmas.Bool.{cases_lt}
 use Rattle.std.proofs.lemmas.List.{take_all, take_more}
 use Rattle.std.proofs.lemmas.List.Elements.{All-nil, All-push, Contains-push_cases, Contains-append_left, Contains-append_right, Contains-get_or}
 use Rattle.lic_words.specs.Expressions.{Expression, Language, tidy}
@@ -16,7 +17,7 @@ use Rattle.lic_search.specs.Reverse.{LeadBack}
 use Rattle.lic_search.specs.PlaceSets.{ArePlaced, IsPlaceOf, LiesInFront, Reaches}
 use Rattle.lic_search.proofs.Placed.{Holds-among, Holds-append, Holds-nil}
 use Rattle.lic_vars.specs.Cuts.{ReadsFrom, lead}
-use Rattle.lic_vars.specs.Shortest.{AreWithin, IsBetween, IsLeastNumber, LeadsWithin}
+use Rattle.lic_vars.specs.Shortest.{AreWithin, HaveNone, IsBetween, IsLeastNumber, LeadsWithin}
 use Rattle.lic_vars.specs.declared.cut.Cut.{Cut}
 use Rattle.lic_vars.proofs.HopLemmas.{lead-joined, lead-parted}
 use Rattle.lic_vars.proofs.ShortestLemmas.{number}
@@ -106,6 +107,24 @@ module _ (low high : ℕ) where
 
   pub within-all : (spans found : List PlaceSpan) (i : ℕ) → length spans ≤ i → AreWithin (take i spans) low high found → AreWithin spans low high found
   within-all spans found i all within = subst (λ x. AreWithin x low high found) (take_all i spans all) within
+
+-- ---- the first number
+
+pub none-more : (spans : List PlaceSpan) (i : ℕ) (d : PlaceSpan) (low first next : ℕ) → i < length spans → HaveNone (take i spans) low first → next ≤ first
+    → (low ≤ (get_or spans i d).high → next ≤ max (get_or spans i d).low low) → HaveNone (take (i + 1) spans) low next
+none-more spans i d low first next below before less here =
+    subst (λ x. HaveNone x low next) (sym (take_more spans i d below)) (record {
+      none = λ kind n l holds from to. elim (Holds-append (take i spans) (get_or spans i d ∷ []) kind n l holds) [
+        | inl old ↦ before.none kind n l old from (omega arith)
+        | inr new ↦
+            let h = Holds-one (get_or spans i d) kind n l new in
+            let bound = here (omega (arith, h.2, from)) in
+            absurd (omega (arith, h.1, bound, from, to))
+      ];
+    })
+
+pub none-all : (spans : List PlaceSpan) (i low first : ℕ) → length spans ≤ i → HaveNone (take i spans) low first → HaveNone spans low first
+none-all spans i low first all before = subst (λ x. HaveNone x low first) (take_all i spans all) before
 
 pub within-placed : (tokens : List TokenValue) (spans found : List PlaceSpan) (low high : ℕ) → ArePlaced tokens spans → AreWithin spans low high found → ArePlaced tokens found
 within-placed tokens spans found low high placed within = record {
@@ -240,6 +259,27 @@ module _ (tokens : List TokenValue) (are : AreTexts tokens) (words : Expression)
   between-above low high middle less is none = record {
     order = omega arith;
     before = λ m before h. none (leads-more m middle (omega arith) h);
+    leads = is.leads;
+  }
+
+  pub between-next : (low high next : ℕ) → next ≤ high → IsBetween tokens words spans cut low high → HaveNone spans low next → IsBetween tokens words spans cut next high
+  between-next low high next order is have_none = record {
+    order = order;
+    before = λ m less leads. elim (cases_lt leads.number low) [
+      | inl under ↦ is.before leads.number under (record {
+        kind = leads.kind;
+        number = leads.number;
+        last = leads.last;
+        holds = leads.holds;
+        within = omega arith;
+        end = leads.end;
+        place = leads.place;
+        word = leads.word;
+        is = leads.is;
+        reads = leads.reads;
+      })
+      | inr over ↦ have_none.none leads.kind leads.number leads.last leads.holds over (omega (arith, leads.within, less))
+    ];
     leads = is.leads;
   }
 

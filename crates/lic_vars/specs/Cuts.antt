@@ -1,7 +1,5 @@
 -- What the code's steps and cuts stand for.
-use Rattle.std.specs.Prelude.{◌≡◌, ℕ, ◌+◌, ◌-◌, ◌<◌, ◌&&◌, ◌↔◌, Bool, true, false, List, ◌∷◌, ◌++◌, drop, map, length, chars, slice_index_or, if◌then◌else◌}
-use Rattle.std.specs.Global.{Global}
-use Rattle.std.specs.Prelude.{Vec}
+use Rattle.std.specs.Prelude.{◌≡◌, ℕ, ◌+◌, ◌-◌, ◌&&◌, ◌↔◌, Bool, true, false, List, ◌∷◌, ◌++◌, drop, map, length, chars, if◌then◌else◌}
 use Rattle.lic_words.specs.Words.{Word, blank}
 use Rattle.lic_norm.specs.PieceTexts.{IsPieceText}
 use Rattle.lic_norm.specs.Tokens.{TokenValue}
@@ -33,6 +31,12 @@ abbrev pub IsPiece : Step → Type 0
 IsPiece (Step.Text letters) = IsPieceText letters.now
 IsPiece (Step.Variable name ere) = Unit {0}
 IsPiece (Step.Optional n) = Unit {0}
+
+-- no value comes of the step
+abbrev pub HasNoValue : Step → Type 0
+HasNoValue (Step.Text letters) = Unit {0}
+HasNoValue (Step.Variable name ere) = ⊥
+HasNoValue (Step.Optional n) = Unit {0}
 
 -- the word, and the blank that was written before it
 abbrev pub lead : Bool → Word → Word
@@ -67,11 +71,6 @@ LeadsTo tokens cut u next = (w : Word) → ReadsOn tokens cut (u ++ w) ↔ Reads
 pub record AreFinishing (tokens : List TokenValue) (ms : List Move) (spans : List PlaceSpan) : Type 0 where
   pub placed : ArePlaced tokens spans
   pub exact : (p : ℕ) → ((last : ℕ) × Reaches tokens spans p last) ↔ CanMake ms (λ w. Reads tokens p w (length (spelling_of tokens)))
-
--- the k-th of the sets is that of the last k steps
-abbrev pub AreSuffixSets : List TokenValue → List Step → List (Vec PlaceSpan Global) → Type 0
-AreSuffixSets tokens steps sets = (k : ℕ) (d : Vec PlaceSpan Global) → k < length sets
-    → AreFinishing tokens (last_moves steps k) (slice_index_or sets k d).items
 
 -- the moves that are left can finish behind the cut, and their least record completes the least of all
 pub record IsWalk (tokens : List TokenValue) (all ms : List Move) (found : List ℕ) (cut : Cut) : Type 0 where

@@ -4,6 +4,7 @@ pub mod Derivations
 pub mod Making
 pub mod Moves
 pub mod Recorded
+pub mod Sets
 pub mod Shortest
 pub mod Values
 pub mod Views

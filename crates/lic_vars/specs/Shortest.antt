@@ -44,6 +44,10 @@ pub record IsBetween (tokens : List TokenValue) (words : Expression) (spans : Li
   pub before : (m : ℕ) → m < low → ¬ (LeadsWithin tokens words spans cut m)
   pub leads : LeadsWithin tokens words spans cut high
 
+-- the spans have no number from the low one on that is below the high one
+pub record HaveNone (spans : List PlaceSpan) (low high : ℕ) : Type 0 where
+  pub none : (kind : Kind) (number last : ℕ) → Holds spans kind number last → low ≤ number → number < high → ⊥
+
 -- the spans with their numbers from the low one to the high one alone
 pub record AreWithin (spans : List PlaceSpan) (low high : ℕ) (found : List PlaceSpan) : Type 0 where
   pub ordered : All (λ s. s.low ≤ s.high) found

@@ -4,6 +4,7 @@
 
 mod cut;
 pub mod filters;
+mod keep;
 pub mod laws;
 mod letters;
 mod search;

@@ -1,13 +1,14 @@
 //! The least record: each choice from the first step on is the least from which the steps that are left can finish.
 
-ghost use Rattle.std.specs.Prelude.{◌≡◌, ◌+◌, ◌<◌, ◌≤◌, [], All, IfOk, OnOk, length};
+ghost use Rattle.std.specs.Prelude.{◌≡◌, ◌+◌, ◌-◌, ◌<◌, ◌≤◌, [], All, IfOk, OnOk, length};
 ghost use Rattle.lic_places.specs.Places.{spelling_of};
 ghost use Rattle.lic_vars.specs.Making.{CanMake, LeastOf};
-ghost use Rattle.lic_vars.specs.Cuts.{AreSuffixSets, IsPiece, IsWalk, ReadsOn, last_moves, moves_of, start};
+ghost use Rattle.lic_vars.specs.Cuts.{AreFinishing, IsPiece, IsWalk, ReadsOn, last_moves, moves_of, start};
 ghost use Rattle.lic_vars.specs.Shortest.{begins_letter, letters_between};
 
 use crate::cut::{Cut, behind_text, have_cut};
-use crate::sets::suffix_sets;
+use crate::keep::suffix_sets;
+use crate::sets::{fill, set_of};
 use crate::steps::Step;
 use crate::variable::behind_shortest;
 use lic_search::view::{View, tokens_have_texts};
@@ -33,10 +34,13 @@ pub fn least_record(
     requires can { CanMake (moves_of steps.now) (ReadsOn view.now start) }
     ensures { IfOk result (λ found. LeastOf (moves_of steps.now) (ReadsOn view.now start) found.items) }
 {
-    let sets = suffix_sets(alloc, view, steps)?;
+    let mut sets = suffix_sets(alloc, view, steps)?;
     let mut walk = begin(alloc, steps);
     while walk.left > 0 {
-        take_step(alloc, view, steps, &sets, &mut walk)?;
+        let rest = walk.left - 1;
+        sets.truncate(walk.left);
+        fill(alloc, view, steps, &mut sets, rest)?;
+        take_step(alloc, view, steps, set_of(&sets, rest), &mut walk)?;
     }
     let Walk { record, .. } = walk;
     Ok(record)
@@ -58,16 +62,15 @@ fn begin(alloc: Global, steps: &[Step]) -> Walk
     }
 }
 
-// Takes one step more, with the least choice from which the others can finish.
+// Takes one step more, with the least choice from which the others can finish: from the places of `rest`.
 fn take_step(
     alloc: Global,
     view: &View<'_>,
     steps: &[Step],
-    sets: &[Vec<PlaceSpan>],
+    rest: &[PlaceSpan],
     walk: &mut Walk,
 ) -> Result<(), AllocError>
-    requires sets { AreSuffixSets view.now steps.now sets.now }
-    requires count { length sets.now ≡ length steps.now + 1 }
+    requires rest { AreFinishing view.now (last_moves steps.now (walk.old.left - 1)) rest.now }
     requires more { 0 < walk.old.left }
     requires within { walk.old.left ≤ length steps.now }
     requires walk { IsWalk view.now (moves_of steps.now) (last_moves steps.now walk.old.left) walk.old.record.items walk.old.cut }
@@ -78,7 +81,6 @@ fn take_step(
     tokens_have_texts(view);
     let step = &steps[steps.len() - walk.left];
     walk.left -= 1;
-    let rest = &sets[walk.left];
     match step {
         Step::Text(text) => {
             walk.cut = behind_text(view, text, walk.cut);

@@ -1,9 +1,9 @@
 //! What the variables of a template stand for in a match.
 
-ghost use Rattle.std.specs.Prelude.{◌≡◌, ◌==◌, ◌<◌, IfOk, length, map, take, drop, slice_index_or, if◌then◌else◌};
+ghost use Rattle.std.specs.Prelude.{◌≡◌, ◌==◌, ◌<◌, All, IfOk, false, length, map, take, drop, slice_index_or, if◌then◌else◌};
 ghost use Rattle.lic_set.specs.Matches.{IsMatch};
 ghost use Rattle.lic_vars.specs.Values.{AreValues, covered};
-ghost use Rattle.lic_vars.specs.Cuts.{moves_of};
+ghost use Rattle.lic_vars.specs.Cuts.{HasNoValue, moves_of};
 ghost use Rattle.lic_vars.specs.Recorded.{recorded};
 ghost use Rattle.lic_vars.specs.Views.{value_of};
 
@@ -87,6 +87,9 @@ impl<'s> Assigner<'s> {
         ensures { IfOk result (λ values.
             AreValues self.now.set text.now.tokens triple (map value_of values.items)) }
     {
+        if !has_variable(&self.steps) {
+            return Ok(Vec::new(alloc));
+        }
         let letters = letter_spans(alloc, text, triple.first, triple.last)?;
         let _length = text.len();
         let view = View::of(text, triple.first, triple.last - triple.first + 1);
@@ -113,6 +116,18 @@ pub fn assign<'s>(
 {
     let assigner = Assigner::new(alloc, set, triple.template)?;
     assigner.assign(alloc, text, triple)
+}
+
+// Whether some step is a variable.
+fn has_variable(steps: &[Step<'_>]) -> bool
+    ensures { result ≡ false → All HasNoValue steps.now }
+{
+    for step in steps {
+        if let Step::Variable { .. } = step {
+            return true;
+        }
+    }
+    false
 }
 
 // The values that a record gives.

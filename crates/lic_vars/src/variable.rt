@@ -1,12 +1,12 @@
 //! The shortest word that a variable can stand for.
 
-ghost use Rattle.std.specs.Prelude.{◌≡◌, ◌+◌, ◌-◌, ◌<◌, ◌&&◌, IfOk, IsTrue, ◌↔◌, if◌then◌else◌, nat_lt, length};
+ghost use Rattle.std.specs.Prelude.{◌≡◌, ◌+◌, ◌-◌, ◌<◌, ◌&&◌, IfOk, IsTrue, ◌↔◌, if◌then◌else◌, nat_lt, ◌≤◌, length, max};
 ghost use Rattle.lic_ere.specs.Trees.{tree_of};
 ghost use Rattle.lic_markup.specs.Meaning.{tree_words};
 ghost use Rattle.lic_places.specs.Places.{is_blank_at, spelling_of};
 ghost use Rattle.lic_search.specs.PlaceSets.{ArePlaced};
 ghost use Rattle.lic_vars.specs.Cuts.{IsOpen};
-ghost use Rattle.lic_vars.specs.Shortest.{AreWithin, IsLeastNumber, IsShortest, LeadsWithin};
+ghost use Rattle.lic_vars.specs.Shortest.{AreWithin, HaveNone, IsLeastNumber, IsShortest, LeadsWithin};
 
 use crate::cut::{Cut, have_cut, letter_place};
 use lic_ere::Ere;
@@ -14,9 +14,6 @@ use lic_search::reverse::over_variable;
 use lic_search::view::{View, tokens_have_texts};
 use lic_spans::span::PlaceSpan;
 use std::alloc::{AllocError, Global};
-
-// How many numbers are looked at first.
-const FIRST: usize = 64;
 
 /// The cut behind the shortest tidy word of a pattern that leads to a place of the spans.
 pub fn behind_shortest(
@@ -69,19 +66,47 @@ fn least_number(
     ensures { IfOk result (λ number. IsLeastNumber view.now (tree_words (tree_of ere.now)) spans.now cut number) }
 {
     tokens_have_texts(view);
-    let mut low = cut.place;
     let mut high = view.bytes().len();
-    let mut width = FIRST;
+    let mut low = first_number(spans, cut.place, high);
+    let mut width: usize = 0;
     while low < high {
         let middle = low + width.min((high - low) / 2);
         if leads_within(alloc, view, ere, spans, cut, middle)? {
             high = middle;
         } else {
-            low = middle + 1;
-            width = width.saturating_mul(2);
+            low = first_number(spans, middle + 1, high);
+            width = width.saturating_mul(2).saturating_add(1);
         }
     }
     Ok(high)
+}
+
+// The least number of the spans from `low` on, at most `high`.
+fn first_number(spans: &[PlaceSpan], low: usize, high: usize) -> usize
+    requires { low ≤ high }
+    ensures order { low ≤ result }
+    ensures within { result ≤ high }
+    ensures none { HaveNone spans.now low result }
+{
+    let mut first = high;
+    for span in spans {
+        first = number_from(span, low, first);
+    }
+    first
+}
+
+// The least number of a span from `low` on, at most `high`.
+fn number_from(span: &PlaceSpan, low: usize, high: usize) -> usize
+    requires { low ≤ high }
+    ensures order { low ≤ result }
+    ensures within { result ≤ high }
+    ensures first { low ≤ span.now.high → result ≤ max span.now.low low }
+{
+    if low <= span.high {
+        span.low.max(low).min(high)
+    } else {
+        high
+    }
 }
 
 // Whether a tidy word leads from a cut to a place of the spans with a number up to `high`.
