@@ -1,68 +1,103 @@
 -- The values of the least record are those of a least derivation.
-use Rattle.std.proofs.Common.{◌≡◌, ℕ, zero, suc, ◌+◌, ◌-◌, ◌<◌, ◌≤◌, false, List, [], ◌∷◌, ◌++◌, get_or, ◌==◌, Option, if◌then◌else◌, map, take, drop, Some, None, Ok, Err, Result, slice_get, refl, sym, ap, ◌∙◌, subst, arith, append_assoc}
-use Rattle.std.proofs.lemmas.List.{map-append}
+use Rattle.std.proofs.Common.{◌≡◌, ℕ, zero, suc, ◌+◌, ◌-◌, ◌<◌, ◌≤◌, inl, inr, ◌↔◌, List, [], ◌∷◌, ◌++◌, length, get_or, ◌==◌, Option, if◌then◌else◌, map, take, drop, chars, Some, None, Ok, Err, Result, slice_get, refl, sym, ap, ◌∙◌, subst, arith, append_assoc}
+use Rattle.std.proofs.lemmas.List.{map-append, take_all, length-take, length-drop}
 use Rattle.std.proofs.lemmas.Option.{get_or_from_slice_get}
 use Rattle.std.specs.List.{slice_range}
 use Rattle.std.specs.Result.{IfOk}
-use Rattle.lic_words.specs.Words.{Word, blank}
+use Rattle.lic_words.specs.Words.{Word}
 use Rattle.lic_words.specs.Expressions.{Expression}
-use Rattle.lic_words.specs.Spelling.{Gap, gapped, row_of}
+use Rattle.lic_words.specs.Spelling.{Spells}
 use Rattle.lic_words.specs.Letters.{letters_in}
 use Rattle.lic_norm.specs.Tokens.{TokenValue}
+use Rattle.lic_norm.specs.Places.{place_end}
 use Rattle.lic_norm.specs.declared.token.Span.{Span}
+use Rattle.lic_places.specs.Places.{AreTexts}
+use Rattle.lic_places.specs.Reads.{BeginsAt, Reads}
+use Rattle.lic_places.proofs.TieRange.{spelling_is_read}
+use Rattle.lic_places.proofs.TokenPlaces.{place_end-last, place_start-first}
 use Rattle.lic_markup.specs.declared.part.Part.{Part}
 use Rattle.lic_set.specs.Sets.{Known}
 use Rattle.lic_set.specs.Matches.{IsMatch, letters_between}
 use Rattle.lic_set.specs.declared.triple.Triple.{Triple}
 use Rattle.lic_vars.specs.Values.{Assigned, covered, letter_spans, nodes_of, AreValues}
-use Rattle.lic_vars.specs.Moves.{Move, text, variable, optional, moves, CanFinish, Least, NoBlanks}
+use Rattle.lic_vars.specs.Moves.{Move, text, variable, optional, moves}
+use Rattle.lic_vars.specs.Making.{CanMake, LeastOf}
 use Rattle.lic_vars.specs.Recorded.{recorded}
-use Rattle.lic_vars.specs.Cuts.{gapped_of, spans_of, moves_of}
+use Rattle.lic_vars.specs.Cuts.{ReadsOn, moves_of, start}
 use Rattle.lic_vars.specs.Assigners.{AssignerValue, AreStepsOf}
 use Rattle.lic_vars.specs.Views.{value_of}
-use Rattle.lic_vars.specs.declared.letters.Letter.{Letter}
 use Rattle.lic_vars.specs.declared.steps.Step.{Step}
 use Rattle.lic_vars.specs.declared.values.Value.{Value}
-use Rattle.lic_vars.proofs.SpellLemmas.{gapped-letters}
-use Rattle.lic_vars.proofs.MainLemmas.{least-derivation}
+use Rattle.lic_vars.proofs.MakingLemmas.{can-make, least-derivation}
 use Rattle.lic_vars.proofs.ValueLemmas.{choice-recorded}
-use Rattle.lic_vars.proofs.DescribedLemmas.{can-finish}
+use Rattle.lic_vars.proofs.DescribedLemmas.{derivation-of-word}
 
-pub assigned : (set : List Known) (tokens : List TokenValue) (t : Triple) (known : Known) (steps : List Step)
-    (letters : List Letter) (r : List ℕ) (values : List Assigned) →
-    slice_get set t.template ≡ Some known → moves_of steps ≡ moves (nodes_of known) → gapped_of letters ≡ gapped (letters_between tokens t.first t.last) →
-    spans_of letters ≡ letter_spans (slice_range tokens t.first (t.last + 1)) → Least (moves_of steps) (gapped_of letters) false r →
-    values ≡ recorded 0 (moves_of steps) r (spans_of letters) → AreValues set tokens t values
-assigned set tokens t known steps letters r values number m g s l v =
+-- ---- what is read from the first place is what the tokens spell
+
+-- the text begins at place 0
+begins-zero : (tokens : List TokenValue) (p : ℕ) → 0 < length tokens → BeginsAt tokens 0 p → p ≡ 0
+begins-zero tokens p some (inl same) = same ∙ place_start-first tokens some
+begins-zero tokens p some (inr next) = absurd (omega (arith, next.0, place_start-first tokens some))
+
+pub read-spelled : (tokens : List TokenValue) (w : Word) → AreTexts tokens → 0 < length tokens → ReadsOn tokens start w ↔ Spells w (map (λ t. chars t.text) tokens)
+read-spelled tokens w are some =
+    let last = length tokens - 1 in
+    let end = place_end-last tokens last (omega arith) in
+    let all : slice_range tokens 0 (last + 1) ≡ tokens = take_all (last + 1 - 0) tokens (omega arith) in
+    let law = spelling_is_read tokens 0 last w are (omega arith) (omega arith) in (
+      λ reads. subst (λ (ts : List TokenValue). Spells w (map (λ t. chars t.text) ts)) all
+          (law.1 (0, inl (sym (place_start-first tokens some)), subst (λ q. Reads tokens 0 w q) (sym end) reads)),
+      λ spells.
+          let from = law.0 (subst (λ (ts : List TokenValue). Spells w (map (λ t. chars t.text) ts)) (sym all) spells) in
+          subst (λ q. Reads tokens 0 w q) end (subst (λ p. Reads tokens p w (place_end tokens last)) (begins-zero tokens from.0 some from.1) from.2),
+    )
+
+-- the tokens of a match
+pub tokens-of : (tokens part : List TokenValue) (first last count : ℕ) → first ≤ last → count ≡ last - first + 1 → part ≡ slice_range tokens first (first + count)
+    → part ≡ slice_range tokens first (last + 1)
+tokens-of tokens part first last count order is same =
+    let end : first + count ≡ last + 1 = omega (arith, is) in
+    same ∙ ap (λ n. slice_range tokens first n) end
+
+pub some-tokens : (tokens part : List TokenValue) (first last : ℕ) → first ≤ last → last < length tokens → part ≡ slice_range tokens first (last + 1) → 0 < length part
+some-tokens tokens part first last order within same =
+    omega (arith, ap length same, length-take (last + 1 - first) (drop first tokens), length-drop first tokens)
+
+-- ---- the values of the least record
+
+pub assigned : (set : List Known) (tokens part : List TokenValue) (t : Triple) (known : Known) (steps : List Step)
+    (letters : List Span) (r : List ℕ) (values : List Assigned) → slice_get set t.template ≡ Some known → moves_of steps ≡ moves (nodes_of known)
+    → AreTexts part → 0 < length part → part ≡ slice_range tokens t.first (t.last + 1)
+    → letters ≡ letter_spans (slice_range tokens t.first (t.last + 1)) → LeastOf (moves_of steps) (ReadsOn part start) r
+    → values ≡ recorded 0 (moves_of steps) r letters → AreValues set tokens t values
+assigned set tokens part t known steps letters r values number m are some same s l v =
     let ts : List (List ℕ) = letters_between tokens t.first t.last in
-    let least : Least (moves (nodes_of known)) (gapped ts) false r =
-    subst (λ (x : List Move). Least x (gapped ts) false r) m (subst (λ (x : List (Gap × ℕ)). Least (moves_of steps) x false r) g l) in
-    let d = least-derivation (nodes_of known) ts r least in
+    let least : LeastOf (moves (nodes_of known)) (ReadsOn part start) r = subst (λ (x : List Move). LeastOf x (ReadsOn part start) r) m l in
+    let d = least-derivation (nodes_of known) ts (ReadsOn part start) r
+    (λ w. subst (λ (x : List TokenValue). ReadsOn part start w ↔ Spells w (map (λ t. chars t.text) x)) same (read-spelled part w are some)) least in
     record {
       known = known;
       number = number;
       derivation = d.0;
       least = d.1;
-      same = v ∙ ap (λ (x : List Move). recorded 0 x r (spans_of letters)) m ∙ ap (λ (x : List Span). recorded 0 (moves (nodes_of known)) r x) s
+      same = v ∙ ap (λ (x : List Move). recorded 0 x r letters) m ∙ ap (λ (x : List Span). recorded 0 (moves (nodes_of known)) r x) s
           ∙ ap (λ (x : List ℕ). recorded 0 (moves (nodes_of known)) x (letter_spans (slice_range tokens t.first (t.last + 1)))) (sym d.2)
           ∙ sym (choice-recorded (nodes_of known) d.0.choice (letter_spans (slice_range tokens t.first (t.last + 1))));
     }
 
--- the letters of tokens are no blanks
-pub no-blanks-of : (letters : List Letter) (ts : List (List ℕ)) → gapped_of letters ≡ gapped ts → NoBlanks (gapped_of letters)
-no-blanks-of letters ts e = subst NoBlanks (sym e) (gapped-letters blank false (row_of ts))
-
--- a match can be taken by the steps of its template
-pub match-can : (set : List Known) (tokens : List TokenValue) (t : Triple) (known : Known) (steps : List Step) (letters : List Letter) → IsMatch set tokens t →
-    slice_get set t.template ≡ Some known → moves_of steps ≡ moves (nodes_of known) → gapped_of letters ≡ gapped (letters_between tokens t.first t.last) →
-    CanFinish (moves_of steps) (gapped_of letters) false
-match-can set tokens t known steps letters h number m g =
-    let same : h.known ≡ known = let e = h.number in cc in
-    let here : CanFinish (moves (nodes_of h.known)) (gapped (letters_between tokens t.first t.last)) false =
-    can-finish (nodes_of h.known) (letters_between tokens t.first t.last) (h.described.1, h.described.2, h.described.3) in
-    subst (λ (x : List Move). CanFinish x (gapped_of letters) false) (sym m)
-    (subst (λ (x : List (Gap × ℕ)). CanFinish (moves (nodes_of known)) x false) (sym g)
-    (subst (λ (k : Known). CanFinish (moves (nodes_of k)) (gapped (letters_between tokens t.first t.last)) false) same here))
+-- a match can be made by the steps of its template
+pub match-can : (set : List Known) (tokens part : List TokenValue) (t : Triple) (known : Known) (steps : List Step) → IsMatch set tokens t
+    → slice_get set t.template ≡ Some known → moves_of steps ≡ moves (nodes_of known) → AreTexts part → 0 < length part
+    → part ≡ slice_range tokens t.first (t.last + 1) → CanMake (moves_of steps) (ReadsOn part start)
+match-can set tokens part t known steps h number m are some same =
+    let the_same : h.known ≡ known = let e = h.number in cc in
+    let ts : List (List ℕ) = letters_between tokens t.first t.last in
+    let here : CanMake (moves (nodes_of h.known)) (ReadsOn part start) =
+    can-make (nodes_of h.known) ts (ReadsOn part start)
+    (λ w. subst (λ (x : List TokenValue). ReadsOn part start w ↔ Spells w (map (λ t. chars t.text) x)) same (read-spelled part w are some))
+    (derivation-of-word (nodes_of h.known) ts (h.described.1, h.described.2, h.described.3)) in
+    subst (λ (x : List Move). CanMake x (ReadsOn part start)) (sym m)
+    (subst (λ (k : Known). CanMake (moves (nodes_of k)) (ReadsOn part start)) the_same here)
 
 -- the parts of the template of a match
 pub parts-of : (set : List Known) (k : ℕ) (known : Known) (parts : List Part) → slice_get set k ≡ Some known →
@@ -96,29 +131,18 @@ left-variable (suc k) name re ms r spans h = ap (λ j. record { name = name; spa
 none_left : (k : ℕ) → k ≤ 0 → k ≡ 0
 none_left k h = omega arith
 
-pub spans-drop : (n : ℕ) (letters : List Letter) → spans_of (drop n letters) ≡ drop n (spans_of letters)
-spans-drop zero letters = refl
-spans-drop (suc n) [] = refl
-spans-drop (suc n) (x ∷ letters) = spans-drop n letters
-
-pub spans-take : (n : ℕ) (letters : List Letter) → spans_of (take n letters) ≡ take n (spans_of letters)
-spans-take zero letters = refl
-spans-take (suc n) [] = refl
-spans-take (suc n) (x ∷ letters) = ap (λ s. x.span ∷ s) (spans-take n letters)
-
-pub taken-text : (k : ℕ) (w : Word) (ms : List Move) (r : List ℕ) (letters more : List Letter) → k ≤ 0 → more ≡ drop (letters_in w) letters →
-    recorded k ms r (spans_of more) ≡ recorded k (text w ∷ ms) r (spans_of letters)
+pub taken-text : (k : ℕ) (w : Word) (ms : List Move) (r : List ℕ) (letters more : List Span) → k ≤ 0 → more ≡ drop (letters_in w) letters →
+    recorded k ms r more ≡ recorded k (text w ∷ ms) r letters
 taken-text k w ms r letters more h e =
-    let same : spans_of more ≡ drop (letters_in w) (spans_of letters) = ap spans_of e ∙ spans-drop (letters_in w) letters in
-    rw (none_left k h, same) refl
+    rw (none_left k h, e) refl
 
-pub taken-variable : (k n : ℕ) (name : List ℕ) (re : Expression) (ms : List Move) (r s : List ℕ) (letters more own : List Letter) (span : Option Span) → k ≤ 0 →
-    n ≡ get_or r 0 0 → s ≡ drop 1 r → more ≡ drop n letters → own ≡ take n letters → span ≡ covered (spans_of own) →
-    record { name = name; span = span } ∷ recorded k ms s (spans_of more) ≡ recorded k (variable name re ∷ ms) r (spans_of letters)
+pub taken-variable : (k n : ℕ) (name : List ℕ) (re : Expression) (ms : List Move) (r s : List ℕ) (letters more own : List Span) (span : Option Span) → k ≤ 0 →
+    n ≡ get_or r 0 0 → s ≡ drop 1 r → more ≡ drop n letters → own ≡ take n letters → span ≡ covered own →
+    record { name = name; span = span } ∷ recorded k ms s more ≡ recorded k (variable name re ∷ ms) r letters
 taken-variable k n name re ms r s letters more own span h i j e f g =
-    let same : spans_of more ≡ drop (get_or r 0 0) (spans_of letters) = ap spans_of e ∙ spans-drop n letters ∙ ap (λ m. drop m (spans_of letters)) i in
-    let part : spans_of own ≡ take (get_or r 0 0) (spans_of letters) = ap spans_of f ∙ spans-take n letters ∙ ap (λ m. take m (spans_of letters)) i in
-    let cover : span ≡ covered (take (get_or r 0 0) (spans_of letters)) = g ∙ ap covered part in
+    let same : more ≡ drop (get_or r 0 0) letters = e ∙ ap (λ m. drop m letters) i in
+    let part : own ≡ take (get_or r 0 0) letters = f ∙ ap (λ m. take m letters) i in
+    let cover : span ≡ covered (take (get_or r 0 0) letters) = g ∙ ap covered part in
     rw (none_left k h, same, cover, j) refl
 
 pub taken-optional : (k m n left : ℕ) (ms : List Move) (r s : List ℕ) (spans : List Span) → k ≤ 0 → m ≡ get_or r 0 0 → s ≡ drop 1 r →

@@ -7,12 +7,13 @@ use Rattle.lic_marks.specs.Cores.{Core, HasWordsOf}
 use Rattle.lic_marks.specs.Marks.{is_nullable, no_marks}
 use Rattle.lic_marks.specs.Standing.{StandsAtOnce}
 use Rattle.lic_vars.specs.Derivations.{NotAfter}
-use Rattle.lic_vars.specs.Moves.{read_word, NoBlanks, Move, text, variable, optional, Finishes, CanFinish, Least}
-use Rattle.lic_vars.specs.Cuts.{gapped_of, left_from}
-use Rattle.lic_vars.specs.Ends.{joined, CanEnd, MayFollow}
-use Rattle.lic_vars.specs.Branches.{IsLeastOf, IsNone, BeginsAbove}
-use Rattle.lic_vars.specs.declared.letters.Letter.{Letter}
-use Rattle.lic_vars.specs.declared.letters.Cut.{Cut}
+use Rattle.lic_vars.specs.Moves.{Move, text, variable, optional}
+use Rattle.lic_vars.proofs.Ways.{read_word, NoBlanks, Finishes, CanFinish, Least}
+use Rattle.lic_vars.proofs.LetterEnds.{gapped_of, left_from}
+use Rattle.lic_vars.proofs.LetterEnds.{joined, CanEnd, MayFollow}
+use Rattle.lic_vars.proofs.LetterEnds.{IsLeastOf, IsNone, BeginsAbove}
+use Rattle.lic_vars.proofs.LetterEnds.{Letter}
+use Rattle.lic_vars.proofs.LetterEnds.{Cut}
 use Rattle.lic_vars.proofs.LeastLemmas.{least-text, least-present, least-absent}
 use Rattle.lic_vars.proofs.FillLemmas.{text-could, text-cannot, optional-could}
 use Rattle.lic_vars.proofs.EndLemmas.{Way, stays, goes, way-of-finishes, finishes-of-way}

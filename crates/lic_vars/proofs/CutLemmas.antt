@@ -3,9 +3,9 @@ use Rattle.std.proofs.Common.{◌≡◌, ℕ, ◌+◌, ◌<◌, ◌≤◌, ◌==
 use Rattle.std.proofs.lemmas.List.{drop_more, drop_all}
 use Rattle.lic_words.specs.Words.{Word, blank}
 use Rattle.lic_words.specs.Spelling.{Gap}
-use Rattle.lic_vars.specs.Moves.{State, fits, pick, read_word}
-use Rattle.lic_vars.specs.Cuts.{gap_before, gapped_of, left_from}
-use Rattle.lic_vars.specs.declared.letters.Letter.{Letter}
+use Rattle.lic_vars.proofs.Ways.{State, fits, pick, read_word}
+use Rattle.lic_vars.proofs.LetterEnds.{gap_before, gapped_of, left_from}
+use Rattle.lic_vars.proofs.LetterEnds.{Letter}
 
 -- the letter at a cut, and what is left behind it
 pub left-more : (letters : List Letter) (at : ℕ) (letter : Letter) → at < length letters → letter ≡ get_or letters at letter →

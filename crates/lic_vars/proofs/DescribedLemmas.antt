@@ -1,16 +1,14 @@
 -- A template describes tokens exactly where they have a derivation.
-use Rattle.std.proofs.Common.{◌≡◌, ℕ, false, List, [], ◌++◌, Some, None, inl, inr, refl, sym, ap, ◌∙◌, subst}
+use Rattle.std.proofs.Common.{◌≡◌, ℕ, List, [], ◌++◌, Some, None, inl, inr, refl, sym, ap, ◌∙◌, subst}
 use Rattle.std.specs.Str.{chars}
 use Rattle.lic_words.specs.Words.{Word}
 use Rattle.lic_words.specs.Expressions.{Language}
-use Rattle.lic_words.specs.Spelling.{gapped, Spells}
+use Rattle.lic_words.specs.Spelling.{Spells}
 use Rattle.lic_words.proofs.Languages.{letters_sound, letters_complete}
 use Rattle.lic_markup.specs.Parts.{Nodes, no_node, one_more}
 use Rattle.lic_markup.specs.Parts as parts
 use Rattle.lic_markup.specs.Meaning.{nodes_words}
-use Rattle.lic_vars.specs.Derivations.{Choice, word_of, IsAllowed, record_of, Derivation}
-use Rattle.lic_vars.specs.Moves.{moves, CanFinish}
-use Rattle.lic_vars.proofs.MainLemmas.{way-of-derivation}
+use Rattle.lic_vars.specs.Derivations.{Choice, word_of, IsAllowed, Derivation}
 
 -- a word of the template is the word of some choice
 choice_of : (ns : Nodes) (w : Word) → Language (nodes_words ns) w → (d : Choice ns) × IsAllowed ns d × (word_of ns d ≡ w)
@@ -47,9 +45,3 @@ derivation-of-word ns ts h =
 
 pub word-of-derivation : (ns : Nodes) (ts : List (List ℕ)) → Derivation ns ts → (w : Word) × Language (nodes_words ns) w × Spells w ts
 word-of-derivation ns ts d = (word_of ns d.choice, word_of_choice ns d.choice d.allowed, d.spells)
-
--- tokens that the template describes can be taken by its moves
-pub can-finish : (ns : Nodes) (ts : List (List ℕ)) → (w : Word) × Language (nodes_words ns) w × Spells w ts → CanFinish (moves ns) (gapped ts) false
-can-finish ns ts h =
-    let d = derivation-of-word ns ts h in
-    (record_of ns d.choice, way-of-derivation ns ts d)

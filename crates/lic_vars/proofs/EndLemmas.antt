@@ -10,11 +10,12 @@ use Rattle.lic_marks.specs.Marks.{is_nullable}
 use Rattle.lic_marks.specs.Standing.{After}
 use Rattle.lic_marks.proofs.Shifting.{is_nullable_sound, is_nullable_complete}
 use Rattle.lic_marks.proofs.TidyLetters.{tidy_first}
-use Rattle.lic_vars.specs.Moves.{State, NoBlanks, fits, pick, read_word, Move, variable, Finishes, takes}
-use Rattle.lic_vars.specs.Cuts.{gapped_of, gap_before, left_from}
-use Rattle.lic_vars.specs.Ends.{joined, CanEnd, MayFollow, after_tidy}
-use Rattle.lic_vars.specs.declared.letters.Letter.{Letter}
-use Rattle.lic_vars.specs.declared.letters.Cut.{Cut}
+use Rattle.lic_vars.specs.Moves.{Move, variable}
+use Rattle.lic_vars.proofs.Ways.{State, NoBlanks, fits, pick, read_word, Finishes, takes}
+use Rattle.lic_vars.proofs.LetterEnds.{gapped_of, gap_before, left_from}
+use Rattle.lic_vars.proofs.LetterEnds.{joined, CanEnd, MayFollow, after_tidy}
+use Rattle.lic_vars.proofs.LetterEnds.{Letter}
+use Rattle.lic_vars.proofs.LetterEnds.{Cut}
 use Rattle.lic_vars.proofs.ReadLemmas.{read-left, tidy-apart}
 use Rattle.lic_vars.proofs.CutLemmas.{read-letter}
 use Rattle.lic_vars.proofs.SpellLemmas.{apart_by}

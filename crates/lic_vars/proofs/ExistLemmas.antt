@@ -17,20 +17,23 @@ use Rattle.lic_norm.specs.Tokens.{TokenValue}
 use Rattle.lic_set.specs.Sets.{Known}
 use Rattle.lic_set.specs.Matches.{IsMatch, letters_between}
 use Rattle.lic_set.specs.declared.triple.Triple.{Triple}
-use Rattle.lic_vars.specs.Moves.{State, NoBlanks, fits, read_word, Move, text, variable, optional, moves, Finishes, finished, Least}
-use Rattle.lic_vars.specs.Cuts.{gapped_of, left_from}
-use Rattle.lic_vars.specs.Ends.{joined, CanEnd, MayFollow}
-use Rattle.lic_vars.specs.Branches.{IsLeastOf, IsNone, BeginsAbove}
+use Rattle.lic_vars.specs.Moves.{Move, text, variable, optional, moves}
+use Rattle.lic_vars.proofs.Ways.{State, NoBlanks, fits, read_word, Finishes, finished, Least}
+use Rattle.lic_vars.proofs.LetterEnds.{gapped_of, left_from}
+use Rattle.lic_vars.proofs.LetterEnds.{joined, CanEnd, MayFollow}
+use Rattle.lic_vars.proofs.LetterEnds.{IsLeastOf, IsNone, BeginsAbove}
 use Rattle.lic_vars.specs.Values.{Assigned, AreValues, nodes_of}
-use Rattle.lic_vars.specs.declared.letters.Letter.{Letter}
-use Rattle.lic_vars.specs.declared.letters.Cut.{Cut}
+use Rattle.lic_vars.proofs.LetterEnds.{Letter}
+use Rattle.lic_vars.proofs.LetterEnds.{Cut}
 use Rattle.lic_vars.proofs.ReadLemmas.{read-left}
 use Rattle.lic_vars.proofs.SpellLemmas.{gapped-letters}
 use Rattle.lic_vars.proofs.EndLemmas.{read-within, left_drop, length_left, no_blanks_left, no_blanks_take}
 use Rattle.lic_vars.proofs.BranchLemmas.{text-least, text-none, text-stuck, present-least, absent-least, optional-none, empty-least, longer-least, longer-none, unbegun-none, next-least, more-least, more-none, ended-none}
-use Rattle.lic_vars.proofs.SearchLemmas.{finished-left}
-use Rattle.lic_vars.proofs.MainLemmas.{least-derivation}
-use Rattle.lic_vars.proofs.DescribedLemmas.{can-finish}
+use Rattle.lic_vars.proofs.FinishLemmas.{can-finish, least-way}
+use Rattle.lic_vars.proofs.DescribedLemmas.{derivation-of-word}
+
+finished-left : (left : List (Gap × ℕ)) (apart : Bool) (r : List ℕ) → Finishes [] left apart r → left ≡ []
+finished-left left apart r finished = refl
 
 -- marks that stand for some letters and then these
 marks_after : (r : Core) (F G : List (Gap × ℕ)) (entry : Bool) (m : Marks r) → StandsAtOnce r entry m G → NoBlanks F →
@@ -174,9 +177,9 @@ module _ (letters : List Letter) (clean : NoBlanks (gapped_of letters)) where
 
 -- letters with these gaps
 abbrev made : Gap × ℕ → Letter
-made (no_gap, c) = record { letter = c; is_apart = false; are_words = false; span = record { start = 0; end = 0 } }
-made (free, c) = record { letter = c; is_apart = true; are_words = false; span = record { start = 0; end = 0 } }
-made (needed, c) = record { letter = c; is_apart = true; are_words = true; span = record { start = 0; end = 0 } }
+made (no_gap, c) = record { letter = c; is_apart = false; are_words = false }
+made (free, c) = record { letter = c; is_apart = true; are_words = false }
+made (needed, c) = record { letter = c; is_apart = true; are_words = true }
 
 gapped-made : (gs : List (Gap × ℕ)) → gapped_of (map made gs) ≡ gs
 gapped-made [] = refl
@@ -198,8 +201,8 @@ least_any gs ms q f (none g) = absurd (g q f)
 pub values-exist : (set : List Known) (tokens : List TokenValue) (t : Triple) → IsMatch set tokens t → (values : List Assigned) × AreValues set tokens t values
 values-exist set tokens t h =
     let ts : List (List ℕ) = letters_between tokens t.first t.last in
-    let can = can-finish (nodes_of h.known) ts (h.described.1, h.described.2, h.described.3) in
+    let can = can-finish (nodes_of h.known) ts (derivation-of-word (nodes_of h.known) ts (h.described.1, h.described.2, h.described.3)) in
     let found = least_any (gapped ts) (moves (nodes_of h.known)) can.0 can.1
     (found_any (gapped ts) (moves (nodes_of h.known)) (gapped-letters blank false (row_of ts))) in
-    let d = least-derivation (nodes_of h.known) ts found.0 found.1 in
+    let d = least-way (nodes_of h.known) ts found.0 found.1 in
     (_, record { known = h.known; number = h.number; derivation = d.0; least = d.1; same = refl })

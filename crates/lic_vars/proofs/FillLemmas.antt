@@ -3,7 +3,8 @@ use Rattle.std.proofs.Common.{◌≡◌, ℕ, ◌+◌, ◌-◌, ◌<◌, ◌≤�
 use Rattle.std.proofs.lemmas.List.{drop_more, drop_all, drop-drop, drop-map}
 use Rattle.lic_words.specs.Words.{Word}
 use Rattle.lic_words.specs.Spelling.{Gap}
-use Rattle.lic_vars.specs.Moves.{read_word, Move, text, optional, Finishes, reads, enters, skips, CanFinish}
+use Rattle.lic_vars.specs.Moves.{Move, text, optional}
+use Rattle.lic_vars.proofs.Ways.{read_word, Finishes, reads, enters, skips, CanFinish}
 use Rattle.lic_vars.specs.Cuts.{move_of, moves_of}
 use Rattle.lic_vars.specs.declared.steps.Step.{Step}
 use Rattle.lic_vars.proofs.LeastLemmas.{read_unique}

@@ -3,7 +3,8 @@ use Rattle.std.proofs.Common.{◌≡◌, ℕ, Bool, List, ◌∷◌, drop, Some,
 use Rattle.lic_words.specs.Words.{Word}
 use Rattle.lic_words.specs.Spelling.{Gap}
 use Rattle.lic_vars.specs.Derivations.{NotAfter}
-use Rattle.lic_vars.specs.Moves.{State, read_word, Move, text, optional, Finishes, reads, enters, skips, CanFinish, Least}
+use Rattle.lic_vars.specs.Moves.{Move, text, optional}
+use Rattle.lic_vars.proofs.Ways.{State, read_word, Finishes, reads, enters, skips, CanFinish, Least}
 
 pub read_unique : (w : Word) (ms : List Move) (left next : List (Gap × ℕ)) (apart after : Bool) (q : List ℕ) →
     read_word w left apart ≡ Some (next, after) → Finishes (text w ∷ ms) left apart q → Finishes ms next after q

@@ -5,8 +5,8 @@ use Rattle.lic_words.specs.Spelling.{Gap}
 use Rattle.lic_words.specs.Letters.{letters_in}
 use Rattle.lic_marks.specs.Rests.{IsTidyAfter}
 use Rattle.lic_marks.proofs.TidyLetters.{tidy_first, tidy_rest}
-use Rattle.lic_vars.specs.Ends.{after_tidy}
-use Rattle.lic_vars.specs.Moves.{State, fits, pick, read_word}
+use Rattle.lic_vars.proofs.LetterEnds.{after_tidy}
+use Rattle.lic_vars.proofs.Ways.{State, fits, pick, read_word}
 
 pick_then : (blank next : Bool) (x y x' y' : Option State) (s : State) (z : Option State) →
     (x ≡ Some s → x' ≡ z) → (y ≡ Some s → y' ≡ z) → pick blank next x y ≡ Some s → pick blank next x' y' ≡ z

@@ -2,7 +2,7 @@
 use Rattle.std.proofs.Common.{◌≡◌, ℕ, ◌==◌, ◌&&◌, suc, zero, Bool, true, false, List, [], ◌∷◌, ◌++◌, Option, Some, None, refl, sym, ap, ◌∙◌, eqb-true, eq-eqb, arith, lit≤}
 use Rattle.lic_words.specs.Words.{Word, blank, blanks}
 use Rattle.lic_words.specs.Spelling.{Gap, no_gap, free, needed, gapped_from, Allows, SpellsGapped}
-use Rattle.lic_vars.specs.Moves.{State, NoBlanks, fits, pick, read_word}
+use Rattle.lic_vars.proofs.Ways.{State, NoBlanks, fits, pick, read_word}
 
 flat_cons : (last : ℕ) (apart : Bool) (c : ℕ) (rest : List ℕ) (b : Bool) → (c == blank) ≡ b →
     ((l : ℕ) (a : Bool) → NoBlanks (gapped_from l a rest)) → NoBlanks (gapped_from last apart (c ∷ rest))

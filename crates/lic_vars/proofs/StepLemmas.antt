@@ -1,79 +1,141 @@
--- The steps of a template are the moves of its nodes.
-use Rattle.std.proofs.Common.{◌≡◌, ℕ, ◌+◌, ◌<◌, ◌≤◌, List, [], ◌∷◌, ◌++◌, length, drop, get_or, map, Vec, Global, String, sym, ap, ◌∙◌, subst, append_assoc}
-use Rattle.std.proofs.lemmas.List.{drop_more, drop_all, map-append, length-map}
-use Rattle.std.proofs.lemmas.List.Elements.{All-push, All-append}
-use Rattle.std.specs.List.{All}
-use Rattle.std.specs.Str.{chars}
-use Rattle.std.specs.String.{string_bytes}
-use Rattle.lic_words.specs.Expressions as expressions
-use Rattle.lic_marks.specs.Cores.{Core, HasWordsOf}
-use Rattle.lic_marks.specs.Cores as cores
-use Rattle.lic_ere.specs.Trees.{tree_of}
-use Rattle.lic_ere.specs.declared.ere.Ere.{Ere}
-use Rattle.lic_markup.specs.declared.part.Part.{Part, Part-F, fold-roll-Part}
-use Rattle.lic_markup.specs.declared.part.Part.TheVariants.{Text, Var, Optional, rolls-Text, rolls-Var, rolls-Optional}
-use Rattle.lic_markup.specs.Parts.{Node, Nodes, one_more, row, part_of, part_node}
-use Rattle.lic_markup.specs.Parts as parts
-use Rattle.lic_markup.specs.Meaning.{tree_words}
-use Rattle.lic_vars.specs.Moves.{Move, text, variable, optional, moves}
-use Rattle.lic_vars.specs.Cuts.{move_of, moves_of, IsCompiled}
-use Rattle.lic_vars.specs.declared.steps.Step.{Step}
+-- One step more on the way to the least record.
+use Rattle.std.proofs.Common.{◌≡◌, ℕ, ◌<◌, ◌≤◌, inl, inr, ◌↔◌, Bool, true, false, List, [], ◌∷◌, ◌++◌, length, drop, refl, sym, subst, arith, append_assoc, append-nil}
+use Rattle.std.specs.Prelude.{Contains}
+use Rattle.std.proofs.lemmas.Bool.{true≢false}
+use Rattle.lic_words.specs.Words.{Word}
+use Rattle.lic_words.specs.Letters.{letters_in}
+use Rattle.lic_words.specs.Expressions.{Expression}
+use Rattle.lic_norm.specs.Tokens.{TokenValue}
+use Rattle.lic_places.specs.Places.{AreTexts, OverBlank, spelling_of}
+use Rattle.lic_places.specs.Reads.{Reads}
+use Rattle.lic_places.proofs.Reading.{Reads-cut, Reads-order}
+use Rattle.lic_spans.specs.declared.span.PlaceSpan.{PlaceSpan}
+use Rattle.lic_search.specs.PlaceSets.{Reaches}
+use Rattle.lic_search.proofs.ViewPlaces.{end-within}
+use Rattle.lic_search.proofs.ViewSpans.{front-to}
+use Rattle.lic_vars.specs.Moves.{Move, text, variable, optional}
+use Rattle.lic_vars.specs.Making.{CanMake, LeastOf}
+use Rattle.lic_vars.specs.Cuts.{AreFinishing, IsOpen, IsWalk, LeadsTo, ReadsFrom, ReadsOn, lead, start}
+use Rattle.lic_vars.specs.Shortest.{IsShortest, LeadsWithin}
+use Rattle.lic_vars.specs.declared.cut.Cut.{Cut}
+use Rattle.lic_vars.proofs.HopLemmas.{lead-joined, lead-parted, open-read}
+use Rattle.lic_vars.proofs.MakingLemmas.{can-absent, can-picked, can-text, least-absent, least-ended, least-present, least-same, least-text, least-variable}
 
-part_of_Text : (t : String Global) → part_of (Text t) ≡ parts.letters (string_bytes t)
-part_of_Text t = ap part_of (sym (rolls-Text t)) ∙ fold-roll-Part Node part_node (Part-F.Text t)
+module _ (tokens : List TokenValue) (are : AreTexts tokens) where
+  abbrev end : ℕ
+  end = length (spelling_of tokens)
 
-part_of_Var : (name original : String Global) (ere : Ere)
-    → part_of (Var name original ere) ≡ parts.variable (string_bytes name) (string_bytes original) (tree_of ere)
-part_of_Var name original ere = ap part_of (sym (rolls-Var name original ere)) ∙ fold-roll-Part Node part_node (Part-F.Var name original ere)
+  lead_append : (b : Bool) (v w : Word) → lead b (v ++ w) ≡ lead b v ++ w
+  lead_append true v w = refl
+  lead_append false v w = refl
 
-part_of_Optional : (body : Vec Part Global) → part_of (Optional body) ≡ parts.optional (row (map part_of body.items))
-part_of_Optional body = ap part_of (sym (rolls-Optional body)) ∙ fold-roll-Part Node part_node (Part-F.Optional body)
+  -- a word read from a cut, and then another
+  pub on-parted : (cut : Cut) (v w : Word) → ReadsOn tokens cut (v ++ w) → (m : ℕ) × ReadsFrom tokens cut v m × Reads tokens m w end
+  on-parted cut v w reads =
+      Reads-cut tokens (lead cut.is_apart v) w cut.place end (subst (λ x. Reads tokens cut.place x end) (lead_append cut.is_apart v w) reads)
 
-module _ (all : List Part) (i : ℕ) (p : Part) (h : i < length all) (e : p ≡ get_or all i p) where
-  more : drop i all ≡ p ∷ drop (i + 1) all
-  more = drop_more all i p h ∙ ap (λ (y : Part). y ∷ drop (i + 1) all) (sym e)
+  open_at : (p : ℕ) (b : Bool) (w : Word) → Reads tokens p (lead b w) end → b ≡ true → OverBlank tokens p p
+  open_at p true w reads is = open-read tokens are p w end reads
+  open_at p false w reads is = absurd (true≢false (sym is))
 
-  row_more : (n : Node) → part_of p ≡ n → row (map part_of (drop i all)) ≡ one_more n (row (map part_of (drop (i + 1) all)))
-  row_more n q = ap (λ (s : List Part). row (map part_of s)) more ∙ ap (λ (m : Node). one_more m (row (map part_of (drop (i + 1) all)))) q
+  pub open-can : (ms : List Move) (cut : Cut) → CanMake ms (ReadsOn tokens cut) → IsOpen tokens cut
+  open-can ms cut can = open_at cut.place cut.is_apart can.word can.is
 
-  pub more-Text : (t : String Global) → p ≡ Text t →
-      moves (row (map part_of (drop i all))) ≡ text (chars (string_bytes t)) ∷ moves (row (map part_of (drop (i + 1) all)))
-  more-Text t q = ap moves (row_more (parts.letters (string_bytes t)) (ap part_of q ∙ part_of_Text t))
+  pub within-can : (ms : List Move) (cut : Cut) → CanMake ms (ReadsOn tokens cut) → cut.place ≤ end
+  within-can ms cut can = Reads-order tokens (lead cut.is_apart can.word) cut.place end can.is
 
-  pub more-Var : (name original : String Global) (ere : Ere) → p ≡ Var name original ere →
-      moves (row (map part_of (drop i all))) ≡ variable (string_bytes name) (tree_words (tree_of ere)) ∷ moves (row (map part_of (drop (i + 1) all)))
-  more-Var name original ere q =
-      ap moves (row_more (parts.variable (string_bytes name) (string_bytes original) (tree_of ere)) (ap part_of q ∙ part_of_Var name original ere))
+  module _ (all ms : List Move) (found : List ℕ) (cut : Cut) where
+    -- ---- a text
 
-  pub more-Optional : (body : Vec Part Global) → p ≡ Optional body →
-      moves (row (map part_of (drop i all)))
-      ≡ optional (length (moves (row (map part_of body.items)))) ∷ (moves (row (map part_of body.items)) ++ moves (row (map part_of (drop (i + 1) all))))
-  more-Optional body q = ap moves (row_more (parts.optional (row (map part_of body.items))) (ap part_of q ∙ part_of_Optional body))
+    pub walk-text : (u : Word) (next : Cut) → IsWalk tokens all (text u ∷ ms) found cut → LeadsTo tokens cut u next → IsWalk tokens all ms found next
+    walk-text u next is leads =
+        let can = can-text ms (ReadsOn tokens cut) u is.can in
+        record {
+          can = record { choices = can.choices; word = can.word; makes = can.makes; is = (leads can.word).0 can.is };
+          least = λ r h. is.least r (least-text ms (ReadsOn tokens cut) u r
+              (least-same ms (ReadsOn tokens next) (λ w. ReadsOn tokens cut (u ++ w)) r (λ w. ((leads w).1, (leads w).0)) h));
+        }
 
-pub moves-done : (all : List Part) (i : ℕ) → length all ≤ i → moves (row (map part_of (drop i all))) ≡ []
-moves-done all i h = ap (λ (s : List Part). moves (row (map part_of s))) (drop_all i all h)
+    pub text-read : (u : Word) → IsWalk tokens all (text u ∷ ms) found cut → (w : Word) × ReadsOn tokens cut (u ++ w)
+    text-read u is = let can = can-text ms (ReadsOn tokens cut) u is.can in (can.word, can.is)
 
-pub pushed : (a b : List Step) (x : Step) (m : Move) (rest whole : List Move) → b ≡ a ++ x ∷ [] → move_of x ≡ m → whole ≡ m ∷ rest →
-    moves_of b ++ rest ≡ moves_of a ++ whole
-pushed a b x m rest whole e f g =
-    ap (λ (s : List Step). moves_of s ++ rest) e ∙ ap (λ (s : List Move). s ++ rest) (map-append move_of a (x ∷ []))
-    ∙ append_assoc (moves_of a) (move_of x ∷ []) rest ∙ ap (λ (y : Move). moves_of a ++ y ∷ rest) f ∙ ap (λ (s : List Move). moves_of a ++ s) (sym g)
+    -- ---- an optional part
 
-pub pushed-optional : (a b c inner : List Step) (x : Step) (n : ℕ) (body rest whole : List Move) → b ≡ a ++ x ∷ [] → move_of x ≡ optional n → n ≡ length inner →
-    moves_of inner ≡ body → c ≡ b ++ inner → whole ≡ optional (length body) ∷ (body ++ rest) → moves_of c ++ rest ≡ moves_of a ++ whole
-pushed-optional a b c inner x n body rest whole e f m i d g =
-    let count : n ≡ length body = m ∙ sym (length-map inner move_of) ∙ ap length i in
-    ap (λ (s : List Step). moves_of s ++ rest) d ∙ ap (λ (s : List Move). s ++ rest) (map-append move_of b inner)
-    ∙ append_assoc (moves_of b) (moves_of inner) rest ∙ ap (λ (s : List Move). moves_of b ++ (s ++ rest)) i
-    ∙ pushed a b x (optional (length body)) (body ++ rest) whole e (f ∙ ap optional count) g
+    module _ (rest : List PlaceSpan) (finish : AreFinishing tokens ms rest) where
+      pub finish-cut : ((p : ℕ) × (last : ℕ) × ReadsFrom tokens cut [] p × Reaches tokens rest p last) ↔ CanMake ms (ReadsOn tokens cut)
+      finish-cut = (
+        λ r.
+            let can = (finish.exact r.0).0 (r.1, r.3) in
+            record { choices = can.choices; word = can.word; makes = can.makes; is = lead-joined tokens are cut.place cut.is_apart r.0 end can.word r.2 can.is },
+        λ can.
+            let parts = lead-parted tokens are cut.place cut.is_apart end can.word can.is in
+            let there = (finish.exact parts.0).1 (record { choices = can.choices; word = can.word; makes = can.makes; is = parts.2 }) in
+            (parts.0, there.0, parts.1, there.1),
+      )
 
-pub compiled-pushed : (a b : List Step) (x : Step) → b ≡ a ++ x ∷ [] → All IsCompiled a → IsCompiled x → All IsCompiled b
-compiled-pushed a b x e h k = subst (All IsCompiled) (sym e) (All-push IsCompiled a x h k)
+    pub walk-present : (n : ℕ) → IsWalk tokens all (optional n ∷ ms) found cut → CanMake ms (ReadsOn tokens cut) → IsWalk tokens all ms (found ++ 0 ∷ []) cut
+    walk-present n is can = record {
+      can = can;
+      least = λ r h. subst (LeastOf all (ReadsOn tokens start)) (sym (append_assoc found (0 ∷ []) r))
+          (is.least (0 ∷ r) (least-present ms (ReadsOn tokens cut) n r h));
+    }
 
-pub compiled-appended : (a b c : List Step) → c ≡ a ++ b → All IsCompiled a → All IsCompiled b → All IsCompiled c
-compiled-appended a b c e h k = subst (All IsCompiled) (sym e) (All-append IsCompiled a b h k)
+    pub walk-absent : (n : ℕ) → IsWalk tokens all (optional n ∷ ms) found cut → (CanMake ms (ReadsOn tokens cut) → ⊥)
+        → IsWalk tokens all (drop n ms) (found ++ 1 ∷ []) cut
+    walk-absent n is none = record {
+      can = can-absent ms (ReadsOn tokens cut) n none is.can;
+      least = λ r h. subst (LeastOf all (ReadsOn tokens start)) (sym (append_assoc found (1 ∷ []) r))
+          (is.least (1 ∷ r) (least-absent ms (ReadsOn tokens cut) n r none h));
+    }
 
--- the tidy words of an expression
-pub has-tidy-words : (r q : Core) (e : expressions.Expression) → q ≡ cores.tidy r → HasWordsOf r e → HasWordsOf q (expressions.tidy e)
-has-tidy-words r q e same h =
-    subst (λ (x : Core). HasWordsOf x (expressions.tidy e)) (sym same) (λ w. (λ t. ((h w).0 t.0, t.1), λ t. ((h w).1 t.0, t.1)))
+    -- ---- a variable
+
+    module _ (name : List ℕ) (re : Expression) (rest : List PlaceSpan) (finish : AreFinishing tokens ms rest) where
+      pub variable-leads : IsWalk tokens all (variable name re ∷ ms) found cut → LeadsWithin tokens re rest cut end
+      variable-leads is =
+          let can = can-picked ms (ReadsOn tokens cut) name re is.can in
+          let parts = on-parted cut can.word can.later can.all in
+          let there = (finish.exact parts.0).1 (record { choices = can.rest; word = can.later; makes = can.makes; is = parts.2 }) in
+          let r = there.1 in
+          let front = finish.placed.front r.kind r.number there.0 r.holds in
+          record {
+            kind = r.kind;
+            number = r.number;
+            last = there.0;
+            holds = r.holds;
+            within = omega (arith, front-to tokens r.kind r.number there.0 front, end-within tokens there.0 (last-known r.holds.span r.holds.among r.holds.last_is));
+            end = parts.0;
+            place = r.place;
+            word = can.word;
+            is = can.is;
+            reads = parts.1;
+          }
+        where
+          last-known : {l : ℕ} (s : PlaceSpan) → Contains rest s → s.last ≡ l → l < length tokens
+          last-known s among same = subst (λ l. l < length tokens) same (subst (λ (x : PlaceSpan). x.last < length tokens) among.2 (finish.placed.last among.0 s among.1))
+
+      pub walk-variable : (next : Cut) (n : ℕ) → IsWalk tokens all (variable name re ∷ ms) found cut → (short : IsShortest tokens re rest cut next)
+          → n ≡ letters_in short.word → IsWalk tokens all ms (found ++ n ∷ []) next
+      walk-variable next n is short count =
+          let can = (finish.exact short.end).0 (short.last, short.reached) in
+          record {
+            can = record { choices = can.choices; word = can.word; makes = can.makes; is = lead-joined tokens are next.place next.is_apart short.end end can.word short.here can.is };
+            least = λ r h. subst (LeastOf all (ReadsOn tokens start)) (sym (append_assoc found (n ∷ []) r))
+                (subst (λ m. LeastOf all (ReadsOn tokens start) (found ++ m ∷ r)) (sym count)
+                (is.least (letters_in short.word ∷ r) (least-variable ms (ReadsOn tokens cut) name re short.word r short.is
+                (λ v w q l f reads.
+                let parts = on-parted cut v w reads in
+                let there = (finish.exact parts.0).1 (record { choices = q; word = w; makes = f; is = parts.2 }) in
+                elim (short.least v parts.0 there.0 l parts.1 there.1) [
+                  | inl fewer ↦ inl fewer
+                  | inr same ↦ inr (same.0, (short.leads w).1 ((same.1 w).0 reads))
+                ])
+                (least-same ms (ReadsOn tokens next) (λ w. ReadsOn tokens cut (short.word ++ w)) r (λ w. ((short.leads w).1, (short.leads w).0)) h))));
+          }
+
+pub walk-begins : (tokens : List TokenValue) (all : List Move) → CanMake all (ReadsOn tokens start) → IsWalk tokens all all [] start
+walk-begins tokens all can = record { can = can; least = λ r h. h }
+
+pub walk-ends : (tokens : List TokenValue) (all : List Move) (found : List ℕ) (cut : Cut) → IsWalk tokens all [] found cut → LeastOf all (ReadsOn tokens start) found
+walk-ends tokens all found cut is =
+    subst (LeastOf all (ReadsOn tokens start)) (append-nil found) (is.least [] (least-ended (ReadsOn tokens cut) is.can))

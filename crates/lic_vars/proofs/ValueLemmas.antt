@@ -11,8 +11,6 @@ use Rattle.lic_vars.specs.Derivations.{Choice, word_of, record_of}
 use Rattle.lic_vars.specs.Values.{Assigned, last_end, covered, absent_values, choice_values}
 use Rattle.lic_vars.specs.Moves.{Move, text, variable, optional, moves}
 use Rattle.lic_vars.specs.Recorded.{recorded}
-use Rattle.lic_vars.specs.Cuts.{spans_of}
-use Rattle.lic_vars.specs.declared.letters.Letter.{Letter}
 
 in_cons : (b : Bool) (x y z : ℕ) → x ≡ y + z → (if b then x else suc x) ≡ (if b then y else suc y) + z
 in_cons true x y z e = e
@@ -93,15 +91,15 @@ pub same-values : (ns : Nodes) (c d : Choice ns) (spans : List Span) → record_
 same-values ns c d spans e =
     choice-recorded ns c spans ∙ ap (λ r. recorded 0 (moves ns) r spans) e ∙ sym (choice-recorded ns d spans)
 
-last_of_spans : (x y : Letter) (rest : List Letter) → Some y ≡ slice_get (x ∷ rest) (length rest) → last_end x.span (spans_of rest) ≡ y.span.end
-last_of_spans x y [] e = let f : y ≡ x = cc in ap (λ (l : Letter). l.span.end) (sym f)
+last_of_spans : (x y : Span) (rest : List Span) → Some y ≡ slice_get (x ∷ rest) (length rest) → last_end x rest ≡ y.end
+last_of_spans x y [] e = let f : y ≡ x = cc in ap (λ (l : Span). l.end) (sym f)
 last_of_spans x y (z ∷ rest) e = last_of_spans z y rest e
 
-pub covered-ends : (letters : List Letter) (a b : Letter) → Some a ≡ slice_get letters 0 → Some b ≡ slice_get letters (length letters - 1) →
-    Some (record { start = a.span.start; end = b.span.end }) ≡ covered (spans_of letters)
+pub covered-ends : (letters : List Span) (a b : Span) → Some a ≡ slice_get letters 0 → Some b ≡ slice_get letters (length letters - 1) →
+    Some (record { start = a.start; end = b.end }) ≡ covered letters
 covered-ends [] a b e f = absurd cc
 covered-ends (x ∷ rest) a b e f =
     let same : a ≡ x = cc in
     let n : suc (length rest) - 1 ≡ length rest = omega arith in
-    let last : last_end x.span (spans_of rest) ≡ b.span.end = last_of_spans x b rest (f ∙ ap (λ k. slice_get (x ∷ rest) k) n) in
+    let last : last_end x rest ≡ b.end = last_of_spans x b rest (f ∙ ap (λ k. slice_get (x ∷ rest) k) n) in
     rw (same, last) refl

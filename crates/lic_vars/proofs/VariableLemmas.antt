@@ -4,7 +4,7 @@ use Rattle.lic_words.specs.Words.{Word, blank, blanks}
 use Rattle.lic_words.specs.Spelling.{Gap, no_gap, free, needed, Allows}
 use Rattle.lic_words.specs.Letters.{letters_in}
 use Rattle.lic_marks.specs.Standing.{After}
-use Rattle.lic_vars.specs.Moves.{State, NoBlanks, fits, pick, read_word}
+use Rattle.lic_vars.proofs.Ways.{State, NoBlanks, fits, pick, read_word}
 use Rattle.lic_vars.proofs.SpellLemmas.{read_gap, fits_allowed, apart_by, and_left, and_right}
 use Rattle.lic_vars.proofs.ReadLemmas.{read-apart, ends_apart}
 

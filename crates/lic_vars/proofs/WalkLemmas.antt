@@ -7,10 +7,10 @@ use Rattle.lic_marks.specs.Cores.{Core, WordsOf}
 use Rattle.lic_marks.specs.Marks.{no_marks}
 use Rattle.lic_marks.specs.Standing.{After, StandsAtOnce}
 use Rattle.lic_marks.proofs.Shifting.{Completes-no_marks}
-use Rattle.lic_vars.specs.Moves.{NoBlanks}
-use Rattle.lic_vars.specs.Cuts.{gapped_of, gap_before, left_from}
-use Rattle.lic_vars.specs.Ends.{joined, CanEnd}
-use Rattle.lic_vars.specs.declared.letters.Letter.{Letter}
+use Rattle.lic_vars.proofs.Ways.{NoBlanks}
+use Rattle.lic_vars.proofs.LetterEnds.{gapped_of, gap_before, left_from}
+use Rattle.lic_vars.proofs.LetterEnds.{joined, CanEnd}
+use Rattle.lic_vars.proofs.LetterEnds.{Letter}
 use Rattle.lic_vars.proofs.EndLemmas.{left_drop, left_at, no_blanks_left}
 
 after_some : (G : List (Gap × ℕ)) (P : Word → Type 0) (v : Word) → After P G v → (u : Word) × P u

@@ -4,7 +4,7 @@ use Rattle.std.specs.List.{All}
 use Rattle.lic_set.specs.Sets.{Known}
 use Rattle.lic_vars.specs.Values.{nodes_of}
 use Rattle.lic_vars.specs.Moves.{moves}
-use Rattle.lic_vars.specs.Cuts.{moves_of, IsCompiled}
+use Rattle.lic_vars.specs.Cuts.{moves_of, IsPiece}
 use Rattle.lic_vars.specs.declared.steps.Step.{Step}
 
 -- the set, and the number of the template that is compiled
@@ -14,5 +14,5 @@ pub record AssignerValue : Type 0 where
 
 -- the steps are those of the template of this number
 pub record AreStepsOf (set : List Known) (k : ℕ) (steps : List Step) : Type 0 where
-  pub compiled : All IsCompiled steps
+  pub pieces : All IsPiece steps
   pub moves : (known : Known) → slice_get set k ≡ Some known → moves_of steps ≡ moves (nodes_of known)

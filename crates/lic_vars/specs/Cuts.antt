@@ -1,51 +1,78 @@
--- What the code's letters, cuts and steps stand for.
-use Rattle.std.specs.Prelude.{ℕ, IsTrue, List, drop, map, Option, Some, None}
-use Rattle.lic_words.specs.Spelling.{Gap, gap_of}
-use Rattle.lic_words.specs.Expressions.{tidy}
-use Rattle.lic_marks.specs.Cores.{HasWordsOf}
-use Rattle.lic_marks.specs.Nodes.{core_of, is_measured}
-use Rattle.lic_norm.specs.declared.token.Span.{Span}
+-- What the code's steps and cuts stand for.
+use Rattle.std.specs.Prelude.{◌≡◌, ℕ, ◌+◌, ◌-◌, ◌&&◌, ◌↔◌, Bool, true, false, List, ◌∷◌, ◌++◌, drop, map, length, chars, if◌then◌else◌}
+use Rattle.lic_words.specs.Words.{Word, blank}
+use Rattle.lic_norm.specs.PieceTexts.{IsPieceText}
+use Rattle.lic_norm.specs.Tokens.{TokenValue}
 use Rattle.lic_ere.specs.Trees.{tree_of}
 use Rattle.lic_markup.specs.Meaning.{tree_words}
-use Rattle.lic_vars.specs.Moves.{State, Move, text, variable, optional}
-use Rattle.lic_vars.specs.declared.letters.Letter.{Letter}
-use Rattle.lic_vars.specs.declared.letters.Cut.{Cut}
+use Rattle.lic_places.specs.Places.{OverBlank, is_blank_at, spelling_of}
+use Rattle.lic_places.specs.Reads.{Reads}
+use Rattle.lic_spans.specs.declared.span.PlaceSpan.{PlaceSpan}
+use Rattle.lic_search.specs.PlaceSets.{ArePlaced, Reaches}
+use Rattle.lic_vars.specs.Moves.{Move, text, variable, optional}
+use Rattle.lic_vars.specs.Making.{CanMake, LeastOf}
+use Rattle.lic_vars.specs.declared.cut.Cut.{Cut}
 use Rattle.lic_vars.specs.declared.steps.Step.{Step}
 
-abbrev pub gap_before : Letter → Gap
-gap_before letter = gap_of letter.is_apart letter.are_words
-
--- the letters, each with the gap before it
-abbrev pub gapped_of : List Letter → List (Gap × ℕ)
-gapped_of = map (λ letter. (gap_before letter, letter.letter))
-
--- the span of each letter's token
-abbrev pub spans_of : List Letter → List Span
-spans_of = map (λ letter. letter.span)
-
--- what is left behind so many letters
-abbrev pub left_from : List Letter → ℕ → List (Gap × ℕ)
-left_from letters at = gapped_of (drop at letters)
-
--- what is left at a cut
-abbrev pub state_at : List Letter → Cut → State
-state_at letters cut = (left_from letters cut.at, cut.is_apart)
-
-abbrev pub states : List Letter → Option Cut → Option State
-states letters None = None
-states letters (Some cut) = Some (state_at letters cut)
-
 abbrev pub move_of : Step → Move
-move_of (Step.Text letters) = text letters.items
-move_of (Step.Variable name ere tree) = variable name.now (tree_words (tree_of ere.now))
+move_of (Step.Text letters) = text (chars letters.now)
+move_of (Step.Variable name ere) = variable name.now (tree_words (tree_of ere.now))
 move_of (Step.Optional n) = optional n
 
 abbrev pub moves_of : List Step → List Move
 moves_of = map move_of
 
--- a variable's compiled expression stands for the tidy words of its pattern
-abbrev pub IsCompiled : Step → Type 0
-IsCompiled (Step.Text letters) = Unit {0}
-IsCompiled (Step.Variable name ere tree) =
-    IsTrue (is_measured tree) × HasWordsOf (core_of tree) (tidy (tree_words (tree_of ere.now)))
-IsCompiled (Step.Optional n) = Unit {0}
+-- the moves of the last so many steps
+abbrev pub last_moves : List Step → ℕ → List Move
+last_moves steps k = moves_of (drop (length steps - k) steps)
+
+-- a text is one that pieces have
+abbrev pub IsPiece : Step → Type 0
+IsPiece (Step.Text letters) = IsPieceText letters.now
+IsPiece (Step.Variable name ere) = Unit {0}
+IsPiece (Step.Optional n) = Unit {0}
+
+-- no value comes of the step
+abbrev pub HasNoValue : Step → Type 0
+HasNoValue (Step.Text letters) = Unit {0}
+HasNoValue (Step.Variable name ere) = ⊥
+HasNoValue (Step.Optional n) = Unit {0}
+
+-- the word, and the blank that was written before it
+abbrev pub lead : Bool → Word → Word
+lead true w = blank ∷ w
+lead false w = w
+
+-- the word spells what stands from a cut up to a place
+abbrev pub ReadsFrom : List TokenValue → Cut → Word → ℕ → Type 0
+ReadsFrom tokens cut w q = Reads tokens cut.place (lead cut.is_apart w) q
+
+-- the word spells all that stands behind a cut
+abbrev pub ReadsOn : List TokenValue → Cut → Word → Type 0
+ReadsOn tokens cut w = ReadsFrom tokens cut w (length (spelling_of tokens))
+
+-- the cut before the first token
+abbrev pub start : Cut
+start = record { place = 0; is_apart = false }
+
+-- where a letter begins that comes next
+abbrev pub letter_place : List TokenValue → Cut → ℕ
+letter_place tokens cut = if cut.is_apart && is_blank_at (spelling_of tokens) cut.place then cut.place + 1 else cut.place
+
+-- blanks may stand at a cut behind which they were written
+abbrev pub IsOpen : List TokenValue → Cut → Type 0
+IsOpen tokens cut = cut.is_apart ≡ true → OverBlank tokens cut.place cut.place
+
+-- behind the first cut the word spells what the rest of it spells behind the second
+abbrev pub LeadsTo : List TokenValue → Cut → Word → Cut → Type 0
+LeadsTo tokens cut u next = (w : Word) → ReadsOn tokens cut (u ++ w) ↔ ReadsOn tokens next w
+
+-- the spans have the places from which the moves lead to the end of the tokens, and no other
+pub record AreFinishing (tokens : List TokenValue) (ms : List Move) (spans : List PlaceSpan) : Type 0 where
+  pub placed : ArePlaced tokens spans
+  pub exact : (p : ℕ) → ((last : ℕ) × Reaches tokens spans p last) ↔ CanMake ms (λ w. Reads tokens p w (length (spelling_of tokens)))
+
+-- the moves that are left can finish behind the cut, and their least record completes the least of all
+pub record IsWalk (tokens : List TokenValue) (all ms : List Move) (found : List ℕ) (cut : Cut) : Type 0 where
+  pub can : CanMake ms (ReadsOn tokens cut)
+  pub least : (r : List ℕ) → LeastOf ms (ReadsOn tokens cut) r → LeastOf all (ReadsOn tokens start) (found ++ r)

@@ -1,9 +1,10 @@
+pub mod Assigners
+pub mod Cuts
 pub mod Derivations
-pub mod Values
+pub mod Making
 pub mod Moves
 pub mod Recorded
-pub mod Cuts
-pub mod Ends
-pub mod Branches
-pub mod Assigners
+pub mod Sets
+pub mod Shortest
+pub mod Values
 pub mod Views

@@ -1,17 +1,19 @@
 //! What the variables of a template stand for in a match.
 
-ghost use Rattle.std.specs.Prelude.{◌≡◌, ◌==◌, ◌<◌, IfOk, length, map, take, drop, slice_index_or, if◌then◌else◌};
+ghost use Rattle.std.specs.Prelude.{◌≡◌, ◌==◌, ◌<◌, All, IfOk, false, length, map, take, drop, slice_index_or, if◌then◌else◌};
 ghost use Rattle.lic_set.specs.Matches.{IsMatch};
 ghost use Rattle.lic_vars.specs.Values.{AreValues, covered};
-ghost use Rattle.lic_vars.specs.Cuts.{spans_of, moves_of};
+ghost use Rattle.lic_vars.specs.Cuts.{HasNoValue, moves_of};
 ghost use Rattle.lic_vars.specs.Recorded.{recorded};
 ghost use Rattle.lic_vars.specs.Views.{value_of};
 
-use crate::letters::{Letter, letter_count, letters_of};
+use crate::letters::{letter_count, letter_spans};
 use crate::search::least_record;
 use crate::steps::{Step, steps_of};
+use lic_markup::laws::texts_are_those_of_pieces;
 use lic_norm::text::Text;
 use lic_norm::token::Span;
+use lic_search::view::{View, tokens_have_texts};
 use lic_set::set::Set;
 use lic_set::triple::Triple;
 use std::alloc::{AllocError, Global};
@@ -57,7 +59,9 @@ impl<'s> Assigner<'s> {
         ensures { IfOk result (λ assigner. assigner
             ≡ record { set = set.now; template = template }) }
     {
-        let steps = steps_of(alloc, set.template(template).parts())?;
+        let parsed = set.template(template);
+        texts_are_those_of_pieces(parsed);
+        let steps = steps_of(alloc, parsed.parts())?;
         Ok(Assigner {
             set,
             template,
@@ -83,8 +87,14 @@ impl<'s> Assigner<'s> {
         ensures { IfOk result (λ values.
             AreValues self.now.set text.now.tokens triple (map value_of values.items)) }
     {
-        let letters = letters_of(alloc, text, triple.first, triple.last)?;
-        let numbers = least_record(alloc, &self.steps, &letters)?;
+        if !has_variable(&self.steps) {
+            return Ok(Vec::new(alloc));
+        }
+        let letters = letter_spans(alloc, text, triple.first, triple.last)?;
+        let _length = text.len();
+        let view = View::of(text, triple.first, triple.last - triple.first + 1);
+        tokens_have_texts(&view);
+        let numbers = least_record(alloc, &view, &self.steps)?;
         values_of(alloc, &self.steps, &letters, &numbers)
     }
 }
@@ -108,15 +118,27 @@ pub fn assign<'s>(
     assigner.assign(alloc, text, triple)
 }
 
+// Whether some step is a variable.
+fn has_variable(steps: &[Step<'_>]) -> bool
+    ensures { result ≡ false → All HasNoValue steps.now }
+{
+    for step in steps {
+        if let Step::Variable { .. } = step {
+            return true;
+        }
+    }
+    false
+}
+
 // The values that a record gives.
 fn values_of<'s>(
     alloc: Global,
     steps: &[Step<'s>],
-    mut letters: &[Letter],
+    mut letters: &[Span],
     mut numbers: &[usize],
 ) -> Result<Vec<Value<'s>>, AllocError>
     ensures { IfOk result (λ values. map value_of values.items
-        ≡ recorded 0 (moves_of steps.now) numbers.now (spans_of letters.now)) }
+        ≡ recorded 0 (moves_of steps.now) numbers.now letters.now) }
 {
     let mut values = Vec::new(alloc);
     let mut left_out = 0;
@@ -171,27 +193,27 @@ fn left_out_by(choice: usize, size: usize) -> usize
 }
 
 // The first so many letters.
-fn front(letters: &[Letter], count: usize) -> &[Letter]
+fn front(letters: &[Span], count: usize) -> &[Span]
     ensures { result.now ≡ take count letters.now }
 {
     &letters[..count.min(letters.len())]
 }
 
 // The letters behind the first so many.
-fn behind(letters: &[Letter], count: usize) -> &[Letter]
+fn behind(letters: &[Span], count: usize) -> &[Span]
     ensures { result.now ≡ drop count letters.now }
 {
     &letters[count.min(letters.len())..]
 }
 
 // From the start of the first letter's token to the end of the last letter's.
-fn covered(letters: &[Letter]) -> Option<Span>
-    ensures { result ≡ covered (spans_of letters.now) }
+fn covered(letters: &[Span]) -> Option<Span>
+    ensures { result ≡ covered letters.now }
 {
     let first = letters.first()?;
     let last = letters.last()?;
     Some(Span {
-        start: first.span.start,
-        end: last.span.end,
+        start: first.start,
+        end: last.end,
     })
 }

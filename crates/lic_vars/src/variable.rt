@@ -1,31 +1,157 @@
-//! The letters of a variable's word.
+//! The shortest word that a variable can stand for.
 
-ghost use Rattle.std.specs.Prelude.{◌≡◌, ◌≢◌, ◌≤◌, ◌++◌, ◌∷◌, ◌&&◌, ℕ, List, IsTrue, [], not};
-ghost use Rattle.lic_words.specs.Words.{blank};
-ghost use Rattle.lic_words.specs.Spelling.{Gap, gap_of};
-ghost use Rattle.lic_marks.specs.Rows.{weight};
-ghost use Rattle.lic_marks.specs.Nodes.{core_of, is_measured};
-ghost use Rattle.lic_marks.specs.States.{HasTaken, room_of};
+ghost use Rattle.std.specs.Prelude.{◌≡◌, ◌+◌, ◌-◌, ◌<◌, ◌&&◌, IfOk, IsTrue, ◌↔◌, if◌then◌else◌, nat_lt, ◌≤◌, length, max};
+ghost use Rattle.lic_ere.specs.Trees.{tree_of};
+ghost use Rattle.lic_markup.specs.Meaning.{tree_words};
+ghost use Rattle.lic_places.specs.Places.{is_blank_at, spelling_of};
+ghost use Rattle.lic_search.specs.PlaceSets.{ArePlaced};
+ghost use Rattle.lic_vars.specs.Cuts.{IsOpen};
+ghost use Rattle.lic_vars.specs.Shortest.{AreWithin, HaveNone, IsLeastNumber, IsShortest, LeadsWithin};
 
-use crate::letters::Letter;
-use lic_marks::node::Node;
-use lic_marks::state::State;
+use crate::cut::{Cut, have_cut, letter_place};
+use lic_ere::Ere;
+use lic_search::reverse::over_variable;
+use lic_search::view::{View, tokens_have_texts};
+use lic_spans::span::PlaceSpan;
+use std::alloc::{AllocError, Global};
 
-/// Takes one letter more. The gap before the first one does not count.
-pub fn take_letter(tree: &Node, letter: Letter, is_first: bool, state: &mut State)
-    requires measured { IsTrue (is_measured tree.now) }
-    requires room { weight (core_of tree.now) ≤ room_of state.old }
-    requires letter { letter.letter ≢ blank }
-    ensures room { room_of state.new ≡ room_of state.old }
-    ensures taken { (before : List (Gap × ℕ)) → HasTaken (core_of tree.now) state.old before
-        → HasTaken (core_of tree.now) state.new
-        (before ++ (gap_of (letter.is_apart && not is_first) letter.are_words, letter.letter)
-        ∷ []) }
+/// The cut behind the shortest tidy word of a pattern that leads to a place of the spans.
+pub fn behind_shortest(
+    alloc: Global,
+    view: &View<'_>,
+    ere: &Ere,
+    spans: &[PlaceSpan],
+    cut: Cut,
+) -> Result<Cut, AllocError>
+    requires placed { ArePlaced view.now spans.now }
+    requires open { IsOpen view.now cut }
+    requires can { LeadsWithin view.now (tree_words (tree_of ere.now)) spans.now cut (length (spelling_of view.now)) }
+    ensures { IfOk result (λ next. IsShortest view.now (tree_words (tree_of ere.now)) spans.now cut next) }
 {
-    let letter = lic_words::letters::Letter {
-        letter: letter.letter,
-        is_apart: letter.is_apart & !is_first,
-        are_words: letter.are_words,
-    };
-    state.letter(tree, letter);
+    tokens_have_texts(view);
+    let number = least_number(alloc, view, ere, spans, cut)?;
+    let begin = letter_place(view, cut);
+    let end = end_of(view, begin, number);
+    if end <= begin {
+        return Ok(cut);
+    }
+    Ok(Cut {
+        place: end,
+        is_apart: false,
+    })
+}
+
+// The place that a number gives behind a letter: none ends behind a blank.
+fn end_of(view: &View<'_>, begin: usize, number: usize) -> usize
+    ensures { result ≡ (if nat_lt begin number && is_blank_at (spelling_of view.now) (number - 1) then number - 1 else number) }
+{
+    if begin < number && view.is_blank(number - 1) {
+        number - 1
+    } else {
+        number
+    }
+}
+
+// The least number of the spans to whose place a tidy word leads.
+fn least_number(
+    alloc: Global,
+    view: &View<'_>,
+    ere: &Ere,
+    spans: &[PlaceSpan],
+    cut: Cut,
+) -> Result<usize, AllocError>
+    requires placed { ArePlaced view.now spans.now }
+    requires open { IsOpen view.now cut }
+    requires can { LeadsWithin view.now (tree_words (tree_of ere.now)) spans.now cut (length (spelling_of view.now)) }
+    ensures { IfOk result (λ number. IsLeastNumber view.now (tree_words (tree_of ere.now)) spans.now cut number) }
+{
+    tokens_have_texts(view);
+    let mut high = view.bytes().len();
+    let mut low = first_number(spans, cut.place, high);
+    let mut width: usize = 0;
+    while low < high {
+        let middle = low + width.min((high - low) / 2);
+        if leads_within(alloc, view, ere, spans, cut, middle)? {
+            high = middle;
+        } else {
+            low = first_number(spans, middle + 1, high);
+            width = width.saturating_mul(2).saturating_add(1);
+        }
+    }
+    Ok(high)
+}
+
+// The least number of the spans from `low` on, at most `high`.
+fn first_number(spans: &[PlaceSpan], low: usize, high: usize) -> usize
+    requires { low ≤ high }
+    ensures order { low ≤ result }
+    ensures within { result ≤ high }
+    ensures none { HaveNone spans.now low result }
+{
+    let mut first = high;
+    for span in spans {
+        first = number_from(span, low, first);
+    }
+    first
+}
+
+// The least number of a span from `low` on, at most `high`.
+fn number_from(span: &PlaceSpan, low: usize, high: usize) -> usize
+    requires { low ≤ high }
+    ensures order { low ≤ result }
+    ensures within { result ≤ high }
+    ensures first { low ≤ span.now.high → result ≤ max span.now.low low }
+{
+    if low <= span.high {
+        span.low.max(low).min(high)
+    } else {
+        high
+    }
+}
+
+// Whether a tidy word leads from a cut to a place of the spans with a number up to `high`.
+fn leads_within(
+    alloc: Global,
+    view: &View<'_>,
+    ere: &Ere,
+    spans: &[PlaceSpan],
+    cut: Cut,
+    high: usize,
+) -> Result<bool, AllocError>
+    requires placed { ArePlaced view.now spans.now }
+    requires open { IsOpen view.now cut }
+    ensures { IfOk result (λ leads. IsTrue leads
+        ↔ LeadsWithin view.now (tree_words (tree_of ere.now)) spans.now cut high) }
+{
+    tokens_have_texts(view);
+    let ends = numbers_within(alloc, spans, cut.place, high)?;
+    if ends.is_empty() {
+        return Ok(false);
+    }
+    let begins = over_variable(alloc, view, ere, ends)?;
+    Ok(have_cut(view, &begins, cut))
+}
+
+// The spans with their numbers from `low` to `high` alone.
+fn numbers_within(
+    alloc: Global,
+    spans: &[PlaceSpan],
+    low: usize,
+    high: usize,
+) -> Result<Vec<PlaceSpan>, AllocError>
+    ensures { IfOk result (λ found. AreWithin spans.now low high found.items) }
+{
+    let mut within = Vec::new(alloc);
+    for span in spans {
+        let part = PlaceSpan {
+            low: span.low.max(low),
+            high: span.high.min(high),
+            last: span.last,
+            kind: span.kind,
+        };
+        if part.low <= part.high {
+            within.push(part)?;
+        }
+    }
+    Ok(within)
 }

@@ -1,7 +1,7 @@
+use Rattle.std.specs.Str.{chars}
 use Rattle.std.proofs.Common.{◌++◌, ℕ, drop, map, sym, ap, ◌∙◌, arith}
 use Rattle.lic_ere.specs.Trees.{tree_of}
 use Rattle.lic_markup.specs.Meaning.{tree_words}
-use Rattle.lic_words.specs.Letters.{letters_in}
 use Rattle.lic_vars.specs.Views.{value_of}
 use Rattle.lic_vars.proofs.FillLemmas.{moves-more}
 use Rattle.lic_vars.proofs.AssignLemmas.{taken-text, taken-variable, taken-optional, value-pushed}
@@ -14,8 +14,8 @@ loop-i-preserved-in-Text c =
     record {
       placed = omega arith;
       values = ap (λ s. map value_of c.loop-i.values.items ++ s)
-          (taken-text c.loop-i.left_out c.in-Text.text.items _ c.loop-i.numbers.now c.loop-i.letters.now _ c.if-left_out-gt0.false
-          (c.behind-letters.ensures ∙ ap (λ (n : ℕ). drop n c.loop-i.letters.now) (c.letter_count.ensures ∙ ap letters_in c.deref.ensures.value)))
+          (taken-text c.loop-i.left_out (chars c.in-Text.text.now) _ c.loop-i.numbers.now c.loop-i.letters.now _ c.if-left_out-gt0.false
+          (c.behind-letters.ensures ∙ ap (λ (n : ℕ). drop n c.loop-i.letters.now) c.letter_count.ensures))
           ∙ before;
     }
 

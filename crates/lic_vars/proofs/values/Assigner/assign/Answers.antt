@@ -1,40 +1,57 @@
-use Rattle.std.proofs.Common.{◌≡◌, map}
-use Rattle.lic_set.specs.Matches.{letters_between}
+-- The values of a match.
+use Rattle.std.proofs.Common.{◌≡◌, ◌+◌, ◌-◌, List, map, refl, sym, subst}
+use Rattle.std.specs.List.{slice_range}
 use Rattle.lic_vars.specs.Cuts.{moves_of}
 use Rattle.lic_vars.specs.Moves.{moves}
-use Rattle.lic_vars.specs.Values.{nodes_of}
+use Rattle.lic_vars.specs.Values.{AreValues, nodes_of}
 use Rattle.lic_vars.specs.Views.{value_of}
-use Rattle.lic_vars.proofs.AssignLemmas.{assigned, no-blanks-of, match-can, moves-of, ok-then}
+use Rattle.lic_vars.specs.declared.values.Value.{Value}
+use Rattle.lic_vars.proofs.AssignLemmas.{assigned, match-can, moves-of, ok-then, some-tokens, tokens-of}
+use Rattle.lic_vars.proofs.NoValueLemmas.{no-values}
 use Rattle.lic_vars.proofs.values.Assigner.assign.Goals as goal
-
-pub least_record-requires-clause-compiled : goal.least_record-requires-clause-compiled
-least_record-requires-clause-compiled c = rw c.deref.ensures.value c.self.invariant.compiled
-
-pub least_record-requires-clause-letters : goal.least_record-requires-clause-letters
-least_record-requires-clause-letters c =
-    rw c.deref-2.ensures.value (no-blanks-of c.in_ok-letters.letters.items
-    (letters_between c.args.text.now.tokens c.args.triple.first c.args.triple.last) c.in_ok-letters.ensures.gapped)
 
 pub least_record-requires-clause-can : goal.least_record-requires-clause-can
 least_record-requires-clause-can c =
     let own = c.self.inside in
     let v = c.args.self.now in
     let is = c.requires.is_match in
+    let tokens = c.args.text.now.tokens in
+    let triple = c.args.triple in
     let moved : moves_of own.steps.items ≡ moves (nodes_of is.known) =
-    moves-of own.set.now own.template own.steps.items v c.args.triple.template is.known c.self.invariant c.self.view_is c.requires.template is.number in
-    rw (c.deref.ensures.value, c.deref-2.ensures.value)
-    (match-can v.set c.args.text.now.tokens c.args.triple is.known own.steps.items c.in_ok-letters.letters.items
-    is is.number moved c.in_ok-letters.ensures.gapped)
+    moves-of own.set.now own.template own.steps.items v triple.template is.known c.self.invariant c.self.view_is c.requires.template is.number in
+    let part : c.of-view.result ≡ slice_range tokens triple.first (triple.last + 1) =
+    tokens-of tokens c.of-view.result triple.first triple.last (triple.last - triple.first + 1) is.order refl c.of-view.ensures in
+    let some = some-tokens tokens c.of-view.result triple.first triple.last is.order is.within part in
+    rw c.deref-2.ensures.value
+    (match-can v.set tokens c.of-view.result triple is.known own.steps.items is is.number moved c.tokens_have_texts.ensures some part)
 
 pub returns : goal.returns
 returns c =
     let own = c.self.inside in
     let v = c.args.self.now in
     let is = c.requires.is_match in
+    let tokens = c.args.text.now.tokens in
+    let triple = c.args.triple in
     let moved : moves_of own.steps.items ≡ moves (nodes_of is.known) =
-    moves-of own.set.now own.template own.steps.items v c.args.triple.template is.known c.self.invariant c.self.view_is c.requires.template is.number in
-    let least = rw (c.deref.ensures.value, c.deref-2.ensures.value) at c.in_ok-numbers.ensures in
+    moves-of own.set.now own.template own.steps.items v triple.template is.known c.self.invariant c.self.view_is c.requires.template is.number in
+    let part : c.of-view.result ≡ slice_range tokens triple.first (triple.last + 1) =
+    tokens-of tokens c.of-view.result triple.first triple.last (triple.last - triple.first + 1) is.order refl c.of-view.ensures in
+    let some = some-tokens tokens c.of-view.result triple.first triple.last is.order is.within part in
+    let least = rw c.deref-2.ensures.value at c.in_ok-numbers.ensures in
     ok-then c.values_of.result _ _ c.values_of.ensures
-    (λ x h. assigned v.set c.args.text.now.tokens c.args.triple is.known own.steps.items c.in_ok-letters.letters.items c.in_ok-numbers.numbers.items
-    (map value_of x.items) is.number moved c.in_ok-letters.ensures.gapped
-    c.in_ok-letters.ensures.spans least (rw (c.deref-3.ensures.value, c.deref-4.ensures.value, c.deref-5.ensures.value) at h))
+    (λ x h. assigned v.set tokens c.of-view.result triple is.known own.steps.items c.in_ok-letters.letters.items c.in_ok-numbers.numbers.items
+    (map value_of x.items) is.number moved c.tokens_have_texts.ensures some part
+    c.in_ok-letters.ensures least (rw (c.deref-3.ensures.value, c.deref-4.ensures.value, c.deref-5.ensures.value) at h))
+
+pub returns-then-not-has_variable : goal.returns-then-not-has_variable
+returns-then-not-has_variable c =
+    let own = c.self.inside in
+    let v = c.args.self.now in
+    let is = c.requires.is_match in
+    let tokens = c.args.text.now.tokens in
+    let triple = c.args.triple in
+    let moved : moves_of own.steps.items ≡ moves (nodes_of is.known) =
+    moves-of own.set.now own.template own.steps.items v triple.template is.known c.self.invariant c.self.view_is c.requires.template is.number in
+    let none = rw c.deref.ensures.value at (c.has_variable.ensures c.if-not-has_variable.true) in
+    subst (λ (x : List Value). AreValues v.set tokens triple (map value_of x)) (sym c.new.ensures.items)
+    (no-values v.set tokens triple own.steps.items is moved none)

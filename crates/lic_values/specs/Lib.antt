@@ -1,9 +1,0 @@
-pub mod Assigners
-pub mod Cuts
-pub mod Derivations
-pub mod Making
-pub mod Moves
-pub mod Recorded
-pub mod Shortest
-pub mod Values
-pub mod Views

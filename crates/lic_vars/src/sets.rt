@@ -1,0 +1,162 @@
+//! The places from which the last steps of a template can finish.
+
+ghost use Rattle.std.specs.Prelude.{◌≡◌, ◌↔◌, ◌+◌, ◌-◌, ◌<◌, ◌≤◌, [], All, IfOk, IsTrue, OnOk, Vec, length, ℕ};
+ghost use Rattle.std.specs.Global.{Global};
+ghost use Rattle.lic_spans.specs.declared.span.PlaceSpan.{PlaceSpan};
+ghost use Rattle.lic_vars.specs.Cuts.{AreFinishing, IsPiece, last_moves};
+ghost use Rattle.lic_vars.specs.Sets.{AreSuffixSets, HasOther, IsOther, IsSet, IsStart, IsThere};
+
+use crate::steps::Step;
+use lic_search::reverse::{either, over_text, over_variable};
+use lic_search::view::{View, tokens_have_texts};
+use lic_spans::span::{Kind, PlaceSpan};
+use std::alloc::{AllocError, Global};
+
+/// The set of no step alone, and room for those of all others.
+pub fn end_alone(
+    alloc: Global,
+    view: &View<'_>,
+    steps: &[Step],
+) -> Result<Vec<Option<Vec<PlaceSpan>>>, AllocError>
+    requires { 0 < length view.now }
+    ensures sets { IfOk result (λ sets. AreSuffixSets view.now steps.now sets.items) }
+    ensures count { IfOk result (λ sets. length sets.items ≡ length steps.now + 1) }
+{
+    let mut sets = Vec::new(alloc);
+    sets.push(Some(end_of_text(alloc, view)?))?;
+    while sets.len() <= steps.len() {
+        sets.push(None)?;
+    }
+    Ok(sets)
+}
+
+// The end of the last token.
+fn end_of_text(alloc: Global, view: &View<'_>) -> Result<Vec<PlaceSpan>, AllocError>
+    requires { 0 < length view.now }
+    ensures { IfOk result (λ spans. AreFinishing view.now [] spans.items) }
+{
+    tokens_have_texts(view);
+    let last = view.len() - 1;
+    let end = view.end(last);
+    let mut spans = Vec::new(alloc);
+    spans.push(PlaceSpan {
+        low: end,
+        high: end,
+        last,
+        kind: Kind::End,
+    })?;
+    Ok(spans)
+}
+
+/// A set that is there.
+pub fn set_of(sets: &[Option<Vec<PlaceSpan>>], number: usize) -> &[PlaceSpan]
+    requires { IsThere sets.now number }
+    ensures { (set : Vec PlaceSpan Global) → IsSet sets.now number set → result.now ≡ set.items }
+{
+    match &sets[number] {
+        Some(set) => set,
+        None => unreachable!(),
+    }
+}
+
+// Whether a set is there.
+fn is_there(sets: &[Option<Vec<PlaceSpan>>], number: usize) -> bool
+    requires { number < length sets.now }
+    ensures { IsTrue result ↔ IsThere sets.now number }
+{
+    match &sets[number] {
+        Some(_) => true,
+        None => false,
+    }
+}
+
+/// Makes the set of the last so many steps, and those on the way to it from the last one that is there, unless it is there.
+pub fn fill(
+    alloc: Global,
+    view: &View<'_>,
+    steps: &[Step],
+    sets: &mut Vec<Option<Vec<PlaceSpan>>>,
+    number: usize,
+) -> Result<(), AllocError>
+    requires pieces { All IsPiece steps.now }
+    requires sets { AreSuffixSets view.now steps.now sets.old.items }
+    requires within { number ≤ length steps.now }
+    requires room { number < length sets.old.items }
+    ensures sets { OnOk result (AreSuffixSets view.now steps.now sets.new.items) }
+    ensures there { OnOk result (IsThere sets.new.items number) }
+    ensures count { OnOk result (length sets.new.items ≡ length sets.old.items) }
+{
+    let start = start_of(view, steps, sets, number);
+    for before in start..number {
+        let set = set_before(alloc, view, steps, sets, before + 1)?;
+        sets[before + 1] = Some(set);
+    }
+    Ok(())
+}
+
+// From which set all up to one can be made.
+fn start_of(
+    view: &View<'_>,
+    steps: &[Step],
+    sets: &[Option<Vec<PlaceSpan>>],
+    number: usize,
+) -> usize
+    requires sets { AreSuffixSets view.now steps.now sets.now }
+    requires within { number ≤ length steps.now }
+    requires room { number < length sets.now }
+    ensures { IsStart steps.now sets.now number result }
+{
+    let mut low = number;
+    let mut needed = number;
+    while needed < low || !is_there(sets, low) {
+        needed = needed.min(missing_for(steps, sets, low));
+        low -= 1;
+    }
+    low
+}
+
+// The set that a step leads to when it is left out, where it is not there, else the step's own number.
+fn missing_for(steps: &[Step], sets: &[Option<Vec<PlaceSpan>>], number: usize) -> usize
+    requires some { 0 < number }
+    requires within { number ≤ length steps.now }
+    requires room { number < length sets.now }
+    ensures { (other : ℕ) → IsOther steps.now number other → HasOther sets.now result other }
+{
+    match &steps[steps.len() - number] {
+        Step::Optional(size) => {
+            let other = (number - 1).saturating_sub(*size);
+            if is_there(sets, other) { number } else { other }
+        }
+        _ => number,
+    }
+}
+
+// The places from which the last so many steps lead to the end.
+fn set_before(
+    alloc: Global,
+    view: &View<'_>,
+    steps: &[Step],
+    sets: &[Option<Vec<PlaceSpan>>],
+    number: usize,
+) -> Result<Vec<PlaceSpan>, AllocError>
+    requires pieces { All IsPiece steps.now }
+    requires sets { AreSuffixSets view.now steps.now sets.now }
+    requires some { 0 < number }
+    requires within { number ≤ length steps.now }
+    requires rest { IsThere sets.now (number - 1) }
+    requires others { (other : ℕ) → IsOther steps.now number other → IsThere sets.now other }
+    ensures { IfOk result (λ spans. AreFinishing view.now (last_moves steps.now number) spans.items) }
+{
+    tokens_have_texts(view);
+    let rest = set_of(sets, number - 1);
+    match &steps[steps.len() - number] {
+        Step::Text(text) => over_text(alloc, view, text, Vec::from_slice(alloc, rest)?),
+        Step::Variable { ere, .. } => {
+            over_variable(alloc, view, ere, Vec::from_slice(alloc, rest)?)
+        }
+        Step::Optional(size) => {
+            let others = set_of(sets, (number - 1).saturating_sub(*size));
+            either(alloc, view, rest, others)
+        }
+    }
+}
