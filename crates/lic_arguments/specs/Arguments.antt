@@ -1,8 +1,10 @@
 -- What the arguments ask for.
-use Rattle.std.specs.Prelude.{◌≡◌, ℕ, ◌<◌, List, length, slice_index_or, Option, Some, None}
+use Rattle.std.specs.Prelude.{◌≡◌, ℕ, ◌<◌, List, length, slice_index_or, Option, Some, None, string_bytes}
 use Rattle.lic_set.specs.Sets.{Known}
 use Rattle.lic_set.specs.declared.triple.Triple.{Triple}
-use Rattle.lic_arguments.specs.declared.arguments.After.{After}
+use Rattle.lic_arguments.specs.declared.after.After.{After}
+use Rattle.lic_arguments.specs.declared.fault.ArgumentFault.{ArgumentFault}
+use Rattle.lic_arguments.specs.declared.fault.ArgumentFault.TheVariants.{NoTemplate, Memory}
 
 -- the template with this number has this identifier
 abbrev pub IsNamed : List Known → List ℕ → ℕ → Type 0
@@ -14,3 +16,10 @@ IsTripleOf set None None = Unit {0}
 IsTripleOf set (Some after) (Some triple) =
     (triple.first ≡ after.first) × (triple.last ≡ after.last) × IsNamed set after.id.now triple.template
 IsTripleOf set _ _ = ⊥
+
+-- why nothing can be asked: no template has the identifier that is given, which the fault names; or memory ran out
+abbrev pub IsUnnamed : List Known → Option After → ArgumentFault → Type 0
+IsUnnamed set after Memory = Unit {0}
+IsUnnamed set (Some after) (NoTemplate id) =
+    (string_bytes id ≡ after.id.now) × ((k : ℕ) → ¬ (IsNamed set after.id.now k))
+IsUnnamed set _ _ = ⊥

@@ -1,9 +1,9 @@
 //! The command line.
 
-ghost use Rattle.std.specs.Prelude.{◌≡◌, ◌⊎◌, ℕ, IfOk, IfErr, IfSome, IfNone};
-ghost use Rattle.std.specs.Option.{ForSome};
-ghost use Rattle.lic_arguments.specs.Arguments.{IsNamed, IsTripleOf};
+ghost use Rattle.std.specs.Prelude.{◌≡◌, ℕ, IfOk, IfErr, IfSome, IfNone};
+ghost use Rattle.lic_arguments.specs.Arguments.{IsNamed, IsTripleOf, IsUnnamed};
 
+use crate::after::{After, Given};
 use crate::fault::ArgumentFault;
 use clap::{Arg, ArgAction, ArgMatches, Command, Error, value_parser};
 use lic_find::ask::Ask;
@@ -165,34 +165,6 @@ pub fn parse<'a>(alloc: Global, words: &'a [&'a str]) -> Result<ArgMatches<'a>, 
         .try_get_matches_from(words)
 }
 
-/// A triple as it is written in an argument: by its template's identifier.
-#[derive(Clone, Copy, Debug, PartialEq, Eq)]
-pub struct After<'a> {
-    pub first: usize,
-    pub last: usize,
-    pub id: &'a str,
-}
-
-/// A number in decimal digits, and nothing else.
-fn read_number(text: &str) -> Option<usize> {
-    if text.bytes().all(|b| b.is_ascii_digit()) {
-        text.parse::<usize>().ok()
-    } else {
-        None
-    }
-}
-
-/// Reads `F:L:ID`. The identifier may hold colons, and may be empty.
-fn read_after(text: &str) -> Option<After<'_>> {
-    let (first, rest) = text.split_once(':')?;
-    let (last, id) = rest.split_once(':')?;
-    Some(After {
-        first: read_number(first)?,
-        last: read_number(last)?,
-        id,
-    })
-}
-
 /// The files that are given, or standard input alone where none is.
 fn files_given<'a>(alloc: Global, found: &ArgMatches<'a>) -> Result<Vec<&'a str>, ArgumentFault> {
     let mut files = Vec::new(alloc);
@@ -271,30 +243,13 @@ pub struct ScanArguments<'a> {
     pub files: Vec<&'a str>,
 }
 
-/// The triple that is given, if one is. Of several faults the first is reported: no `--all`, `--limit` without it, several files,
-/// a bad triple.
-fn after_given<'a>(
-    found: &ArgMatches<'a>,
-    files: usize,
-) -> Result<Option<After<'a>>, ArgumentFault> {
-    let given = found.get_str("after");
-    if !found.get_flag("all") {
-        if given.is_some() {
-            return Err(ArgumentFault::AfterNeedsAll);
-        }
-        if found.get_one::<u32>("limit").is_some() {
-            return Err(ArgumentFault::LimitNeedsAll);
-        }
-    }
-    let Some(text) = given else {
-        return Ok(None);
-    };
-    if files > 1 {
-        return Err(ArgumentFault::AfterFiles);
-    }
-    match read_after(text) {
-        Some(after) => Ok(Some(after)),
-        None => Err(ArgumentFault::BadTriple),
+/// What is given of the options of which one asks for another.
+fn given_of<'a>(found: &ArgMatches<'a>, files: usize) -> Given<'a> {
+    Given {
+        all: found.get_flag("all"),
+        has_limit: found.get_one::<u32>("limit").is_some(),
+        after: found.get_str("after"),
+        files,
     }
 }
 
@@ -302,7 +257,7 @@ impl<'a> ScanArguments<'a> {
     /// Reads what the parser found.
     pub fn read(alloc: Global, found: &ArgMatches<'a>) -> Result<ScanArguments<'a>, ArgumentFault> {
         let files = files_given(alloc, found)?;
-        let after = after_given(found, files.len())?;
+        let after = given_of(found, files.len()).triple()?;
         Ok(ScanArguments {
             folder: found.get_str("templates").unwrap_or(""),
             words: found.get_str("words"),
@@ -333,8 +288,7 @@ pub fn ask_of(alloc: Global, arguments: &ScanArguments<'_>, set: &Set) -> Result
     ensures all { IfOk result (λ ask. ask.all ≡ arguments.now.all) }
     ensures limit { IfOk result (λ ask. ask.limit ≡ arguments.now.limit) }
     ensures after { IfOk result (λ ask. IsTripleOf set.now arguments.now.after ask.after) }
-    ensures fault { IfErr result (λ fault. (fault ≡ ArgumentFault.Memory)
-        ⊎ ForSome arguments.now.after (λ after. (k : ℕ) → ¬ (IsNamed set.now after.id.now k))) }
+    ensures fault { IfErr result (IsUnnamed set.now arguments.now.after) }
 {
     let mut ask = Ask {
         all: arguments.all,

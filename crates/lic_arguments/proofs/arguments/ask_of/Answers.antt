@@ -1,17 +1,16 @@
-use Rattle.std.proofs.Common.{◌≡◌, ◌∙◌, ℕ, Option, Some, None, refl, inr, sym, ap, subst}
+use Rattle.std.proofs.Common.{◌≡◌, ℕ, Option, Some, None, string_bytes, refl, rules, sym, subst}
 use Rattle.std.specs.Prelude.{IfNone}
-use Rattle.lic_arguments.specs.Arguments.{IsNamed}
-use Rattle.lic_arguments.specs.declared.arguments.After.{After}
+use Rattle.lic_arguments.specs.Arguments.{IsNamed, IsUnnamed}
+use Rattle.lic_arguments.specs.declared.after.After.{After}
+use Rattle.lic_arguments.specs.declared.fault.ArgumentFault.TheVariants.{NoTemplate}
 use Rattle.lic_arguments.proofs.arguments.ask_of.Goals as goal
 
-same_some : {A : Type 0} (x y : A) → Some x ≡ Some y → x ≡ y
-same_some x y e = ap (λ o. elim o as (λ _. _) [ None ↦ x | Some z ↦ z ]) e
-
 pub returns-in_default-number_of-clause-fault : goal.returns-in_default-number_of-clause-fault
-returns-in_default-number_of-clause-fault c = inr (λ after is k named.
-    let same : c.in-Some.after ≡ after = same_some c.in-Some.after after (sym c.in-Some.is ∙ is) in
-    none c.number_of.result c.in_default-number_of.not-Some c.number_of.ensures.none k
-    (subst (λ (a : After). IsNamed c.args.set.now a.id.now k) (sym same) named))
+returns-in_default-number_of-clause-fault c =
+    let same : string_bytes c.in_ok-id.id ≡ c.in-Some.after.id.now = search rules in
+    let unnamed : (k : ℕ) → ¬ (IsNamed c.args.set.now c.in-Some.after.id.now k) =
+    none c.number_of.result c.in_default-number_of.not-Some c.number_of.ensures.none in
+    subst (λ (o : Option After). IsUnnamed c.args.set.now o (NoTemplate c.in_ok-id.id)) (sym c.in-Some.is) (same, unnamed)
   where
     none : (o : Option ℕ) → ((x : ℕ) → o ≡ Some x → ⊥)
         → IfNone o ((k : ℕ) → ¬ (IsNamed c.args.set.now c.in-Some.after.id.now k)) → (k : ℕ)
