@@ -155,7 +155,7 @@ module _ (tokens : List TokenValue) (steps : List Step) where
 
 optional-step : (step : Step) (size : ℕ) (ms ns : List Move) → move_of step ∷ ms ≡ optional size ∷ ns → step ≡ Step.Optional size
 optional-step (Step.Text letters) size ms ns e = let none : ⊥ = cc in absurd none
-optional-step (Step.Variable name ere) size ms ns e = let none : ⊥ = cc in absurd none
+optional-step (Step.Variable name ere is_empty) size ms ns e = let none : ⊥ = cc in absurd none
 optional-step (Step.Optional n) size ms ns e = let same : n ≡ size = cc in ap Step.Optional same
 
 pub IsOther-step : (steps : List Step) (n other : ℕ) (step : Step) → 0 < n → n ≤ length steps → step ≡ get_or steps (length steps - n) step → (o : IsOther steps n other)

@@ -5,6 +5,7 @@ pub mod LeastLemmas
 pub mod SpellLemmas
 pub mod FinishLemmas
 pub mod VariableLemmas
+pub mod PatternLemmas
 pub mod CutLemmas
 pub mod FillLemmas
 pub mod ValueLemmas

@@ -55,7 +55,7 @@ no-value (Step.Optional n) none = tt
 
 no-variable : (step : Step) → HasNoValue step → IsNoVariable (move_of step)
 no-variable (Step.Text letters) h = h
-no-variable (Step.Variable name ere) h = h
+no-variable (Step.Variable name ere is_empty) h = h
 no-variable (Step.Optional n) h = h
 
 pub no-values : (set : List Known) (tokens : List TokenValue) (t : Triple) (steps : List Step) (is : IsMatch set tokens t)

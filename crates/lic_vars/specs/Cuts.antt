@@ -8,6 +8,7 @@ use Rattle.lic_markup.specs.Meaning.{tree_words}
 use Rattle.lic_places.specs.Places.{OverBlank, is_blank_at, spelling_of}
 use Rattle.lic_places.specs.Reads.{Reads}
 use Rattle.lic_spans.specs.declared.span.PlaceSpan.{PlaceSpan}
+use Rattle.lic_search.specs.EmptyWord.{HasEmptyWordAlone}
 use Rattle.lic_search.specs.PlaceSets.{ArePlaced, Reaches}
 use Rattle.lic_vars.specs.Moves.{Move, text, variable, optional}
 use Rattle.lic_vars.specs.Making.{CanMake, LeastOf}
@@ -16,7 +17,7 @@ use Rattle.lic_vars.specs.declared.steps.Step.{Step}
 
 abbrev pub move_of : Step → Move
 move_of (Step.Text letters) = text (chars letters.now)
-move_of (Step.Variable name ere) = variable name.now (tree_words (tree_of ere.now))
+move_of (Step.Variable name ere is_empty) = variable name.now (tree_words (tree_of ere.now))
 move_of (Step.Optional n) = optional n
 
 abbrev pub moves_of : List Step → List Move
@@ -26,16 +27,16 @@ moves_of = map move_of
 abbrev pub last_moves : List Step → ℕ → List Move
 last_moves steps k = moves_of (drop (length steps - k) steps)
 
--- a text is one that pieces have
+-- a text is one that pieces have, and a pattern has the empty word alone where that is said
 abbrev pub IsPiece : Step → Type 0
 IsPiece (Step.Text letters) = IsPieceText letters.now
-IsPiece (Step.Variable name ere) = Unit {0}
+IsPiece (Step.Variable name ere is_empty) = is_empty ≡ true → HasEmptyWordAlone (tree_words (tree_of ere.now))
 IsPiece (Step.Optional n) = Unit {0}
 
 -- no value comes of the step
 abbrev pub HasNoValue : Step → Type 0
 HasNoValue (Step.Text letters) = Unit {0}
-HasNoValue (Step.Variable name ere) = ⊥
+HasNoValue (Step.Variable name ere is_empty) = ⊥
 HasNoValue (Step.Optional n) = Unit {0}
 
 -- the word, and the blank that was written before it

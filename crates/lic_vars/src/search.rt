@@ -70,6 +70,7 @@ fn take_step(
     rest: &[PlaceSpan],
     walk: &mut Walk,
 ) -> Result<(), AllocError>
+    requires pieces { All IsPiece steps.now }
     requires rest { AreFinishing view.now (last_moves steps.now (walk.old.left - 1)) rest.now }
     requires more { 0 < walk.old.left }
     requires within { walk.old.left ≤ length steps.now }
@@ -86,8 +87,8 @@ fn take_step(
             walk.cut = behind_text(view, text, walk.cut);
             Ok(())
         }
-        Step::Variable { ere, .. } => {
-            let next = behind_shortest(alloc, view, ere, rest, walk.cut)?;
+        Step::Variable { ere, is_empty, .. } => {
+            let next = behind_shortest(alloc, view, ere, *is_empty, rest, walk.cut)?;
             walk.record.push(letters_up_to(view, walk.cut, next))?;
             walk.cut = next;
             Ok(())

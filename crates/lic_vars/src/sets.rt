@@ -6,8 +6,9 @@ ghost use Rattle.lic_spans.specs.declared.span.PlaceSpan.{PlaceSpan};
 ghost use Rattle.lic_vars.specs.Cuts.{AreFinishing, IsPiece, last_moves};
 ghost use Rattle.lic_vars.specs.Sets.{AreSuffixSets, HasOther, IsOther, IsSet, IsStart, IsThere};
 
+use crate::pattern::over_pattern;
 use crate::steps::Step;
-use lic_search::reverse::{either, over_text, over_variable};
+use lic_search::reverse::{either, over_text};
 use lic_search::view::{View, tokens_have_texts};
 use lic_spans::span::{Kind, PlaceSpan};
 use std::alloc::{AllocError, Global};
@@ -151,8 +152,9 @@ fn set_before(
     let rest = set_of(sets, number - 1);
     match &steps[steps.len() - number] {
         Step::Text(text) => over_text(alloc, view, text, Vec::from_slice(alloc, rest)?),
-        Step::Variable { ere, .. } => {
-            over_variable(alloc, view, ere, Vec::from_slice(alloc, rest)?)
+        Step::Variable { ere, is_empty, .. } => {
+            let ends = Vec::from_slice(alloc, rest)?;
+            over_pattern(alloc, view, ere, *is_empty, ends)
         }
         Step::Optional(size) => {
             let others = set_of(sets, (number - 1).saturating_sub(*size));

@@ -9,6 +9,7 @@ ghost use Rattle.lic_vars.specs.Cuts.{moves_of, IsPiece};
 
 use lic_ere::Ere;
 use lic_markup::Part;
+use lic_search::empty::has_empty_word_alone;
 use std::alloc::{AllocError, Global};
 
 /// A step over the letters.
@@ -16,8 +17,12 @@ use std::alloc::{AllocError, Global};
 pub enum Step<'s> {
     /// These letters.
     Text(&'s str),
-    /// A tidy word of the pattern.
-    Variable { name: &'s str, ere: &'s Ere },
+    /// A tidy word of the pattern, and whether the pattern is known to have the empty word and no other.
+    Variable {
+        name: &'s str,
+        ere: &'s Ere,
+        is_empty: bool,
+    },
     /// The next so many steps, or none of them.
     Optional(usize),
 }
@@ -39,6 +44,7 @@ pub fn steps_of<'s>(alloc: Global, parts: &'s [Part]) -> Result<Vec<Step<'s>>, A
                 steps.push(Step::Variable {
                     name: name.as_str(),
                     ere,
+                    is_empty: has_empty_word_alone(ere),
                 })?;
             }
             Part::Optional(body) => {

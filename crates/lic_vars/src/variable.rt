@@ -4,13 +4,14 @@ ghost use Rattle.std.specs.Prelude.{◌≡◌, ◌+◌, ◌-◌, ◌<◌, ◌&&�
 ghost use Rattle.lic_ere.specs.Trees.{tree_of};
 ghost use Rattle.lic_markup.specs.Meaning.{tree_words};
 ghost use Rattle.lic_places.specs.Places.{is_blank_at, spelling_of};
+ghost use Rattle.lic_search.specs.EmptyWord.{HasEmptyWordAlone};
 ghost use Rattle.lic_search.specs.PlaceSets.{ArePlaced};
 ghost use Rattle.lic_vars.specs.Cuts.{IsOpen};
 ghost use Rattle.lic_vars.specs.Shortest.{AreWithin, HaveNone, IsLeastNumber, IsShortest, LeadsWithin};
 
 use crate::cut::{Cut, have_cut, letter_place};
+use crate::pattern::over_pattern;
 use lic_ere::Ere;
-use lic_search::reverse::over_variable;
 use lic_search::view::{View, tokens_have_texts};
 use lic_spans::span::PlaceSpan;
 use std::alloc::{AllocError, Global};
@@ -20,16 +21,18 @@ pub fn behind_shortest(
     alloc: Global,
     view: &View<'_>,
     ere: &Ere,
+    is_empty: bool,
     spans: &[PlaceSpan],
     cut: Cut,
 ) -> Result<Cut, AllocError>
     requires placed { ArePlaced view.now spans.now }
+    requires alone { IsTrue is_empty → HasEmptyWordAlone (tree_words (tree_of ere.now)) }
     requires open { IsOpen view.now cut }
     requires can { LeadsWithin view.now (tree_words (tree_of ere.now)) spans.now cut (length (spelling_of view.now)) }
     ensures { IfOk result (λ next. IsShortest view.now (tree_words (tree_of ere.now)) spans.now cut next) }
 {
     tokens_have_texts(view);
-    let number = least_number(alloc, view, ere, spans, cut)?;
+    let number = least_number(alloc, view, ere, is_empty, spans, cut)?;
     let begin = letter_place(view, cut);
     let end = end_of(view, begin, number);
     if end <= begin {
@@ -57,10 +60,12 @@ fn least_number(
     alloc: Global,
     view: &View<'_>,
     ere: &Ere,
+    is_empty: bool,
     spans: &[PlaceSpan],
     cut: Cut,
 ) -> Result<usize, AllocError>
     requires placed { ArePlaced view.now spans.now }
+    requires alone { IsTrue is_empty → HasEmptyWordAlone (tree_words (tree_of ere.now)) }
     requires open { IsOpen view.now cut }
     requires can { LeadsWithin view.now (tree_words (tree_of ere.now)) spans.now cut (length (spelling_of view.now)) }
     ensures { IfOk result (λ number. IsLeastNumber view.now (tree_words (tree_of ere.now)) spans.now cut number) }
@@ -71,7 +76,7 @@ fn least_number(
     let mut width: usize = 0;
     while low < high {
         let middle = low + width.min((high - low) / 2);
-        if leads_within(alloc, view, ere, spans, cut, middle)? {
+        if leads_within(alloc, view, ere, is_empty, spans, cut, middle)? {
             high = middle;
         } else {
             low = first_number(spans, middle + 1, high);
@@ -114,11 +119,13 @@ fn leads_within(
     alloc: Global,
     view: &View<'_>,
     ere: &Ere,
+    is_empty: bool,
     spans: &[PlaceSpan],
     cut: Cut,
     high: usize,
 ) -> Result<bool, AllocError>
     requires placed { ArePlaced view.now spans.now }
+    requires alone { IsTrue is_empty → HasEmptyWordAlone (tree_words (tree_of ere.now)) }
     requires open { IsOpen view.now cut }
     ensures { IfOk result (λ leads. IsTrue leads
         ↔ LeadsWithin view.now (tree_words (tree_of ere.now)) spans.now cut high) }
@@ -128,7 +135,7 @@ fn leads_within(
     if ends.is_empty() {
         return Ok(false);
     }
-    let begins = over_variable(alloc, view, ere, ends)?;
+    let begins = over_pattern(alloc, view, ere, is_empty, ends)?;
     Ok(have_cut(view, &begins, cut))
 }
 

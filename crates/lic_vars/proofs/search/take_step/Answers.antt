@@ -8,6 +8,7 @@ use Rattle.lic_vars.specs.Moves.{Move}
 use Rattle.lic_vars.specs.Cuts.{IsWalk, last_moves, move_of, moves_of}
 use Rattle.lic_vars.specs.declared.cut.Cut.{Cut}
 use Rattle.lic_vars.specs.declared.steps.Step.{Step}
+use Rattle.lic_vars.proofs.PatternLemmas.{piece-at}
 use Rattle.lic_vars.proofs.SetLemmas.{last-fewer, moves-of_step}
 use Rattle.lic_vars.proofs.StepLemmas.{finish-cut, open-can, text-read, variable-leads, walk-absent, walk-present, walk-text, walk-variable, within-can}
 use Rattle.lic_vars.proofs.search.take_step.Goals as goal
@@ -32,6 +33,11 @@ returns-in-Text-clause-walk c =
     c.requires.more c.requires.within c.index-steps-steps.is c.in-Text.is c.requires.walk in
     walk-text c.args.view.now c.tokens_have_texts.ensures (moves_of c.args.steps.now) (last_moves c.args.steps.now (c.args.walk.now.left - 1))
     c.args.walk.now.record.items c.args.walk.now.cut (chars c.in-Text.text.now) c.behind_text-walk.result walk c.behind_text-walk.ensures
+
+pub behind_shortest-requires-clause-alone : goal.behind_shortest-requires-clause-alone
+behind_shortest-requires-clause-alone c =
+    let n = c.args.walk.now.left in
+    piece-at c.args.steps.now (length c.args.steps.now - n) c.index-steps-steps.result _ c.requires.pieces (omega (arith, c.requires.more, c.requires.within)) c.index-steps-steps.is c.in-Variable.is
 
 pub behind_shortest-requires-clause-placed : goal.behind_shortest-requires-clause-placed
 behind_shortest-requires-clause-placed c = c.requires.rest.placed

@@ -9,6 +9,7 @@ use Rattle.lic_vars.specs.Moves.{Move}
 use Rattle.lic_vars.specs.Cuts.{AreFinishing, last_moves}
 use Rattle.lic_vars.specs.Sets.{IsSet, IsThere}
 use Rattle.lic_vars.proofs.KeptLemmas.{IsOther-here, finish-there, placed-there}
+use Rattle.lic_vars.proofs.PatternLemmas.{piece-at}
 use Rattle.lic_vars.proofs.SetLemmas.{finish-optional, finish-text, finish-variable, last-fewer, moves-of_step, ok-then}
 use Rattle.lic_vars.proofs.sets.set_before.Goals as goal
 
@@ -35,16 +36,16 @@ returns-in_ok-from_slice-in-Text c =
     (finish-text tokens c.tokens_have_texts.ensures (last_moves steps (n - 1)) rest finish u (Language (letters u)) found.items
     (λ w. (letters_sound u w, λ e. subst (Language (letters u)) (sym e) (letters_complete u))) back))
 
-pub returns-in_ok-from_slice-in-Variable : goal.returns-in_ok-from_slice-in-Variable
-returns-in_ok-from_slice-in-Variable c =
+pub returns-in_ok-ends-in-Variable : goal.returns-in_ok-ends-in-Variable
+returns-in_ok-ends-in-Variable c =
     let tokens = c.args.view.now in
     let steps = c.args.steps.now in
     let n = c.args.number in
-    let rest = c.in_ok-from_slice-in-Variable.field-0.items in
+    let rest = c.in_ok-ends-in-Variable.ends.items in
     let finish = finish-there tokens steps c.args.sets.now (n - 1) rest c.requires.sets c.requires.rest
-    (λ v is. c.in_ok-from_slice-in-Variable.ensures.items ∙ c.set_of-rest.ensures v is) in
+    (λ v is. c.in_ok-ends-in-Variable.ensures.items ∙ c.set_of-rest.ensures v is) in
     let moves = moves-of_step steps n c.index-steps-steps.result _ c.requires.some c.requires.within c.index-steps-steps.is c.in-Variable.is in
-    ok-then c.over_variable.result _ _ c.over_variable.ensures
+    ok-then c.over_pattern.result _ _ c.over_pattern.ensures
     (λ (found : Vec PlaceSpan Global) back. subst (λ (ms : List Move). AreFinishing tokens ms found.items) moves
     (finish-variable tokens c.tokens_have_texts.ensures (last_moves steps (n - 1)) rest finish c.in-Variable.name.now (tree_words (tree_of c.in-Variable.ere.now)) found.items back))
 
@@ -72,10 +73,15 @@ over_text-requires-clause-placed c =
     placed-there c.args.view.now c.args.steps.now c.args.sets.now (c.args.number - 1) _ c.requires.sets c.requires.rest
     (λ v is. c.in_ok-from_slice-in-Text.ensures.items ∙ c.set_of-rest.ensures v is)
 
-pub over_variable-requires : goal.over_variable-requires
-over_variable-requires c =
+pub over_pattern-requires-clause-alone : goal.over_pattern-requires-clause-alone
+over_pattern-requires-clause-alone c =
+    let n = c.args.number in
+    piece-at c.args.steps.now (length c.args.steps.now - n) c.index-steps-steps.result _ c.requires.pieces (omega (arith, c.requires.some, c.requires.within)) c.index-steps-steps.is c.in-Variable.is
+
+pub over_pattern-requires-clause-placed : goal.over_pattern-requires-clause-placed
+over_pattern-requires-clause-placed c =
     placed-there c.args.view.now c.args.steps.now c.args.sets.now (c.args.number - 1) _ c.requires.sets c.requires.rest
-    (λ v is. c.in_ok-from_slice-in-Variable.ensures.items ∙ c.set_of-rest.ensures v is)
+    (λ v is. c.in_ok-ends-in-Variable.ensures.items ∙ c.set_of-rest.ensures v is)
 
 pub either-requires-clause-spans : goal.either-requires-clause-spans
 either-requires-clause-spans c =

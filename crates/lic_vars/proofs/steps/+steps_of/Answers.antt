@@ -31,7 +31,7 @@ loop-i-preserved t c = record {
         (text-piece c.args.parts.now c.loop-i.i _ c.loop-i-test.true c.index-parts-i.is _ w.in-Text.is c.requires w.as_str.ensures.value))
     | in-Var+in_ok-push-in-Var w ↦
         rw w.steps-is (pieces-pushed _ _ _ w.in_ok-push-in-Var.ensures.items c.loop-i.invariant.pieces
-        tt)
+        w.has_empty_word_alone.ensures)
     | in-Optional+in_ok-inner-in-Optional+in_ok-push-in-Optional+in_ok-append-in-Optional w ↦
         rw w.steps-is (pieces-appended _ _ _ w.in_ok-append-in-Optional.ensures.items
         (pieces-pushed _ _ _ w.in_ok-push-in-Optional.ensures.items c.loop-i.invariant.pieces tt) w.in_ok-inner-in-Optional.ensures.pieces)

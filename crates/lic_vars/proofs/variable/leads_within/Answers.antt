@@ -7,8 +7,8 @@ use Rattle.lic_markup.specs.Meaning.{tree_words}
 use Rattle.lic_vars.proofs.WithinLemmas.{leads-back, leads-none, within-placed}
 use Rattle.lic_vars.proofs.variable.leads_within.Goals as goal
 
-pub over_variable-requires : goal.over_variable-requires
-over_variable-requires c =
+pub over_pattern-requires-clause-placed : goal.over_pattern-requires-clause-placed
+over_pattern-requires-clause-placed c =
     within-placed c.args.view.now c.args.spans.now c.in_ok-ends.ends.items c.args.cut.place c.args.high c.requires.placed c.in_ok-ends.ensures
 
 pub returns : goal.returns
