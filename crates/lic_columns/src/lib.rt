@@ -1,0 +1,4 @@
+//! A text in columns: what each of its bytes says, 64 bytes at a time.
+#![tactic(auto)]
+
+pub mod block;
