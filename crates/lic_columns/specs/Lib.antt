@@ -1,3 +1,6 @@
 pub mod Bytes
 pub mod Classes
 pub mod Masks
+pub mod Flags
+pub mod Places
+pub mod Known

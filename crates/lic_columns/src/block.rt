@@ -25,6 +25,7 @@ const HIGH: [u8; 64] = [
 ];
 
 /// What is known of the bytes of a block. Bit k of a mask is about byte k.
+#[derive(Drop)]
 pub struct Block {
     pub letters: u8x64,
     pub word: u64,

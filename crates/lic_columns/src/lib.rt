@@ -2,3 +2,7 @@
 #![tactic(auto)]
 
 pub mod block;
+pub mod columns;
+pub mod flags;
+pub mod mask;
+mod search;
