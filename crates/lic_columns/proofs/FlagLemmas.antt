@@ -1,9 +1,9 @@
 -- Columns seen as a list of flags.
-use Rattle.std.proofs.Common.{◌≡◌, ℕ, ◌+◌, ◌-◌, ◌*◌, ◌/◌, ◌%◌, ◌^◌, ◌<◌, ◌≤◌, Bool, true, false, not, ◌&&◌, ◌||◌, List, [], ◌∷◌, ◌++◌, get_or, length, set, refl, ap, sym, ◌∙◌, arith, inl, inr}
+use Rattle.std.proofs.Common.{◌≡◌, zero, suc, ℕ, ◌+◌, ◌-◌, ◌*◌, ◌/◌, ◌%◌, ◌^◌, ◌<◌, ◌≤◌, Bool, true, false, not, ◌&&◌, ◌||◌, List, [], ◌∷◌, ◌++◌, get_or, length, set, refl, ap, sym, ◌∙◌, arith, inl, inr}
 use Rattle.std.proofs.lemmas.Bool.{cases_lt, cases_eq}
 use Rattle.std.proofs.lemmas.List.{get_or_past, ext_get_or, length-append, length_push, get_or_push, get_or_append_left, get_or-append_right, get_or-set_same, get_or-set_other, length-set}
 use Rattle.std.proofs.lemmas.List.FromFn.{get_or-map-range_with_len, length-map-range_with_len}
-use Rattle.lic_columns.specs.Masks.{has_bit, flag_at, IsMask}
+use Rattle.lic_columns.specs.Masks.{has_bit, flag_at, flag_before, IsMask}
 use Rattle.lic_columns.specs.Flags.{bits_of, has, flags_in, is_within, cleared}
 use Rattle.lic_columns.proofs.BitLemmas.{has_bit_zero, has_bit_above, within_is, within_before, within_after}
 
@@ -47,6 +47,27 @@ module _ (n : ℕ) (columns : List ℕ) (rest : (k : ℕ) → n ≤ k → has co
 
   pub no_column : length columns ≤ k → has_bit 0 i ≡ flag_at (flags_in n columns) (k * 64 + i)
   no_column past = ap (λ m. has_bit m i) (sym (get_or_past columns k 0 past)) ∙ column_is
+
+-- the flags before those of a column
+module _ (flags : List Bool) (before here moved k : ℕ) (first : has_bit before 63 ≡ flag_before flags (k * 64))
+    (bits : (i : ℕ) → i < 64 → has_bit here i ≡ flag_at flags (k * 64 + i))
+    (lowest : has_bit moved 0 ≡ has_bit before 63) (rest : (i : ℕ) → suc i < 64 → has_bit moved (suc i) ≡ has_bit here i) where
+  pub before_is : (i : ℕ) → i < 64 → has_bit moved i ≡ flag_before flags (k * 64 + i)
+  before_is zero small = lowest ∙ first ∙ ap (λ n. flag_before flags n) (let e : k * 64 ≡ k * 64 + 0 = omega arith in e)
+  before_is (suc i) small = rest i small ∙ bits i (omega arith) ∙ ap (λ n. flag_before flags n) (let e : suc (k * 64 + i) ≡ k * 64 + suc i = omega arith in e)
+
+-- the flags after those of a column
+module _ (flags : List Bool) (here after moved k : ℕ) (bits : (i : ℕ) → i < 64 → has_bit here i ≡ flag_at flags (k * 64 + i))
+    (next : (i : ℕ) → i < 64 → has_bit after i ≡ flag_at flags ((k + 1) * 64 + i))
+    (highest : has_bit moved 63 ≡ has_bit after 0) (rest : (i : ℕ) → i < 63 → has_bit moved i ≡ has_bit here (suc i)) where
+  pub after_is : (i : ℕ) → i < 64 → has_bit moved i ≡ flag_at flags (suc (k * 64 + i))
+  after_is i small = elim (cases_lt i 63) [
+    | inl low ↦ rest i low ∙ bits (suc i) (omega arith) ∙ ap (λ n. flag_at flags n) (let e : k * 64 + suc i ≡ suc (k * 64 + i) = omega arith in e)
+    | inr high ↦
+        let last : i ≡ 63 = omega arith in
+        ap (λ j. has_bit moved j) last ∙ highest ∙ next 0 (omega arith)
+        ∙ ap (λ n. flag_at flags n) (let e : (k + 1) * 64 + 0 ≡ suc (k * 64 + i) = omega arith in e)
+  ]
 
 -- ---- a column more
 

@@ -6,3 +6,4 @@ pub mod FlagLemmas
 pub mod PlaceLemmas
 pub mod Finds
 pub mod KnownLemmas
+pub mod CellLemmas

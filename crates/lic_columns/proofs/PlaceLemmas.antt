@@ -1,7 +1,8 @@
 -- The places of flags that are set, found from the first on.
-use Rattle.std.proofs.Common.{◌≡◌, ℕ, zero, suc, ◌+◌, ◌*◌, ◌%◌, ◌^◌, ◌<◌, Bool, true, false, List, [], ◌∷◌, ◌++◌, get_or, length, set, refl, ap, sym, ◌∙◌, arith, inl, inr, w64, eq-eqb}
+use Rattle.std.proofs.Common.{◌≡◌, drop, take, ◌≤◌, ℕ, zero, suc, ◌+◌, ◌*◌, ◌%◌, ◌^◌, ◌<◌, Bool, true, false, List, [], ◌∷◌, ◌++◌, get_or, length, set, refl, ap, sym, ◌∙◌, arith, inl, inr, w64, eq-eqb}
 use Rattle.std.proofs.lemmas.Bool.{cases_eq, cases_lt}
-use Rattle.std.proofs.lemmas.List.{ext_get_or, get_or_past, get_or-set_same, get_or-set_other, length-set, append_assoc}
+use Rattle.std.proofs.lemmas.List.{ext_get_or, get_or_past, get_or-take, get_or-drop, length-take, length-take-le, get_or-set_same, get_or-set_other, length-set, append_assoc}
+use Rattle.std.proofs.Math.Seq.{take-add}
 use Rattle.std.proofs.lemmas.Nat.{and_le_l}
 use Rattle.std.proofs.lemmas.Nat.Bits.{bit_at-trailing_zeros, bit_at_clear_same, bit_at_clear_other}
 use Rattle.std.specs.Prelude.{◌==◌, bit_and}
@@ -90,3 +91,32 @@ module _ (mask : ℕ) (some : 0 < mask) (fits : mask < 2 ^ 64) where
 -- one place more is listed
 pub one_more : (listed : List ℕ) (place : ℕ) (rest : List ℕ) → (listed ++ place ∷ []) ++ rest ≡ listed ++ place ∷ rest
 one_more listed place rest = append_assoc listed (place ∷ []) rest
+
+-- ---- the places of a whole text, column by column
+
+pub places_same : (at : ℕ) (one two : List Bool) → ((k : ℕ) → flag_at one k ≡ flag_at two k) → places at one ≡ places at two
+places_same at [] two same = sym (no_places at two (λ k. sym (same k)))
+places_same at (t ∷ one) [] same = no_places at (t ∷ one) same
+places_same at (true ∷ one) (true ∷ two) same = ap (λ l. at ∷ l) (places_same (suc at) one two (λ k. same (suc k)))
+places_same at (true ∷ one) (false ∷ two) same = absurd (let e : true ≡ false = same 0 in cc)
+places_same at (false ∷ one) (true ∷ two) same = absurd (let e : false ≡ true = same 0 in cc)
+places_same at (false ∷ one) (false ∷ two) same = places_same (suc at) one two (λ k. same (suc k))
+
+module _ (flags : List Bool) (k mask : ℕ) (inside : k * 64 ≤ length flags) (bits : (i : ℕ) → i < 64 → has_bit mask i ≡ flag_at flags (k * 64 + i)) where
+  column_flags : (i : ℕ) → flag_at (bits_of 64 mask) i ≡ flag_at (take 64 (drop (k * 64) flags)) i
+  column_flags i = elim (cases_lt i 64) [
+    | inl low ↦ flag_at-bits_of 64 mask i low ∙ bits i low
+        ∙ sym (get_or-take 64 (drop (k * 64) flags) i false low ∙ get_or-drop (k * 64) flags i false)
+    | inr high ↦
+        get_or_past (bits_of 64 mask) i false (omega (arith, length-bits_of 64 mask))
+        ∙ sym (get_or_past (take 64 (drop (k * 64) flags)) i false (omega (arith, length-take 64 (drop (k * 64) flags))))
+  ]
+
+  pub column_places : (at : ℕ) → places at (take (k * 64) flags) ++ places (at + k * 64) (bits_of 64 mask) ≡ places at (take ((k + 1) * 64) flags)
+  column_places at =
+      ap (λ l. places at (take (k * 64) flags) ++ l)
+      (ap (λ n. places (at + n) (bits_of 64 mask)) (sym (length-take-le (k * 64) flags inside))
+      ∙ places_same (at + length (take (k * 64) flags)) (bits_of 64 mask) (take 64 (drop (k * 64) flags)) column_flags)
+      ∙ sym (places-append at (take (k * 64) flags) (take 64 (drop (k * 64) flags)))
+      ∙ ap (places at) (sym (take-add (k * 64) 64 flags))
+      ∙ ap (λ n. places at (take n flags)) (let e : k * 64 + 64 ≡ (k + 1) * 64 = omega arith in e)

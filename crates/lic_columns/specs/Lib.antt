@@ -4,3 +4,4 @@ pub mod Masks
 pub mod Flags
 pub mod Places
 pub mod Known
+pub mod Cells

@@ -1,10 +1,10 @@
 //! Lists of flags.
-ghost use Rattle.std.specs.Prelude.{◌≡◌, ℕ, ◌+◌, ◌*◌, ◌%◌, ◌^◌, ◌≤◌, ◌<◌, [], ◌++◌, length, IfOk};
-ghost use Rattle.lic_columns.specs.Masks.{has_bit, flag_at};
+ghost use Rattle.std.specs.Prelude.{◌≡◌, ℕ, suc, ◌+◌, ◌*◌, ◌%◌, ◌^◌, ◌≤◌, ◌<◌, [], ◌++◌, length, IfOk};
+ghost use Rattle.lic_columns.specs.Masks.{has_bit, flag_at, flag_before};
 ghost use Rattle.lic_columns.specs.Flags.{bits_of, cleared};
 
 use crate::block::SIZE;
-use crate::mask::without;
+use crate::mask::{moved_down, moved_up, without};
 use std::alloc::{AllocError, Global};
 use std::marker::Model;
 
@@ -82,6 +82,24 @@ impl Flags {
         } else {
             0
         }
+    }
+
+    /// The flags before each of the 64 places from 64 * k on, as a mask.
+    #[inline(always)]
+    pub fn column_before(&self, k: usize) -> u64
+        ensures { (i : ℕ) → i < 64 → has_bit result i ≡ flag_before self.now (k * 64 + i) }
+    {
+        let before = if k > 0 { self.column(k - 1) } else { 0 };
+        moved_up(before, self.column(k))
+    }
+
+    /// The flags after each of the 64 places from 64 * k on, as a mask.
+    #[inline(always)]
+    pub fn column_after(&self, k: usize) -> u64
+        requires { k + 1 < 2 ^ 64 }
+        ensures { (i : ℕ) → i < 64 → has_bit result i ≡ flag_at self.now (suc (k * 64 + i)) }
+    {
+        moved_down(self.column(k), self.column(k + 1))
     }
 
     /// Whether the flag at a place is set.

@@ -6,3 +6,4 @@ pub mod columns;
 pub mod flags;
 pub mod mask;
 mod search;
+pub mod tokens;
