@@ -3,9 +3,9 @@ use Rattle.std.proofs.Common.{◌≡◌, ℕ, zero, suc, ◌+◌, ◌-◌, ◌*�
 use Rattle.std.proofs.lemmas.List.{get_or-map, length-map, ext_get_or}
 use Rattle.std.proofs.lemmas.Bool.{cases_eq, and_parts}
 use Rattle.std.proofs.lemmas.Nat.{and_le_r}
-use Rattle.std.proofs.lemmas.Simd.{Each1-all, Each1-weaker, Each1-zip2, Each2-splat, below_from_Fits, length-zip2, mask_l-mod, swz_l, SwzOk, SwzOk-from_below, length-swz_l, get_or-swz_l_below}
+use Rattle.std.proofs.lemmas.Simd.{Each1-all, Each1-weaker, Each1-zip2, Each2-splat, below_from_Fits, length-zip2, mask_l-mod, swz_l, SwzOk, SwzOk-from_below, length-swz_l, get_or-swz_l_below, tops_compared, get_or-zip2}
 use lib.Lanes.{zip2, sel_l, mask_l, top, Each1}
-use Rattle.lic_columns.specs.Masks.{IsMask}
+use Rattle.lic_columns.specs.Masks.{IsMask, has_bit}
 use Rattle.lic_columns.proofs.MaskLemmas.{IsMask-mask_l}
 
 abbrev pub IsBlock : List ℕ → Type 0
@@ -104,3 +104,13 @@ pub select_is : (p : ℕ → Bool) (g h : ℕ → ℕ) (xs zs gs hs : List ℕ) 
 select_is p g h xs zs gs hs e a b =
     ap (λ l. sel_l (map (top 7) l) gs hs) e ∙ ap (λ l. sel_l l gs hs) (tops p xs)
     ∙ ap (λ l. sel_l (map p xs) l hs) a ∙ ap (λ l. sel_l (map p xs) (map g xs) l) b ∙ chosen p g h xs
+
+-- the mask of where two vectors are the same
+pub has_bit-same : (xs ys : List ℕ) (i : ℕ) → length xs ≡ 64 → length ys ≡ 64 → i < 64
+    → has_bit (mask_l (map (top 7) (zip2 (λ a b. all_ones (eqb a b)) xs ys)) % 2 ^ 64) i ≡ eqb (get_or xs i 0) (get_or ys i 0)
+has_bit-same xs ys i long same small =
+    let size : length (zip2 eqb xs ys) ≡ 64 = length-zip2 eqb xs ys (long ∙ sym same) ∙ long in
+    ap (λ l. has_bit (mask_l l % 2 ^ 64) i) (tops_compared w8 eqb xs ys)
+    ∙ ap (λ m. has_bit m i) (mask_l-mod (zip2 eqb xs ys) 64 (omega arith))
+    ∙ (IsMask-mask_l (zip2 eqb xs ys)).bit i
+    ∙ get_or-zip2 eqb xs ys i 0 0 false (omega arith) (omega arith)

@@ -7,3 +7,4 @@ pub mod PlaceLemmas
 pub mod Finds
 pub mod KnownLemmas
 pub mod CellLemmas
+pub mod MarkLemmas

@@ -5,3 +5,4 @@ pub mod Flags
 pub mod Places
 pub mod Known
 pub mod Cells
+pub mod Marks

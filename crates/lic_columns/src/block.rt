@@ -1,9 +1,10 @@
 //! What 64 bytes say by themselves, by lanes.
-ghost use Rattle.std.specs.Prelude.{◌≡◌, map, ◌==◌, nat_le, if◌then◌else◌};
+ghost use Rattle.std.specs.Prelude.{◌≡◌, ℕ, suc, ◌+◌, ◌-◌, ◌<◌, ◌≤◌, ◌++◌, length, replicate, slice_index, map, ◌==◌, nat_le, if◌then◌else◌};
 ghost use Rattle.std.specs.Char.{to_ascii_lowercase};
 ghost use Rattle.lic_columns.specs.Bytes.{is_word, is_mark, is_feed, is_high, letter};
 ghost use Rattle.lic_columns.specs.Classes.{class_by_low, class_by_high, class_of};
-ghost use Rattle.lic_columns.specs.Masks.{IsMask};
+ghost use Rattle.lic_columns.specs.Masks.{IsMask, has_bit};
+ghost use Rattle.lic_columns.specs.Marks.{is_joining};
 
 use std::simd::prelude::*;
 
@@ -116,4 +117,50 @@ pub fn read_block(bytes: u8x64) -> Block
         feed: places_of(b'\n', bytes),
         high: places_from(128, bytes),
     }
+}
+
+/// The bytes, and blanks up to the end of a block.
+pub(crate) fn padded(bytes: &[u8]) -> u8x64
+    requires { length bytes.now ≤ 64 }
+    ensures { result ≡ bytes.now ++ replicate (64 - length bytes.now) 32 }
+{
+    let mut block = [b' '; SIZE];
+    block[..bytes.len()].copy_from_slice(bytes);
+    u8x64::from_array(block)
+}
+
+/// 64 bytes from a place on; after the end of the bytes stand blanks.
+#[inline(always)]
+fn load(bytes: &[u8], at: usize) -> u8x64
+    requires { at ≤ length bytes.now }
+    ensures long { length result ≡ 64 }
+    ensures bytes { (i : ℕ) → i < 64 → at + i < length bytes.now
+        → slice_index result i ≡ slice_index bytes.now (at + i) }
+{
+    if bytes.len() - at >= SIZE {
+        u8x64::from_slice(&bytes[at..])
+    } else {
+        padded(&bytes[at..])
+    }
+}
+
+/// At which of 64 places from this one on a byte is the same as the next.
+#[inline(always)]
+pub(crate) fn same_places(bytes: &[u8], at: usize) -> u64
+    requires { at < length bytes.now }
+    ensures { (i : ℕ) → i < 64 → at + suc i < length bytes.now
+        → has_bit result i ≡ (slice_index bytes.now (at + i) == slice_index bytes.now (at + suc i)) }
+{
+    load(bytes, at).simd_eq(load(bytes, at + 1)).to_bitmask()
+}
+
+/// At which of 64 places from this one on stands the letter of quotes or of dashes.
+#[inline(always)]
+pub(crate) fn joining_places(letters: &[u8], at: usize) -> u64
+    requires { at ≤ length letters.now }
+    ensures { (i : ℕ) → i < 64 → at + i < length letters.now
+        → has_bit result i ≡ is_joining (slice_index letters.now (at + i)) }
+{
+    let lanes = load(letters, at);
+    places_of(b'\'', lanes) | places_of(b'-', lanes)
 }

@@ -3,7 +3,7 @@ ghost use Rattle.std.specs.Prelude.{◌≡◌, ℕ, ◌+◌, ◌-◌, ◌%◌, �
 ghost use Rattle.lic_columns.specs.Masks.{flag_at};
 ghost use Rattle.lic_columns.specs.Known.{HasLength, known_of, followed_by, blanked, is_dark};
 
-use crate::block::{SIZE, read_block};
+use crate::block::{SIZE, padded, read_block};
 use crate::flags::Flags;
 use crate::search::{first_of_either, first_set, last_of_either};
 use std::alloc::{AllocError, Global};
@@ -26,16 +26,6 @@ impl Model for Columns {
     ghost Value = { Known };
 
     ghost view = { λ c. record { letters = c.letters.items; word = c.word; mark = c.mark; feed = c.feed; high = c.high } };
-}
-
-/// The bytes, and blanks up to the end of a block.
-fn padded(bytes: &[u8]) -> u8x64
-    requires { length bytes.now ≤ 64 }
-    ensures { result ≡ bytes.now ++ replicate (64 - length bytes.now) 32 }
-{
-    let mut block = [b' '; SIZE];
-    block[..bytes.len()].copy_from_slice(bytes);
-    u8x64::from_array(block)
 }
 
 impl Columns {

@@ -1,5 +1,5 @@
 //! Lists of flags.
-ghost use Rattle.std.specs.Prelude.{◌≡◌, ℕ, suc, ◌+◌, ◌*◌, ◌%◌, ◌^◌, ◌≤◌, ◌<◌, [], ◌++◌, length, IfOk};
+ghost use Rattle.std.specs.Prelude.{◌≡◌, ℕ, Bool, List, suc, ◌+◌, ◌-◌, ◌/◌, take, false, ◌*◌, ◌%◌, ◌^◌, ◌≤◌, ◌<◌, [], ◌++◌, length, IfOk};
 ghost use Rattle.lic_columns.specs.Masks.{has_bit, flag_at, flag_before};
 ghost use Rattle.lic_columns.specs.Flags.{bits_of, cleared};
 
@@ -69,6 +69,32 @@ impl Flags {
     {
         self.columns.push(mask)?;
         self.len += count;
+        Ok(())
+    }
+
+    /// How many columns there are.
+    #[inline(always)]
+    pub fn count(&self) -> usize
+        ensures { result ≡ (length self.now + 63) / 64 }
+    {
+        self.columns.len()
+    }
+
+    /// Adds the next 64 of so many flags, or those that are left of them.
+    ///
+    /// # Errors
+    /// Memory ran out.
+    #[inline(always)]
+    pub fn push_column(&mut self, mask: u64, len: usize) -> Result<(), AllocError>
+        requires whole { length self.old % 64 ≡ 0 }
+        requires room { length self.old < len }
+        requires below { (i : ℕ) → len - length self.old ≤ i → i < 64 → has_bit mask i ≡ false }
+        ensures { IfOk result (λ _. (all : List Bool) → length all ≡ len
+            → ((i : ℕ) → i < 64 → length self.old + i < len → has_bit mask i ≡ flag_at all (length self.old + i))
+            → self.old ≡ take (length self.old) all → self.new ≡ take (length self.old + 64) all) }
+    {
+        let count = (len - self.len).min(SIZE);
+        self.push(mask, count)?;
         Ok(())
     }
 

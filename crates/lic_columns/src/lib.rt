@@ -4,6 +4,7 @@
 pub mod block;
 pub mod columns;
 pub mod flags;
+pub mod marks;
 pub mod mask;
 mod search;
 pub mod tokens;

@@ -1,6 +1,6 @@
 use Rattle.std.proofs.Common.{◌++◌, length, replicate, drop, ap, ◌∙◌}
 use Rattle.std.proofs.lemmas.List.{drop-replicate}
-use Rattle.lic_columns.proofs.columns.padded.Goals as goal
+use Rattle.lic_columns.proofs.block.padded.Goals as goal
 
 pub returns : goal.returns
 returns c =
