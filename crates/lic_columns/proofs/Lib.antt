@@ -8,3 +8,4 @@ pub mod Finds
 pub mod KnownLemmas
 pub mod CellLemmas
 pub mod MarkLemmas
+pub mod TextLemmas

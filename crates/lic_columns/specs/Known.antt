@@ -1,5 +1,5 @@
 -- What is known of the bytes of a text, place by place.
-use Rattle.std.specs.Prelude.{◌≡◌, ℕ, Bool, ◌||◌, List, map, length, ◌++◌}
+use Rattle.std.specs.Prelude.{◌≡◌, ℕ, Bool, false, ◌&&◌, ◌||◌, List, map, length, ◌++◌}
 use Rattle.lic_columns.specs.Bytes.{letter, is_word, is_mark, is_feed, is_high}
 use Rattle.lic_columns.specs.Flags.{cleared}
 use Rattle.lic_columns.specs.Masks.{flag_at}
@@ -19,6 +19,11 @@ pub record HasLength (n : ℕ) (known : Known) : Type 0 where
   pub mark : length known.mark ≡ n
   pub feed : length known.feed ≡ n
   pub high : length known.high ≡ n
+
+-- something is known of so many bytes, and none is a word character and a mark
+pub record IsText (n : ℕ) (known : Known) : Type 0 where
+  pub whole : HasLength n known
+  pub apart : (k : ℕ) → (flag_at known.word k && flag_at known.mark k) ≡ false
 
 -- what the bytes say by themselves
 abbrev pub known_of : List ℕ → Known

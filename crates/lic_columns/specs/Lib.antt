@@ -6,3 +6,4 @@ pub mod Places
 pub mod Known
 pub mod Cells
 pub mod Marks
+pub mod Tokens

@@ -50,6 +50,30 @@ impl Columns {
         self.letters.len()
     }
 
+    /// The letter of each byte.
+    #[inline(always)]
+    pub fn letters(&self) -> &[u8]
+        ensures { result.now ≡ self.now.letters }
+    {
+        &self.letters
+    }
+
+    /// At which bytes a word goes on, or begins.
+    #[inline(always)]
+    pub fn word(&self) -> &Flags
+        ensures { result.now ≡ self.now.word }
+    {
+        &self.word
+    }
+
+    /// At which bytes a mark stands.
+    #[inline(always)]
+    pub fn mark(&self) -> &Flags
+        ensures { result.now ≡ self.now.mark }
+    {
+        &self.mark
+    }
+
     /// Reads a text; what was held before is let go of, and the room for it is kept.
     ///
     /// # Errors
@@ -114,6 +138,17 @@ impl Columns {
             Some(feed) => feed + 1,
             None => self.feed.len(),
         }
+    }
+
+    /// The first byte of the range that is a part of a character beyond ASCII.
+    #[inline]
+    pub fn first_high(&self, from: usize, to: usize) -> Option<usize>
+        requires { from ≤ to }
+        ensures found { IfSome result (λ at. (from ≤ at) × (at < to) × (flag_at self.now.high at ≡ true)
+            × ((k : ℕ) → from ≤ k → k < at → flag_at self.now.high k ≡ false)) }
+        ensures none { IfNone result ((k : ℕ) → from ≤ k → k < to → flag_at self.now.high k ≡ false) }
+    {
+        first_set(&self.high, from, to)
     }
 
     /// Takes the bytes of a range away: they count as blanks.

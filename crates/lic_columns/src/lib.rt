@@ -4,7 +4,10 @@
 pub mod block;
 pub mod columns;
 pub mod flags;
+pub mod laws;
 pub mod marks;
 pub mod mask;
 mod search;
+#[cfg(test)]
+mod tests;
 pub mod tokens;

@@ -3,9 +3,13 @@ ghost use Rattle.std.specs.Prelude.{◌≡◌, ℕ, ◌+◌, ◌*◌, ◌^◌, �
 ghost use Rattle.lic_columns.specs.Masks.{has_bit, flag_at};
 ghost use Rattle.lic_columns.specs.Cells.{AreCells, cells_of, firsts, lasts, spans, starts_of, ends_of};
 ghost use Rattle.lic_columns.specs.Cells.{Blank};
+ghost use Rattle.lic_columns.specs.Known.{IsText};
+ghost use Rattle.lic_columns.specs.Tokens.{text_spans};
 
 use crate::block::SIZE;
+use crate::columns::Columns;
 use crate::flags::Flags;
+use crate::marks::Marks;
 use crate::mask::{but_not, push_places};
 use std::alloc::AllocError;
 
@@ -61,5 +65,32 @@ pub fn push_spans(
         push_places(here, bounds.first, starts)?;
         push_places(here + 1, bounds.last, ends)?;
     }
+    Ok(())
+}
+
+/// Adds the places where the tokens of a text begin, and those after the places where they end: each longest run of bytes of a
+/// word, and each mark that is in no separator, or row of quotes or of dashes. The text begins at this place. The marks
+/// may hold anything before.
+///
+/// # Errors
+/// Memory ran out. What the lists then hold is not said.
+pub fn push_tokens(
+    separators: bool,
+    at: u32,
+    bytes: &[u8],
+    columns: &Columns,
+    marks: &mut Marks,
+    starts: &mut Vec<u32>,
+    ends: &mut Vec<u32>,
+) -> Result<(), AllocError>
+    requires fits { at + length bytes.now + 65 ≤ 2 ^ 32 }
+    requires text { IsText (length bytes.now) columns.now }
+    ensures starts { IfOk result (λ _. starts.new.items
+        ≡ starts.old.items ++ starts_of (text_spans separators at bytes.now columns.now)) }
+    ensures ends { IfOk result (λ _. ends.new.items
+        ≡ ends.old.items ++ ends_of (text_spans separators at bytes.now columns.now)) }
+{
+    marks.read(separators, bytes, columns.letters(), columns.mark())?;
+    push_spans(at, columns.word(), &marks.kept, &marks.joined, starts, ends)?;
     Ok(())
 }
