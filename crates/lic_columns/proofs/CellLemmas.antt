@@ -28,7 +28,7 @@ ends_are at (c ∷ cells) = ends_with at (is_blank c) (goes_on c (next_cell cell
 
 starts_from_here : (at x : ℕ) (ss : List Span) (rest : List ℕ) → starts_of ss ≡ x ∷ rest → starts_of (from_here at ss) ≡ at ∷ rest
 starts_from_here at x [] rest e = absurd cc
-starts_from_here at x (s ∷ ss) rest e = let tails : starts_of ss ≡ rest = cc in ap (λ l. at ∷ l) tails
+starts_from_here at x (s ∷ ss) rest e = let others : starts_of ss ≡ rest = cc in ap (λ l. at ∷ l) others
 
 starts_with : (at : ℕ) (b on more : Bool) (ss : List Span) (flags : List Bool) → (b ≡ true → on ≡ false) → (b ≡ true → more ≡ false)
     → starts_of ss ≡ cond more (suc at ∷ places (suc at) flags) (places (suc at) flags)

@@ -214,7 +214,7 @@ bits_fit mask n fits small none =
     } in
     subst (λ m. mask < 2 ^ m) (length-bits_of n mask) (mask-lt mask (bits_of n mask) is)
 
-module _ (all old : List Bool) (mask count len : ℕ) (long : length all ≡ len) (front : old ≡ take (length old) all) (is_count : count ≡ min (len - length old) 64)
+module _ (all old : List Bool) (mask count len : ℕ) (long : length all ≡ len) (begun : old ≡ take (length old) all) (is_count : count ≡ min (len - length old) 64)
     (bits : (i : ℕ) → i < 64 → length old + i < len → has_bit mask i ≡ flag_at all (length old + i)) where
   next_bits : bits_of count mask ≡ take 64 (drop (length old) all)
   next_bits = ext_get_or false (bits_of count mask) (take 64 (drop (length old) all))
@@ -229,7 +229,7 @@ module _ (all old : List Bool) (mask count len : ℕ) (long : length all ≡ len
       ∙ sym (get_or-take 64 (drop (length old) all) i false small ∙ get_or-drop (length old) all i false))
 
   pub one_column_more : old ++ bits_of count mask ≡ take (length old + 64) all
-  one_column_more = ap (λ l. old ++ l) next_bits ∙ ap (λ l. l ++ take 64 (drop (length old) all)) front ∙ sym (take-add (length old) 64 all)
+  one_column_more = ap (λ l. old ++ l) next_bits ∙ ap (λ l. l ++ take 64 (drop (length old) all)) begun ∙ sym (take-add (length old) 64 all)
 
 -- a list that is made of a test at each of the first n places
 abbrev pub listed : (ℕ → Bool) → ℕ → List Bool
@@ -241,10 +241,10 @@ length-listed p n = length-map-range_with_len p 0 n
 pub flag_at-listed : (p : ℕ → Bool) (n k : ℕ) → k < n → flag_at (listed p n) k ≡ p k
 flag_at-listed p n k inside = get_or-map-range_with_len p 0 n k k false inside (omega arith)
 
-module _ (p : ℕ → Bool) (row : List Bool) (k n count : ℕ) (front : row ≡ take (k * 64) (listed p n)) (is_count : count ≡ (n + 63) / 64) where
+module _ (p : ℕ → Bool) (row : List Bool) (k n count : ℕ) (begun : row ≡ take (k * 64) (listed p n)) (is_count : count ≡ (n + 63) / 64) where
   -- the columns before are whole
   pub rows_length : k < count → length row ≡ k * 64
-  rows_length more = ap length front ∙ length-take-le (k * 64) (listed p n) (omega (arith, length-listed p n))
+  rows_length more = ap length begun ∙ length-take-le (k * 64) (listed p n) (omega (arith, length-listed p n))
 
   pub row_next : k < count → (mask len : ℕ) (new : List Bool) → len ≡ n → ((i : ℕ) → i < 64 → has_bit mask i ≡ p (k * 64 + i))
       → ((all : List Bool) → length all ≡ len → ((i : ℕ) → i < 64 → length row + i < len → has_bit mask i ≡ flag_at all (length row + i))
@@ -254,8 +254,8 @@ module _ (p : ℕ → Bool) (row : List Bool) (k n count : ℕ) (front : row ≡
       let size : length row ≡ k * 64 = rows_length more in
       pushed (listed p n) (length-listed p n ∙ sym same)
       (λ i small inside. bits i small ∙ ap p (let e : k * 64 + i ≡ length row + i = omega arith in e) ∙ sym (flag_at-listed p n (length row + i) (omega arith)))
-      (front ∙ ap (λ m. take m (listed p n)) (sym size))
+      (begun ∙ ap (λ m. take m (listed p n)) (sym size))
       ∙ ap (λ m. take m (listed p n)) (let e : length row + 64 ≡ (k + 1) * 64 = omega arith in e)
 
   pub row_done : count ≤ k → row ≡ listed p n
-  row_done all = front ∙ take_all (k * 64) (listed p n) (omega (arith, length-listed p n))
+  row_done all = begun ∙ take_all (k * 64) (listed p n) (omega (arith, length-listed p n))

@@ -24,8 +24,8 @@ flag_at-map p bytes k none = elim (cases_lt k (length bytes)) [
 module _ (p : ℕ → Bool) (none : p 32 ≡ false) (bytes : List ℕ) (long : length bytes ≡ 64) (count : ℕ) (small : count ≤ 64)
     (blank : (k : ℕ) → count ≤ k → k < 64 → get_or bytes k 0 ≡ 32) (mask : ℕ) (is : IsMask mask (map p bytes)) where
   -- the mask is that of the bytes before the blanks
-  front_mask : IsMask mask (map p (take count bytes))
-  front_mask = record {
+  part_mask : IsMask mask (map p (take count bytes))
+  part_mask = record {
     bit = λ k. is.bit k ∙ flag_at-map p bytes k none ∙ elim (cases_lt k count) [
       | inl low ↦ ap p (sym (get_or-take count bytes k 32 low))
       | inr high ↦ ap p (blank_at k high ∙ sym (get_or_past (take count bytes) k 32 (omega (arith, length-take-le count bytes (omega arith)))))
@@ -38,14 +38,14 @@ module _ (p : ℕ → Bool) (none : p 32 ≡ false) (bytes : List ℕ) (long : l
         | inr past ↦ get_or_past bytes k 32 (omega arith)
       ]
 
-  front_length : length (map p (take count bytes)) ≡ count
-  front_length = length-map (take count bytes) p ∙ length-take-le count bytes (omega arith)
+  part_length : length (map p (take count bytes)) ≡ count
+  part_length = length-map (take count bytes) p ∙ length-take-le count bytes (omega arith)
 
-  pub front_fits : mask < 2 ^ count
-  front_fits = subst (λ n. mask < 2 ^ n) front_length (mask-lt mask (map p (take count bytes)) front_mask)
+  pub part_fits : mask < 2 ^ count
+  part_fits = subst (λ n. mask < 2 ^ n) part_length (mask-lt mask (map p (take count bytes)) part_mask)
 
-  pub front_bits : bits_of count mask ≡ map p (take count bytes)
-  front_bits = bits_of-mask mask (map p (take count bytes)) count front_mask front_length
+  pub part_bits : bits_of count mask ≡ map p (take count bytes)
+  part_bits = bits_of-mask mask (map p (take count bytes)) count part_mask part_length
 
 -- ---- the record
 

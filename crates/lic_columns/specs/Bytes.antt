@@ -22,6 +22,6 @@ is_feed b = b == 10
 abbrev pub has_letter : ℕ → Bool
 has_letter b = nat_lt b 128 && (is_word_kind (kind_of b) || is_mark_kind (kind_of b))
 
--- the letter that the byte stands for: white space, and a part of a character beyond ASCII, stand for themselves
+-- the letter of a byte: what its character is spelled by; white space, and a part of a character beyond ASCII, is its own
 abbrev pub letter : ℕ → ℕ
 letter b = if has_letter b then slice_index (spell b) 0 else b

@@ -63,7 +63,7 @@ abbrev pub next_cell : List Cell → Cell
 next_cell [] = Blank
 next_cell (c ∷ cells) = c
 
--- a cell in front of tokens: it is of the first of them, or one by itself
+-- a cell before tokens: it is of the first of them, or one by itself
 abbrev pub with_cell : ℕ → Bool → Bool → List Span → List Span
 with_cell at true more spans = spans
 with_cell at false true spans = from_here at spans

@@ -40,6 +40,6 @@ is_joined letters same marks k = (flag_at marks k && flag_before same k) && is_j
 abbrev pub joined_by : List Bool → List ℕ → List Bool → List Bool
 joined_by same letters marks = map (is_joined letters same marks) (range_with_len 0 (length marks))
 
--- which marks are joined to the one before: quotes behind quotes, and dashes behind dashes
+-- which marks are joined to the one before: quotes after quotes, and dashes after dashes
 abbrev pub joined_marks : List ℕ → List Bool → List Bool
 joined_marks letters marks = joined_by (same_as_next letters marks) letters marks

@@ -103,7 +103,7 @@ impl Columns {
         self.high.reset();
     }
 
-    /// Adds some bytes, behind whole blocks; blanks stand behind them.
+    /// Adds some bytes, after whole blocks; blanks stand after them.
     #[inline(always)]
     fn push_block(&mut self, bytes: u8x64, count: usize) -> Result<(), AllocError>
         requires whole { HasLength (length self.old.letters) self.old }
@@ -124,7 +124,7 @@ impl Columns {
         Ok(())
     }
 
-    /// Where the line ends of which this byte is a part: behind the first line feed at this place or after, or at the
+    /// Where the line ends of which this byte is a part: after the first line feed at this place or later, or at the
     /// end of the text.
     #[inline]
     pub fn line_end(&self, at: usize) -> usize

@@ -54,7 +54,7 @@ impl Flags {
         self.len = 0;
     }
 
-    /// Adds the first bits of a mask, behind whole columns.
+    /// Adds the first bits of a mask, after whole columns.
     ///
     /// # Errors
     /// Memory ran out.

@@ -25,8 +25,8 @@ push-requires-clause-room c =
     omega (arith, size, c.requires.room, c.min-count.ensures, c.ranges.len.fits)
 
 pub returns : goal.returns
-returns c = λ all long bits front.
+returns c = λ all long bits begun.
     let size : c.self.inside.len ≡ length c.args.self.now = sym (length-flags_in c.self.inside.len c.self.inside.columns.items) ∙ ap length c.self.view_is in
     let count : c.min-count.result ≡ min (c.args.len - length c.args.self.now) 64 = c.min-count.ensures ∙ ap (λ n. min (c.args.len - n) 64) size in
     let pushed : c.push.new.self ≡ c.args.self.now ++ bits_of c.min-count.result c.args.mask = search rules in
-    pushed ∙ one_column_more all c.args.self.now c.args.mask c.min-count.result c.args.len long front count bits
+    pushed ∙ one_column_more all c.args.self.now c.args.mask c.min-count.result c.args.len long begun count bits
