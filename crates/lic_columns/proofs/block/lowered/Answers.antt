@@ -1,0 +1,23 @@
+use Rattle.std.proofs.Common.{◌≡◌, ℕ, ◌+◌, ◌-◌, ◌%◌, ◌^◌, map, replicate, bit_or, ltb, ap, sym, ◌∙◌}
+use Rattle.std.proofs.lemmas.List.{length-map, map-id}
+use Rattle.std.proofs.lemmas.Simd.{zip2_splat, map-map}
+use lib.Lanes.{zip2}
+use Rattle.lic_columns.proofs.ByteLemmas.{is_capital, small_letters}
+use Rattle.lic_columns.proofs.Lanes.{all_ones, select_is}
+use Rattle.lic_columns.proofs.block.lowered.Goals as goal
+
+abbrev moved : ℕ → ℕ → ℕ
+moved a b = (a + (2 ^ 8 - b)) % 2 ^ 8
+
+abbrev less : ℕ → ℕ → ℕ
+less a b = all_ones (ltb a b)
+
+pub returns : goal.returns
+returns c =
+    let v = c.args.bytes in
+    let first : zip2 moved v (replicate 64 65) ≡ map (λ x. moved x 65) v = zip2_splat moved v 64 65 c.fits-bytes.0 in
+    let tests : zip2 less (zip2 moved v (replicate 64 65)) (replicate 64 26) ≡ map (λ x. all_ones (is_capital x)) v =
+    ap (λ l. zip2 less l (replicate 64 26)) first ∙ zip2_splat less (map (λ x. moved x 65) v) 64 26 (length-map v (λ x. moved x 65) ∙ c.fits-bytes.0)
+    ∙ map-map (λ y. less y 26) (λ x. moved x 65) v in
+    select_is is_capital (λ x. bit_or x 32) (λ x. x) v _ _ _ tests (zip2_splat bit_or v 64 32 c.fits-bytes.0) (sym (map-id v))
+    ∙ small_letters v c.fits-bytes.1

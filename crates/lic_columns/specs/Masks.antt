@@ -1,0 +1,20 @@
+-- Masks: numbers that are read bit by bit.
+use Rattle.std.specs.Prelude.{◌≡◌, ℕ, zero, suc, Bool, false, ◌==◌, List, slice_index_or}
+use Rattle.std.specs.Int.{bit_at}
+
+-- whether bit k of the mask is set
+abbrev pub has_bit : ℕ → ℕ → Bool
+has_bit mask k = bit_at mask k == 1
+
+-- whether flag k of a list is set: past its end none is
+abbrev pub flag_at : List Bool → ℕ → Bool
+flag_at flags k = slice_index_or flags k false
+
+-- whether the flag before this place is set: before the first none is
+abbrev pub flag_before : List Bool → ℕ → Bool
+flag_before flags zero = false
+flag_before flags (suc k) = flag_at flags k
+
+-- bit k of the mask is set exactly if flag k is
+pub record IsMask (mask : ℕ) (flags : List Bool) : Type 0 where
+  pub bit : (k : ℕ) → has_bit mask k ≡ flag_at flags k

@@ -1,0 +1,19 @@
+-- The tokens of a text, by what is known of its bytes.
+use Rattle.std.specs.Prelude.{ℕ, Bool, if◌then◌else◌, List}
+use Rattle.lic_columns.specs.Cells.{Cell, cells_of, Span, spans}
+use Rattle.lic_columns.specs.Known.{Known}
+use Rattle.lic_columns.specs.Marks.{without_separators, joined_marks}
+
+-- the marks that are in no separator, where separators are taken out, and else all
+abbrev pub kept_marks : Bool → List ℕ → Known → List Bool
+kept_marks separators bytes known = if separators then without_separators bytes known.mark else known.mark
+
+-- what stands at each place once separators are taken out, and quotes and dashes joined
+abbrev pub text_cells : Bool → List ℕ → Known → List Cell
+text_cells separators bytes known =
+    let kept = kept_marks separators bytes known in
+    cells_of known.word kept (joined_marks known.letters kept)
+
+-- the tokens of a text that begins at this place
+abbrev pub text_spans : Bool → ℕ → List ℕ → Known → List Span
+text_spans separators at bytes known = spans at (text_cells separators bytes known)

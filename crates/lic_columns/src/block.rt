@@ -1,0 +1,166 @@
+//! What 64 bytes say by themselves, by lanes.
+ghost use Rattle.std.specs.Prelude.{◌≡◌, ℕ, suc, ◌+◌, ◌-◌, ◌<◌, ◌≤◌, ◌++◌, length, replicate, slice_index, map, ◌==◌, nat_le, if◌then◌else◌};
+ghost use Rattle.std.specs.Char.{to_ascii_lowercase};
+ghost use Rattle.lic_columns.specs.Bytes.{is_word, is_mark, is_feed, is_high, letter};
+ghost use Rattle.lic_columns.specs.Classes.{class_by_low, class_by_high, class_of};
+ghost use Rattle.lic_columns.specs.Masks.{IsMask, has_bit};
+ghost use Rattle.lic_columns.specs.Marks.{is_joining};
+
+use std::simd::prelude::*;
+
+/// How many bytes a block has.
+pub const SIZE: usize = 64;
+
+/// Classes by the low half of a byte, four times over: a byte is of a class that both of its halves have.
+const LOW: [u8; 64] = [
+    18, 4, 4, 4, 4, 4, 4, 4, 4, 5, 13, 109, 109, 109, 108, 44, 18, 4, 4, 4, 4, 4, 4, 4, 4, 5, 13,
+    109, 109, 109, 108, 44, 18, 4, 4, 4, 4, 4, 4, 4, 4, 5, 13, 109, 109, 109, 108, 44, 18, 4, 4, 4,
+    4, 4, 4, 4, 4, 5, 13, 109, 109, 109, 108, 44,
+];
+
+/// Classes by the high half of a byte.
+const HIGH: [u8; 64] = [
+    1, 0, 6, 8, 16, 32, 16, 64, 0, 0, 0, 0, 0, 0, 0, 0, 1, 0, 6, 8, 16, 32, 16, 64, 0, 0, 0, 0, 0,
+    0, 0, 0, 1, 0, 6, 8, 16, 32, 16, 64, 0, 0, 0, 0, 0, 0, 0, 0, 1, 0, 6, 8, 16, 32, 16, 64, 0, 0,
+    0, 0, 0, 0, 0, 0,
+];
+
+/// What is known of the bytes of a block. Bit k of a mask is about byte k.
+#[derive(Drop)]
+pub struct Block {
+    pub letters: u8x64,
+    pub word: u64,
+    pub mark: u64,
+    pub feed: u64,
+    pub high: u64,
+}
+
+#[inline(always)]
+fn classes_by_low(bytes: u8x64) -> u8x64
+    ensures { result ≡ map class_by_low bytes }
+{
+    u8x64::from_array(LOW).swizzle_dyn_within::<16>(bytes & u8x64::splat(15))
+}
+
+#[inline(always)]
+fn classes_by_high(bytes: u8x64) -> u8x64
+    ensures { result ≡ map class_by_high bytes }
+{
+    u8x64::from_array(HIGH).swizzle_dyn_within::<16>(bytes >> u8x64::splat(4))
+}
+
+#[inline(always)]
+fn classes(bytes: u8x64) -> u8x64
+    ensures { result ≡ map class_of bytes }
+{
+    classes_by_low(bytes) & classes_by_high(bytes)
+}
+
+/// At which places a lane is this one.
+#[inline(always)]
+pub fn places_of(lane: u8, lanes: u8x64) -> u64
+    ensures { IsMask result (map (λ b. b == lane) lanes) }
+{
+    lanes.simd_eq(u8x64::splat(lane)).to_bitmask()
+}
+
+/// At which places a lane is at least this one.
+#[inline(always)]
+fn places_from(least: u8, lanes: u8x64) -> u64
+    ensures { IsMask result (map (λ b. nat_le least b) lanes) }
+{
+    lanes.simd_ge(u8x64::splat(least)).to_bitmask()
+}
+
+/// The small letter in the place of each capital.
+#[inline(always)]
+fn lowered(bytes: u8x64) -> u8x64
+    ensures { result ≡ map to_ascii_lowercase bytes }
+{
+    let is_capital = (bytes - u8x64::splat(b'A')).simd_lt(u8x64::splat(26));
+    is_capital.select(bytes | u8x64::splat(32), bytes)
+}
+
+/// One lane in the place of another.
+#[inline(always)]
+fn replaced(old: u8, new: u8, lanes: u8x64) -> u8x64
+    ensures { result ≡ map (λ b. if b == old then new else b) lanes }
+{
+    lanes
+        .simd_eq(u8x64::splat(old))
+        .select(u8x64::splat(new), lanes)
+}
+
+/// The letter of each byte.
+#[inline(always)]
+fn letters(bytes: u8x64) -> u8x64
+    ensures { result ≡ map letter bytes }
+{
+    let small = lowered(bytes);
+    replaced(b'`', b'\'', replaced(b'"', b'\'', small))
+}
+
+/// What the bytes of a block say.
+#[inline(always)]
+pub fn read_block(bytes: u8x64) -> Block
+    ensures letters { result.letters ≡ map letter bytes }
+    ensures word { IsMask result.word (map is_word bytes) }
+    ensures mark { IsMask result.mark (map is_mark bytes) }
+    ensures feed { IsMask result.feed (map is_feed bytes) }
+    ensures high { IsMask result.high (map is_high bytes) }
+{
+    let classes = classes(bytes);
+    Block {
+        letters: letters(bytes),
+        word: places_of(0, classes),
+        mark: places_from(3, classes),
+        feed: places_of(b'\n', bytes),
+        high: places_from(128, bytes),
+    }
+}
+
+/// The bytes, and blanks up to the end of a block.
+pub(crate) fn padded(bytes: &[u8]) -> u8x64
+    requires { length bytes.now ≤ 64 }
+    ensures { result ≡ bytes.now ++ replicate (64 - length bytes.now) 32 }
+{
+    let mut block = [b' '; SIZE];
+    block[..bytes.len()].copy_from_slice(bytes);
+    u8x64::from_array(block)
+}
+
+/// 64 bytes from a place on; after the end of the bytes stand blanks.
+#[inline(always)]
+fn load(bytes: &[u8], at: usize) -> u8x64
+    requires { at ≤ length bytes.now }
+    ensures long { length result ≡ 64 }
+    ensures bytes { (i : ℕ) → i < 64 → at + i < length bytes.now
+        → slice_index result i ≡ slice_index bytes.now (at + i) }
+{
+    if bytes.len() - at >= SIZE {
+        u8x64::from_slice(&bytes[at..])
+    } else {
+        padded(&bytes[at..])
+    }
+}
+
+/// At which of 64 places from this one on a byte is the same as the next.
+#[inline(always)]
+pub(crate) fn same_places(bytes: &[u8], at: usize) -> u64
+    requires { at < length bytes.now }
+    ensures { (i : ℕ) → i < 64 → at + suc i < length bytes.now
+        → has_bit result i ≡ (slice_index bytes.now (at + i) == slice_index bytes.now (at + suc i)) }
+{
+    load(bytes, at).simd_eq(load(bytes, at + 1)).to_bitmask()
+}
+
+/// At which of 64 places from this one on stands the letter of quotes or of dashes.
+#[inline(always)]
+pub(crate) fn joining_places(letters: &[u8], at: usize) -> u64
+    requires { at ≤ length letters.now }
+    ensures { (i : ℕ) → i < 64 → at + i < length letters.now
+        → has_bit result i ≡ is_joining (slice_index letters.now (at + i)) }
+{
+    let lanes = load(letters, at);
+    places_of(b'\'', lanes) | places_of(b'-', lanes)
+}

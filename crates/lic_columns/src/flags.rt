@@ -1,0 +1,154 @@
+//! Lists of flags.
+ghost use Rattle.std.specs.Prelude.{◌≡◌, ℕ, Bool, List, suc, ◌+◌, ◌-◌, ◌/◌, take, false, ◌*◌, ◌%◌, ◌^◌, ◌≤◌, ◌<◌, [], ◌++◌, length, IfOk};
+ghost use Rattle.lic_columns.specs.Masks.{has_bit, flag_at, flag_before};
+ghost use Rattle.lic_columns.specs.Flags.{bits_of, cleared};
+
+use crate::block::SIZE;
+use crate::mask::{moved_down, moved_up, without};
+use std::alloc::{AllocError, Global};
+use std::marker::Model;
+
+/// A list of flags, 64 in a column. Past its end no flag is set.
+#[derive(Drop, Debug)]
+pub struct Flags {
+    columns: Vec<u64>,
+    len: usize,
+}
+
+impl Model for Flags {
+    ghost use Rattle.std.specs.Prelude.{◌≡◌, ◌≤◌, ◌+◌, ◌*◌, ◌/◌, ℕ, Bool, List, false, length};
+    ghost use Rattle.lic_columns.specs.Flags.{has, flags_in};
+
+    ghost Value = { List Bool };
+
+    ghost view = { λ f. flags_in f.len f.columns.items };
+
+    ghost invariant = { λ f. (length f.columns.items ≡ (f.len + 63) / 64)
+        × ((k : ℕ) → f.len ≤ k → has f.columns.items k ≡ false) };
+}
+
+impl Flags {
+    /// No flags.
+    pub fn new(alloc: Global) -> Flags
+        ensures { result ≡ [] }
+    {
+        Flags {
+            columns: Vec::new(alloc),
+            len: 0,
+        }
+    }
+
+    /// How many flags there are, set or not.
+    #[inline(always)]
+    pub fn len(&self) -> usize
+        ensures { result ≡ length self.now }
+    {
+        self.len
+    }
+
+    /// Lets go of all flags; the room is kept.
+    pub fn reset(&mut self)
+        ensures { self.new ≡ [] }
+    {
+        self.columns.clear();
+        self.len = 0;
+    }
+
+    /// Adds the first bits of a mask, after whole columns.
+    ///
+    /// # Errors
+    /// Memory ran out.
+    #[inline(always)]
+    pub fn push(&mut self, mask: u64, count: usize) -> Result<(), AllocError>
+        requires whole { length self.old % 64 ≡ 0 }
+        requires some { 0 < count }
+        requires count { count ≤ 64 }
+        requires below { mask < 2 ^ count }
+        requires room { length self.old + count < 2 ^ 64 }
+        ensures { IfOk result (λ _. self.new ≡ self.old ++ bits_of count mask) }
+    {
+        self.columns.push(mask)?;
+        self.len += count;
+        Ok(())
+    }
+
+    /// How many columns there are.
+    #[inline(always)]
+    pub fn count(&self) -> usize
+        ensures { result ≡ (length self.now + 63) / 64 }
+    {
+        self.columns.len()
+    }
+
+    /// Adds the next 64 of so many flags, or those that are left of them.
+    ///
+    /// # Errors
+    /// Memory ran out.
+    #[inline(always)]
+    pub fn push_column(&mut self, mask: u64, len: usize) -> Result<(), AllocError>
+        requires whole { length self.old % 64 ≡ 0 }
+        requires room { length self.old < len }
+        requires below { (i : ℕ) → len - length self.old ≤ i → i < 64 → has_bit mask i ≡ false }
+        ensures { IfOk result (λ _. (all : List Bool) → length all ≡ len
+            → ((i : ℕ) → i < 64 → length self.old + i < len → has_bit mask i ≡ flag_at all (length self.old + i))
+            → self.old ≡ take (length self.old) all → self.new ≡ take (length self.old + 64) all) }
+    {
+        let count = (len - self.len).min(SIZE);
+        self.push(mask, count)?;
+        Ok(())
+    }
+
+    /// The 64 flags from place 64 * k on, as a mask.
+    #[inline(always)]
+    pub fn column(&self, k: usize) -> u64
+        ensures { (i : ℕ) → i < 64 → has_bit result i ≡ flag_at self.now (k * 64 + i) }
+    {
+        if k < self.columns.len() {
+            self.columns[k]
+        } else {
+            0
+        }
+    }
+
+    /// The flags before each of the 64 places from 64 * k on, as a mask.
+    #[inline(always)]
+    pub fn column_before(&self, k: usize) -> u64
+        ensures { (i : ℕ) → i < 64 → has_bit result i ≡ flag_before self.now (k * 64 + i) }
+    {
+        let before = if k > 0 { self.column(k - 1) } else { 0 };
+        moved_up(before, self.column(k))
+    }
+
+    /// The flags after each of the 64 places from 64 * k on, as a mask.
+    #[inline(always)]
+    pub fn column_after(&self, k: usize) -> u64
+        requires { k + 1 < 2 ^ 64 }
+        ensures { (i : ℕ) → i < 64 → has_bit result i ≡ flag_at self.now (suc (k * 64 + i)) }
+    {
+        moved_down(self.column(k), self.column(k + 1))
+    }
+
+    /// Whether the flag at a place is set.
+    #[inline(always)]
+    pub fn get(&self, at: usize) -> bool
+        ensures { result ≡ flag_at self.now at }
+    {
+        self.column(at / SIZE) >> (at % SIZE) & 1 == 1
+    }
+
+    /// Takes the flags of a range away.
+    #[inline]
+    pub fn clear(&mut self, from: usize, to: usize)
+        requires order { from ≤ to }
+        requires room { to ≤ length self.old }
+        ensures { self.new ≡ cleared from to self.old }
+    {
+        let mut at = from;
+        while at < to {
+            let k = at / SIZE;
+            let (first, last) = (at % SIZE, (to - k * SIZE).min(SIZE));
+            self.columns[k] = without(self.columns[k], first, last);
+            at = k * SIZE + last;
+        }
+    }
+}

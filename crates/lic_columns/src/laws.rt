@@ -1,0 +1,19 @@
+//! Laws of what is known of bytes, each the contract of a function that does nothing.
+ghost use Rattle.std.specs.Prelude.{◌≡◌, ◌↔◌, ℕ, suc, ◌+◌, ◌≤◌, Bool, true, List, length};
+ghost use Rattle.lic_columns.specs.Known.{Known, IsText, known_of, blanked};
+ghost use Rattle.lic_columns.specs.Marks.{is_same_as_next, same_as_next, middles, is_in_separator};
+
+/// What bytes say by themselves is known of all of them, and none is a word character and a mark; and so it is where bytes
+/// of a range are taken away.
+pub fn bytes_are_a_text()
+    ensures read { (bytes : List ℕ) → IsText (length bytes) (known_of bytes) }
+    ensures blanked { (from to n : ℕ) (known : Known) → IsText n known → IsText n (blanked from to known) }
+{}
+
+/// A mark is in a separator exactly if it is one of three same marks side by side.
+pub fn separators_are_three_or_more()
+    ensures { (bytes : List ℕ) (marks : List Bool) (k : ℕ)
+        → (is_in_separator (middles (same_as_next bytes marks)) k ≡ true)
+        ↔ ((j : ℕ) × (j ≤ k) × (k ≤ j + 2) × (is_same_as_next bytes marks j ≡ true)
+        × (is_same_as_next bytes marks (suc j) ≡ true)) }
+{}

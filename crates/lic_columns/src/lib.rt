@@ -1,0 +1,13 @@
+//! A text in columns: what each of its bytes says, 64 bytes at a time.
+#![tactic(auto)]
+
+pub mod block;
+pub mod columns;
+pub mod flags;
+pub mod laws;
+pub mod marks;
+pub mod mask;
+mod search;
+#[cfg(test)]
+mod tests;
+pub mod tokens;

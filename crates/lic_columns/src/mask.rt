@@ -1,0 +1,69 @@
+//! Masks of 64 bits.
+ghost use Rattle.std.specs.Prelude.{◌≡◌, ℕ, suc, ◌+◌, ◌++◌, ◌-◌, ◌^◌, ◌<◌, ◌≤◌, not, ◌&&◌, ◌∷◌, IfOk};
+ghost use Rattle.lic_columns.specs.Masks.{has_bit};
+ghost use Rattle.lic_columns.specs.Flags.{bits_of, is_within};
+ghost use Rattle.lic_columns.specs.Places.{places};
+
+use std::alloc::AllocError;
+
+/// The lowest n bits.
+#[inline(always)]
+pub fn below(n: usize) -> u64
+    requires { n ≤ 64 }
+    ensures { result ≡ 2 ^ n - 1 }
+{
+    if n < 64 { (1u64 << n) - 1 } else { u64::MAX }
+}
+
+/// The mask without its bits of a range.
+#[inline(always)]
+pub fn without(mask: u64, from: usize, to: usize) -> u64
+    requires from { from ≤ 64 }
+    requires to { to ≤ 64 }
+    ensures { (k : ℕ) → k < 64 → has_bit result k ≡ (has_bit mask k && not (is_within from to k)) }
+{
+    mask & (below(from) | !below(to))
+}
+
+/// Each bit moved up by one place, and into the lowest the highest of the mask before.
+#[inline(always)]
+pub fn moved_up(before: u64, mask: u64) -> u64
+    ensures first { has_bit result 0 ≡ has_bit before 63 }
+    ensures rest { (i : ℕ) → suc i < 64 → has_bit result (suc i) ≡ has_bit mask i }
+{
+    mask << 1 | before >> 63
+}
+
+/// Each bit moved down by one place, and into the highest the lowest of the mask after.
+#[inline(always)]
+pub fn moved_down(mask: u64, after: u64) -> u64
+    ensures last { has_bit result 63 ≡ has_bit after 0 }
+    ensures rest { (i : ℕ) → i < 63 → has_bit result i ≡ has_bit mask (suc i) }
+{
+    mask >> 1 | after << 63
+}
+
+/// The bits that the first mask has and the second has not.
+#[inline(always)]
+pub fn but_not(mask: u64, other: u64) -> u64
+    ensures { (k : ℕ) → k < 64 → has_bit result k ≡ (has_bit mask k && not (has_bit other k)) }
+{
+    mask & !other
+}
+
+/// Adds the places of the bits of a mask, in rising order; bit 0 is at this place.
+///
+/// # Errors
+/// Memory ran out.
+pub fn push_places(at: u32, mask: u64, out: &mut Vec<u32>) -> Result<(), AllocError>
+    requires { at + 64 ≤ 2 ^ 32 }
+    ensures { IfOk result (λ _. out.new.items ≡ out.old.items ++ places at (bits_of 64 mask)) }
+{
+    let mut rest = mask;
+    while rest != 0 {
+        let bit = rest.trailing_zeros();
+        out.push(at + bit)?;
+        rest &= !(1 << bit);
+    }
+    Ok(())
+}
