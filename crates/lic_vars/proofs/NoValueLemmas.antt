@@ -1,5 +1,5 @@
 -- A template without a variable gives no value.
-use Rattle.std.proofs.Common.{◌≡◌, ℕ, ◌+◌, List, [], ◌++◌, length, Some, None, Bor, refl, sym, ◌∙◌, subst, arith}
+use Rattle.std.proofs.Common.{◌≡◌, ℕ, ◌+◌, List, [], ◌++◌, length, Bool, Some, None, Bor, refl, sym, ◌∙◌, subst, arith}
 use Rattle.std.specs.List.{All}
 use Rattle.std.proofs.lemmas.List.{get_or_append_left, get_or-append-add, length-append}
 use Rattle.std.proofs.lemmas.List.Elements.{All-head, All-map, All-tail, All-weaker}
@@ -48,9 +48,9 @@ no-choice (one_more (parts.optional body) rest) (Some b, c) spans all =
     let both = All-tail IsNoVariable _ (moves body ++ moves rest) all in
     rw (no-choice body b spans (front (moves body) (moves rest) both)) (no-choice rest c _ (back (moves body) (moves rest) both))
 
-pub no-value : (step : Step) → ((name : Bor (List ℕ)) (ere : Bor Ere) → step ≡ Step.Variable name ere → ⊥) → HasNoValue step
+pub no-value : (step : Step) → ((name : Bor (List ℕ)) (ere : Bor Ere) (is_empty : Bool) → step ≡ Step.Variable name ere is_empty → ⊥) → HasNoValue step
 no-value (Step.Text letters) none = tt
-no-value (Step.Variable name ere) none = none name ere refl
+no-value (Step.Variable name ere is_empty) none = none name ere is_empty refl
 no-value (Step.Optional n) none = tt
 
 no-variable : (step : Step) → HasNoValue step → IsNoVariable (move_of step)

@@ -1,5 +1,5 @@
 -- One step more.
-use Rattle.std.proofs.Common.{◌≡◌, ◌-◌, List, chars, Vec, Global, sym, ◌∙◌, subst, arith}
+use Rattle.std.proofs.Common.{◌≡◌, ◌-◌, List, length, chars, Vec, Global, sym, ◌∙◌, subst, arith}
 use Rattle.lic_words.specs.Expressions.{Language, letters}
 use Rattle.lic_words.proofs.Languages.{letters_complete, letters_sound}
 use Rattle.lic_ere.specs.Trees.{tree_of}
