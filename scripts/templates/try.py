@@ -46,7 +46,7 @@ TAGS = [
     ("LicenseRef-A OR GPL-2.0-only OR GPL-3.0-only", "expression-08", "LicenseRef-A OR GPL-2.0-only OR GPL-3.0-only"),
     ("MIT OR LicenseRef-A", "OR-expression", "MIT"),
     ("Apache-2.0 OR MIT WITH A", "cut-expression-2", "Apache-2.0 OR MIT"),
-    ("MIT OR HPND-A", "cut-identifier-01", "MIT OR HPND-"),
+    ("MIT OR Zlib-A", "cut-identifier-01", "MIT OR Zlib-"),
     ("MIT-Modern-Variant", "MIT-Modern-Variant-identifier", None),
     ("EUPL-1.2", "EUPL-1.2-identifier", None),
     ("LicenseRef-A", "LicenseRef-identifier", "A"),
