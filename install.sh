@@ -18,8 +18,11 @@ install -D -m 755 "$program" "$1/bin/licscan"
 done
 # templates that an earlier version had are not kept
 rm -rf "$share/licscan/templates" "$share/licscan/rules"
-install -d "$share/licscan/templates" "$share/licscan/rules" "$share/doc/licscan"
+install -d "$share/licscan/templates" "$share/licscan/rules" "$share/licscan/report" "$share/doc/licscan"
 install -m 644 "$top"/examples/templates/* "$share/licscan/templates"
 install -m 644 "$top"/examples/rules/* "$share/licscan/rules"
 install -m 644 "$top/examples/words" "$share/licscan/words"
+install -m 644 "$top/scripts/report/lines.py" "$share/licscan/report"
+install -m 755 "$top/scripts/report/check.py" "$top/scripts/report/summary.py" "$share/licscan/report"
+install -m 755 "$top/scripts/templates/common_licenses.py" "$share/licscan"
 install -m 644 "$top"/docs/{MANUAL,RECIPES,GLOSSARY}.md "$top/README.md" "$top/CHANGELOG.md" "$top/LICENSE" "$share/doc/licscan"

@@ -25,6 +25,11 @@ Line rules, for
 Spellings that count as the same, for
 .BR \\-\\-words .
 .TP
+.I share/licscan/report
+Scripts that read what
+.B licscan scan
+writes: a check by a list of licences, and a summary.
+.TP
 .I share/doc/licscan
 The manual, recipes and a glossary."""
 
