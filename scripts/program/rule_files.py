@@ -10,9 +10,9 @@ WORDS = ['dnl', 'REM']
 TAILS = ['*/', '**/', '-->', '*)', '-}', ' *', ' #', ' |']
 
 # more comment signs, and words that begin a comment
-MORE_LEADS = ['..', '\\"', '"', '<%--', '{{!--']
+MORE_LEADS = ['C*', 'c*']
 MORE_WORDS = ['rem', 'Rem', '@REM', '@rem', '@c', '@comment']
-MORE_TAILS = ['--%>', '--}}', ' --', ' //']
+MORE_TAILS = [' --']
 
 # a sign needs no white space behind it; and what is none of the profile
 BESIDE = [
@@ -44,7 +44,8 @@ SEPARATOR, NO_SEPARATOR = ('ab===cd', 'ab 0-2, cd 5-7, '), ('ab===cd', 'ab 0-2, 
 PROFILE = [*signs(LEADS, WORDS, TAILS), SEPARATOR]
 STOP = ('. x', '. 0-1, x 2-3, ')
 DEBIAN = [('. foo', 'foo 2-5, '), (' .', '')]
-MORE = list(signs(MORE_LEADS, MORE_WORDS, MORE_TAILS))
+# a quote stays, since sentences begin with one
+MORE = [*signs(MORE_LEADS, MORE_WORDS, MORE_TAILS), ('"x', "' 0-1, x 1-2, ")]
 
 # rules, and inputs with their tokens
 SMALL = [

@@ -6,12 +6,13 @@ files that the manual shows before them.
 
 Each recipe is run in a new folder with the example templates, some files, and the program on the path. What it writes must be the text
 in scripts/recipes/expected under the recipe's number. `--write` writes those texts anew, to be read before they are kept.
-A recipe that needs jq is left out where there is none.
+A recipe that needs jq, or the texts of a Debian system, is left out where there is none.
 """
 import os, re, shutil, subprocess, sys, tempfile
 
 TOP = os.path.dirname(os.path.dirname(os.path.dirname(os.path.abspath(__file__))))
 EXPECTED = os.path.join(TOP, 'scripts', 'recipes', 'expected')
+COMMON = '/usr/share/common-licenses'
 DEBIAN = b'Files: *\nLicense: X\n Permission to use, copy, modify, and/or distribute\n .\n this software\n'
 TAG = b'// SPDX-License-Identifier: '
 FILES = {
@@ -103,6 +104,9 @@ def main():
     for number, recipe in enumerate(recipes(), 1):
         if 'jq' in recipe.split() and not shutil.which('jq'):
             print(f'recipe {number} not tried: there is no jq')
+            continue
+        if COMMON in recipe and not os.path.exists(COMMON):
+            print(f'recipe {number} not tried: there is no {COMMON}')
             continue
         result = result_of(recipe, program)
         path = os.path.join(EXPECTED, f'{number:02}')

@@ -53,8 +53,10 @@ def first_fields(words, files):
 
 
 def found_by_program(program, files):
+    """The files with a licence, and those of them with a text, notice, tag or field: not with mentions alone."""
     words = [program, "scan", "--templates", f"{TOP}/examples/templates", "--rules", f"{TOP}/examples/rules/more-comments.rules", "--"]
-    return {fields[0] for fields in first_fields(words, files) if fields[0]}
+    found = [fields[:2] for fields in first_fields(words, files) if fields[0]]
+    return {name for name, _ in found}, {name for name, id in found if not re.search("-mention(-[b-z])?$", id)}
 
 
 def found_by_licensecheck(files):
@@ -73,9 +75,9 @@ def main():
         sys.exit("compare.py: licensecheck is not on the path (on Debian: apt install licensecheck)")
     all_files = sorted(it for it in sources_below(asked.folders) if names_a_licence(it))
     files = pick(all_files, asked.count, asked.seed)
-    ours, theirs = found_by_program(asked.program, files), found_by_licensecheck(files)
+    (ours, granted), theirs = found_by_program(asked.program, files), found_by_licensecheck(files)
     print(f"{len(files)} of {len(all_files)} source files that say 'license', seed {asked.seed}")
-    print(f"the starter templates find one in {len(ours)}, licensecheck in {len(theirs)}; both in {len(ours & theirs)}, neither in {len(set(files) - ours - theirs)}")
+    print(f"the starter templates find one in {len(ours)}, in {len(ours - granted)} of these a mention alone; licensecheck in {len(theirs)}; both in {len(ours & theirs)}, neither in {len(set(files) - ours - theirs)}")
     for path in sorted(theirs - ours):
         print(f"licensecheck alone: {path}")
 

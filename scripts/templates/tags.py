@@ -29,8 +29,8 @@ def optional(text):
     return f"<<beginOptional>>{text}<<endOptional>>"
 
 
-# a quote, underscores, a colon or an equals sign, a quote; the blank behind the first word keeps a scan quick
-FIELD = "license " + "".join(map(optional, ['"', "__", ":", "=", '"'])) + "{}\n"
+# a quote, underscores, a colon or an equals sign, a bracket, a quote; the blank behind the first word keeps a scan quick
+FIELD = "license " + "".join(map(optional, ['"', "__", ":", "=", "[", '"'])) + "{}\n"
 
 
 def read_list(path):
@@ -48,7 +48,7 @@ def read_folder(path):
 
 def name_of(identifier):
     """The name of an identifier's file, without its ending. Raises ValueError where it is no identifier or expression."""
-    if not re.fullmatch(r"[A-Za-z0-9.+()-]+( [A-Za-z0-9.+()-]+)*", identifier):
+    if not re.fullmatch(r"[A-Za-z0-9.+()_-]+( [A-Za-z0-9.+()_-]+)*", identifier):
         raise ValueError(f"not an identifier or expression: {identifier}")
     return re.sub(r"[()]", "", identifier).replace(" ", "-")
 

@@ -3,7 +3,8 @@
 
 - `check` says `yes` of it, with examples/words and without.
 - Its original text is found as a comment in each of the styles below, among all templates.
-- The templates of tags and fields are those that tags.py makes of the lists beside it, and there are no others.
+- The templates of tags and fields are those that tags.py makes of the lists beside it, and expressions.py, and there are no others.
+- Tags that hold an expression are reported by one template each, with the value that is expected.
 """
 import os
 import re
@@ -31,6 +32,27 @@ STYLES = {
     "markup": ("<!--\n", "  ", "-->\n"),
     "box": ("/" + "*" * 60 + "\n", " * ", " " + "*" * 60 + "/\n"),
 }
+
+# what stands in a tag, the template that is to be reported, and the value of its first variable
+TAGS = [
+    ("(MIT OR Apache-2.0) AND BSD-3-Clause", "expression-06", "(MIT OR Apache-2.0) AND BSD-3-Clause"),
+    ("MIT OR Apache-2.0 AND ISC", "expression-04", "MIT OR Apache-2.0 AND ISC"),
+    ("MIT OR ISC", "expression-01", "MIT OR ISC"),
+    ("MIT/Apache-2.0", "expression-02", "MIT/Apache-2.0"),
+    ("Apache-2.0 WITH LLVM-exception", "expression-02", "Apache-2.0 WITH LLVM-exception"),
+    ("GPL-2.0-or-later WITH Classpath-exception-2.0", "expression-03", "GPL-2.0-or-later WITH Classpath-exception-2.0"),
+    ("((GPL-2.0+ WITH Linux-syscall-note) OR MIT)", "expression-04", "((GPL-2.0+ WITH Linux-syscall-note) OR MIT"),
+    ("MIT OR LGPL-2.1+", "expression-02-b", "MIT OR LGPL-2.1+"),
+    ("LicenseRef-A OR GPL-2.0-only OR GPL-3.0-only", "expression-08", "LicenseRef-A OR GPL-2.0-only OR GPL-3.0-only"),
+    ("MIT OR LicenseRef-A", "OR-expression", "MIT"),
+    ("Apache-2.0 OR MIT WITH A", "cut-expression-2", "Apache-2.0 OR MIT"),
+    ("MIT OR Zlib-A", "cut-identifier-01", "MIT OR Zlib-"),
+    ("MIT-Modern-Variant", "MIT-Modern-Variant-identifier", None),
+    ("EUPL-1.2", "EUPL-1.2-identifier", None),
+    ("LicenseRef-A", "LicenseRef-identifier", "A"),
+    ("LicenseRef-A-B.2", "LicenseRef-identifier-c", "A-B.2"),
+    ("A-1.0", "unknown-identifier", None),
+]
 
 
 def original_of(template):
@@ -74,18 +96,31 @@ def not_found(program, style):
 
 
 def not_made():
-    """How the templates of tags and fields differ from those that tags.py makes."""
+    """How the templates of tags and fields differ from those that tags.py and expressions.py make."""
     with tempfile.TemporaryDirectory() as folder:
         for options in (["--list", f"{HERE}/tags.txt"], ["--field", "--list", f"{HERE}/fields.txt"]):
             subprocess.run([sys.executable, f"{HERE}/tags.py", *options, folder], check=True)
+        subprocess.run([sys.executable, f"{HERE}/expressions.py", folder], check=True)
         made = read_templates(folder)
-    kept = {id: text for id, text in read_templates(TEMPLATES).items() if id.endswith(("-identifier", "-field")) and id != "OR-field"}
+    kept = {id: text for id, text in read_templates(TEMPLATES).items() if re.search("-(identifier|field)(-[b-z])?$|expression|^cut-", id) and id != "OR-field"}
     return [f"{id}: not as tags.py makes it" for id in sorted(made.keys() | kept.keys()) if made.get(id) != kept.get(id)]
+
+
+def wrongly_reported(program):
+    """The tags of which something else is reported than what is expected, followed by code."""
+    faults = []
+    for tag, id, value in TAGS:
+        text = f"// SPDX-License-Identifier: {tag}\nint main(void) {{ return 0 + 2.0; }}\n"
+        done = subprocess.run([program, "scan", "--templates", TEMPLATES], input=text, stdout=subprocess.PIPE, check=False, text=True)
+        fields = [line.split("\t") for line in done.stdout.splitlines()]
+        if [it[1] for it in fields if it[0]] != [id] or (value and fields[1][4] != value):
+            faults.append(f"{tag}: reported as {done.stdout}")
+    return faults
 
 
 def main():
     program = os.path.abspath(sys.argv[1])
-    faults = not_described(program, []) + not_described(program, ["--words", WORDS]) + not_made()
+    faults = not_described(program, []) + not_described(program, ["--words", WORDS]) + not_made() + wrongly_reported(program)
     faults += [fault for style in STYLES for fault in not_found(program, style)]
     for fault in faults:
         print(fault)

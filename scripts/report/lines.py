@@ -1,0 +1,74 @@
+"""Reads the lines that `licscan scan` writes: matches with their variables, and the licences that they name."""
+import re
+from dataclasses import dataclass, field
+
+# templates that name no licence of the file: words that give none, notices that point elsewhere, permissions beside a licence
+NONE = re.compile(r"no-grant-|same-as-|other-file-|.*-exception-")
+# tags of which not all is known
+UNKNOWN = re.compile(r"unknown-identifier|cut-|(OR|AND|WITH)-expression$|OR-field$")
+SUFFIX = re.compile(r"(-(identifier|field|notice|mention))?(-[b-z])?$")
+# names of Debian and older ones, of tags and fields
+OLDER = re.compile(r"([AL]?GPL|GFDL)-?v?(\d)(\.\d)?(\+?)$", re.IGNORECASE)
+SAME = {"Expat": "MIT", "Apache-2": "Apache-2.0", "Apache2": "Apache-2.0", "BSD3": "BSD-3-Clause"}
+FAMILIES = ("AGPL", "Apache", "Artistic", "BSD", "GFDL", "GPL", "LGPL")
+
+
+@dataclass
+class Match:
+    file: str
+    id: str
+    start: int
+    values: list = field(default_factory=list)
+
+    @property
+    def is_mention(self):
+        return bool(re.search("-mention(-[b-z])?$", self.id))
+
+    @property
+    def licence(self):
+        """The licence or the expression; '' where the template names none; None where not all of it is known."""
+        if NONE.match(self.id):
+            return ""
+        if UNKNOWN.match(self.id):
+            return None
+        if self.id.startswith("expression-"):
+            return self.values[0]
+        name = SUFFIX.sub("", self.id)
+        if re.search("-(identifier|field)(-[b-z])?$", self.id):
+            name = identifier(name)
+        return f"LicenseRef-{self.values[0]}" if name == "LicenseRef" else name.replace("-OR-", " OR ")
+
+
+def identifier(name):
+    """The identifier of SPDX for a name of Debian or an older one: `GPL-2+` is GPL-2.0-or-later, `GPL-2.0` is GPL-2.0-only."""
+    older = OLDER.match(name)
+    if older:
+        return f"{older[1]}-{older[2]}{older[3] or '.0'}-{'or-later' if older[4] else 'only'}"
+    return SAME.get(name, name)
+
+
+def plain(text):
+    """A field as it is without escapes."""
+    return re.sub(r"\\(.)", lambda it: {"n": "\n", "r": "\r", "t": "\t"}.get(it[1], it[1]), text)
+
+
+def matches(lines):
+    """The matches, each with the values of its variables. Bytes that are no UTF-8 are kept as surrogates."""
+    last = None
+    for line in lines:
+        fields = line.rstrip("\n").split("\t")
+        if fields[0]:
+            if last:
+                yield last
+            last = Match(plain(fields[0]), plain(fields[1]), int(fields[4]))
+        elif last and len(fields) == 5:
+            last.values.append(plain(fields[4]))
+    if last:
+        yield last
+
+
+def answer(found):
+    """The licences of a file: grants, or mentions where there is none; a family is left out beside a version of it."""
+    names = [[it.licence or "unknown" for it in found if it.is_mention == mention and it.licence != ""] for mention in (False, True)]
+    chosen = sorted(set(names[0] or names[1]))
+    return [name for name in chosen if not (name in FAMILIES and any(it.startswith(name + "-") for it in chosen))]

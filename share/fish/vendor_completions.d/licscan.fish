@@ -1,0 +1,25 @@
+# Completion of licscan for fish, made by scripts/manpage/make.py from what the program says by --help.
+complete -c licscan -f
+complete -c licscan -n __fish_use_subcommand -a scan -d 'Prints each range of a file that a template matches'
+complete -c licscan -n __fish_use_subcommand -a check -d 'Checks that each template matches its own original text'
+complete -c licscan -n __fish_use_subcommand -a tokens -d 'Prints each token of a file'
+complete -c licscan -n __fish_use_subcommand -a help -d 'Print this message or the help of the given subcommand(s)'
+complete -c licscan -n '__fish_use_subcommand' -s h -l help -d 'Print help'
+complete -c licscan -n '__fish_use_subcommand' -s V -l version -d 'Print version'
+complete -c licscan -n '__fish_seen_subcommand_from scan' -l templates -x -a '(__fish_complete_directories)' -d 'The folder of the templates'
+complete -c licscan -n '__fish_seen_subcommand_from scan' -l words -r -F -d 'The list of words that count as the same'
+complete -c licscan -n '__fish_seen_subcommand_from scan' -l rules -r -F -d 'The line rules: comment marks and list items to ignore'
+complete -c licscan -n '__fish_seen_subcommand_from scan' -l all -d 'Write every match, and no variables'
+complete -c licscan -n '__fish_seen_subcommand_from scan' -l after -x -d 'With --all: only what comes after this match'
+complete -c licscan -n '__fish_seen_subcommand_from scan' -l limit -x -d 'With --all: at most N lines for each file'
+complete -c licscan -n '__fish_seen_subcommand_from scan' -s h -l help -d 'Print help'
+complete -c licscan -n '__fish_seen_subcommand_from scan' -F
+complete -c licscan -n '__fish_seen_subcommand_from check' -l templates -x -a '(__fish_complete_directories)' -d 'The folder of the templates'
+complete -c licscan -n '__fish_seen_subcommand_from check' -l words -r -F -d 'The list of words that count as the same'
+complete -c licscan -n '__fish_seen_subcommand_from check' -l rules -r -F -d 'The line rules: comment marks and list items to ignore'
+complete -c licscan -n '__fish_seen_subcommand_from check' -s h -l help -d 'Print help'
+complete -c licscan -n '__fish_seen_subcommand_from tokens' -l words -r -F -d 'The list of words that count as the same'
+complete -c licscan -n '__fish_seen_subcommand_from tokens' -l rules -r -F -d 'The line rules: comment marks and list items to ignore'
+complete -c licscan -n '__fish_seen_subcommand_from tokens' -s h -l help -d 'Print help'
+complete -c licscan -n '__fish_seen_subcommand_from tokens' -F
+complete -c licscan -n '__fish_seen_subcommand_from help' -a 'scan check tokens'
