@@ -1,5 +1,5 @@
 //! Runs of marks: separators go, quotes and dashes are joined.
-ghost use Rattle.std.specs.Prelude.{◌≡◌, ℕ, ◌+◌, ◌*◌, ◌<◌, length, IfOk, if◌then◌else◌};
+ghost use Rattle.std.specs.Prelude.{◌≡◌, ℕ, ◌+◌, ◌*◌, ◌<◌, [], length, IfOk, if◌then◌else◌};
 ghost use Rattle.lic_columns.specs.Masks.{has_bit};
 ghost use Rattle.lic_columns.specs.Marks.{is_same_as_next, same_as_next, is_middle, middles, kept_by, without_separators, is_joined, joined_by, joined_marks};
 
@@ -100,7 +100,10 @@ fn list_joined(
 
 impl Marks {
     /// The marks of an empty text.
-    pub fn new(alloc: Global) -> Marks {
+    pub fn new(alloc: Global) -> Marks
+        ensures kept { result.kept ≡ [] }
+        ensures joined { result.joined ≡ [] }
+    {
         Marks {
             same: Flags::new(alloc),
             middle: Flags::new(alloc),
