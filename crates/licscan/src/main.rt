@@ -1,22 +1,12 @@
 //! The licence scanner: finds the ranges of a text that a licence template describes.
 #![tactic(auto)]
 
-pub mod faults;
-pub mod files;
-pub mod program;
-pub mod progress;
-
-use crate::faults::{Stop, tell_stop};
-pub use crate::program::command;
-use crate::program::command_with;
-use crate::progress::Progress;
 use lic_arguments::fault::ArgumentFault;
-pub use lic_engine::check::check;
-pub use lic_engine::engine::{run, run_tokens};
-pub use lic_engine::fault::RunFault;
-pub use lic_find::ask::Ask;
+use lic_command::command_with;
+use lic_command::faults::{Stop, tell_stop};
+use lic_command::progress::Progress;
 use lic_load::fault::wants_memory;
-pub use lic_stream::stream::{Counted, Sink, Source};
+use lic_stream::stream::Counted;
 use std::env;
 use std::io::IsTerminal;
 use std::process::ExitCode;

@@ -1,14 +1,14 @@
 //! The whole program.
 
-use crate::faults::{Stop, tell_stop};
-use crate::files::{FileList, Search, Work, Written, write_files};
+use crate::faults::Stop;
+use crate::files::{FileList, Search, Work, write_files};
 use crate::progress::Progress;
+use crate::status::{DONE, REFUSED, status_at_end, status_of, status_of_check};
 use clap::error::ErrorKind;
 use clap::{ArgMatches, Error};
 use lic_arguments::arguments::{CheckArguments, ScanArguments, TokensArguments, ask_of, parse};
 use lic_arguments::fault::ArgumentFault;
 use lic_engine::check::check;
-use lic_engine::fault::RunFault;
 use lic_load::fault::tell;
 use lic_load::rules::load_rules;
 use lic_load::templates::load_all;
@@ -17,28 +17,6 @@ use lic_stream::stream::{Sink, Source};
 use lic_stream::transfer::put_all;
 use std::alloc::Global;
 use std::rt::Files;
-
-/// The statuses that the program ends with.
-const FOUND: u8 = 0;
-
-const NOTHING: u8 = 1;
-
-const ALL_DESCRIBED: u8 = 0;
-
-const SOME_NOT_DESCRIBED: u8 = 1;
-
-const REFUSED: u8 = 2;
-
-/// The status after all files.
-fn status_of(written: Written) -> u8 {
-    if written.is_refused {
-        REFUSED
-    } else if written.has_line {
-        FOUND
-    } else {
-        NOTHING
-    }
-}
 
 /// The command `scan`: the arguments, the line rules, the word list, the templates by identifier, the files as given.
 fn scan<Rt: Files + AllocGlobal + Clone + Drop, R: Source, W: Sink, E: Sink>(
@@ -65,9 +43,8 @@ fn scan<Rt: Files + AllocGlobal + Clone + Drop, R: Source, W: Sink, E: Sink>(
         names: arguments.files.as_slice(),
         progress,
     };
-    let mut written = write_files(rt, alloc, files, input, out, err, Work::Scan(search))?;
-    written.is_refused |= loaded.is_refused;
-    Ok(status_of(written))
+    let written = write_files(rt, alloc, files, input, out, err, Work::Scan(search))?;
+    Ok(status_of(written, loaded.is_refused))
 }
 
 /// The command `check`: the arguments, the line rules, the word list, the templates by identifier.
@@ -82,13 +59,8 @@ fn check_templates<Rt: Files + AllocGlobal + Clone + Drop, W: Sink, E: Sink>(
     let rules = load_rules(rt, alloc, arguments.rules)?;
     let words = load_words(rt, alloc, arguments.words)?;
     let loaded = load_all(rt, alloc, arguments.folder, &words, &rules, err)?;
-    match check(alloc, &loaded.set, &words, out, &rules) {
-        Ok(_) if loaded.is_refused => Ok(REFUSED),
-        Ok(true) => Ok(ALL_DESCRIBED),
-        Ok(false) => Ok(SOME_NOT_DESCRIBED),
-        Err(RunFault::Write) => Err(Stop::Write),
-        Err(fault) => Err(Stop::Check(fault)),
-    }
+    let answer = check(alloc, &loaded.set, &words, out, &rules);
+    status_of_check(answer, loaded.is_refused)
 }
 
 /// The command `tokens`: the arguments, the line rules, the word list, the files as given.
@@ -113,7 +85,7 @@ fn tokens<Rt: Files + AllocGlobal, R: Source, W: Sink, E: Sink>(
         rules: &rules,
     };
     let written = write_files(rt, alloc, files, input, out, err, work)?;
-    Ok(status_of(written))
+    Ok(status_of(written, false))
 }
 
 /// Writes what the parser of the arguments says: help to standard output, a fault to standard error.
@@ -134,7 +106,7 @@ fn show_usage<W: Sink, E: Sink>(
     if put_all(out, text.as_bytes()).is_err() {
         return Err(Stop::Write);
     }
-    Ok(FOUND)
+    Ok(DONE)
 }
 
 /// The program, up to where it ends before its work is done.
@@ -191,11 +163,6 @@ pub fn command_with<Rt: Files + AllocGlobal + Clone + Drop, R: Source, W: Sink, 
     err: &mut E,
     progress: Progress,
 ) -> u8 {
-    match try_command(rt, alloc, args, input, out, err, progress) {
-        Ok(status) => status,
-        Err(stop) => {
-            tell_stop(alloc, err, &stop);
-            REFUSED
-        }
-    }
+    let outcome = try_command(rt, alloc, args, input, out, err, progress);
+    status_at_end(alloc, err, outcome)
 }

@@ -1,5 +1,7 @@
 //! The files that lines are written about.
 
+ghost use Rattle.lic_command.specs.Outcomes.{IsWithOneMore};
+
 use crate::faults::Stop;
 use crate::progress::Progress;
 use lic_engine::engine::{run, run_tokens};
@@ -45,6 +47,16 @@ pub struct FileList<'a> {
 pub struct Written {
     pub has_line: bool,
     pub is_refused: bool,
+}
+
+/// What came of the files so far, and of one more.
+fn with_one_more(written: Written, answer: Result<bool, RunFault>) -> Written
+    ensures { IsWithOneMore written answer result }
+{
+    Written {
+        has_line: written.has_line | answer.is_ok_and(|some| some),
+        is_refused: written.is_refused | answer.is_err(),
+    }
 }
 
 /// Writes the lines about one input, and says whether there was one.
@@ -109,15 +121,16 @@ fn write_each<Rt: Files, R: Source, W: Sink, E: Sink>(
     let all = files.names.len();
     for (done, name) in files.names.iter().enumerate() {
         files.progress.show(alloc, err, done, all);
-        match write_file(rt, alloc, name, input, out, work)? {
-            Ok(some) => written.has_line |= some,
+        let answer = write_file(rt, alloc, name, input, out, work)?;
+        written = with_one_more(written, answer);
+        match answer {
+            Ok(_) => {}
             Err(RunFault::Write) => return Err(Stop::Write),
             Err(fault) => {
                 files.progress.clear(err, all);
                 let name = Escaped(name);
                 let line = format!(in alloc; "licscan: {name}: {fault}\n")?;
                 tell(err, line.as_str());
-                written.is_refused = true;
             }
         }
     }

@@ -1,7 +1,7 @@
 //! Why the program ends before its work is done, and how it reports that.
 
 ghost use Rattle.std.specs.Prelude.{◌≡◌};
-ghost use Rattle.licscan.specs.declared.faults.Stop.TheVariants.{Arguments, Load, Memory};
+ghost use Rattle.lic_command.specs.declared.faults.Stop.TheVariants.{Arguments, Load, Memory};
 
 use lic_arguments::fault::ArgumentFault;
 use lic_engine::fault::RunFault;

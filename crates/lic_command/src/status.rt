@@ -1,0 +1,59 @@
+//! The statuses that the program ends with.
+
+ghost use Rattle.std.specs.Prelude.{◌≡◌, ◌||◌, Ok, IsErr};
+ghost use Rattle.lic_command.specs.Statuses.{IsStatus, IsStatusOfCheck};
+
+use crate::faults::{Stop, tell_stop};
+use crate::files::Written;
+use lic_engine::fault::RunFault;
+use lic_stream::stream::Sink;
+use std::alloc::Global;
+
+/// What was asked for is so: a line was written, or no line says `no`.
+pub const DONE: u8 = 0;
+
+/// It is not so.
+pub const NOT_SO: u8 = 1;
+
+/// Something was refused, or could not be read or written.
+pub const REFUSED: u8 = 2;
+
+/// The status after all files, where a template may have been left out.
+pub fn status_of(written: Written, is_left_out: bool) -> u8
+    ensures { IsStatus (written.is_refused || is_left_out) written.has_line result }
+{
+    if written.is_refused | is_left_out {
+        REFUSED
+    } else if written.has_line {
+        DONE
+    } else {
+        NOT_SO
+    }
+}
+
+/// The status after `check`, where a template may have been left out.
+pub fn status_of_check(answer: Result<bool, RunFault>, is_left_out: bool) -> Result<u8, Stop>
+    ensures { IsStatusOfCheck answer is_left_out result }
+{
+    match answer {
+        Ok(_) if is_left_out => Ok(REFUSED),
+        Ok(true) => Ok(DONE),
+        Ok(false) => Ok(NOT_SO),
+        Err(RunFault::Write) => Err(Stop::Write),
+        Err(fault) => Err(Stop::Check(fault)),
+    }
+}
+
+/// The status that the program ends with. Where its work was not done, it is reported why.
+pub fn status_at_end<E: Sink>(alloc: Global, err: &mut E, outcome: Result<u8, Stop>) -> u8
+    ensures done { (status : _) → outcome ≡ Ok status → result ≡ status }
+    ensures stopped { IsErr outcome → result ≡ 2 }
+{
+    match outcome {
+        Ok(status) => status,
+        Err(stop) => {
+            tell_stop(alloc, err, &stop);
+            REFUSED
+        }
+    }
+}
