@@ -5,7 +5,8 @@ from dataclasses import dataclass, field
 # templates that name no licence of the file: words that give none, notices that point elsewhere, permissions beside a licence
 NONE = re.compile(r"no-grant-|same-as-|other-file-|.*-exception-")
 # tags of which not all is known
-UNKNOWN = re.compile(r"unknown-identifier|cut-|(OR|AND|WITH)-expression$|OR-field$")
+UNKNOWN = re.compile(r"unknown-identifier|cut-|(OR|AND|WITH)-expression|OR-field$")
+EXPRESSION = re.compile(r"expression-(OR|AND|WITH)-(.*?)(-b)?$")
 SUFFIX = re.compile(r"(-(identifier|field|notice|mention))?(-[b-z])?$")
 # names of Debian and older ones, of tags and fields
 OLDER = re.compile(r"([AL]?GPL|GFDL)-?v?(\d)(\.\d)?(\+?)$", re.IGNORECASE)
@@ -31,8 +32,9 @@ class Match:
             return ""
         if UNKNOWN.match(self.id):
             return None
-        if self.id.startswith("expression-"):
-            return self.values[0]
+        expression = EXPRESSION.match(self.id)
+        if expression:
+            return f"{self.values[0]} {expression[1]} {expression[2]}"
         name = SUFFIX.sub("", self.id)
         if re.search("-(identifier|field)(-[b-z])?$", self.id):
             name = identifier(name)

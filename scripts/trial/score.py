@@ -63,11 +63,12 @@ def said_by_licscan(program, rules, folder, names):
     for fields in lines_of(words, folder, names):
         if fields[0]:
             name, id = fields[0], fields[1]
-            if not re.match("(unknown-identifier|LicenseRef|expression-|cut-|no-grant|same-as-|other-file)|.*-exception", id):
+            if not re.match("(unknown-identifier|LicenseRef|expression-|cut-|(OR|AND|WITH)-expression|no-grant|same-as-|other-file)|.*-exception", id):
                 kept = mentions if re.search("-mention(-[b-z])?$", id) else grants
                 kept.setdefault(name, set()).update(licences.names_of(licences.SUFFIX.sub("", id)))
-        elif fields[1] in ("expression", "first", "beginning") and fields[2] != "-":
-            grants.setdefault(name, set()).update(licences.names_of(fields[4]))
+        elif fields[1] in ("first", "beginning") and fields[2] != "-":
+            last = re.match("expression-(OR|AND)-(.*?)(-b)?$", id)
+            grants.setdefault(name, set()).update(licences.names_of(fields[4]) | (licences.names_of(last[2]) if last else set()))
     said = {name: grants.get(name) or mentions.get(name, set()) for name in names}
     return {name: {one for one in it if not any(one == licences.family_of(other) != other for other in it)} for name, it in said.items()}, grants
 
