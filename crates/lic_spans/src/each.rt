@@ -22,7 +22,7 @@ pub fn with_each_last(
     ensures ordered { IfOk result (λ each. All (λ s. s.low ≤ s.high) each.items) }
     ensures few { IfOk result (λ each. length each.items ≤ length spans.items) }
 {
-    spans.sort_unstable_by_key(|span| (span.kind as u8, span.last, span.low));
+    spans.sort_by_key(|span| (span.kind as u8, span.last, span.low))?;
     joined(alloc, &spans)
 }
 

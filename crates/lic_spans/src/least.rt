@@ -1,6 +1,6 @@
 //! Of each place of a set its least last token.
 
-ghost use Rattle.std.specs.Prelude.{◌≡◌, ℕ, ◌+◌, ◌*◌, ◌<◌, ◌≤◌, ◌↔◌, List, length, All, AllPairs, IfOk, IsTrue, Contains};
+ghost use Rattle.std.specs.Prelude.{◌≡◌, ℕ, ◌+◌, ◌*◌, ◌<◌, ◌≤◌, ◌↔◌, List, length, All, AllPairs, IfOk, IsTrue, OnOk, Contains};
 ghost use Rattle.lic_spans.specs.declared.span.Kind.{Kind};
 ghost use Rattle.lic_spans.specs.declared.span.PlaceSpan.{PlaceSpan};
 ghost use Rattle.lic_spans.specs.Spans.{Holds, AreApart, FitsKind, BeginsBefore, is_before as lies_before, is_covered_by};
@@ -15,8 +15,8 @@ use std::alloc::{AllocError, Global};
 /// The spans may come in any order, overlap and repeat. Single places, of the kinds `End` and `Place`, stay single. Places
 /// are bytes of the text, last tokens are numbers of tokens.
 ///
-/// Of n spans it takes n log n steps, whatever they are. Where no two of them overlap but those of the same places, it
-/// sorts them and takes no memory.
+/// Of n spans it takes n log n steps, whatever they are, and n where they come sorted. Where no two of them overlap but those of the
+/// same places, it sorts them alone.
 pub fn with_least_last(
     alloc: Global,
     mut spans: Vec<PlaceSpan>,
@@ -34,7 +34,7 @@ pub fn with_least_last(
     if spans.len() < 2 {
         return Ok(spans);
     }
-    sort(&mut spans);
+    sort(&mut spans)?;
     if are_apart(&spans) {
         return Ok(spans);
     }
@@ -57,14 +57,17 @@ fn swept(alloc: Global, spans: &[PlaceSpan]) -> Result<Vec<PlaceSpan>, AllocErro
 }
 
 // Sorts spans by kind and by low place. A span that follows one of all its places and of no greater last token goes.
-fn sort(spans: &mut Vec<PlaceSpan>)
-    ensures sorted { AllPairs BeginsBefore spans.new.items }
-    ensures sound { (span : PlaceSpan) → Contains spans.new.items span → Contains spans.old.items span }
-    ensures least { (kind : Kind) (place last : ℕ) → Holds spans.old.items kind place last → HasLess spans.new.items kind place last }
-    ensures few { length spans.new.items ≤ length spans.old.items }
+//
+// The sort takes sorted runs as they are: callers hand in several sorted lists, one after another.
+fn sort(spans: &mut Vec<PlaceSpan>) -> Result<(), AllocError>
+    ensures sorted { OnOk result (AllPairs BeginsBefore spans.new.items) }
+    ensures sound { OnOk result ((span : PlaceSpan) → Contains spans.new.items span → Contains spans.old.items span) }
+    ensures least { OnOk result ((kind : Kind) (place last : ℕ) → Holds spans.old.items kind place last → HasLess spans.new.items kind place last) }
+    ensures few { OnOk result (length spans.new.items ≤ length spans.old.items) }
 {
-    spans.sort_unstable_by_key(|span| (span.kind as u8, span.low, span.last));
+    spans.sort_by_key(|span| (span.kind as u8, span.low, span.last))?;
     spans.dedup_by(|span, kept| is_covered(span, kept));
+    Ok(())
 }
 
 // Whether another span has all places of a span, with a last token that is no greater.

@@ -16,23 +16,23 @@ use Rattle.lic_spans.proofs.each.with_each_last.Goals as goal
 pub joined-requires-clause-ordered : goal.joined-requires-clause-ordered
 joined-requires-clause-ordered c =
     let old : List PlaceSpan = c.args.spans.items in
-    let sorted : List PlaceSpan = c.sort_unstable_by_key.new.self.items in
+    let sorted : List PlaceSpan = c.sort_by_key.new.self.items in
     subst (All (λ s. s.low ≤ s.high)) (sym c.deref.ensures.value)
     (All-among (λ s. s.low ≤ s.high) old sorted
-    (λ s among. Contains-permutation sorted old s (IsPermutation-sym old sorted c.sort_unstable_by_key.ensures.permutation) among) c.requires)
+    (λ s among. Contains-permutation sorted old s (IsPermutation-sym old sorted c.sort_by_key.ensures.permutation) among) c.requires)
 
 pub joined-requires-clause-sorted : goal.joined-requires-clause-sorted
 joined-requires-clause-sorted c =
-    let sorted : List PlaceSpan = c.sort_unstable_by_key.new.self.items in
+    let sorted : List PlaceSpan = c.sort_by_key.new.self.items in
     let order : IsSortedBy (λ x y. is_lt (by_last x y)) sorted =
-    c.sort_unstable_by_key.ensures.sorted (λ t. (rank t.kind, t.last, t.low)) (always_returns_same _ _ _ (λ a r f' k. search rules)) in
+    c.in_ok-sort_by_key.ensures.sorted (λ t. (rank t.kind, t.last, t.low)) (always_returns_same _ _ _ (λ a r f' k. search rules)) in
     subst (AllPairs StartsBefore) (sym c.deref.ensures.value) (StartsBefore-sorted sorted order)
 
 pub returns-clause-same : goal.returns-clause-same
 returns-clause-same c =
     let old : List PlaceSpan = c.args.spans.items in
-    let sorted : List PlaceSpan = c.sort_unstable_by_key.new.self.items in
-    let moved = c.sort_unstable_by_key.ensures.permutation in
+    let sorted : List PlaceSpan = c.sort_by_key.new.self.items in
+    let moved = c.sort_by_key.ensures.permutation in
     IfOk-weaker c.joined.result _ _
     (λ each h. λ k p t. (
       λ new. Holds-among sorted old (λ s among. Contains-permutation sorted old s (IsPermutation-sym old sorted moved) among) k p t
