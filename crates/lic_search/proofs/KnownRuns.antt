@@ -1,7 +1,8 @@
 -- Runs that are known, and those that go on from them.
-use Rattle.std.proofs.Common.{◌≡◌, ◌⊎◌, ℕ, zero, suc, ◌+◌, ◌-◌, ◌<◌, ◌≤◌, Bool, true, List, [], ◌∷◌, length, get_or, take, drop, inl, inr, refl, sym, ap, subst, ◌∙◌, arith, drop-cons}
+use Rattle.std.proofs.Common.{◌≡◌, ◌⊎◌, ℕ, zero, suc, ◌+◌, ◌-◌, ◌<◌, ◌≤◌, Bool, true, List, [], ◌∷◌, length, get_or, take, drop, inl, inr, refl, sym, ap, subst, ◌∙◌, arith, drop-cons, slice_range}
 use Rattle.std.specs.Str.{IsAscii}
 use Rattle.std.proofs.Math.Utf8.{encode, low_scalar}
+use Rattle.std.proofs.lemmas.List.{get_or-drop, get_or-take}
 use Rattle.std.proofs.lemmas.Str.{encode_ascii}
 use Rattle.lic_places.specs.Places.{Stands}
 use Rattle.lic_search.specs.declared.run.Run.{Run}
@@ -38,7 +39,7 @@ longest-back bytes passes count until run other back = record { few = back.few; 
     by_stop (inr stop) = stop
 
 -- one chain after another
-chain-joined : (bytes : List ℕ) (passes : ℕ → Bool) (m n low middle place : ℕ) → IsChain bytes passes m low middle → IsChain bytes passes n middle place →
+pub chain-joined : (bytes : List ℕ) (passes : ℕ → Bool) (m n low middle place : ℕ) → IsChain bytes passes m low middle → IsChain bytes passes n middle place →
     IsChain bytes passes (m + n) low place
 chain-joined bytes passes zero n low middle place first second =
     let none : n ≡ 0 + n = omega arith in
@@ -77,35 +78,56 @@ longest-joined bytes passes count many first second run longest back meets gone 
     by_many zero is (inl full) = inl (omega (arith, is, gone, full, number, longest.few, back.few))
     by_many zero is (inr none) = inr (subst (IsNoneBefore bytes passes) (sym (stays (omega arith))) none)
 
--- in ASCII each byte is a letter
-ascii-letter : (bytes : List ℕ) (p : ℕ) → IsAscii bytes → p < length bytes → IsLetterBefore bytes (suc p) p (get_or bytes p 0)
-ascii-letter bytes p ascii within = record { scalar = low_scalar c (omega (arith, ascii p)); stands = stands }
+-- a byte of ASCII is a letter
+ascii-letter : (bytes : List ℕ) (p : ℕ) → get_or bytes p 0 < 128 → p < length bytes → IsLetterBefore bytes (suc p) p (get_or bytes p 0)
+ascii-letter bytes p ascii within = record { scalar = low_scalar c (omega (arith, ascii)); stands = stands }
   where
     c : ℕ
     c = get_or bytes p 0
 
     one : encode c ≡ c ∷ []
-    one = encode_ascii c (ascii p)
+    one = encode_ascii c ascii
 
     many : suc p - p ≡ 1
     many = omega arith
 
     here : take (suc p - p) (drop p bytes) ≡ c ∷ []
-    here = ap (λ n. take n (drop p bytes)) many ∙ ap (take 1) (drop-cons bytes p 0 within)
+    here = ap (λ n. take n (drop p bytes)) many ∙ ap (take 1) (drop-cons bytes p 0 within) ∙ ap (λ b. b ∷ []) refl
 
     stands : Stands bytes p (encode c) (suc p)
     stands = (omega (arith, ap length one), here ∙ sym one)
 
-ascii-chain : (bytes : List ℕ) (n low place : ℕ) → IsAscii bytes → place ≤ length bytes → place ≡ low + n → IsChain bytes (λ _. true) n low place
+-- bytes of ASCII are a chain of letters
+ascii-chain : (bytes : List ℕ) (n low place : ℕ) → ((p : ℕ) → low ≤ p → p < place → get_or bytes p 0 < 128) → place ≤ length bytes → place ≡ low + n →
+    IsChain bytes (λ _. true) n low place
 ascii-chain bytes zero low place ascii within is = omega arith
-ascii-chain bytes (suc n) low place ascii within is =
-    (suc low, get_or bytes low 0, ascii-letter bytes low ascii (omega arith), refl, ascii-chain bytes n (suc low) place ascii within (omega arith))
+ascii-chain bytes (suc n) low place ascii within is = (
+  suc low,
+  get_or bytes low 0,
+  ascii-letter bytes low (ascii low (omega arith) (omega arith)) (omega arith),
+  refl,
+  ascii-chain bytes n (suc low) place (λ p from to. ascii p (omega arith) to) within (omega arith),
+)
+
+-- so is a block of them that ends at a place
+pub block-chain : (bytes : List ℕ) (size place : ℕ) → size ≤ place → place ≤ length bytes → IsAscii (slice_range bytes (place - size) place) →
+    IsChain bytes (λ _. true) size (place - size) place
+block-chain bytes size place many within ascii = ascii-chain bytes size (place - size) place each within (omega arith)
+  where
+    each : (p : ℕ) → place - size ≤ p → p < place → get_or bytes p 0 < 128
+    each p from to =
+        let at : (place - size) + (p - (place - size)) ≡ p = omega arith in
+        let same : get_or (slice_range bytes (place - size) place) (p - (place - size)) 0 ≡ get_or bytes p 0 =
+        get_or-take (place - (place - size)) (drop (place - size) bytes) (p - (place - size)) 0 (omega arith)
+        ∙ get_or-drop (place - size) bytes (p - (place - size)) 0
+        ∙ ap (λ k. get_or bytes k 0) at in
+        omega (arith, ascii (p - (place - size)), same)
 
 pub ascii-start : (bytes : List ℕ) (count place : ℕ) → IsAscii bytes → place ≤ length bytes → count ≤ place → IsRunStart bytes (λ _. true) count place (place - count)
 ascii-start bytes count place ascii within many = record {
   number = count;
   few = omega arith;
-  chain = ascii-chain bytes count (place - count) place ascii within (omega arith);
+  chain = ascii-chain bytes count (place - count) place (λ p _ _. ascii p) within (omega arith);
   stop = inl refl;
 }
 

@@ -22,7 +22,7 @@ pub(crate) fn over_blanks(
     requires { ArePlaced view.now spans.now }
     ensures { IfOk result (λ found. IsBack keep view.now (λ w. w ≡ blank ∷ []) spans.now found.items) }
 {
-    let mut found = Vec::new(alloc);
+    let mut found = Vec::with_capacity(alloc, spans.len())?;
     for span in spans {
         add_over_blank(view, keep, *span, &mut found)?;
     }

@@ -1,12 +1,13 @@
 //! The letters in a row that stand up to a place and pass.
 
-ghost use Rattle.std.specs.Prelude.{◌≡◌, ◌+◌, ◌≤◌, ℕ, Bool, length, List, slice_index};
+ghost use Rattle.std.specs.Prelude.{◌≡◌, ◌+◌, ◌-◌, ◌<◌, ◌≤◌, ℕ, Bool, IsTrue, MatchOption, length, List, slice_index, slice_range};
+ghost use Rattle.std.specs.Str.{IsAscii};
 ghost use Rattle.std.specs.Char.{encode_utf8};
 ghost use Rattle.lic_ere.specs.Trees.{tree_of};
 ghost use Rattle.lic_places.specs.Places.{spelling_of};
 ghost use Rattle.lic_search.specs.Passing.{IsLetterBefore, passes_of};
 ghost use Rattle.lic_search.specs.Runs.{IsChain, IsRunStart};
-ghost use Rattle.lic_search.specs.RunsKnown.{IsLongest, IsRunBackTo};
+ghost use Rattle.lic_search.specs.RunsKnown.{IsLongest, IsNoneBefore, IsRunBackTo};
 
 use crate::passing::{is_any, passes};
 use crate::view::{View, tokens_have_texts};
@@ -72,27 +73,62 @@ fn run_up_to(view: &View<'_>, ere: &Ere, count: usize, known: Run, place: usize)
     joined(view.bytes(), count, known, run)
 }
 
+// How many letters are taken at once where each is one byte and any letter passes.
+const BLOCK: usize = 64;
+
 // The longest run up to a place, but that it goes no further back than to another.
 fn run_back(view: &View<'_>, ere: &Ere, count: usize, until: usize, place: usize) -> Run
     ensures back { IsRunBackTo (spelling_of view.now) (passes_of (tree_of ere.now)) count until result }
     ensures place { result.place ≡ place }
 {
-    tokens_have_texts(view);
     let mut low = place;
-    for number in 0..count {
-        if low == until {
-            return Run { low, place, number };
-        }
-        match view.letter_before(low) {
-            Some((start, letter)) if passes(ere, letter) => low = start,
-            _ => return Run { low, place, number },
+    let mut number = 0;
+    while low != until && number < count {
+        match stretch_back(view, ere, BLOCK, count - number, until, low) {
+            Some((start, letters)) => {
+                low = start;
+                number += letters;
+            }
+            None => return Run { low, place, number },
         }
     }
-    Run {
-        low,
-        place,
-        number: count,
+    Run { low, place, number }
+}
+
+// Where the letters begin that stand right before a place and pass, and how many they are: a block of this size, or one. None if the
+// letter before the place does not pass.
+fn stretch_back(
+    view: &View<'_>,
+    ere: &Ere,
+    size: usize,
+    most: usize,
+    until: usize,
+    place: usize,
+) -> Option<(usize, usize)>
+    requires size { 0 < size }
+    requires most { 0 < most }
+    ensures { MatchOption result (IsNoneBefore (spelling_of view.now) (passes_of (tree_of ere.now)) place)
+        (λ found. (0 < found.1) × (found.1 ≤ most) × IsChain (spelling_of view.now) (passes_of (tree_of ere.now)) found.1 found.0 place) }
+{
+    tokens_have_texts(view);
+    if size <= most
+        && size <= place.abs_diff(until)
+        && is_any(ere)
+        && ends_block(view.bytes(), size, place)
+    {
+        return Some((place - size, size));
     }
+    match view.letter_before(place) {
+        Some((start, letter)) if passes(ere, letter) => Some((start, 1)),
+        _ => None,
+    }
+}
+
+// Whether so many letters of one byte each end at a place.
+fn ends_block(bytes: &[u8], size: usize, place: usize) -> bool
+    ensures { IsTrue result → (size ≤ place) × (place ≤ length bytes.now) × IsAscii (slice_range bytes.now (place - size) place) }
+{
+    size <= place && place <= bytes.len() && bytes[place - size..place].is_ascii()
 }
 
 // Two runs, the second one right after the first, as one: its first letters go where they are too many.

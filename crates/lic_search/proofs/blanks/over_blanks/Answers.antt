@@ -3,7 +3,7 @@ use Rattle.lic_search.proofs.SpanLoops.{placed-one, spans-all, spans-more, spans
 use Rattle.lic_search.proofs.blanks.over_blanks.Goals as goal
 
 pub loop-span-init : goal.loop-span-init
-loop-span-init c = spans-none c.args.keep c.args.view.now IsBlank c.new-found.result.items c.new-found.ensures.items
+loop-span-init c = spans-none c.args.keep c.args.view.now IsBlank c.in_ok-found.found.items c.in_ok-found.ensures.items
 
 pub add_over_blank-requires : goal.add_over_blank-requires
 add_over_blank-requires c = placed-one c.args.view.now c.args.spans.now c.loop-span.span-index _ c.loop-span-test.true c.requires

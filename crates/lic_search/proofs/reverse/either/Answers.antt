@@ -1,5 +1,5 @@
 -- Two sets of places together.
-use Rattle.std.proofs.Common.{◌≡◌, ◌++◌, ◌∙◌, ap, sym, subst}
+use Rattle.std.proofs.Common.{◌++◌, ◌∙◌, ap, sym, subst}
 use Rattle.lic_search.specs.PlaceSets.{ArePlaced}
 use Rattle.lic_search.specs.declared.keep.Keep.TheVariants.{Least}
 use Rattle.lic_search.proofs.Placed.{ArePlaced-append}

@@ -1,10 +1,9 @@
 -- Whether one of the spans has the place.
-use Rattle.std.proofs.Common.{◌≡◌, ℕ, suc, ◌+◌, ◌<◌, ◌≤◌, ◌⊎◌, inl, inr, true, false, get_or, refl, sym, ◌∙◌, arith}
-use Rattle.std.proofs.lemmas.Bool.{cases_lt, false≢true}
+use Rattle.std.proofs.Common.{refl, sym, ◌∙◌, arith}
+use Rattle.std.proofs.lemmas.Bool.{false≢true}
 use Rattle.std.proofs.lemmas.List.Elements.{Contains-get_or}
-use Rattle.lic_spans.specs.declared.span.PlaceSpan.{PlaceSpan}
 use Rattle.lic_search.proofs.SpanLoops.{placed-one}
-use Rattle.lic_search.proofs.ReverseLemmas.{HasNumber, reaches-number, reaches-none, one-more}
+use Rattle.lic_search.proofs.ReverseLemmas.{reaches-number, reaches-none, one-more}
 use Rattle.lic_search.proofs.reverse.have_place.Goals as goal
 
 pub has_place-requires : goal.has_place-requires

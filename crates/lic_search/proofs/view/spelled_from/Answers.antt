@@ -1,5 +1,5 @@
 -- The canonical spelling of some tokens.
-use Rattle.std.proofs.Common.{arith, ◌+◌, ◌-◌, ◌<◌, length}
+use Rattle.std.proofs.Common.{arith, ◌+◌, ◌-◌, ◌<◌}
 use Rattle.lic_norm.specs.Places.{place_start, place_end}
 use Rattle.lic_places.specs.Places.{AreTexts}
 use Rattle.lic_search.proofs.Laws.{tokens_stand-order}
