@@ -1,7 +1,6 @@
 -- The triples that bundles hold are those of any one of them.
 use Rattle.std.proofs.Common.{List}
 use Rattle.std.specs.List.{Any}
-use Rattle.std.proofs.lemmas.List.Elements.{Contains-get_or}
 use Rattle.lic_set.specs.declared.triple.Triple.{Triple}
 use Rattle.lic_bundles.specs.Bundles.{IsOf}
 use Rattle.lic_bundles.specs.declared.bundle.Bundle.{Bundle}

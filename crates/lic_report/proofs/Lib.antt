@@ -3,3 +3,4 @@ mod MergingLemmas
 mod BundlingLemmas
 mod AllMatchesLemmas
 mod ValueLemmas
+mod ReportLemmas

@@ -3,6 +3,7 @@
 
 pub mod all_matches;
 pub mod assigners;
+pub mod laws;
 pub mod lines;
 pub mod match_lines;
 pub mod outer;
