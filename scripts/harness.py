@@ -208,7 +208,7 @@ def arguments(doc, program=PROGRAM, made_by='./licscan --version'):
     """A reader of a trial's arguments, whose help is this text: the program that is tried is this one, if no other is named."""
     def built(path):
         if not os.path.isfile(path) or not os.access(path, os.X_OK):
-            raise argparse.ArgumentTypeError(f'no program at {path} ({made_by} proves and builds {os.path.relpath(program, TOP)})')
+            raise argparse.ArgumentTypeError(f'no program at {path}; {made_by} proves and builds the one of this repository')
         return os.path.abspath(path)
 
     reader = argparse.ArgumentParser(f'./dev {STEP}', description=doc, formatter_class=argparse.RawDescriptionHelpFormatter)
