@@ -1,9 +1,9 @@
 #!/usr/bin/env python3
-"""Cases of the whole program: what it writes for arguments, files and an input, and its status.
+"""Cases of the whole program, on a built licscan: what it writes for arguments, files and an input, and its status.
 
 The cases are lists in the modules beside this one. Each is laid out in a new folder and run there; its status, standard output and standard
-error must be those that the case names, byte for byte. A case that goes wrong is printed, with what differs; the last line is 'N cases, M bad',
-and the status is 1 if M is not 0.
+error must be those that the case names, byte for byte. `--only` takes the cases whose module or name has the word. A case that goes wrong is
+printed, with what differs; the last line is 'N cases, M bad', and the status is 1 if M is not 0.
 """
 import sys
 
@@ -17,12 +17,12 @@ MODULES = (arguments, help, tokens, matches, markup, variables, checks, line_rul
 
 def main():
     reader = harness.arguments(__doc__)
-    reader.add_argument('--only', metavar='WORD', type=str.lower, default='', help='the cases whose module or name has this word')
-    asked = reader.parse_args()
-    tally = harness.Tally('cases')
+    reader.add_argument('--only', metavar='WORD', type=str.lower, default='')
+    asked, tally = reader.parse_args(), harness.Tally('cases')
     for name, case in ((f'{module.__name__}: {case.name}', case) for module in MODULES for case in module.CASES):
-        if asked.only in name.lower():
-            tally.add(name, harness.faults_of(case, harness.run_case(asked.program, case)))
+        if asked.only not in name.lower():
+            continue
+        tally.add(name, harness.faults_of(case, harness.run_case(asked.program, case)))
     return tally.end()
 
 
