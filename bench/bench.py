@@ -1,31 +1,32 @@
 #!/usr/bin/env python3
-"""Times a built licscan, as ratios within one run: python3 bench/bench.py PROGRAM [--against PROGRAM] [--only WORD] [PART ..]
+"""Times a built licscan, as ratios within one run.
 
 With `--against` each run is made by both programs in turn, and each line ends with the seconds and the memory of the other one, and how many
-times its seconds those of the first are. Inputs are what a Debian system carries (licence texts, copyright files, source trees); templates are
-those of `published.py` and the starter set. The parts, all of them where none is named:
+times its seconds those of the first are. Inputs are made from fixed seeds by `inputs.py`, so that each machine has the same: licence texts, sources
+of which half have a licence at their heads, templates in the shape of published ones. The starter set is timed, too. The parts, all of them
+where none is named:
   reading    50 MB of licence texts: `tokens`, and a scan for a template that never occurs, against `wc -m`
   rules      `tokens` of 10 MB by the profile's line rules and 256 texts, against the profile alone: texts that begin with a sign, and with a letter
   start      the start: 700 templates in the shape of published ones, and the starter set
-  search     the search beyond reading, `scan` and `scan --all`, each for both sets of templates: source trees, 10,000 small files, a megabyte of
-             licence texts. The start is taken off, and so is reading: `tokens`, or the scan for nothing where that is quicker (`tokens` writes)
+  search     the search beyond reading, `scan` and `scan --all`, each for both sets of templates: 20 MB of sources, 10,000 small files, a megabyte of
+             licence texts. The start is taken off, and so is reading: `tokens`, or the scan for nothing where that is quicker (`tokens` writes).
+             `--sources` takes files below folders of yours in place of the sources
   growth     the cases of scripts/hostile/growing.py, or those whose group or name has the word of `--only`: the processor seconds of five sizes, each
              twice the one before (16 times the first ones at the last size is linear), up to a size that takes more than 30; then how many times
              those of one plain template on the same text they are
 Each figure is the quickest of three runs, of 25 where a run takes less than half a second, and of one where it takes more than ten seconds; those
 of `growth` are of one run.
 """
-import argparse, dataclasses, glob, math, os, subprocess, sys, tempfile
+import dataclasses, math, os, subprocess, sys, tempfile
 
-from published import texts, write_folder
+import growing, harness, running
+import inputs
 
 HERE = os.path.dirname(os.path.abspath(__file__))
-TOP = os.path.dirname(HERE)
-sys.path.append(f'{TOP}/scripts/hostile')
-import growing, running
-
 ENVIRONMENT = dict(os.environ, LC_ALL='C.UTF-8')
 FILES_OF_A_CALL = 4_000
+# bytes of sources that are scanned
+SOURCES = 20_000_000
 MOST_SECONDS = 30
 
 
@@ -66,8 +67,9 @@ def quickest(commands, files=()):
 class Bench:
     """The programs that are timed, and a folder for their inputs."""
 
-    def __init__(self, programs, only, folder):
-        self.programs, self.only, self.folder, self.sources = programs, only, folder, texts()
+    def __init__(self, asked, folder):
+        self.programs = [os.path.abspath(it) for it in (asked.program, asked.against) if it]
+        self.only, self.own, self.folder, self.texts = asked.only, asked.sources, folder, inputs.texts()
 
     def at(self, name):
         return os.path.join(self.folder, name)
@@ -77,12 +79,10 @@ class Bench:
 
     def text(self, name, size):
         """A file of licence texts of this size."""
-        with open(self.at(name), 'w') as out:
-            while out.tell() < size:
-                for text in self.sources:
-                    out.write(text + '\n')
-                    if out.tell() >= size:
-                        break
+        whole = '\n'.join(self.texts) + '\n'
+        with open(self.at(name), 'w', encoding='utf-8') as out:
+            for at in range(0, size, len(whole)):
+                out.write(whole[:size - at])
         return self.at(name)
 
     def template(self, name, text):
@@ -110,7 +110,7 @@ def reading(bench):
 
 def rules(bench):
     text = bench.text('rules.txt', 10_000_000)
-    with open(f'{TOP}/examples/rules/profile.rules') as file:
+    with open(f'{harness.TOP}/examples/rules/profile.rules') as file:
         lines = file.read().splitlines()
     count = 256 - sum(line.startswith(('lead', 'tail')) for line in lines)
     base = bench.quickest(['tokens', text])
@@ -125,8 +125,8 @@ def rules(bench):
 
 def sets(bench):
     """The sets of templates, and the figures of the start with each."""
-    write_folder(bench.at('published'), 700)
-    for name, folder in (('700 published', bench.at('published')), ('the starter set', f'{TOP}/examples/templates')):
+    inputs.write_templates(bench.at('published'), 700)
+    for name, folder in (('700 published', bench.at('published')), ('the starter set', harness.TEMPLATES)):
         yield name, folder, bench.quickest(['scan', '--templates', folder, '/dev/null'])
 
 
@@ -135,22 +135,21 @@ def start(bench):
         bench.line(name, figures)
 
 
-def source_files(most):
-    """Source files of this system that are UTF-8, up to so many bytes in all."""
+def files_below(folders, most):
+    """Files below these folders that are UTF-8, up to so many bytes in all."""
     found, size = [], 0
-    for pattern in ('/usr/include/**/*.h', '/usr/lib/python3*/**/*.py', '/usr/share/perl*/**/*.pm', '/usr/lib/node_modules/**/*.js'):
-        for path in sorted(glob.glob(pattern, recursive=True)):
-            try:
-                with open(path, 'rb') as file:
-                    data = file.read()
-                data.decode()
-            except (UnicodeDecodeError, OSError):
-                continue
-            if 0 < len(data) < 1_000_000:
-                found.append(path)
-                size += len(data)
-            if size >= most:
-                return found
+    for path in sorted(os.path.join(at, name) for folder in folders for at, _, names in os.walk(folder) for name in names):
+        try:
+            with open(path, 'rb') as file:
+                data = file.read()
+            data.decode()
+        except (UnicodeDecodeError, OSError):
+            continue
+        if 0 < len(data) < 1_000_000:
+            found.append(os.path.abspath(path))
+            size += len(data)
+        if size >= most:
+            break
     return found
 
 
@@ -165,11 +164,11 @@ def small_files(bench, sources, count):
 
 
 def search(bench):
-    trees = source_files(20_000_000)
+    trees = files_below(bench.own, SOURCES) if bench.own else inputs.write_sources(bench.at('sources'), SOURCES)
     never = bench.template('never', 'zzzyyyxxx wwwvvv')
     chosen = list(sets(bench))
-    inputs = {'source trees': trees, '10,000 small files': small_files(bench, trees, 10_000), 'a megabyte of licences': [bench.text('texts.txt', 1_000_000)]}
-    for name, files in inputs.items():
+    read_files = {'sources': trees, '10,000 small files': small_files(bench, trees, 10_000), 'a megabyte of licences': [bench.text('texts.txt', 1_000_000)]}
+    for name, files in read_files.items():
         calls = -(-len(files) // FILES_OF_A_CALL)
         both = [bench.quickest(arguments, files) for arguments in (['tokens'], ['scan', '--templates', never])]
         bench.line(f'{name}: tokens', both[0])
@@ -215,18 +214,17 @@ PARTS = {part.__name__: part for part in (reading, rules, start, search, growth)
 
 
 def main():
-    words = argparse.ArgumentParser(description=__doc__, formatter_class=argparse.RawDescriptionHelpFormatter)
-    words.add_argument('program')
-    words.add_argument('--against', metavar='PROGRAM')
-    words.add_argument('--only', metavar='WORD', default='')
-    words.add_argument('parts', metavar='PART', nargs='*', help=', '.join(PARTS))
-    given = words.parse_intermixed_args()
-    if unknown := set(given.parts) - set(PARTS):
-        words.error(f'no part {", ".join(sorted(unknown))}')
-    programs = [os.path.abspath(it) for it in (given.program, given.against) if it]
-    for name in given.parts or PARTS:
+    reader = harness.arguments(__doc__)
+    reader.add_argument('--against', metavar='PROGRAM', help='another program, which is timed beside the first')
+    reader.add_argument('--only', metavar='WORD', type=str.lower, default='', help='of growth')
+    reader.add_argument('--sources', metavar='FOLDER', action='append', default=[], help='of search: files below this folder (may be given again)')
+    reader.add_argument('parts', metavar='PART', nargs='*', help=', '.join(PARTS))
+    asked = reader.parse_intermixed_args()
+    if unknown := set(asked.parts) - set(PARTS):
+        reader.error(f'no part {", ".join(sorted(unknown))}')
+    for name in asked.parts or PARTS:
         with tempfile.TemporaryDirectory() as folder:
-            PARTS[name](Bench(programs, given.only.lower(), folder))
+            PARTS[name](Bench(asked, folder))
 
 
 if __name__ == '__main__':

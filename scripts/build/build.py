@@ -52,6 +52,7 @@ def build(top):
     open(f"{to}/build.log", "wb").close()
     proving = Proving(top, [PROGRAM], f"{to}/build.log")
     say(f"proving {len(proving.all)} crates and building the program: half an hour on four quick cores, an hour on slow or busy ones")
+    say("README.md says how to have an unproved answer in two minutes")
     if keeps_proofs(top):
         is_built = proving.run() and built(top, proving.all, to, lambda line: None)
     else:
@@ -65,7 +66,7 @@ def build(top):
 
 def main(top):
     if not shutil.which("rt"):
-        say("rt is not on the path: the program is proved and built by the Rattle toolchain (README, Working on it)")
+        say("rt is not on the path: the program is proved and built by the Rattle toolchain (see README.md)")
         return 2
     os.makedirs(f"{top}/crates/{PROGRAM}/out", exist_ok=True)
     with open(f"{top}/crates/{PROGRAM}/out/build.lock", "w", encoding="utf-8") as lock:

@@ -1,7 +1,8 @@
 """Reads and writes that fail or move one byte, each in turn, and files that grow or shrink while they are read."""
-import errno, itertools, os, re, subprocess
+import errno, itertools, os, re
 
 from costly import ALL
+from harness import preloaded
 from running import Case, run, templates
 
 FILES = {**templates(A='foo bar', B='foo <<var;name="w";original="bar";match="[a-z]+">>'), 'rules': b'lead @@\n', 'list': b'bar, barr\n',
@@ -32,14 +33,6 @@ class Beginning:
 
     def fullmatch(self, came):
         return self.whole.startswith(came)
-
-
-def library(tools):
-    """The library that meddles with calls."""
-    built = os.path.join(tools, 'meddle.so')
-    source = os.path.join(os.path.dirname(os.path.abspath(__file__)), 'meddle.c')
-    subprocess.run(['cc', '-shared', '-fPIC', '-O1', '-o', built, source, '-ldl'], check=True)
-    return built
 
 
 def counted(tools, built, args, call):
@@ -80,6 +73,6 @@ def of_changes(built):
 
 
 def cases(tools, heavy):
-    built = library(tools)
+    built = preloaded(os.path.join(os.path.dirname(os.path.abspath(__file__)), 'meddle.c'), tools)
     yield from of_calls(tools, built)
     yield from of_changes(built)

@@ -1,5 +1,5 @@
 """Cases of arguments that are refused."""
-from running import Case, templates
+from harness import Case, templates
 
 SCAN = ['scan', '--templates', 'T']
 E_REFUSED = b'licscan: template E: M10 at 0: no letter in it\n'

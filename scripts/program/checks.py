@@ -1,5 +1,5 @@
 """Cases of what is written for templates."""
-from running import Case, templates
+from harness import Case, templates
 
 CHECK = ['check', '--templates', 'T']
 

@@ -1,5 +1,5 @@
 """Cases of the texts of the arguments' parser."""
-from running import Case
+from harness import Case
 
 HELP = b"""\
 Finds the ranges of texts that licence templates match

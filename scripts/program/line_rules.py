@@ -1,5 +1,5 @@
 """Cases of files of line rules."""
-from running import Case, templates
+from harness import Case, templates
 
 # rules, an input, and its tokens
 READ = [

@@ -1,6 +1,6 @@
 """Tokens of lines and of texts, by the profile; of bytes that are no UTF-8; and by other rules."""
 from rows import of_tokens
-from running import Case
+from harness import Case
 
 LINES = [
     ('// 1. Foo', 'foo 6-9, '),

@@ -1,5 +1,5 @@
 """Lists of equivalent words and files of line rules that are refused: the first fault of each."""
-from running import Case
+from harness import Case
 
 LISTS = [
     ('an empty phrase', 'color,,colour\n', 'Q1 at line 1: empty phrase'),

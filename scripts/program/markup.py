@@ -1,5 +1,5 @@
 """Cases of the ranges that templates in markup describe."""
-from running import Case, templates
+from harness import Case, templates
 
 
 # templates, and inputs with the lines of all their matches

@@ -1,5 +1,5 @@
 """Cases of what is written for matches."""
-from running import Case, templates
+from harness import Case, templates
 
 ALL = ['scan', '--all', '--templates', 'T']
 ONE = templates(A=b'foo bar')

@@ -1,5 +1,5 @@
 """Cases of the line that says how far the work on many files is."""
-from running import Case
+from harness import Case
 
 CLEAR = b'\r\x1b[K'
 SHOWN = [b'%s%d of 20 files' % (CLEAR, done) for done in range(20)]

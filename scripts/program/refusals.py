@@ -1,5 +1,5 @@
 """Cases of what is refused, and of what cannot be read or written."""
-from running import Case, templates
+from harness import Case, templates
 
 SCAN = ['scan', '--templates', 'T']
 ALL = ['scan', '--all', '--templates', 'T']

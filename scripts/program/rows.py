@@ -1,7 +1,7 @@
 """Rows in short form, and the lines of output that they stand for."""
 import re
 
-from running import Case, templates
+from harness import Case, templates
 
 ALL = ['scan', '--all', '--templates', 'T']
 CHECK = ['check', '--templates', 'T']

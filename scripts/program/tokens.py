@@ -1,5 +1,5 @@
 """Cases of what is written for tokens."""
-from running import Case
+from harness import Case
 
 # an input, and its tokens
 LINES = [

@@ -1,5 +1,5 @@
 """What variables stand for in long texts, and where the same text could be read in very many ways."""
-from running import Case, templates
+from harness import Case, templates
 
 SCAN = ['scan', '--templates', 'T']
 LOREM = b'lorem '

@@ -1,5 +1,5 @@
 """Cases of outer matches and their variables."""
-from running import Case, templates
+from harness import Case, templates
 
 SCAN = ['scan', '--templates', 'T']
 ALL = ['scan', '--all', '--templates', 'T']

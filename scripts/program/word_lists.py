@@ -1,5 +1,5 @@
 """Cases of lists of equivalent words."""
-from running import Case, templates
+from harness import Case, templates
 
 # a list, an input, and its tokens
 READ = [

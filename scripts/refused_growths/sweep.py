@@ -1,8 +1,6 @@
 #!/usr/bin/env python3
 """Refuses each request for memory of a built licscan in turn, and reads what it says.
 
-  sweep.py PROGRAM
-
 A run in which a request was refused must either say and write what the whole run does, or end with
 status 2, report that memory ran out by a text of the manual, and write and tell nothing else that the whole run does not; each text with a
 code must come. And two thousand matches must
@@ -10,9 +8,11 @@ take no more requests than one match, but for the growth of the report: giving a
 long must hold hardly more blocks at once: what a template takes where it is entered is given back when it goes on no more. Needs a C
 compiler. Prints each run that breaks this; the last line is 'N runs, M bad', and the status is 1 if M is not 0.
 """
-import os, re, shutil, subprocess, sys, tempfile
+import os, re, sys
 
-HERE = os.path.dirname(os.path.abspath(__file__))
+import harness
+
+SOURCE = os.path.join(os.path.dirname(os.path.abspath(__file__)), 'fail_nth.c')
 SCAN = ['scan', '--all', '--templates', 'T']
 FOUND = b'Foo   bar foo bar'
 CASES = [
@@ -44,6 +44,8 @@ CASES = [
     ([], b''),
 ]
 FILES = {
+    'T/D.template.txt': None,
+    b'T/\xff.template.txt': b'',
     'T/A.template.txt': b'foo bar',
     'T/E.template.txt': b' ',
     'T/U.template.txt': b'\xff',
@@ -76,88 +78,67 @@ TEXT = re.compile(rb'licscan: (rules: L4: |words: Q4: |templates: B3: |template 
 CODES = {b'L4', b'Q4', b'B3', b'M12 at 0', b'X3'}
 
 
-def build(folder):
-    """The library that refuses requests, built in a folder."""
-    compiler = shutil.which('cc')
-    if not compiler:
-        sys.exit('no C compiler: fail_nth.c, which refuses the requests for memory, is built by cc')
-    library = os.path.join(folder, 'fail_nth.so')
-    subprocess.run([compiler, '-shared', '-fPIC', '-O1', '-o', library, os.path.join(HERE, 'fail_nth.c'), '-ldl'], check=True)
-    return library
-
-
 def run(program, folder, library, words, given, n):
-    """The status of a run whose Nth request is refused, its output and its errors; a run that is stopped has no status."""
-    place = dict(os.environ, LD_PRELOAD=library, FAIL_NTH=str(n))
-    try:
-        ran = subprocess.run([program] + words, input=given, capture_output=True, env=place, cwd=folder, timeout=SECONDS)
-    except subprocess.TimeoutExpired:
-        return None, b'', b''
-    return ran.returncode, ran.stdout, ran.stderr
+    """A run whose Nth request is refused."""
+    return harness.run([program, *words], folder, given, {**harness.ENVIRONMENT, 'LD_PRELOAD': library, 'FAIL_NTH': str(n)}, SECONDS)
 
 
 def requests(program, folder, library, limit, text):
     """How many matches of a text a run of at most so many writes, how many requests for memory it makes, and how many blocks it holds at once."""
     count = os.path.join(folder, 'count')
-    place = dict(os.environ, LD_PRELOAD=library, COUNT_IN=count)
     words = ['scan', '--all', '--templates', 'V', '--limit', str(limit)]
-    ran = subprocess.run([program] + words, input=text, capture_output=True, env=place, cwd=folder)
+    ran = harness.run([program, *words], folder, text, {**harness.ENVIRONMENT, 'LD_PRELOAD': library, 'COUNT_IN': count})
     with open(count) as it:
-        return len(ran.stdout.splitlines()), *map(int, it.read().split())
+        return len(ran.out.splitlines()), *map(int, it.read().split())
+
+
+def is_same(ran, whole):
+    return (ran.status, ran.out, ran.err) == (whole.status, whole.out, whole.err)
 
 
 def is_right(ran, whole):
-    if ran == whole:
-        return True
-    told, known = ran[2].splitlines(), whole[2].splitlines()
+    if is_same(ran, whole):
+        return whole.status >= 0
+    told, known = ran.err.splitlines(), whole.err.splitlines()
     others = [it for it in told if not TEXT.fullmatch(it)]
-    lines = set(whole[1].splitlines())
-    return (ran[0] == 2 and len(others) < len(told)
+    lines = set(whole.out.splitlines())
+    return (ran.status == 2 and len(others) < len(told)
             and all(it in known or it == FOLLOWS for it in others)
-            and all(it in lines for it in ran[1].splitlines()))
+            and all(it in lines for it in ran.out.splitlines()))
+
+
+def refuse_each(program, folder, library, words, given, tally):
+    """Refuses the requests of a run one by one, until none changes anything. Gives the codes of the texts that were told."""
+    whole, codes = run(program, folder, library, words, given, 0), set()
+    n, same = 0, 0
+    # (a refused request that a library can do without changes nothing: 40 such in a row are the end)
+    while same < 40:
+        n += 1
+        ran = run(program, folder, library, words, given, n)
+        same = same + 1 if is_same(ran, whole) else 0
+        codes.update(re.findall(rb'(\w+(?: at \d+)?): out of memory\n', ran.err))
+        tally.add(f'{words}, request {n}', [] if is_right(ran, whole) else [str(ran)])
+    return codes
+
+
+def count_requests(program, folder, library, tally):
+    """Counts the requests for one match and for two thousand, and the blocks that a short text and a long one hold at once."""
+    (one, few, _), (all_of_them, many, _) = [requests(program, folder, library, limit, MANY) for limit in (1, 2000)]
+    is_bad = (one, all_of_them) != (1, 2000) or many - few > GROWTH
+    tally.add('requests', [f'{few} for {one} match, {many} for {all_of_them}'] * is_bad, 2)
+    (none, _, short), (still_none, _, long) = [requests(program, folder, library, 1, text) for text in (NONE, NONE * 1000)]
+    is_bad = (none, still_none) != (0, 0) or long - short > LONGER
+    tally.add('blocks at once', [f'{short} for a text without a match, {long} for a long one'] * is_bad, 2)
 
 
 def main():
-    program = os.path.abspath(sys.argv[1])
-    runs = bad = 0
-    codes = set()
-    with tempfile.TemporaryDirectory() as folder:
-        library = build(folder)
-        os.makedirs(os.path.join(folder, 'T', 'D.template.txt'))
-        with open(os.path.join(folder.encode(), b'T', b'\xff.template.txt'), 'wb'):
-            pass
-        for name, text in FILES.items():
-            path = os.path.join(folder, name)
-            os.makedirs(os.path.dirname(path), exist_ok=True)
-            with open(path, 'wb') as it:
-                it.write(text)
-        for words, given in CASES:
-            whole = run(program, folder, library, words, given, 0)
-            n, same = 0, 0
-            # (a refused request that a library can do without changes nothing: 40 such in a row are the end)
-            while same < 40:
-                n += 1
-                ran = run(program, folder, library, words, given, n)
-                same = same + 1 if ran == whole else 0
-                codes.update(re.findall(rb'(\w+(?: at \d+)?): out of memory\n', ran[2]))
-                if not is_right(ran, whole):
-                    bad += 1
-                    print(words, 'request', n, ran)
-            runs += n
-        (one, few, _), (all_of_them, many, _) = [requests(program, folder, library, limit, MANY) for limit in (1, 2000)]
-        (none, _, short), (still_none, _, long) = [requests(program, folder, library, 1, text) for text in (NONE, NONE * 1000)]
-        runs += 4
-        if (one, all_of_them) != (1, 2000) or many - few > GROWTH:
-            bad += 1
-            print('requests', few, 'for', one, 'match', many, 'for', all_of_them)
-        if (none, still_none) != (0, 0) or long - short > LONGER:
-            bad += 1
-            print('blocks at once', short, 'for a text without a match', long, 'for a long one')
-    if not codes >= CODES:
-        bad += 1
-        print('no run told', CODES - codes)
-    print(f'{runs} runs, {bad} bad')
-    return 1 if bad else 0
+    program, tally = harness.arguments(__doc__).parse_args().program, harness.Tally('runs')
+    with harness.folder_of(FILES) as folder:
+        library = harness.preloaded(SOURCE, folder)
+        codes = set().union(*(refuse_each(program, folder, library, words, given, tally) for words, given in CASES))
+        count_requests(program, folder, library, tally)
+    tally.add('codes', [] if codes >= CODES else [f'no run told {CODES - codes}'], 0)
+    return tally.end()
 
 
 if __name__ == '__main__':

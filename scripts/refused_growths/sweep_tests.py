@@ -1,30 +1,26 @@
 #!/usr/bin/env python3
 """Refuses each request for memory of each test of a built crate of tests in turn; each test must pass all the same.
 
-  sweep_tests.py PROGRAM
-
-PROGRAM is what `rt test` and `rt ci` build: crates/lic_memory_tests/out/lic_memory_tests_tests, whose tests make a call again where memory
+The program is what `rt test` and `rt ci` build of crates/lic_memory_tests, whose tests make a call again where memory
 ran out, and fail where a call says anything else, changes what it was lent, or answers otherwise the second time. Needs a C compiler.
 Prints a line for each test, with the first requests after which it failed; the last line is 'N runs, M bad', and the status is 1 if M is not 0.
 """
-import os, subprocess, sys, tempfile
+import os, sys
 
-from sweep import SECONDS, build
+import harness
+from sweep import SECONDS, SOURCE
 
+PROGRAM = os.path.join(harness.TOP, 'crates', 'lic_memory_tests', 'out', 'lic_memory_tests_tests')
 # so many failures of a test are shown
 SHOWN = 8
 
 
 def run(program, name, library, count, n):
     """Whether a test passes while its Nth request is refused, and how many requests it makes (0 if it is stopped)."""
-    place = dict(os.environ, LD_PRELOAD=library, FAIL_NTH=str(n), COUNT_IN=count)
     open(count, 'w').close()
-    try:
-        ran = subprocess.run([program, name], capture_output=True, env=place, stdin=subprocess.DEVNULL, timeout=SECONDS)
-    except subprocess.TimeoutExpired:
-        return False, 0
+    ran = harness.run([program, name], env={**harness.ENVIRONMENT, 'LD_PRELOAD': library, 'FAIL_NTH': str(n), 'COUNT_IN': count}, seconds=SECONDS)
     with open(count) as it:
-        return ran.returncode == 0 and (ran.stdout + ran.stderr).strip() == b'test result: ok', int((it.read().split() or [0])[0])
+        return ran.status == 0 and (ran.out + ran.err).strip() == b'test result: ok', int((it.read().split() or [0])[0])
 
 
 def sweep(program, name, library, count):
@@ -44,18 +40,15 @@ def sweep(program, name, library, count):
 
 
 def main():
-    program = os.path.abspath(sys.argv[1])
-    listed = subprocess.run([program, '--list'], capture_output=True, check=True).stdout.decode().splitlines()
-    runs = bad = 0
-    with tempfile.TemporaryDirectory() as folder:
-        library, count = build(folder), os.path.join(folder, 'count')
+    program, tally = harness.arguments(__doc__, PROGRAM, 'rt test in its crate').parse_args().program, harness.Tally('runs')
+    listed = harness.run([program, '--list']).out.decode().splitlines()
+    with harness.folder_of({}) as folder:
+        library, count = harness.preloaded(SOURCE, folder), os.path.join(folder, 'count')
         for name in (line.removesuffix(': test') for line in listed if line.endswith(': test')):
             refused, failed = sweep(program, name, library, count)
-            runs += refused + 2
-            bad += len(failed)
-            print(f'{name}: {refused} requests refused', *[f'failed at {n}' for n in failed[:SHOWN]], *['..'] * (len(failed) > SHOWN))
-    print(f'{runs} runs, {bad} bad')
-    return 1 if bad or not runs else 0
+            print(f'{name}: {refused} requests refused')
+            tally.add(name, [*(f'failed at {n}' for n in failed[:SHOWN]), *['..'] * (len(failed) > SHOWN)], refused + 2)
+    return tally.end()
 
 
 if __name__ == '__main__':

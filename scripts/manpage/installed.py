@@ -1,5 +1,5 @@
 #!/usr/bin/env python3
-"""Tries the manual page, the completions and the installation: python3 scripts/manpage/try.py PROGRAM
+"""Tries the manual page, the completions and the installation.
 
 - The files below share are those that make.py makes of the program's --help.
 - bash completes the commands and each command's options as --help lists them, and a value by what it is: a folder, a file or nothing.
@@ -9,31 +9,32 @@
 import os
 import re
 import shutil
-import subprocess
 import sys
-import tempfile
 
+import harness
 import help
 import make
+from make import SHARE
 
-TOP = os.path.dirname(make.SHARE)
-BASH = os.path.join(make.SHARE, "bash-completion/completions/licscan")
-FISH = os.path.join(make.SHARE, "fish/vendor_completions.d/licscan.fish")
-ZSH = os.path.join(make.SHARE, "zsh/site-functions/_licscan")
-PAGE = os.path.join(make.SHARE, "man/man1/licscan.1")
+BASH = os.path.join(SHARE, "bash-completion/completions/licscan")
+FISH = os.path.join(SHARE, "fish/vendor_completions.d/licscan.fish")
+ZSH = os.path.join(SHARE, "zsh/site-functions/_licscan")
+PAGE = os.path.join(SHARE, "man/man1/licscan.1")
 
 # what the shell is told of a value's completion: no file names, and for a folder those of folders
 TOLD = {"folder": "+o default -o dirnames", "file": "", "none": "+o default"}
 
 
-def ran(*words):
-    return subprocess.run(words, stdout=subprocess.PIPE, stderr=subprocess.STDOUT, text=True, stdin=subprocess.DEVNULL)
+def said(*words):
+    """What a command writes, its errors last, and its status."""
+    ran = harness.run(words, env=dict(os.environ))
+    return (ran.out + ran.err).decode("utf-8", "replace"), ran.status
 
 
 def not_as_made(program):
     faults = []
     for name, text in make.made(program).items():
-        path = os.path.join(make.SHARE, name)
+        path = os.path.join(SHARE, name)
         if not os.path.exists(path) or open(path, encoding="utf-8").read() != text:
             faults.append(f"share/{name}: not as make.py makes it")
     return faults
@@ -42,7 +43,7 @@ def not_as_made(program):
 def completed(*words):
     """What bash offers for the last of these words, and what it is told of file names."""
     script = 'compopt() { echo "told $*"; }; source "$1"; shift; COMP_WORDS=("$@"); COMP_CWORD=$(($# - 1)); _licscan; printf "%s\\n" "${COMPREPLY[@]}"'
-    lines = ran("bash", "-c", script, "bash", BASH, "licscan", *words).stdout.split("\n")
+    lines = said("bash", "-c", script, "bash", BASH, "licscan", *words)[0].split("\n")
     told = " ".join(line.removeprefix("told ") for line in lines if line.startswith("told "))
     return sorted(line for line in lines if line and not line.startswith("told ")), told
 
@@ -65,8 +66,9 @@ def not_completed(whole, pages):
 def not_on_the_page(pages):
     if not shutil.which("groff"):
         return []
-    faults = [] if not (said := ran("groff", "-man", "-Tascii", "-ww", "-z", PAGE).stdout) else [f"groff: {said}"]
-    text = re.sub(r"\x1b\[[0-9;]*m|.\x08", "", ran("groff", "-man", "-Tascii", "-P-c", PAGE).stdout)
+    warnings, _ = said("groff", "-man", "-Tascii", "-ww", "-z", PAGE)
+    faults = [f"groff: {warnings}"] if warnings else []
+    text = re.sub(r"\x1b\[[0-9;]*m|.\x08", "", said("groff", "-man", "-Tascii", "-P-c", PAGE)[0])
     for command, page in pages.items():
         section = re.split(r"\n   (?=\w)|\n(?=[A-Z])", text.split(f"\n   {command}\n", 1)[-1])[0]
         shown = re.findall(r"^ {7}(-[^\n]*?)(?: {2,}\S[^\n]*)?$", section, re.M)
@@ -77,30 +79,32 @@ def not_on_the_page(pages):
 
 
 def not_read_by_shells():
-    faults = [f"{shell}: {said}" for shell, path in (("bash", BASH), ("zsh", ZSH), ("fish", FISH))
-              if shutil.which(shell) and (said := ran(shell, "-n", path).stdout)]
-    return faults
+    shells = [(shell, path) for shell, path in (("bash", BASH), ("zsh", ZSH), ("fish", FISH)) if shutil.which(shell)]
+    return [f"{shell}: {told}" for shell, path in shells if (told := said(shell, "-n", path)[0])]
 
 
 def not_installed(program):
-    with tempfile.TemporaryDirectory() as prefix:
-        done = ran(os.path.join(TOP, "install.sh"), prefix, program)
-        found = ran(f"{prefix}/bin/licscan", "scan", "--templates", f"{prefix}/share/licscan/templates",
-                    "--rules", f"{prefix}/share/licscan/rules/more-comments.rules", "--words", f"{prefix}/share/licscan/words",
-                    os.path.join(TOP, "LICENSE"))
+    with harness.folder_of({}) as prefix:
+        done, status = said(os.path.join(harness.TOP, "install.sh"), prefix, program)
+        found, _ = said(f"{prefix}/bin/licscan", "scan", "--templates", f"{prefix}/share/licscan/templates",
+                        "--rules", f"{prefix}/share/licscan/rules/more-comments.rules", "--words", f"{prefix}/share/licscan/words",
+                        os.path.join(harness.TOP, "LICENSE"))
         missing = [name for name in make.made(program) if not os.path.exists(f"{prefix}/share/{name}")]
     faults = [f"install.sh: no share/{name}" for name in missing]
-    if done.returncode or "\tMIT\t" not in found.stdout:
-        faults.append(f"install.sh: {done.stdout}{found.stdout}")
+    if status or "\tMIT\t" not in found:
+        faults.append(f"install.sh: {done}{found}")
     return faults
 
 
 def main():
-    program = os.path.abspath(sys.argv[1])
+    program, tally = harness.arguments(__doc__).parse_args().program, harness.Tally("parts of what is installed")
     _, whole, pages = help.read(program)
-    faults = not_as_made(program) + not_completed(whole, pages) + not_on_the_page(pages) + not_read_by_shells() + not_installed(program)
-    print(*faults, f"manual page, completions and installation: {len(faults)} faults", sep="\n")
-    return 1 if faults else 0
+    tally.add("files below share", not_as_made(program))
+    tally.add("completion", not_completed(whole, pages))
+    tally.add("manual page", not_on_the_page(pages))
+    tally.add("shells", not_read_by_shells())
+    tally.add("installation", not_installed(program))
+    return tally.end()
 
 
 if __name__ == "__main__":

@@ -1,8 +1,9 @@
 #!/usr/bin/env python3
-"""Tries what check.py and summary.py make of licscan's lines: python3 scripts/report/try.py"""
+"""Tries what check.py and summary.py make of licscan's lines. It runs no program."""
 import sys
 
 import check
+import harness
 import lines
 
 ALLOWED = {"mit", "apache-2.0", "gpl-2.0-only", "gpl-2.0-only with linux-syscall-note"}
@@ -28,13 +29,13 @@ FILES = [
 
 
 def main():
-    faults = [f"{text}: not {answer}" for text, answer in EXPRESSIONS if check.is_allowed(text, ALLOWED) != answer]
-    named = [(id, lines.Match("f", id, 0, values).licence, licence) for id, values, licence in MATCHES]
-    faults += [f"{id}: {it}, not {licence}" for id, it, licence in named if it != licence]
-    answers = [(ids, lines.answer([lines.Match("f", id, 0) for id in ids]), answer) for ids, answer in FILES]
-    faults += [f"{ids}: {it}, not {answer}" for ids, it, answer in answers if it != answer]
-    print(*faults, f"{len(EXPRESSIONS) + len(MATCHES) + len(FILES)} cases of reports, {len(faults)} faults", sep="\n")
-    return 1 if faults else 0
+    tally = harness.Tally("cases of reports")
+    cases = [(text, check.is_allowed(text, ALLOWED), answer) for text, answer in EXPRESSIONS]
+    cases += [(id, lines.Match("f", id, 0, values).licence, licence) for id, values, licence in MATCHES]
+    cases += [(ids, lines.answer([lines.Match("f", id, 0) for id in ids]), answer) for ids, answer in FILES]
+    for what, came, expected in cases:
+        tally.add(what, [] if came == expected else [f"{came}, expected {expected}"])
+    return tally.end()
 
 
 if __name__ == "__main__":

@@ -4,7 +4,7 @@ what the proofs leave of the cores.
 
 `rt ci` alone lets edits of lower crates take cores from the upper ones that wait to be proved, so the longest chain of crates gets one core.
 Here the chain has all cores that it can use. What is proved and tried is kept by rt: the gate itself, which runs after this, does what is
-left. Usage: proofs.py"""
+left."""
 import os
 import queue
 import shutil
@@ -13,11 +13,10 @@ import sys
 import tempfile
 import threading
 
-TOP = os.path.dirname(os.path.dirname(os.path.dirname(os.path.realpath(__file__))))
-sys.path[:0] = [f"{TOP}/scripts/crates", f"{TOP}/scripts/build"]
 from listed import from_the_ground, read_crates
 from proving import Proving, copy_crates, minutes, say
 
+TOP = os.path.dirname(os.path.dirname(os.path.dirname(os.path.realpath(__file__))))
 # a trial of edits takes up to two of these
 MEMORY_OF_A_CHECK = 3_000_000_000
 

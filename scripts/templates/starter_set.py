@@ -1,5 +1,5 @@
 #!/usr/bin/env python3
-"""Tries each template of examples/templates: python3 scripts/templates/try.py PROGRAM
+"""Tries each template of examples/templates.
 
 - `check` says `yes` of it, with examples/words and without.
 - Its original text is found as a comment in each of the styles below, among all templates.
@@ -11,6 +11,8 @@ import re
 import subprocess
 import sys
 import tempfile
+
+import harness
 
 HERE = os.path.dirname(os.path.abspath(__file__))
 TEMPLATES = os.path.join(HERE, "..", "..", "examples", "templates")
@@ -121,13 +123,15 @@ def wrongly_reported(program):
 
 
 def main():
-    program = os.path.abspath(sys.argv[1])
-    faults = not_described(program, []) + not_described(program, ["--words", WORDS]) + not_made() + wrongly_reported(program)
-    faults += [fault for style in STYLES for fault in not_found(program, style)]
-    for fault in faults:
-        print(fault)
-    print(f"{len(read_templates(TEMPLATES))} templates tried in {len(STYLES)} styles, {len(faults)} faults")
-    return 1 if faults else 0
+    program, tally = harness.arguments(__doc__).parse_args().program, harness.Tally("trials of the starter set")
+    tally.add("check", not_described(program, []))
+    tally.add("check with spellings", not_described(program, ["--words", WORDS]))
+    tally.add("tags and fields", not_made())
+    tally.add("expressions", wrongly_reported(program))
+    for style in STYLES:
+        tally.add(f"comments, {style}", not_found(program, style))
+    print(f"{len(read_templates(TEMPLATES))} templates")
+    return tally.end()
 
 
 if __name__ == "__main__":
