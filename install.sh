@@ -17,9 +17,10 @@ install -D -m 755 "$program" "$1/bin/licscan"
     install -D -m 644 "$top/share/$name" "$share/$name"
 done
 # templates that an earlier version had are not kept
-rm -rf "$share/licscan/templates" "$share/licscan/rules"
-install -d "$share/licscan/templates" "$share/licscan/rules" "$share/licscan/report" "$share/doc/licscan"
+rm -rf "$share/licscan/templates" "$share/licscan/mentions" "$share/licscan/rules"
+install -d "$share/licscan/templates" "$share/licscan/mentions" "$share/licscan/rules" "$share/licscan/report" "$share/doc/licscan"
 install -m 644 "$top"/examples/templates/* "$share/licscan/templates"
+install -m 644 "$top"/examples/mentions/* "$share/licscan/mentions"
 install -m 644 "$top"/examples/rules/* "$share/licscan/rules"
 install -m 644 "$top/examples/words" "$share/licscan/words"
 install -m 644 "$top/scripts/report/lines.py" "$share/licscan/report"
