@@ -1,9 +1,12 @@
 #!/usr/bin/env python3
-"""Tries what check.py and summary.py make of licscan's lines: python3 scripts/report/try.py"""
+"""Tries what check.py, summary.py, debian.py and spdx.py make of licscan's lines: python3 scripts/report/try.py"""
 import sys
 
 import check
+import debian
 import lines
+import notices
+import spdx
 
 ALLOWED = {"mit", "apache-2.0", "gpl-2.0-only", "gpl-2.0-only with linux-syscall-note"}
 # expressions, and whether they are allowed
@@ -18,7 +21,27 @@ MATCHES = [
     ("GPL-2.0-identifier", [], "GPL-2.0-only"), ("GPL-2.0-mention", ["2"], "GPL-2.0"), ("expression-OR-MIT", ["ISC"], "ISC OR MIT"),
     ("expression-OR-MIT-b", ["ISC"], "ISC OR MIT"), ("LicenseRef-identifier-c", ["A-B.2"], "LicenseRef-A-B.2"), ("OR-expression-b", ["MIT OR ISC"], None),
     ("cut-OR-MIT", ["ISC"], None), ("OR-field-b", ["MIT"], None), ("MIT-field-d", [], "MIT"), ("GPL-2.0-notice-c", ["licensed", "v2"], "GPL-2.0"), ("unknown-identifier", [], None), ("no-grant-mention-b", ["not"], ""), ("other-file-notice", ["lua.h"], ""),
-    ("Artistic-1.0-Perl-OR-GPL-1.0-or-later-notice", [], "Artistic-1.0-Perl OR GPL-1.0-or-later"),
+    ("Artistic-1.0-Perl-OR-GPL-1.0-or-later-notice", [], "Artistic-1.0-Perl OR GPL-1.0-or-later"), ("GCC-exception-3.1-notice", [], ""),
+    ("Apache-2.0-WITH-LLVM-exception-notice", [], "Apache-2.0 WITH LLVM-exception"),
+    ("GPL-2.0-with-GCC-exception-identifier", [], "GPL-2.0-with-GCC-exception"),
+]
+# what a file has, the field of debian/copyright, and the licences in the file as SPDX's documents have them
+FIELDS = [
+    (["MIT"], "Expat", ["MIT"]), (["GPL-2.0-or-later", "ISC"], "GPL-2+ and ISC", ["GPL-2.0-or-later", "ISC"]), (["GPL-2.0-only"], "GPL-2", ["GPL-2.0-only"]),
+    (["LGPL-2.1"], "LGPL-2.1", ["LGPL-2.1"]), (["MIT OR Zlib", "ISC"], "Expat or Zlib, and ISC", ["ISC", "MIT", "Zlib"]),
+    (["(GPL-2.0+ WITH Linux-syscall-note) OR MIT"], "GPL-2+ with Linux syscall note exception or Expat", ["GPL-2.0+", "MIT"]),
+    (["Apache-2.0 WITH LLVM-exception"], "Apache-2.0 with LLVM exception", ["Apache-2.0"]), (["unknown"], "unknown", ["NOASSERTION"]),
+    (["BSD", "public-domain"], "BSD and public-domain", ["LicenseRef-BSD", "LicenseRef-public-domain"]),
+]
+# the answers of files, and the globs of each
+GLOBS = [
+    ({"a.c": "X", "b.c": "X", "s/c.c": "Y"}, {"X": ["*"], "Y": ["s/c.c"]}), ({"a.c": "X", "s/t/b.c": "Y", "s/t/c.c": "Y", "c.c": "X"}, {"X": ["*"], "Y": ["s/*"]}),
+    ({"s/a.c": "X", "s/b.c": "X", "s/t/c d.c": "Y", "s/t/d.c": "Z"}, {"X": ["*"], "Y": ["s/t/c?d.c"], "Z": ["s/t/d.c"]}),
+]
+# lines of files, and their notices
+NOTICES = [
+    (" * Copyright (C) 2019-2024 A. Author <a@b.c>", ["2019-2024 A. Author <a@b.c>"]), ("/* (c) 2001, 2003 by Z. Zed. All rights reserved. */", ["2001, 2003 Z. Zed"]),
+    ("# Copyright: 2012 Xa Y\n# Copyright: 2012 Xa Y", ["2012 Xa Y"]), ("\u00a9 1999 - 2001, Firma", ["1999-2001 Firma"]), ("// copyright law of 1976", []),
 ]
 # the templates that are found in a file, and its answer
 FILES = [
@@ -29,11 +52,15 @@ FILES = [
 
 def main():
     faults = [f"{text}: not {answer}" for text, answer in EXPRESSIONS if check.is_allowed(text, ALLOWED) != answer]
-    named = [(id, lines.Match("f", id, 0, values).licence, licence) for id, values, licence in MATCHES]
+    named = [(id, lines.Match("f", id, 0, values=values).licence, licence) for id, values, licence in MATCHES]
     faults += [f"{id}: {it}, not {licence}" for id, it, licence in named if it != licence]
+    faults += [f"{names}: {it}, not {field}" for names, field, _ in FIELDS if (it := debian.licence_of(names)) != field]
+    faults += [f"{names}: {it}, not {ids}" for names, _, ids in FIELDS if (it := spdx.in_file(names)) != ids]
+    faults += [f"{answers}: {it}, not {globs}" for answers, globs in GLOBS if (it := debian.globs(answers)) != globs]
+    faults += [f"{text}: {it}, not {expected}" for text, expected in NOTICES if (it := notices.found(text)) != expected]
     answers = [(ids, lines.answer([lines.Match("f", id, 0) for id in ids]), answer) for ids, answer in FILES]
     faults += [f"{ids}: {it}, not {answer}" for ids, it, answer in answers if it != answer]
-    print(*faults, f"{len(EXPRESSIONS) + len(MATCHES) + len(FILES)} cases of reports, {len(faults)} faults", sep="\n")
+    print(*faults, f"{sum(map(len, (EXPRESSIONS, MATCHES, FILES, FIELDS, FIELDS, GLOBS, NOTICES)))} cases of reports, {len(faults)} faults", sep="\n")
     return 1 if faults else 0
 
 
