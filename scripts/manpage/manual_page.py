@@ -17,6 +17,9 @@ Under the prefix of the installation:
 The starter set, for
 .BR \\-\\-templates .
 .TP
+.I share/licscan/mentions
+Names of licences in words, which give none by themselves. For both, put both into one folder.
+.TP
 .I share/licscan/rules
 Line rules, for
 .BR \\-\\-rules .
@@ -28,7 +31,7 @@ Spellings that count as the same, for
 .I share/licscan/report
 Scripts that read what
 .B licscan scan
-writes: a check by a list of licences, and a summary.
+writes: a check by a list of licences, a summary, a draft of debian/copyright, and an SPDX document.
 .TP
 .I share/doc/licscan
 The manual, recipes and a glossary."""

@@ -3,9 +3,9 @@ import re
 from dataclasses import dataclass, field
 
 # templates that name no licence of the file: words that give none, notices that point elsewhere, permissions beside a licence
-NONE = re.compile(r"no-grant-|same-as-|other-file-|.*-exception-")
+NONE = re.compile(r"no-grant-|same-as-|other-file-|[A-Za-z]+-exception-([\d.]+-)?notice")
 # tags of which not all is known
-UNKNOWN = re.compile(r"unknown-identifier|cut-|(OR|AND|WITH)-expression|OR-field$")
+UNKNOWN = re.compile(r"unknown-identifier|cut-|(OR|AND|WITH)-expression|OR-field(-b)?$")
 EXPRESSION = re.compile(r"expression-(OR|AND|WITH)-(.*?)(-b)?$")
 SUFFIX = re.compile(r"(-(identifier|field|notice|mention))?(-[b-z])?$")
 # names of Debian and older ones, of tags and fields
@@ -19,6 +19,7 @@ class Match:
     file: str
     id: str
     start: int
+    end: int = 0
     values: list = field(default_factory=list)
 
     @property
@@ -38,7 +39,7 @@ class Match:
         name = SUFFIX.sub("", self.id)
         if re.search("-(identifier|field)(-[b-z])?$", self.id):
             name = identifier(name)
-        return f"LicenseRef-{self.values[0]}" if name == "LicenseRef" else name.replace("-OR-", " OR ")
+        return f"LicenseRef-{self.values[0]}" if name == "LicenseRef" else name.replace("-OR-", " OR ").replace("-WITH-", " WITH ")
 
 
 def identifier(name):
@@ -62,7 +63,7 @@ def matches(lines):
         if fields[0]:
             if last:
                 yield last
-            last = Match(plain(fields[0]), plain(fields[1]), int(fields[4]))
+            last = Match(plain(fields[0]), plain(fields[1]), int(fields[4]), int(fields[5]))
         elif last and len(fields) == 5:
             last.values.append(plain(fields[4]))
     if last:

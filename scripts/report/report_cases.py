@@ -1,10 +1,13 @@
 #!/usr/bin/env python3
-"""Tries what check.py and summary.py make of licscan's lines. It runs no program."""
+"""Tries what check.py, summary.py, debian.py and spdx.py make of licscan's lines. It runs no program."""
 import sys
 
 import check
+import debian
 import harness
 import lines
+import notices
+import spdx
 
 ALLOWED = {"mit", "apache-2.0", "gpl-2.0-only", "gpl-2.0-only with linux-syscall-note"}
 # expressions, and whether they are allowed
@@ -18,8 +21,28 @@ MATCHES = [
     ("MIT", [], "MIT"), ("MIT-notice-b", [], "MIT"), ("GPL-2.0-b", [], "GPL-2.0"), ("GPL-2+-field", [], "GPL-2.0-or-later"), ("Expat-field", [], "MIT"),
     ("GPL-2.0-identifier", [], "GPL-2.0-only"), ("GPL-2.0-mention", ["2"], "GPL-2.0"), ("expression-OR-MIT", ["ISC"], "ISC OR MIT"),
     ("expression-OR-MIT-b", ["ISC"], "ISC OR MIT"), ("LicenseRef-identifier-c", ["A-B.2"], "LicenseRef-A-B.2"), ("OR-expression-b", ["MIT OR ISC"], None),
-    ("cut-OR-MIT", ["ISC"], None), ("unknown-identifier", [], None), ("no-grant-mention-b", ["not"], ""), ("other-file-notice", ["lua.h"], ""),
-    ("Artistic-1.0-Perl-OR-GPL-1.0-or-later-notice", [], "Artistic-1.0-Perl OR GPL-1.0-or-later"),
+    ("cut-OR-MIT", ["ISC"], None), ("OR-field-b", ["MIT"], None), ("MIT-field-d", [], "MIT"), ("GPL-2.0-notice-c", ["licensed", "v2"], "GPL-2.0"), ("unknown-identifier", [], None), ("no-grant-mention-b", ["not"], ""), ("other-file-notice", ["lua.h"], ""),
+    ("Artistic-1.0-Perl-OR-GPL-1.0-or-later-notice", [], "Artistic-1.0-Perl OR GPL-1.0-or-later"), ("GCC-exception-3.1-notice", [], ""),
+    ("Apache-2.0-WITH-LLVM-exception-notice", [], "Apache-2.0 WITH LLVM-exception"),
+    ("GPL-2.0-with-GCC-exception-identifier", [], "GPL-2.0-with-GCC-exception"),
+]
+# what a file has, the field of debian/copyright, and the licences in the file as SPDX's documents have them
+FIELDS = [
+    (["MIT"], "Expat", ["MIT"]), (["GPL-2.0-or-later", "ISC"], "GPL-2+ and ISC", ["GPL-2.0-or-later", "ISC"]), (["GPL-2.0-only"], "GPL-2", ["GPL-2.0-only"]),
+    (["LGPL-2.1"], "LGPL-2.1", ["LGPL-2.1"]), (["MIT OR Zlib", "ISC"], "Expat or Zlib, and ISC", ["ISC", "MIT", "Zlib"]),
+    (["(GPL-2.0+ WITH Linux-syscall-note) OR MIT"], "GPL-2+ with Linux syscall note exception or Expat", ["GPL-2.0+", "MIT"]),
+    (["Apache-2.0 WITH LLVM-exception"], "Apache-2.0 with LLVM exception", ["Apache-2.0"]), (["unknown"], "unknown", ["NOASSERTION"]),
+    (["BSD", "public-domain"], "BSD and public-domain", ["LicenseRef-BSD", "LicenseRef-public-domain"]),
+]
+# the answers of files, and the globs of each
+GLOBS = [
+    ({"a.c": "X", "b.c": "X", "s/c.c": "Y"}, {"X": ["*"], "Y": ["s/c.c"]}), ({"a.c": "X", "s/t/b.c": "Y", "s/t/c.c": "Y", "c.c": "X"}, {"X": ["*"], "Y": ["s/*"]}),
+    ({"s/a.c": "X", "s/b.c": "X", "s/t/c d.c": "Y", "s/t/d.c": "Z"}, {"X": ["*"], "Y": ["s/t/c?d.c"], "Z": ["s/t/d.c"]}),
+]
+# lines of files, and their notices
+NOTICES = [
+    (" * Copyright (C) 2019-2024 A. Author <a@b.c>", ["2019-2024 A. Author <a@b.c>"]), ("/* (c) 2001, 2003 by Z. Zed. All rights reserved. */", ["2001, 2003 Z. Zed"]),
+    ("# Copyright: 2012 Xa Y\n# Copyright: 2012 Xa Y", ["2012 Xa Y"]), ("\u00a9 1999 - 2001, Firma", ["1999-2001 Firma"]), ("// copyright law of 1976", []),
 ]
 # the templates that are found in a file, and its answer
 FILES = [
@@ -31,7 +54,11 @@ FILES = [
 def main():
     tally = harness.Tally("cases of reports")
     cases = [(text, check.is_allowed(text, ALLOWED), answer) for text, answer in EXPRESSIONS]
-    cases += [(id, lines.Match("f", id, 0, values).licence, licence) for id, values, licence in MATCHES]
+    cases += [(id, lines.Match("f", id, 0, values=values).licence, licence) for id, values, licence in MATCHES]
+    cases += [(names, debian.licence_of(names), field) for names, field, _ in FIELDS]
+    cases += [(names, spdx.in_file(names), ids) for names, _, ids in FIELDS]
+    cases += [(answers, debian.globs(answers), globs) for answers, globs in GLOBS]
+    cases += [(text, notices.found(text), expected) for text, expected in NOTICES]
     cases += [(ids, lines.answer([lines.Match("f", id, 0) for id in ids]), answer) for ids, answer in FILES]
     for what, came, expected in cases:
         tally.add(what, [] if came == expected else [f"{came}, expected {expected}"])

@@ -13,6 +13,9 @@ import sys
 import tempfile
 
 TOP = os.path.dirname(os.path.dirname(os.path.dirname(os.path.abspath(__file__))))
+sys.path.append(f"{TOP}/scripts/templates")
+import starter
+
 SAYS = re.compile(rb"licen[cs]e|copyright|warrant|redistribut|public domain", re.IGNORECASE)
 SUFFIX = re.compile(r"-(identifier|field|notice|mention)(-[b-z])?$")
 RANKS = {"mention": 1, "notice": 2, "identifier": 2, "field": 2}
@@ -40,10 +43,10 @@ def files_below(folders):
 def found(program, rules, files):
     """By file and licence how well it is found: 3 by a text, 2 by a notice, tag or field, 1 by a mention."""
     best = {}
-    with tempfile.NamedTemporaryFile("w", suffix=".rules") as file:
+    with tempfile.NamedTemporaryFile("w", suffix=".rules") as file, starter.both() as templates:
         file.write("".join(f"{line}\n" for line in rules))
         file.flush()
-        words = [program, "scan", "--templates", f"{TOP}/examples/templates", "--rules", file.name, "--"]
+        words = [program, "scan", "--templates", templates, "--rules", file.name, "--"]
         for start in range(0, len(files), FILES_OF_A_RUN):
             done = subprocess.run(words + files[start:start + FILES_OF_A_RUN], stdout=subprocess.PIPE, check=False)
             for fields in (line.split("\t") for line in done.stdout.decode("utf-8", "replace").split("\n")):

@@ -12,6 +12,8 @@ import shutil
 import subprocess
 import sys
 
+import starter
+
 TOP = os.path.realpath(f"{os.path.dirname(os.path.realpath(__file__))}/../..")
 FOLDERS = ["/usr/include", "/usr/lib", "/usr/share"]
 ENDINGS = tuple(f".{it}" for it in "c cc cpp h hh hpp py pl pm rb js ts css sh java go rs el lua tcl m4 cmake".split())
@@ -54,8 +56,9 @@ def first_fields(words, files):
 
 def found_by_program(program, files):
     """The files with a licence, and those of them with a text, notice, tag or field: not with mentions alone."""
-    words = [program, "scan", "--templates", f"{TOP}/examples/templates", "--rules", f"{TOP}/examples/rules/more-comments.rules", "--"]
-    found = [fields[:2] for fields in first_fields(words, files) if fields[0]]
+    with starter.both() as templates:
+        words = [program, "scan", "--templates", templates, "--rules", f"{TOP}/examples/rules/more-comments.rules", "--"]
+        found = [fields[:2] for fields in first_fields(words, files) if fields[0]]
     return {name for name, _ in found}, {name for name, id in found if not re.search("-mention(-[b-z])?$", id)}
 
 

@@ -2,7 +2,8 @@
 """Makes templates of tags that hold an expression, or an identifier without a template of its own: expressions.py OUT
 
 A template reports its shortest ranges, so each ends with a text: the last operator of an expression and what follows it. Of several that begin
-at one tag the longest is left, which is the whole expression, without a parenthesis at its end. By that text a file is searched, not by the tag.
+at one tag the longest is left, which is the whole expression, without a parenthesis at its end. By that text a file is searched, and not by the
+tag, where it is long enough to be rare: a text of less than seven letters is looked for at each byte of every file.
 
 - expression-OR-MIT, expression-AND-MIT, expression-WITH-LLVM-exception ..: an expression with this end; its beginning is a variable.
 - cut-OR-MIT ..: the same before a dash: its last identifier is a longer one.
@@ -15,6 +16,8 @@ import sys
 
 ENDING = ".template.txt"
 TAG = "SPDX-License-Identifier: "
+# a file is searched by an identifier of so many letters
+LONG_IDENTIFIER = 7
 # the tag is optional, so that the end is the longest text, by which a file is searched; without it the colon has no place
 OPTIONAL_TAG = "SPDX<<beginOptional>>-License-Identifier: <<endOptional>>"
 WORD = "[a-z0-9]+"
@@ -36,13 +39,14 @@ def variable(name, original, pattern):
 
 
 def expressions():
-    beginning = OPTIONAL_TAG + variable("beginning", "ISC", rf"{OPERAND}({OPERATOR}{OPERAND})*")
+    first = variable("beginning", "ISC", rf"{OPERAND}({OPERATOR}{OPERAND})*")
     ends = [(operator, last) for operator in ("OR", "AND") for last in LAST] + [("WITH", last) for last in EXCEPTIONS]
     for operator, last in ends:
+        beginning = (OPTIONAL_TAG if len(last) >= LONG_IDENTIFIER else TAG) + first
         yield f"expression-{operator}-{last}", f"{beginning} {operator} <<beginOptional>>(<<endOptional>><<beginOptional>>(<<endOptional>>{last}"
         yield f"cut-{operator}-{last}", f"{beginning} {operator} <<beginOptional>>(<<endOptional>>{last}-"
     for last in ("Apache-2.0", "MIT"):
-        yield f"expression-OR-{last}-b", f"{beginning}/{last}"
+        yield f"expression-OR-{last}-b", f"{TAG}{first}/{last}"
 
 
 def beginnings():

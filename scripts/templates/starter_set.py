@@ -1,10 +1,13 @@
 #!/usr/bin/env python3
-"""Tries each template of examples/templates.
+"""Tries each template of examples/templates and examples/mentions.
 
 - `check` says `yes` of it, with examples/words and without.
 - Its original text is found as a comment in each of the styles below, among all templates.
 - The templates of tags and fields are those that tags.py makes of the lists beside it, and expressions.py, and there are no others.
 - Tags that hold an expression are reported by one template each, with the value that is expected.
+- Sentences that give a licence, and those that only name one, are reported by what is expected, without the mentions and with them.
+- No template of examples/templates is looked for by a text of less than seven letters, which costs time at each byte of every file.
+- The page of all templates is as listing.py makes it.
 """
 import os
 import re
@@ -13,11 +16,12 @@ import sys
 import tempfile
 
 import harness
+import listing
+import starter
 
 HERE = os.path.dirname(os.path.abspath(__file__))
-TEMPLATES = os.path.join(HERE, "..", "..", "examples", "templates")
 WORDS = os.path.join(HERE, "..", "..", "examples", "words")
-ENDING = ".template.txt"
+ENDING = starter.ENDING
 
 # how a comment begins, what stands before each line, and how it ends
 STYLES = {
@@ -34,6 +38,29 @@ STYLES = {
     "markup": ("<!--\n", "  ", "-->\n"),
     "box": ("/" + "*" * 60 + "\n", " * ", " " + "*" * 60 + "/\n"),
 }
+
+# letters of the shortest text by which a template may be looked for
+SHORTEST_TEXT = 7
+SUFFIX = re.compile("-(identifier|field|notice)(-[b-z])?$|(?<=-mention)-[b-z]$")
+
+# sentences, what is said of them by the templates of grants, and by those of mentions where that is nothing
+SENTENCES = [
+    ("This file is licensed under the MIT License.", ["MIT"], []),
+    ("Released under the terms of the GNU GPL v2 or later", ["GPL-2.0-or-later"], []),
+    ("Distributed under the GPLv3", ["GPL-3.0"], []),
+    ("you can redistribute it and/or modify it under the terms of the Simplified BSD License", ["BSD-2-Clause"], []),
+    ("MIT Licensed", ["MIT"], []),
+    ("some MIT-licensed code", [], ["MIT-mention"]),
+    ("available under the terms of the GNU Lesser General Public License, version 2.1", ["LGPL-2.1"], []),
+    ("This code is in the public domain.", ["public-domain"], []),
+    ("It is not in the public domain", ["no-grant-mention"], []),
+    ("It is not licensed under the MIT License", ["no-grant-mention"], []),
+    ("a GPL-compatible licence", ["no-grant-mention"], []),
+    ("Compare the MIT License", [], ["MIT-mention"]),
+    ("the new BSD limits", [], []),
+    ("emit limit transmit", [], []),
+    ("its GPL code", [], []),
+]
 
 # what stands in a tag, the template that is to be reported, and the value of its first variable
 TAGS = [
@@ -79,21 +106,21 @@ def read_templates(folder):
     return found
 
 
-def not_described(program, options):
+def not_described(program, folder, options):
     """The templates that do not describe their own original texts."""
-    done = subprocess.run([program, "check", "--templates", TEMPLATES, *options], stdout=subprocess.PIPE, check=False, text=True)
+    done = subprocess.run([program, "check", "--templates", folder, *options], stdout=subprocess.PIPE, check=False, text=True)
     answers = dict(line.split("\t")[::2] for line in done.stdout.splitlines())
-    return [f"{id}: check {' '.join(options)} says {answers.get(id, 'nothing')}" for id in read_templates(TEMPLATES) if answers.get(id) != "yes"]
+    return [f"{id}: check {' '.join(options)} says {answers.get(id, 'nothing')}" for id in read_templates(folder) if answers.get(id) != "yes"]
 
 
-def not_found(program, style):
+def not_found(program, both, style):
     """The templates that are not found in their own original texts as comments."""
     with tempfile.TemporaryDirectory() as folder:
-        templates = read_templates(TEMPLATES)
+        templates = read_templates(both)
         for id, template in templates.items():
             with open(os.path.join(folder, id), "w", encoding="utf-8") as file:
                 file.write(commented(original_of(template), style))
-        done = subprocess.run([program, "scan", "--templates", os.path.abspath(TEMPLATES), "--", *templates], cwd=folder,
+        done = subprocess.run([program, "scan", "--templates", both, "--", *templates], cwd=folder,
                               stdout=subprocess.PIPE, check=False, text=True)
     found = {tuple(line.split("\t")[:2]) for line in done.stdout.splitlines()}
     return [f"{id}: not found, style {style}" for id in templates if (id, id) not in found]
@@ -106,31 +133,58 @@ def not_made():
             subprocess.run([sys.executable, f"{HERE}/tags.py", *options, folder], check=True)
         subprocess.run([sys.executable, f"{HERE}/expressions.py", folder], check=True)
         made = read_templates(folder)
-    kept = {id: text for id, text in read_templates(TEMPLATES).items() if re.search("-(identifier|field)(-[b-z])?$|expression|^cut-", id) and id != "OR-field"}
+    kept = {id: text for id, text in read_templates(starter.GRANTS).items() if re.search("-(identifier|field)(-[b-z])?$|expression|^cut-", id)}
+    kept = {id: text for id, text in kept.items() if not id.startswith("OR-field")}
     return [f"{id}: not as tags.py makes it" for id in sorted(made.keys() | kept.keys()) if made.get(id) != kept.get(id)]
 
 
-def wrongly_reported(program):
+def reported(program, folder, text):
+    """The fields of the lines that are written of a text."""
+    done = subprocess.run([program, "scan", "--templates", folder], input=text, stdout=subprocess.PIPE, check=False, text=True)
+    return [line.split("\t") for line in done.stdout.splitlines()]
+
+
+def wrongly_reported(program, folder):
     """The tags of which something else is reported than what is expected, followed by code."""
     faults = []
     for tag, id, value in TAGS:
-        text = f"// SPDX-License-Identifier: {tag}\nint main(void) {{ return 0 + 2.0; }}\n"
-        done = subprocess.run([program, "scan", "--templates", TEMPLATES], input=text, stdout=subprocess.PIPE, check=False, text=True)
-        fields = [line.split("\t") for line in done.stdout.splitlines()]
+        fields = reported(program, folder, f"// SPDX-License-Identifier: {tag}\nint main(void) {{ return 0 + 2.0; }}\n")
         if [it[1] for it in fields if it[0]] != [id] or (value and fields[1][4] != value):
-            faults.append(f"{tag}: reported as {done.stdout}")
+            faults.append(f"{tag}: reported as {fields}")
     return faults
+
+
+def wrongly_called(program, both):
+    """The sentences that are called otherwise than is expected."""
+    faults = []
+    for text, granted, mentioned in SENTENCES:
+        for folder, expected in ((starter.GRANTS, granted), (both, granted or mentioned)):
+            found = sorted({SUFFIX.sub("", it[1]) for it in reported(program, folder, f"# {text}\n") if it[0]})
+            if found != sorted(expected):
+                faults.append(f"{text}: {found}, not {expected}")
+    return faults
+
+
+def costly():
+    """The templates of grants that are looked for by a short text."""
+    texts = {id: listing.texts(text) for id, text in read_templates(starter.GRANTS).items()}
+    return [f"{id}: no text of {SHORTEST_TEXT} letters" for id, it in texts.items() if max(map(len, it), default=0) < SHORTEST_TEXT]
 
 
 def main():
     program, tally = harness.arguments(__doc__).parse_args().program, harness.Tally("trials of the starter set")
-    tally.add("check", not_described(program, []))
-    tally.add("check with spellings", not_described(program, ["--words", WORDS]))
-    tally.add("tags and fields", not_made())
-    tally.add("expressions", wrongly_reported(program))
-    for style in STYLES:
-        tally.add(f"comments, {style}", not_found(program, style))
-    print(f"{len(read_templates(TEMPLATES))} templates")
+    with starter.both() as both:
+        tally.add("check", not_described(program, both, []))
+        tally.add("check with spellings", not_described(program, both, ["--words", WORDS]))
+        tally.add("tags and fields", not_made())
+        tally.add("texts of their own", costly())
+        tally.add("the page of all templates", listing.faults())
+        tally.add("expressions of grants", wrongly_reported(program, starter.GRANTS))
+        tally.add("expressions", wrongly_reported(program, both))
+        tally.add("called by another", wrongly_called(program, both))
+        for style in STYLES:
+            tally.add(f"comments, {style}", not_found(program, both, style))
+        print(f"{len(read_templates(both))} templates")
     return tally.end()
 
 

@@ -3,7 +3,9 @@
 
 Each template goes to OUT/NAME-identifier.template.txt and describes `SPDX-License-Identifier: IDENTIFIER`. With --field it goes
 to OUT/NAME-field.template.txt and describes the field of a manifest or header: `"license": "IDENTIFIER"`, `license = "IDENTIFIER"`,
-`:license: IDENTIFIER`. NAME is the identifier, with `-` for blanks and without parentheses. A file of that name is written anew.
+`:license: IDENTIFIER`. An identifier of less than eight letters has six templates, NAME-field, NAME-field-b ..: for it alone a file
+would be searched for the word `license`, which is frequent. NAME is the identifier, with `-` for blanks and without parentheses. A file
+of that name is written anew.
 
 Identifiers come from the command line, from FILE (one on each line; `#` begins a comment), and from the names of the templates in
 DIR: `tags.py --folder license-list-data/template OUT` makes a tag for each licence that is published. An expression is one
@@ -21,6 +23,7 @@ import re
 import sys
 
 ENDING = ".template.txt"
+LETTERS = ["", *(f"-{letter}" for letter in "bcdefgh")]
 
 TAG = "SPDX-License-Identifier: {}\n"
 
@@ -29,8 +32,25 @@ def optional(text):
     return f"<<beginOptional>>{text}<<endOptional>>"
 
 
-# a quote, underscores, a colon or an equals sign, a bracket, a quote; the blank behind the first word keeps a scan quick
+# a quote, underscores, a colon or an equals sign, a bracket, a quote
 FIELD = "license " + "".join(map(optional, ['"', "__", ":", "=", "[", '"'])) + "{}\n"
+# the same in forms that have a text of their own
+SHORT_FIELDS = [
+    f"license: {optional('[')}{optional(chr(34))}{{}}\n",
+    f"license\": {optional('[')}{optional(chr(34))}{{}}\n",
+    f"license = {optional('[')}{optional(chr(34))}{{}}\n",
+    "license__ = \"{}\n",
+    "license {}\n",
+    "license \"{}\n",
+]
+# a template is found by its longest text: by the identifier, if that is longer than `license`
+LONG_IDENTIFIER = 8
+
+
+def fields_of(identifier):
+    """The ends of the names of the templates of a field, and their texts."""
+    texts = [FIELD] if len(identifier) >= LONG_IDENTIFIER else SHORT_FIELDS
+    return [("-field" + LETTERS[number], text) for number, text in enumerate(texts)]
 
 
 def read_list(path):
@@ -66,7 +86,6 @@ def read_arguments():
 
 def main():
     arguments = read_arguments()
-    suffix, text = ("-field", FIELD) if arguments.field else ("-identifier", TAG)
     try:
         identifiers = list(arguments.identifiers)
         identifiers += read_list(arguments.list) if arguments.list else []
@@ -74,8 +93,9 @@ def main():
         names = [name_of(identifier) for identifier in identifiers]
         os.makedirs(arguments.out, exist_ok=True)
         for name, identifier in zip(names, identifiers):
-            with open(os.path.join(arguments.out, name + suffix + ENDING), "w", encoding="utf-8") as file:
-                file.write(text.format(identifier))
+            for suffix, text in fields_of(identifier) if arguments.field else [("-identifier", TAG)]:
+                with open(os.path.join(arguments.out, name + suffix + ENDING), "w", encoding="utf-8") as file:
+                    file.write(text.format(identifier))
     except (OSError, ValueError) as error:
         print(f"tags.py: {error}", file=sys.stderr)
         return 2

@@ -5,7 +5,7 @@ FOLDER is that of packages.py. Of each package the text files are taken that say
 and for which debian/copyright states a licence. What a scanner says of a file is a set of names. It agrees if one is among those that are
 stated; it is less exact if one is of the same family, and has no version, or has 'or later' where the other has not; else it says another
 one, or is silent. `--lines` scores any scanner by lines of a file name (below FOLDER), a tab, and a licence or an expression.
-Of licscan, texts, notices, tags and fields count, and mentions where a file has nothing else. Paragraphs are often coarse (`Files: *`), so
+Of licscan, texts, notices, tags and fields count; in the second row also mentions, where a file has nothing else. Paragraphs are often coarse (`Files: *`), so
 another licence is not always the scanner's fault."""
 import argparse
 import os
@@ -17,7 +17,9 @@ import sys
 import copyright_file
 import licences
 
-TOP = os.path.dirname(os.path.dirname(os.path.dirname(os.path.abspath(__file__))))
+sys.path.append(os.path.join(os.path.dirname(os.path.abspath(__file__)), "..", "templates"))
+import starter
+
 SAYS = re.compile(rb"licen[cs]e|redistribut|public domain|SPDX|copyright|warrant", re.IGNORECASE)
 MAX_BYTES = 1_000_000
 FILES_OF_A_RUN = 500
@@ -56,14 +58,20 @@ def lines_of(words, folder, names):
         yield from (line.split("\t") for line in done.stdout.decode("utf-8", "replace").splitlines())
 
 
+def lines_of_licscan(program, rules, folder, names):
+    """Its lines by the templates of grants and those of mentions together."""
+    with starter.both() as templates:
+        words = [os.path.abspath(program), "scan", "--templates", templates, *(["--rules", os.path.abspath(rules)] if rules else []), "--"]
+        yield from lines_of(words, folder, names)
+
+
 def said_by_licscan(program, rules, folder, names):
     """Grants, and where a file has none its mentions. A family is left out beside a version of it."""
-    words = [os.path.abspath(program), "scan", "--templates", f"{TOP}/examples/templates", *(["--rules", os.path.abspath(rules)] if rules else []), "--"]
     grants, mentions = {}, {}
-    for fields in lines_of(words, folder, names):
+    for fields in lines_of_licscan(program, rules, folder, names):
         if fields[0]:
             name, id = fields[0], fields[1]
-            if not re.match("(unknown-identifier|LicenseRef|expression-|cut-|(OR|AND|WITH)-expression|no-grant|same-as-|other-file)|.*-exception", id):
+            if not re.match("(unknown-identifier|LicenseRef|expression-|cut-|(OR|AND|WITH)-expression|no-grant|same-as-|other-file)|[A-Za-z]+-exception-", id):
                 kept = mentions if re.search("-mention(-[b-z])?$", id) else grants
                 kept.setdefault(name, set()).update(licences.names_of(licences.SUFFIX.sub("", id)))
         elif fields[1] in ("first", "beginning") and fields[2] != "-":
@@ -118,8 +126,8 @@ def main():
     print("| scanner | " + " | ".join(VERDICTS) + " | agree | mean over packages |\n|---|" + "---|" * (len(VERDICTS) + 2))
     if asked.licscan:
         said, grants = said_by_licscan(asked.licscan, asked.rules, asked.folder, names)
-        print(row("licscan, starter set", stated, said), flush=True)
-        print(row("the same without mentions", stated, grants), flush=True)
+        print(row("licscan, starter set", stated, grants), flush=True)
+        print(row("the same with mentions", stated, said), flush=True)
     if asked.licensecheck:
         words = ["licensecheck", "--machine", "--lines=0", "--shortname-scheme=debian,spdx", "--"]
         print(row("licensecheck", stated, said_in_lines(lines_of(words, asked.folder, names))), flush=True)

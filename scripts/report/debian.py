@@ -1,0 +1,125 @@
+#!/usr/bin/env python3
+"""Writes a draft of debian/copyright: licscan scan .. | debian.py [--name NAME]
+
+Each file has its texts, notices, tags and fields, or its mentions where it has nothing else; a family is left out beside a version of it. Names
+are Debian's. Years and holders are those of the files' own notices. The most frequent answer is that of `Files: *`; a folder whose files all have
+another one is one glob, so a file without an answer goes with its folder. Licences end the page: a reference to /usr/share/common-licenses, or the text as a file has it, or FIXME.
+It is run in the folder of the files. What it writes is to be read: a file's licences may be a choice or a sum, and FIXME stands where nothing is known.
+"""
+import argparse
+import collections
+import itertools
+import os
+import re
+import sys
+
+import lines
+import notices
+
+FORMAT = "https://www.debian.org/doc/packaging-manuals/copyright-format/1.0/"
+COMMON = "/usr/share/common-licenses"
+# identifiers of SPDX whose names in Debian's format differ by more than `+`
+NAMES = {"MIT": "Expat", "Artistic-1.0-Perl": "Artistic", "BSD-2-Clause": "BSD-2-clause", "BSD-3-Clause": "BSD-3-clause",
+         "BSD-4-Clause": "BSD-4-clause", "PSF-2.0": "Python", "Python-2.0": "Python"}
+VERSIONED = re.compile(r"((?:[AL]?GPL|GFDL)-\d+(?:\.\d+)?)(-or-later|-only|\+)?$")
+
+
+def name_of(identifier):
+    """Debian's name of an identifier."""
+    versioned = VERSIONED.match(identifier)
+    if versioned:
+        return versioned[1].removesuffix(".0") + ("+" if versioned[2] in ("-or-later", "+") else "")
+    return NAMES.get(identifier, identifier)
+
+
+def expression_of(licence):
+    """An expression in Debian's words."""
+    words = []
+    for word in re.sub(r"([()])", r" \1 ", licence.replace("/", " OR ")).split():
+        if words and words[-1] == "with":
+            words.append(re.sub(r"-exception.*", "", word).replace("-", " ") + " exception")
+        elif word in ("OR", "AND", "WITH"):
+            words.append(word.lower())
+        elif word not in "()":
+            words.append(name_of(word))
+    return " ".join(words)
+
+
+def licence_of(names):
+    """One field of all that a file has."""
+    parts = sorted(set(map(expression_of, names)))
+    both = ", and " if len(parts) > 1 and any(" or " in it for it in parts) else " and "
+    return both.join(parts)
+
+
+def globs(answers):
+    """The files of each answer, or folders whose files all have it; `*` for the most frequent one, which comes first."""
+    below = collections.defaultdict(collections.Counter)
+    for file, answer in answers.items():
+        parts = file.split("/")
+        for count in range(1, len(parts)):
+            below["/".join(parts[:count])][answer] += 1
+    most = collections.Counter(answers.values()).most_common(1)[0][0]
+    found = {most: ["*"]}
+    for file, answer in sorted(answers.items()):
+        parts = file.split("/")
+        folders = ("/".join(parts[:count]) for count in range(1, len(parts)))
+        whole = next((it for it in folders if len(below[it]) == 1 and below[it][answer] > 1), None)
+        glob = re.sub(r"[ *?\\]", "?", whole or file) + ("/*" if whole else "")
+        if answer != most and glob not in found.setdefault(answer, []):
+            found[answer].append(glob)
+    return found
+
+
+def paragraph_of(name, text):
+    """The paragraph of a licence."""
+    common = name.split(" with ")[0].removesuffix("+")
+    if os.path.exists(os.path.join(COMMON, common)):
+        body = [f"On Debian systems, the text of this licence is in {COMMON}/{common}."]
+    else:
+        body = text.split("\n") if text else ["FIXME"]
+    return f"License: {name}\n" + "\n".join(f" {line.rstrip()}" if line.strip() else " ." for line in body)
+
+
+def text_of(match):
+    """The text of a licence as a file has it, without the marks of a comment before its lines."""
+    with open(match.file.encode("utf-8", "surrogateescape"), "rb") as file:
+        text = file.read()[match.start:match.end].decode("utf-8", "replace")
+    return "\n".join(re.sub(r"^\s*(?://+|#+|\*+(?!/)|;+|--|dnl\b|%+)?\s?", "", line) for line in text.split("\n"))
+
+
+def page(found, name):
+    """The whole file, of the matches of each file."""
+    answers = {file: licence_of(lines.answer(it)) or "FIXME" for file, it in found.items() if any(one.licence != "" for one in it)}
+    texts = {name_of(one.id): one for it in found.values() for one in it if lines.SUFFIX.sub("", one.id) == one.id and one.licence}
+    written = [f"Format: {FORMAT}" + (f"\nUpstream-Name: {name}" if name else "")]
+    for answer, patterns in globs(answers).items() if answers else ():
+        holders = dict.fromkeys(itertools.chain.from_iterable(notices.read(file) for file in sorted(answers) if answers[file] == answer))
+        written.append("Files: " + "\n ".join(patterns) + "\nCopyright: " + "\n ".join(holders or ["FIXME"]) + f"\nLicense: {answer}")
+    names = sorted({it for answer in answers.values() for it in re.split(r",? (?:and|or) ", answer)})
+    for it in names:
+        written.append(paragraph_of(it, text_of(texts[it]) if it in texts else ""))
+    return "\n\n".join(written) + "\n"
+
+
+def main():
+    parser = argparse.ArgumentParser(description=__doc__, formatter_class=argparse.RawDescriptionHelpFormatter)
+    parser.add_argument("--name", default="")
+    asked = parser.parse_args()
+    sys.stdin.reconfigure(encoding="utf-8", errors="surrogateescape", newline="\n")
+    sys.stdout.reconfigure(encoding="utf-8", errors="surrogateescape")
+    found = {}
+    for match in lines.matches(sys.stdin):
+        name = os.path.normpath(match.file)
+        if name != "debian/copyright":
+            found.setdefault(name, []).append(match)
+    try:
+        sys.stdout.write(page(found, asked.name))
+    except OSError as error:
+        print(f"debian.py: {error}", file=sys.stderr)
+        return 2
+    return 0
+
+
+if __name__ == "__main__":
+    sys.exit(main())

@@ -1,0 +1,115 @@
+#!/usr/bin/env python3
+"""Writes examples/TEMPLATES.md, the page that lists each template of the starter set with an example: listing.py"""
+import collections
+import os
+import re
+import textwrap
+
+import starter
+
+PAGE = os.path.join(starter.EXAMPLES, "TEMPLATES.md")
+RULE = re.compile(r"<<(?:var;.*?|beginOptional|endOptional)>>", re.S)
+KIND = re.compile(r"-(identifier|field|notice|mention)(-[b-z])?$")
+# letters of a text that are shown
+MOST_LETTERS = 160
+HEAD = """\
+# The templates of the starter set
+
+Made by `python3 scripts/templates/listing.py`. After each name stands a text that the template
+describes: its beginning, with all optional parts and with the text that is published in place of
+each variable. What the endings of names mean is in
+[the manual](../docs/MANUAL.md#where-templates-come-from).
+"""
+SECTIONS = [
+    ("text", "Texts", "Whole texts, or as much of them as tells them from others."),
+    ("notice", "Notices", "Short notices, and sentences that give a licence."),
+    ("no-grant", "Words that give no licence", "They keep a sentence from being called a grant."),
+    ("mention", "Mentions", "Names in words, in `examples/mentions`."),
+]
+
+
+def texts(template):
+    """The texts outside optional parts and variables, spelled as files are searched for them."""
+    found, depth, at = [], 0, 0
+    for rule in [*RULE.finditer(template), None]:
+        part = template[at:rule.start() if rule else len(template)]
+        if depth == 0:
+            found.append(re.sub(r"(?<=\W) | (?=\W)", "", " ".join(part.lower().split())))
+        if rule:
+            depth += (rule[0] == "<<beginOptional>>") - (rule[0] == "<<endOptional>>")
+            at = rule.end()
+    return found
+
+
+def original_of(template):
+    """The text of a template with all optional parts, and with each variable's original."""
+    text = re.sub(r'<<var;.*?original="(.*?)".*?>>', r"\1", template, flags=re.S)
+    return " ".join(re.sub(r"<<(begin|end)Optional>>", "", text).split())
+
+
+def kind_of(name):
+    if name.startswith("no-grant"):
+        return "no-grant"
+    if re.match("cut-|expression-|(AND|OR|WITH)-expression", name):
+        return "expression"
+    kind = KIND.search(name)
+    return kind[1] if kind else "text"
+
+
+def read():
+    """The templates of both folders by their kinds."""
+    found = collections.defaultdict(dict)
+    for folder in (starter.GRANTS, starter.MENTIONS):
+        for file in sorted(os.listdir(folder)):
+            if file.endswith(starter.ENDING):
+                name = file.removesuffix(starter.ENDING)
+                with open(os.path.join(folder, file), encoding="utf-8") as template:
+                    found[kind_of(name)][name] = template.read()
+    return found
+
+
+def wrapped(text, indent=""):
+    return textwrap.fill(text, 100, subsequent_indent=indent, break_long_words=False, break_on_hyphens=False)
+
+
+def item(name, template):
+    text = original_of(template)
+    shown = text if len(text) <= MOST_LETTERS else text[:MOST_LETTERS].rsplit(" ", 1)[0] + " .."
+    return wrapped(f"- `{name}`: {re.sub(r'([*_<>`|])', lambda it: chr(92) + it[1], shown)}", "  ")
+
+
+def names(kind, found, pattern):
+    """The names of a kind without an ending, in one paragraph."""
+    return wrapped(", ".join(sorted({re.sub(pattern, "", it) for it in found[kind]})))
+
+
+def page():
+    found = read()
+    lines = [HEAD]
+    for kind, title, sentence in SECTIONS:
+        lines += [f"## {title}\n", sentence + "\n", "\n".join(item(*it) for it in sorted(found[kind].items())) + "\n"]
+    lines += ["## Tags\n", "`NAME-identifier`: `SPDX-License-Identifier: NAME`, such as `SPDX-License-Identifier: MIT`. NAME is\n",
+              names("identifier", found, KIND) + "\n"]
+    lines += ["## Fields\n", wrapped("`NAME-field`, `-b` ..: a field of a manifest or header, such as `\"license\": \"MIT\"`, `License: GPL-2+`, "
+                                     "`license = \"ISC\"`, `__license__ = \"BSD\"`. `OR-field`: one with two identifiers. NAME is") + "\n",
+              names("field", found, KIND) + "\n"]
+    lines += ["## Expressions\n", wrapped("`expression-OR-MIT`: `SPDX-License-Identifier: ISC OR MIT`; `cut-OR-MIT`: "
+                                          "`SPDX-License-Identifier: ISC OR MIT-Own`; `OR-expression`: `SPDX-License-Identifier: ISC OR Own`. "
+                                          "The names are") + "\n",
+              names("expression", found, "(?!)") + "\n"]
+    return "\n".join(lines)
+
+
+def faults():
+    """Whether the page is as it is made."""
+    with open(PAGE, encoding="utf-8") as file:
+        return [] if file.read() == page() else ["examples/TEMPLATES.md: not as listing.py makes it"]
+
+
+def main():
+    with open(PAGE, "w", encoding="utf-8") as file:
+        file.write(page())
+
+
+if __name__ == "__main__":
+    main()
