@@ -103,7 +103,7 @@ def requests(program, folder, library, limit, text):
     words = ['scan', '--all', '--templates', 'V', '--limit', str(limit)]
     ran = subprocess.run([program] + words, input=text, capture_output=True, env=place, cwd=folder)
     with open(count) as it:
-        return len(ran.stdout.splitlines()), *map(int, it.read().split())
+        return len(ran.stdout.splitlines()), *map(int, it.read().split()[:2])
 
 
 def is_right(ran, whole):
