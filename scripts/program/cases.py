@@ -8,11 +8,11 @@ printed, with what differs; the last line is 'N cases, M bad', and the status is
 import sys
 
 import arguments, checks, help, line_rules, markup, matches, progress, refusals, tokens, variables, word_lists
-import faults, letters, lines, lists, patterns, pieces, rewriting, rule_files, searches, values, weights
+import faults, letters, lines, lists, patterns, pieces, rewriting, rule_files, searches, values, weights, worked
 import harness
 
 MODULES = (arguments, help, tokens, matches, markup, variables, checks, line_rules, word_lists, refusals, progress,
-           letters, lines, rewriting, rule_files, lists, weights, pieces, patterns, faults, searches, values)
+           letters, lines, rewriting, rule_files, lists, weights, pieces, patterns, faults, searches, values, worked)
 
 
 def main():

@@ -1,18 +1,30 @@
-/* Preloaded before a program: the Nth request for memory fails, N being FAIL_NTH in the environment. How many there were, and how many
-   blocks were held at once at most, is written at the end to the file that COUNT_IN names. */
+/* Preloaded before a program: the Nth request for memory fails, N being FAIL_NTH in the environment. A request of SIGN bytes is a sign: it
+   fails, and from there each request fails, up to the next sign. How many requests there were, how many blocks were held at once at most, how
+   many requests came between signs, and how many signs, is written at the end to the file that COUNT_IN names. */
 #define _GNU_SOURCE
 #include <dlfcn.h>
 #include <stdio.h>
 #include <stdlib.h>
 
-static long count = 0, at = -2, held = 0, most = 0;
+#define SIGN ((size_t)1 << 62)
 
-static int fails(void) {
+static long count = 0, at = -2, held = 0, most = 0, between = 0, signs = 0;
+
+static int fails(size_t n) {
     if (at == -2) {
         const char *given = getenv("FAIL_NTH");
         at = given ? atol(given) : -1;
     }
-    return ++count == at;
+    ++count;
+    if (n == SIGN) {
+        ++signs;
+        return 1;
+    }
+    if (signs % 2) {
+        ++between;
+        return 1;
+    }
+    return count == at;
 }
 
 static void *taken(void *block) {
@@ -23,20 +35,20 @@ static void *taken(void *block) {
 void *malloc(size_t n) {
     static void *(*real)(size_t);
     if (!real) real = dlsym(RTLD_NEXT, "malloc");
-    return fails() ? 0 : taken(real(n));
+    return fails(n) ? 0 : taken(real(n));
 }
 
 void *realloc(void *p, size_t n) {
     static void *(*real)(void *, size_t);
     if (!real) real = dlsym(RTLD_NEXT, "realloc");
-    if (fails()) return 0;
+    if (fails(n)) return 0;
     return p ? real(p, n) : taken(real(p, n));
 }
 
 void *aligned_alloc(size_t a, size_t n) {
     static void *(*real)(size_t, size_t);
     if (!real) real = dlsym(RTLD_NEXT, "aligned_alloc");
-    return fails() ? 0 : taken(real(a, n));
+    return fails(n) ? 0 : taken(real(a, n));
 }
 
 void free(void *p) {
@@ -48,10 +60,10 @@ void free(void *p) {
 }
 
 __attribute__((destructor)) static void tell(void) {
-    long requests = count, blocks = most;
+    long requests = count, blocks = most, refused = between, given = signs;
     const char *name = getenv("COUNT_IN");
     FILE *file = name ? fopen(name, "w") : 0;
     if (!file) return;
-    fprintf(file, "%ld %ld\n", requests, blocks);
+    fprintf(file, "%ld %ld %ld %ld\n", requests, blocks, refused, given);
     fclose(file);
 }

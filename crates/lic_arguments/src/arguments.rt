@@ -1,7 +1,10 @@
 //! The command line.
 
-ghost use Rattle.std.specs.Prelude.{◌≡◌, ℕ, IfOk, IfErr, IfSome, IfNone};
+ghost use Rattle.std.specs.Prelude.{◌≡◌, ◌≢◌, ℕ, IfOk, IfErr, IfSome, IfNone, codes, length, map, unwrap_or, []};
+ghost use Rattle.clap.specs.Matches.{found_of, first_value};
+ghost use Rattle.lic_arguments.specs.After.{IsAsGiven, IsFirstFault};
 ghost use Rattle.lic_arguments.specs.Arguments.{IsNamed, IsTripleOf, IsUnnamed};
+ghost use Rattle.lic_arguments.specs.Options.{IsFlag, IsText, IsLimit, IsGiven, files_in};
 
 use crate::after::{After, Given};
 use crate::fault::ArgumentFault;
@@ -166,7 +169,10 @@ pub fn parse<'a>(alloc: Global, words: &'a [&'a str]) -> Result<ArgMatches<'a>, 
 }
 
 /// The files that are given, or standard input alone where none is.
-fn files_given<'a>(alloc: Global, found: &ArgMatches<'a>) -> Result<Vec<&'a str>, ArgumentFault> {
+fn files_given<'a>(alloc: Global, found: &ArgMatches<'a>) -> Result<Vec<&'a str>, ArgumentFault>
+    ensures files { IfOk result (λ files. map (λ f. f.now) files.items ≡ files_in (found_of found.now)) }
+    ensures fault { IfErr result (λ fault. fault ≡ ArgumentFault.Memory) }
+{
     let mut files = Vec::new(alloc);
     if let Some(given) = found.get_strs("files") {
         files.extend_from_slice(given)?;
@@ -190,10 +196,11 @@ pub struct TokensArguments<'a> {
 
 impl<'a> TokensArguments<'a> {
     /// Reads what the parser found.
-    pub fn read(
-        alloc: Global,
-        found: &ArgMatches<'a>,
-    ) -> Result<TokensArguments<'a>, ArgumentFault> {
+    pub fn read(alloc: Global, found: &ArgMatches<'a>) -> Result<TokensArguments<'a>, ArgumentFault>
+        ensures words { IfOk result (λ read. IsText (found_of found.now) (codes "words") read.words) }
+        ensures rules { IfOk result (λ read. IsText (found_of found.now) (codes "rules") read.rules) }
+        ensures files { IfOk result (λ read. map (λ f. f.now) read.files.items ≡ files_in (found_of found.now)) }
+    {
         Ok(TokensArguments {
             words: found.get_str("words"),
             rules: found.get_str("rules"),
@@ -215,7 +222,11 @@ pub struct CheckArguments<'a> {
 
 impl<'a> CheckArguments<'a> {
     /// Reads what the parser found.
-    pub fn read(found: &ArgMatches<'a>) -> CheckArguments<'a> {
+    pub fn read(found: &ArgMatches<'a>) -> CheckArguments<'a>
+        ensures folder { result.folder.now ≡ unwrap_or (first_value (found_of found.now) (codes "templates")) [] }
+        ensures words { IsText (found_of found.now) (codes "words") result.words }
+        ensures rules { IsText (found_of found.now) (codes "rules") result.rules }
+    {
         CheckArguments {
             folder: found.get_str("templates").unwrap_or(""),
             words: found.get_str("words"),
@@ -244,10 +255,12 @@ pub struct ScanArguments<'a> {
 }
 
 /// What is given of the options of which one asks for another.
-fn given_of<'a>(found: &ArgMatches<'a>, files: usize) -> Given<'a> {
+fn given_of<'a>(found: &ArgMatches<'a>, files: usize) -> Given<'a>
+    ensures { IsGiven (found_of found.now) files result }
+{
     Given {
         all: found.get_flag("all"),
-        has_limit: found.get_one::<u32>("limit").is_some(),
+        has_limit: found.contains_id("limit"),
         after: found.get_str("after"),
         files,
     }
@@ -255,7 +268,21 @@ fn given_of<'a>(found: &ArgMatches<'a>, files: usize) -> Given<'a> {
 
 impl<'a> ScanArguments<'a> {
     /// Reads what the parser found.
-    pub fn read(alloc: Global, found: &ArgMatches<'a>) -> Result<ScanArguments<'a>, ArgumentFault> {
+    pub fn read(alloc: Global, found: &ArgMatches<'a>) -> Result<ScanArguments<'a>, ArgumentFault>
+        ensures folder { IfOk result (λ read. read.folder.now ≡ unwrap_or (first_value (found_of found.now) (codes "templates")) []) }
+        ensures words { IfOk result (λ read. IsText (found_of found.now) (codes "words") read.words) }
+        ensures rules { IfOk result (λ read. IsText (found_of found.now) (codes "rules") read.rules) }
+        ensures all { IfOk result (λ read. IsFlag (found_of found.now) (codes "all") read.all) }
+        ensures after { IfOk result (λ read. (given : Given)
+            × IsGiven (found_of found.now) (length read.files.items) given
+            × IsAsGiven given read.after) }
+        ensures limit { IfOk result (λ read. IsLimit (found_of found.now) read.limit) }
+        ensures files { IfOk result (λ read. map (λ f. f.now) read.files.items ≡ files_in (found_of found.now)) }
+        // The first fault of what is given, where memory did not run out.
+        ensures fault { IfErr result (λ fault. fault ≢ ArgumentFault.Memory → (given : Given)
+            × IsGiven (found_of found.now) (length (files_in (found_of found.now))) given
+            × IsFirstFault given fault) }
+    {
         let files = files_given(alloc, found)?;
         let after = given_of(found, files.len()).triple()?;
         Ok(ScanArguments {

@@ -1,0 +1,277 @@
+//! Calls that take no memory, made while each request for memory is refused.
+
+ghost use Rattle.std.specs.Prelude.{◌≡◌, ◌≤◌, length};
+
+use crate::lent::{CHOICE, OF, OPTIONAL, TWO, Templates, lend};
+use crate::refused::{Refused, retried};
+use lic_auto::back::Back;
+use lic_auto::run::Run;
+use lic_ere::Ere;
+use lic_find::finder::Finder;
+use lic_kind::{Kind, Rules, kind_of};
+use lic_norm::feeder::Feeder;
+use lic_norm::text::Text;
+use lic_norm::words::Words;
+use lic_rows::bits::Bits;
+use lic_rows::{and_into, any_from, is_zero, or_into, shift_up_one};
+use lic_set::set::Set;
+use lic_set::triple::Triple;
+use lic_stream::stream::{Counted, Sink, Source};
+use std::alloc::{AllocError, Global};
+
+/// A request that no system grants. To `scripts/refused_growths/fail_nth.c`, where that is preloaded, it is a sign: from the first on
+/// each request is refused and counted, up to the next.
+const SIGN: usize = 1 << 62;
+
+/// Gives the sign, and says whether it was refused.
+fn sign(alloc: Global) -> bool {
+    let room: Result<Vec<u8>, AllocError> = Vec::with_capacity(alloc, SIGN);
+    room.is_err()
+}
+
+/// By this one request the script sees that it counts what is asked for between two signs.
+#[test]
+fn a_request_between_signs_is_counted(rt: HostRuntime) {
+    let is_begun = sign(rt.alloc());
+    let room: Result<Vec<u8>, AllocError> = Vec::with_capacity(rt.alloc(), 64);
+    drop(room);
+    let is_ended = sign(rt.alloc());
+    assert!(rt; is_begun & is_ended);
+}
+
+/// Templates, an input, its matches, and the first template that describes all of the input.
+#[derive(Clone, Copy)]
+struct Row {
+    templates: Templates<'static>,
+    input: &'static [u8],
+    matches: &'static [(usize, usize, usize)],
+    whole: Option<usize>,
+}
+
+const ROWS: &[Row] = &[
+    Row {
+        templates: OPTIONAL,
+        input: b"a b c d",
+        matches: &[(0, 3, 0)],
+        whole: Some(0),
+    },
+    Row {
+        templates: TWO,
+        input: b"foo bar",
+        matches: &[(0, 1, 0), (0, 1, 1)],
+        whole: Some(0),
+    },
+    Row {
+        templates: OF,
+        input: b"x of y of z",
+        matches: &[(0, 2, 0), (0, 3, 0), (0, 4, 0), (1, 4, 0), (2, 4, 0)],
+        whole: Some(0),
+    },
+    Row {
+        templates: CHOICE,
+        input: b"bxx end yz end bxxxx end",
+        matches: &[(0, 1, 0), (1, 1, 0), (2, 3, 0), (3, 3, 0), (5, 5, 0)],
+        whole: None,
+    },
+];
+
+/// What room was made for.
+#[derive(Drop)]
+struct Machines<'a> {
+    run: Run<'a>,
+    back: Back<'a>,
+    finder: Finder<'a>,
+}
+
+fn machines_of<'a>(alloc: Global, set: &'a Set, text: &'a Text) -> Result<Machines<'a>, Refused> {
+    Ok(Machines {
+        run: Run::new(alloc, set)?,
+        back: Back::new(alloc, set)?,
+        finder: Finder::new(alloc, set, text)?,
+    })
+}
+
+/// Lets a machine read the text: whether it gives the first template that describes all of it.
+fn reads_on(run: &mut Run<'_>, text: &Text, whole: Option<usize>) -> bool {
+    run.reset();
+    for k in 0..text.len() {
+        run.push(text.token(k).text);
+    }
+    run.accepted(0) == whole && run.steps() > 0 && (whole.is_none() || !run.dead())
+}
+
+/// Lets a machine read the text from its end: whether it says that a match begins there.
+fn reads_back(back: &mut Back<'_>, text: &Text) -> bool {
+    back.reset();
+    for k in (0..text.len()).rev() {
+        back.push_front(text.token(k).text);
+    }
+    back.live() && back.live_numbers().first() == Some(&0) && back.steps() > 0
+}
+
+/// Whether these are the matches, found one by one.
+fn finds(finder: &mut Finder<'_>, matches: &[(usize, usize, usize)]) -> bool {
+    for (first, last, template) in matches {
+        let triple = Triple {
+            first: *first,
+            last: *last,
+            template: *template,
+        };
+        if finder.next() != Some(triple) {
+            return false;
+        }
+    }
+    finder.next().is_none() && finder.next().is_none() && finder.steps() > 0
+}
+
+/// Whether the bytes of each token are bytes of the source, and its text stands in the canonical spelling.
+fn tells_tokens(text: &Text) -> bool {
+    let mut count = 0usize;
+    for k in 0..text.len() {
+        let token = text.token(k);
+        let is_there = text.place(k).start < text.spelled().len();
+        let is_read = text.slice(token.span).len() <= text.source().len();
+        count = count.saturating_add(usize::from(is_there & is_read));
+    }
+    count == text.len()
+}
+
+/// Whether each template has parts, a weight and an original text.
+fn tells_templates(set: &Set) -> bool {
+    for k in 0..set.len() {
+        let template = set.template(k);
+        let is_known = !set.id(k).is_empty() && !template.original().is_empty();
+        if !is_known || template.parts().is_empty() || template.weight() == 0 {
+            return false;
+        }
+    }
+    set.len() > 0
+}
+
+#[test]
+fn machines_take_no_memory_once_made(rt: HostRuntime) {
+    let words = Words::none(rt.alloc());
+    let rules = Rules::profile(rt.alloc());
+    for row in ROWS {
+        let mut lent = None;
+        retried(&rt, || {
+            let templates = row.templates;
+            lend(rt.alloc(), templates, row.input, &words, &rules, &mut lent)
+        });
+        let (set, text) = lent.expect(&rt, "a set and a text");
+        let mut made = None;
+        retried(&rt, || {
+            made = Some(machines_of(rt.alloc(), &set, &text)?);
+            Ok(())
+        });
+        let mut machines = made.expect(&rt, "machines");
+        let is_begun = sign(rt.alloc());
+        let is_told = tells_tokens(&text) && tells_templates(&set);
+        let is_found = finds(&mut machines.finder, row.matches);
+        let is_read = reads_on(&mut machines.run, &text, row.whole)
+            && reads_back(&mut machines.back, &text)
+            && reads_on(&mut machines.run, &text, row.whole)
+            && reads_back(&mut machines.back, &text);
+        let is_ended = sign(rt.alloc());
+        assert!(rt; is_begun & is_ended & is_told & is_found & is_read);
+    }
+}
+
+/// More tokens than wait for what follows.
+const LINE: &[u8] = b"a b c d e f g h i j k l m n o p q r s t u v w x y z\n";
+
+/// A feeder that was fed a line.
+fn fed<'w>(alloc: Global, words: &'w Words, rules: &'w Rules) -> Result<Feeder<'w>, Refused> {
+    let mut feeder = Feeder::new(alloc, words, rules);
+    feeder.feed(LINE).map_err(Refused::Text)?;
+    Ok(feeder)
+}
+
+/// Whether a feeder tells its settled tokens.
+fn tells_settled(feeder: &Feeder<'_>) -> bool {
+    let mut count = 0usize;
+    for k in 0..feeder.ready() {
+        let token = feeder.token(k);
+        count = count.saturating_add(usize::from(token.text.len() == 1));
+    }
+    count > 0 && count == feeder.ready()
+}
+
+/// Whether a list, rules, a feeder, a reader and a writer are made, all of them empty.
+fn makes(alloc: Global) -> bool {
+    let words = Words::none(alloc);
+    let rules = Rules::profile(alloc);
+    let feeder = Feeder::new(alloc, &words, &rules);
+    let input: &[u8] = b"foo";
+    let source = Counted::new(input);
+    let sink = Counted::new(Vec::new(alloc));
+    feeder.ready() == 0 && Source::failures(&source) == 0 && Sink::failures(&sink) == 0
+}
+
+/// Whether a set of a pattern and the kinds of characters are as they should.
+fn tells_letters(pattern: &Ere) -> bool {
+    let is_set = match pattern {
+        Ere::Set(class) => class.has('b') && !class.has('e'),
+        _ => false,
+    };
+    is_set && kind_of('a') == Kind::Word && kind_of('\u{2029}') == Kind::Blank
+}
+
+#[test]
+fn what_is_made_empty_takes_no_memory(rt: HostRuntime) {
+    let words = Words::none(rt.alloc());
+    let rules = Rules::profile(rt.alloc());
+    let feeder = retried(&rt, || fed(rt.alloc(), &words, &rules));
+    let mut read = None;
+    retried(&rt, || {
+        read = Some(lic_ere::read(rt.alloc(), "[^d-z]").map_err(Refused::Pattern)?);
+        Ok(())
+    });
+    let pattern = read.expect(&rt, "a pattern");
+    let is_begun = sign(rt.alloc());
+    let is_made = makes(rt.alloc());
+    let is_told = tells_settled(&feeder) && tells_letters(&pattern);
+    let is_ended = sign(rt.alloc());
+    assert!(rt; is_begun & is_ended & is_made & is_told);
+}
+
+/// Whether the kernels on words give the rows that they should.
+fn moves_words() -> bool {
+    let mut row = [1u64 << 63, 0, 0, 0, 0];
+    shift_up_one(&mut row, 300);
+    let is_carried = row == [0, 1, 0, 0, 0] && any_from(&row, 64) && !any_from(&row, 65);
+    or_into(&mut row, &[2, 0, 0, 0, 4]);
+    let is_joined = row == [2, 1, 0, 0, 4];
+    and_into(&mut row, &[1, 2, 0, 0, 8]);
+    is_carried && is_joined && is_zero(&row)
+}
+
+/// Whether a row of bits does as it should; it has so many as `other`.
+fn moves_bits(row: &mut Bits, other: &Bits) -> bool
+    requires same { length row.old ≡ length other.now }
+    requires room { 70 ≤ length row.old }
+{
+    row.put(0, true);
+    row.move_up(0, 70, false);
+    let is_moved = row.get(1) && !row.get(0) && row.is_any_set(0, 70);
+    let is_last = row.last_set(0, 70) == Some(1);
+    row.clear(0, 70);
+    let is_clear = !row.is_any_set(0, 70) && !row.join(other);
+    row.copy_from(other);
+    is_moved && is_last && is_clear && row.len() == other.len()
+}
+
+#[test]
+fn rows_of_bits_take_no_memory_once_made(rt: HostRuntime) {
+    let mut made = None;
+    retried(&rt, || {
+        made = Some((Bits::new(rt.alloc(), 70)?, Bits::new(rt.alloc(), 70)?));
+        Ok(())
+    });
+    let (mut row, other) = made.expect(&rt, "two rows");
+    assert!(rt; row.len() == 70 && other.len() == 70);
+    let is_begun = sign(rt.alloc());
+    let is_right = moves_words() & moves_bits(&mut row, &other);
+    let is_ended = sign(rt.alloc());
+    assert!(rt; is_begun & is_ended & is_right);
+}
