@@ -26,7 +26,7 @@ member_of x after = map_ok (with_rest after) (member_at x after)
 not_this : (c d : ℕ) → c ≢ d → (c == d) ≡ false
 not_this c d h = grind (arith, nat_tests)
 
-is_not_this : (c d : ℕ) → (c == d) ≡ false → c ≢ d
+pub is_not_this : (c d : ℕ) → (c == d) ≡ false → c ≢ d
 is_not_this c d h = λ e. grind (arith, nat_tests)
 
 -- ---- what stands for more than one character
@@ -41,7 +41,7 @@ three_of_one c a b d e =
       | inr t ↦ inr (inr (eqb-true c d t))
     ]
 
-begins-IsExtension : (c : ℕ) (rest : List Located) → begins_extension c rest ≡ true → IsExtension c rest
+pub begins-IsExtension : (c : ℕ) (rest : List Located) → begins_extension c rest ≡ true → IsExtension c rest
 begins-IsExtension c [] e = absurd (false≢true e)
 begins-IsExtension c (next ∷ rest) e =
     let (one, others) = and_cases (c == open_bracket) _ e in
@@ -190,7 +190,7 @@ range_by x h y rest more m false false hyphen ne order e is =
     (subst (λ l. IsMember (x ∷ h ∷ y ∷ rest) l both) (same_rest both m rest more is)
     (range hyphen ne le (begins_not y.1 rest e)))
 
-and_split : (a b : Bool) → (a && not b) ≡ true → (a ≡ true) × (b ≡ false)
+pub and_split : (a b : Bool) → (a && not b) ≡ true → (a ≡ true) × (b ≡ false)
 and_split true true h = absurd (false≢true h)
 and_split true false h = (refl, refl)
 and_split false b h = absurd (false≢true h)
@@ -249,7 +249,7 @@ then_by : (place : ℕ) (x : Located) (xs : List Located) (ms : List Member) (k 
 then_by place x xs ms k (Err d) is all e = absurd cc
 then_by place x xs ms k (Ok m) is all e = others_by x xs m.0 m.1 ms k (members_at place false m.1 xs) (is m.0 m.1 refl) (all m.1) e
 
-one_spelled : (x : Located) (xs : List Located) (m : Member) (j : ℕ) → member_at x xs ≡ Ok (m, j) → IsMember (x ∷ xs) (drop j xs) m
+pub one_spelled : (x : Located) (xs : List Located) (m : Member) (j : ℕ) → member_at x xs ≡ Ok (m, j) → IsMember (x ∷ xs) (drop j xs) m
 unfolding member_of
 one_spelled x xs m j e = member_spelled x xs (drop j xs) m (ap (map_ok (with_rest xs)) e)
 
