@@ -32,7 +32,7 @@ not_failed {A = A} x e h = absurd (never h)
     never : ◌≡◌ {A = Result A EreFault} (Ok x) (Err e) → ⊥
     never h = cc
 
-map_ok-failed : {A B : Type 0} (f : A → B) (r : Result A EreFault) (e : EreFault) → map_ok f r ≡ Err e → r ≡ Err e
+pub map_ok-failed : {A B : Type 0} (f : A → B) (r : Result A EreFault) (e : EreFault) → map_ok f r ≡ Err e → r ≡ Err e
 map_ok-failed f (Ok x) e is = not_failed (f x) e is
 map_ok-failed f (Err d) e is = ap (λ d. Err d) (same_fault d e is)
 
@@ -154,7 +154,7 @@ dollar_lexeme x [] e is_one false last is = absurd cc
 dollar_lexeme x (y ∷ after) e is_one false last is = subst (IsNoLexeme x (y ∷ after)) (same_fault _ e is) (dollar_inside is_one)
 
 -- the same with the sign that the character is
-with_sign : (x : Located) (after : List Located) (s : ℕ) → x.1 ≡ s → lexeme_at x after ≡ lexeme_at (x.0, s) after
+pub with_sign : (x : Located) (after : List Located) (s : ℕ) → x.1 ≡ s → lexeme_at x after ≡ lexeme_at (x.0, s) after
 with_sign x after s e = ap (λ c. lexeme_at (x.0, c) after) e
 
 lexeme_fault : (x : Located) (after : List Located) (e : EreFault) → Begins x.1 → lexeme_at x after ≡ Err e → IsNoLexeme x after e

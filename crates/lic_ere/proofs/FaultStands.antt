@@ -98,20 +98,20 @@ record SoFar (ls : List (ℕ × Lexeme)) (s : State) : Type 0 where
 
 -- the fault of these lexemes, after some others
 data Fault (before ls : List (ℕ × Lexeme)) (fault : Option EreFault) (e : EreFault) : Type 0 where
-  early : (front after : List (ℕ × Lexeme)) {place : ℕ} {l : Lexeme} {cause : EreCause} → before ++ ls ≡ front ++ (place, l) ∷ after
-      → AllStand (without_anchors front) → MayNotStand (without_anchors front) l cause → fault_at place cause ≡ e
+  early : (prefix after : List (ℕ × Lexeme)) {place : ℕ} {l : Lexeme} {cause : EreCause} → before ++ ls ≡ prefix ++ (place, l) ∷ after
+      → AllStand (without_anchors prefix) → MayNotStand (without_anchors prefix) l cause → fault_at place cause ≡ e
       → Fault before ls fault e
-  left_open : (front after : List (ℕ × Lexeme)) {place : ℕ} → fault ≡ None
-      → without_anchors (before ++ ls) ≡ front ++ (place, opening) ∷ after → AllStand (without_anchors (before ++ ls))
+  left_open : (prefix after : List (ℕ × Lexeme)) {place : ℕ} → fault ≡ None
+      → without_anchors (before ++ ls) ≡ prefix ++ (place, opening) ∷ after → AllStand (without_anchors (before ++ ls))
       → AreWhole after → fault_at place GroupNotClosed ≡ e → Fault before ls fault e
   late : fault ≡ Some e → AllStand (without_anchors (before ++ ls)) → Fault before ls fault e
 
 -- one more lexeme before
 fault_back : (before ls : List (ℕ × Lexeme)) (x : ℕ × Lexeme) (fault : Option EreFault) (e : EreFault)
     → Fault (before ++ x ∷ []) ls fault e → Fault before (x ∷ ls) fault e
-fault_back before ls x fault e (early front after is stand not same) = early front after (sym (append_assoc before (x ∷ []) ls) ∙ is) stand not same
-fault_back before ls x fault e (left_open front after none is stand whole same) =
-    left_open front after none (ap without_anchors (sym (append_assoc before (x ∷ []) ls)) ∙ is)
+fault_back before ls x fault e (early prefix after is stand not same) = early prefix after (sym (append_assoc before (x ∷ []) ls) ∙ is) stand not same
+fault_back before ls x fault e (left_open prefix after none is stand whole same) =
+    left_open prefix after none (ap without_anchors (sym (append_assoc before (x ∷ []) ls)) ∙ is)
     (subst (λ l. AllStand (without_anchors l)) (append_assoc before (x ∷ []) ls) stand) whole same
 fault_back before ls x fault e (late some stand) = late some (subst (λ l. AllStand (without_anchors l)) (append_assoc before (x ∷ []) ls) stand)
 
@@ -253,23 +253,23 @@ module _ (fault : Option EreFault) (e : EreFault) where
 -- ---- the fault of a pattern
 
 -- a lexeme among those that characters begin with
-split : (front : List (ℕ × Lexeme)) (place : ℕ) (l : Lexeme) (after : List (ℕ × Lexeme)) {cs others : List Located}
-    → BeginWith cs (front ++ (place, l) ∷ after) others
-    → (x : Located) × (behind : List Located) × (more : List Located) × BeginWith cs front (x ∷ behind)
-    × IsLexeme x behind more l × (x.0 ≡ place)
-split [] place l after (faults.one_lexeme {x = x} {after = behind} {more = more} is rest) = (x, behind, more, faults.no_lexeme, is, refl)
-split (y ∷ front) place l after (faults.one_lexeme is rest) =
-    let found = split front place l after rest in
+split : (prefix : List (ℕ × Lexeme)) (place : ℕ) (l : Lexeme) (after : List (ℕ × Lexeme)) {cs others : List Located}
+    → BeginWith cs (prefix ++ (place, l) ∷ after) others
+    → (x : Located) × (following : List Located) × (more : List Located) × BeginWith cs prefix (x ∷ following)
+    × IsLexeme x following more l × (x.0 ≡ place)
+split [] place l after (faults.one_lexeme {x = x} {after = following} {more = more} is others) = (x, following, more, faults.no_lexeme, is, refl)
+split (y ∷ prefix) place l after (faults.one_lexeme is others) =
+    let found = split prefix place l after others in
     (found.0, found.1, found.2, faults.one_lexeme is found.3, found.4, found.5)
 
 fault_of : (pattern : List ℕ) (ls : List (ℕ × Lexeme)) (fault : Option EreFault) (e : EreFault) (others : List Located)
     → BeginWith (located pattern) ls others → Ends others fault → Fault [] ls fault e → IsFaultOf pattern e
-fault_of pattern ls fault e others are ends (early front after {place = place} {l = l} {cause = cause} is stand not same) =
-    let found = split front place l after (subst (λ ks. BeginWith (located pattern) ks others) is are) in
+fault_of pattern ls fault e others are ends (early prefix after {place = place} {l = l} {cause = cause} is stand not same) =
+    let found = split prefix place l after (subst (λ ks. BeginWith (located pattern) ks others) is are) in
     subst (IsFaultOf pattern) (ap (λ p. fault_at p cause) found.5 ∙ same) (faults.misplaced found.3 stand found.4 not)
-fault_of pattern ls fault e [] are ends (left_open front after none is stand whole same) =
-    subst (IsFaultOf pattern) same (faults.group_open front are stand is whole)
-fault_of pattern ls fault e (x ∷ more) are ends (left_open front after none is stand whole same) = absurd (some_none (sym ends.1 ∙ none))
+fault_of pattern ls fault e [] are ends (left_open prefix after none is stand whole same) =
+    subst (IsFaultOf pattern) same (faults.group_open prefix are stand is whole)
+fault_of pattern ls fault e (x ∷ more) are ends (left_open prefix after none is stand whole same) = absurd (some_none (sym ends.1 ∙ none))
   where
     some_none : ◌≡◌ {A = Option EreFault} (Some ends.0) None → ⊥
     some_none h = cc

@@ -71,7 +71,7 @@ bracket_gives : (after rest : List Located) (b : Brackets) (r : Result (Brackets
 bracket_gives after rest b (Err d) e = absurd cc
 bracket_gives after rest b (Ok y) e = ap (map_ok (λ (p : Brackets × List Located). (unit (set p.0), p.1))) e
 
-lexeme_read : {x : Located} {after rest : List Located} {l : Lexeme} → IsLexeme x after rest l → read_of x after ≡ Ok (l, rest)
+pub lexeme_read : {x : Located} {after rest : List Located} {l : Lexeme} → IsLexeme x after rest l → read_of x after ≡ Ok (l, rest)
 unfolding lexeme_at
 lexeme_read (any_letter {x = x} {rest = rest} e) = at_sign x rest dot e
 lexeme_read (any_number {x = x} {rest = rest} e) = at_sign x rest star e

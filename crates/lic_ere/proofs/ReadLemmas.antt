@@ -12,6 +12,7 @@ use Rattle.lic_ere.specs.Reading.{reading}
 use Rattle.lic_ere.specs.Grammar.{IsPattern}
 use Rattle.lic_ere.proofs.FaultLemmas.{Gives-same}
 use Rattle.lic_ere.proofs.Complete.{IsPattern-read}
+use Rattle.lic_ere.proofs.FaultRuns.{IsFaultOf-reading}
 use Rattle.lic_ere.proofs.FaultStands.{reading-IsFaultOf}
 use Rattle.lic_ere.proofs.Sound.{reading-IsPattern}
 
@@ -33,3 +34,7 @@ pub is_decided : (pattern : List ℕ) (result : Result Ere EreFault) → Gives t
     → IfErr result (λ e. (e ≡ out_of_memory) ⊎ IsFaultOf pattern e)
 is_decided pattern (Ok tree) given = tt
 is_decided pattern (Err e) given = decided pattern e.cause e.place given
+
+pub is_reported : (pattern : List ℕ) (result : Result Ere EreFault) (e : EreFault) → IsFaultOf pattern e
+    → Gives tree_of result (reading pattern) → Gives tree_of result (Err e)
+is_reported pattern result e is given = Gives-same tree_of result (reading pattern) (Err e) (IsFaultOf-reading pattern e is) given
