@@ -7,7 +7,7 @@ use Rattle.std.proofs.lemmas.Bool.Decides.{nat_tests}
 use Rattle.std.proofs.lemmas.List.{drop-drop}
 use Rattle.lic_ere.specs.declared.class.Member.{Member}
 use Rattle.lic_ere.specs.declared.fault.EreFault.{EreFault}
-use Rattle.lic_ere.specs.declared.fault.EreCause.TheVariants.{BracketExtension, RangeOutOfOrder}
+use Rattle.lic_ere.specs.declared.fault.EreCause.TheVariants.{BracketExtension}
 use Rattle.lic_ere.specs.Signs.{dash, open_bracket, close_bracket, caret}
 use Rattle.lic_ere.specs.Sets.{Brackets}
 use Rattle.lic_ere.specs.declared.rest.Rest.{Rest}
@@ -20,13 +20,13 @@ use Rattle.lic_ere.proofs.FaultLemmas.{Gives-same, map_ok-same, map_ok-map_ok}
 use Rattle.lic_ere.proofs.SetLemmas.{and_cases, and_true, or_cases, or_left, or_right}
 use Rattle.lic_ere.proofs.BracketLemmas.{behind, members_of, members_turn}
 
-member_of : Located → List Located → Result (Member × List Located) EreFault
+unfoldable pub member_of : Located → List Located → Result (Member × List Located) EreFault
 member_of x after = map_ok (with_rest after) (member_at x after)
 
-not_this : (c d : ℕ) → c ≢ d → (c == d) ≡ false
+pub not_this : (c d : ℕ) → c ≢ d → (c == d) ≡ false
 not_this c d h = grind (arith, nat_tests)
 
-is_not_this : (c d : ℕ) → (c == d) ≡ false → c ≢ d
+pub is_not_this : (c d : ℕ) → (c == d) ≡ false → c ≢ d
 is_not_this c d h = λ e. grind (arith, nat_tests)
 
 -- ---- what stands for more than one character
@@ -41,7 +41,7 @@ three_of_one c a b d e =
       | inr t ↦ inr (inr (eqb-true c d t))
     ]
 
-begins-IsExtension : (c : ℕ) (rest : List Located) → begins_extension c rest ≡ true → IsExtension c rest
+pub begins-IsExtension : (c : ℕ) (rest : List Located) → begins_extension c rest ≡ true → IsExtension c rest
 begins-IsExtension c [] e = absurd (false≢true e)
 begins-IsExtension c (next ∷ rest) e =
     let (one, others) = and_cases (c == open_bracket) _ e in
@@ -52,7 +52,7 @@ one_of_three c a b d (inl e) = or_left (c == a || c == b) (c == d) (or_left (c =
 one_of_three c a b d (inr (inl e)) = or_left (c == a || c == b) (c == d) (or_right (c == a) (c == b) (eq-eqb _ _ e))
 one_of_three c a b d (inr (inr e)) = or_right (c == a || c == b) (c == d) (eq-eqb _ _ e)
 
-IsExtension-begins : {c : ℕ} {rest : List Located} → IsExtension c rest → begins_extension c rest ≡ true
+pub IsExtension-begins : {c : ℕ} {rest : List Located} → IsExtension c rest → begins_extension c rest ≡ true
 IsExtension-begins (extension {c = c} {next = next} e others) = and_true (c == open_bracket) _ (eq-eqb _ _ e) (one_of_three next.1 _ _ _ others)
 
 begins_none : (c : ℕ) (rest : List Located) (b : Bool) → begins_extension c rest ≡ b → ¬ (IsExtension c rest) → b ≡ false
@@ -83,7 +83,7 @@ range_read x h y rest hyphen open_yet order plain_end =
     let three : nat_lt y.1 x.1 ≡ false = grind (arith, nat_tests) in
     rw (one, two, three, plain_end) refl
 
-member_read : {x : Located} {after more : List Located} {m : Member} → IsMember (x ∷ after) more m → member_of x after ≡ Ok (m, more)
+pub member_read : {x : Located} {after more : List Located} {m : Member} → IsMember (x ∷ after) more m → member_of x after ≡ Ok (m, more)
 member_read (alone {x = x} {rest = rest} a b) = alone_read x rest a (not_begins x.1 rest b)
 member_read (range {x = x} {hyphen = h} {y = y} {rest = rest} a b c d) = range_read x h y rest a b c (not_begins y.1 rest d)
 
@@ -139,10 +139,10 @@ plain_sign x cs e = rw e refl
 complement_sign : (x : Located) (cs : List Located) → (x.1 == caret) ≡ true → complement_at (x ∷ cs) ≡ (true, 1)
 complement_sign x cs e = rw e refl
 
-plain_is : (place : ℕ) (x : Located) (cs : List Located) → (x.1 == caret) ≡ false → bracket_of place (x ∷ cs) ≡ with_sign false (members_of place true (x ∷ cs))
+pub plain_is : (place : ℕ) (x : Located) (cs : List Located) → (x.1 == caret) ≡ false → bracket_of place (x ∷ cs) ≡ with_sign false (members_of place true (x ∷ cs))
 plain_is place x cs e = bracket_of-is place (x ∷ cs) ∙ ap (λ s. bracket_by place s (x ∷ cs)) (plain_sign x cs e) ∙ sign_then place (false, 0) (x ∷ cs)
 
-complement_is : (place : ℕ) (x : Located) (cs : List Located) → (x.1 == caret) ≡ true → bracket_of place (x ∷ cs) ≡ with_sign true (members_of place true cs)
+pub complement_is : (place : ℕ) (x : Located) (cs : List Located) → (x.1 == caret) ≡ true → bracket_of place (x ∷ cs) ≡ with_sign true (members_of place true cs)
 complement_is place x cs e = bracket_of-is place (x ∷ cs) ∙ ap (λ s. bracket_by place s (x ∷ cs)) (complement_sign x cs e) ∙ sign_then place (true, 1) (x ∷ cs)
 
 -- the bracket that is spelled is read
@@ -165,32 +165,32 @@ same_value a c b d e = ap (λ o. (held (a, b) o).0) e
 same_rest : {A B : Type 0} (a c : A) (b d : B) → found a b ≡ found c d → b ≡ d
 same_rest a c b d e = ap (λ o. (held (a, b) o).1) e
 
-single_by : (x : Located) (rest more : List Located) (m : Member) (t : Bool) → begins_extension x.1 rest ≡ t → goes_on_as_range rest ≡ false
-    → map_ok (with_rest rest) (map_ok (λ m. (m, 0))
-    (cond t (Err (fault_at x.0 BracketExtension)) (Ok (record { first = x.1; last = x.1 })))) ≡ Ok (m, more)
+single_by : (x : Located) (rest more : List Located) (m : Member) (d : EreFault) (t : Bool) → begins_extension x.1 rest ≡ t
+    → goes_on_as_range rest ≡ false → map_ok (with_rest rest) (map_ok (λ m. (m, 0))
+    (cond t (Err d) (Ok (record { first = x.1; last = x.1 })))) ≡ Ok (m, more)
     → IsMember (x ∷ rest) more m
-single_by x rest more m true e g is = absurd cc
-single_by x rest more m false e g is =
+single_by x rest more m d true e g is = absurd cc
+single_by x rest more m d false e g is =
     let one : Member = record { first = x.1; last = x.1 } in
     subst (λ n. IsMember (x ∷ rest) more n) (same_value one m rest more is)
     (subst (λ l. IsMember (x ∷ rest) l one) (same_rest one m rest more is) (alone g (begins_not x.1 rest e)))
 
-range_by : (x h y : Located) (rest more : List Located) (m : Member) (t u : Bool) → h.1 ≡ dash → y.1 ≢ close_bracket
+range_by : (x h y : Located) (rest more : List Located) (m : Member) (d f : EreFault) (t u : Bool) → h.1 ≡ dash → y.1 ≢ close_bracket
     → nat_lt y.1 x.1 ≡ t → begins_extension y.1 rest ≡ u
     → map_ok (with_rest (h ∷ y ∷ rest))
-    (map_ok (λ m. (m, 2)) (cond t (Err (fault_at x.0 RangeOutOfOrder))
-    (cond u (Err (fault_at y.0 BracketExtension)) (Ok (record { first = x.1; last = y.1 })))))
+    (map_ok (λ m. (m, 2)) (cond t (Err d)
+    (cond u (Err f) (Ok (record { first = x.1; last = y.1 })))))
     ≡ Ok (m, more) → IsMember (x ∷ h ∷ y ∷ rest) more m
-range_by x h y rest more m true u hyphen ne order e is = absurd cc
-range_by x h y rest more m false true hyphen ne order e is = absurd cc
-range_by x h y rest more m false false hyphen ne order e is =
+range_by x h y rest more m d f true u hyphen ne order e is = absurd cc
+range_by x h y rest more m d f false true hyphen ne order e is = absurd cc
+range_by x h y rest more m d f false false hyphen ne order e is =
     let both : Member = record { first = x.1; last = y.1 } in
     let le : x.1 ≤ y.1 = grind (arith, nat_tests) in
     subst (λ n. IsMember (x ∷ h ∷ y ∷ rest) more n) (same_value both m rest more is)
     (subst (λ l. IsMember (x ∷ h ∷ y ∷ rest) l both) (same_rest both m rest more is)
     (range hyphen ne le (begins_not y.1 rest e)))
 
-and_split : (a b : Bool) → (a && not b) ≡ true → (a ≡ true) × (b ≡ false)
+pub and_split : (a b : Bool) → (a && not b) ≡ true → (a ≡ true) × (b ≡ false)
 and_split true true h = absurd (false≢true h)
 and_split true false h = (refl, refl)
 and_split false b h = absurd (false≢true h)
@@ -201,13 +201,13 @@ member_by : (x h y : Located) (rest more : List Located) (m : Member) (t : Bool)
     ≡ Ok (m, more) → IsMember (x ∷ h ∷ y ∷ rest) more m
 member_by x h y rest more m true e is =
     let both = and_split (h.1 == dash) (y.1 == close_bracket) e in
-    range_by x h y rest more m (nat_lt y.1 x.1) (begins_extension y.1 rest) (eqb-true _ _ both.0) (is_not_this y.1 close_bracket both.1) refl refl is
-member_by x h y rest more m false e is = single_by x (h ∷ y ∷ rest) more m (begins_extension x.1 (h ∷ y ∷ rest)) refl e is
+    range_by x h y rest more m _ _ (nat_lt y.1 x.1) (begins_extension y.1 rest) (eqb-true _ _ both.0) (is_not_this y.1 close_bracket both.1) refl refl is
+member_by x h y rest more m false e is = single_by x (h ∷ y ∷ rest) more m _ (begins_extension x.1 (h ∷ y ∷ rest)) refl e is
 
 member_spelled : (x : Located) (after more : List Located) (m : Member) → member_of x after ≡ Ok (m, more) → IsMember (x ∷ after) more m
 unfolding member_of member_at
-member_spelled x [] more m is = single_by x [] more m (begins_extension x.1 []) refl refl is
-member_spelled x (h ∷ []) more m is = single_by x (h ∷ []) more m (begins_extension x.1 (h ∷ [])) refl refl is
+member_spelled x [] more m is = single_by x [] more m (fault_at x.0 BracketExtension) (begins_extension x.1 []) refl refl is
+member_spelled x (h ∷ []) more m is = single_by x (h ∷ []) more m _ (begins_extension x.1 (h ∷ [])) refl refl is
 member_spelled x (h ∷ y ∷ rest) more m is = member_by x h y rest more m (h.1 == dash && not (y.1 == close_bracket)) refl is
 
 Spelled : ℕ → List Located → Type 0
@@ -249,7 +249,7 @@ then_by : (place : ℕ) (x : Located) (xs : List Located) (ms : List Member) (k 
 then_by place x xs ms k (Err d) is all e = absurd cc
 then_by place x xs ms k (Ok m) is all e = others_by x xs m.0 m.1 ms k (members_at place false m.1 xs) (is m.0 m.1 refl) (all m.1) e
 
-one_spelled : (x : Located) (xs : List Located) (m : Member) (j : ℕ) → member_at x xs ≡ Ok (m, j) → IsMember (x ∷ xs) (drop j xs) m
+pub one_spelled : (x : Located) (xs : List Located) (m : Member) (j : ℕ) → member_at x xs ≡ Ok (m, j) → IsMember (x ∷ xs) (drop j xs) m
 unfolding member_of
 one_spelled x xs m j e = member_spelled x xs (drop j xs) m (ap (map_ok (with_rest xs)) e)
 

@@ -23,16 +23,16 @@ use Rattle.lic_ere.proofs.BracketSpelling.{IsBracket-read, bracket_at-spelled}
 use Rattle.lic_ere.proofs.ReadingLemmas.{lexemes-skipped}
 
 -- a lexeme, and the characters behind it
-abbrev read_of : Located → List Located → Result (Lexeme × List Located) EreFault
+abbrev pub read_of : Located → List Located → Result (Lexeme × List Located) EreFault
 read_of x after = map_ok (with_rest after) (lexeme_at x after)
 
 -- the same with the character that it is
 at_sign : (x : Located) (after : List Located) (s : ℕ) → x.1 ≡ s → read_of x after ≡ read_of (x.0, s) after
 at_sign x after s e = ap (λ c. read_of (x.0, c) after) e
 
-ordinary_at : (x : Located) (after : List Located) → AllByRecursion (λ s. x.1 ≢ s) signs → read_of x after ≡ Ok (unit (letters_tree x.1), after)
+pub ordinary_is : (x : Located) (after : List Located) → AllByRecursion (λ s. x.1 ≢ s) signs → lexeme_at x after ≡ Ok (unit (letters_tree x.1), 0)
 unfolding lexeme_at
-ordinary_at x after all =
+ordinary_is x after all =
     let t0 : (x.1 == dot) ≡ false = ne_eqb x.1 dot all.0 in
     let t1 : (x.1 == star) ≡ false = ne_eqb x.1 star all.1.0 in
     let t2 : (x.1 == plus) ≡ false = ne_eqb x.1 plus all.1.1.0 in
@@ -46,6 +46,9 @@ ordinary_at x after all =
     let t10 : (x.1 == caret) ≡ false = ne_eqb x.1 caret all.1.1.1.1.1.1.1.1.1.1.0 in
     let t11 : (x.1 == dollar) ≡ false = ne_eqb x.1 dollar all.1.1.1.1.1.1.1.1.1.1.1.0 in
     rw (t0, t1, t2, t3, t4, t5, t6, t7, t8, t9, t10, t11) refl
+
+ordinary_at : (x : Located) (after : List Located) → AllByRecursion (λ s. x.1 ≢ s) signs → read_of x after ≡ Ok (unit (letters_tree x.1), after)
+ordinary_at x after all = ap (map_ok (with_rest after)) (ordinary_is x after all)
 
 -- ---- what is spelled is read
 
@@ -68,7 +71,7 @@ bracket_gives : (after rest : List Located) (b : Brackets) (r : Result (Brackets
 bracket_gives after rest b (Err d) e = absurd cc
 bracket_gives after rest b (Ok y) e = ap (map_ok (λ (p : Brackets × List Located). (unit (set p.0), p.1))) e
 
-lexeme_read : {x : Located} {after rest : List Located} {l : Lexeme} → IsLexeme x after rest l → read_of x after ≡ Ok (l, rest)
+pub lexeme_read : {x : Located} {after rest : List Located} {l : Lexeme} → IsLexeme x after rest l → read_of x after ≡ Ok (l, rest)
 unfolding lexeme_at
 lexeme_read (any_letter {x = x} {rest = rest} e) = at_sign x rest dot e
 lexeme_read (any_number {x = x} {rest = rest} e) = at_sign x rest star e
@@ -109,7 +112,7 @@ are_read (one_lexeme {x = x} {after = after} {rest = rest} {l = l} {ls = ls} is 
 -- ---- what is read is spelled
 
 -- which sign a character is
-data Begins (c : ℕ) : Type 0 where
+pub data Begins (c : ℕ) : Type 0 where
   is_dot : c ≡ dot → Begins c
   is_star : c ≡ star → Begins c
   is_plus : c ≡ plus → Begins c
@@ -124,7 +127,7 @@ data Begins (c : ℕ) : Type 0 where
   is_dollar : c ≡ dollar → Begins c
   is_other : AllByRecursion (λ s. c ≢ s) signs → Begins c
 
-which : (c : ℕ) → Begins c
+pub which : (c : ℕ) → Begins c
 which c =
     elim (cases_eq c dot) [
       | inl e ↦ is_dot e
@@ -203,7 +206,7 @@ which c =
           ]
     ]
 
-or_none : (b : Bool) → (b || false) ≡ b
+pub or_none : (b : Bool) → (b || false) ≡ b
 or_none true = refl
 or_none false = refl
 
@@ -257,7 +260,7 @@ escaped_was x (y ∷ more) rest l e is = by_test (is_ascii_punctuation y.1) refl
     by_test true mark is = this x (y ∷ more) rest l (unit (letters_tree y.1), more) (escaped e mark) is
     by_test false mark is = absurd cc
 
-lexeme_was : (x : Located) (after rest : List Located) (l : Lexeme) → Begins x.1 → read_of x after ≡ Ok (l, rest) → IsLexeme x after rest l
+pub lexeme_was : (x : Located) (after rest : List Located) (l : Lexeme) → Begins x.1 → read_of x after ≡ Ok (l, rest) → IsLexeme x after rest l
 unfolding lexeme_at
 lexeme_was x after rest l (is_dot e) is = this x after rest l (unit any, after) (any_letter e) (sym (at_sign x after dot e) ∙ is)
 lexeme_was x after rest l (is_star e) is = this x after rest l (sign (Some (bounds 0 None)), after) (any_number e) (sym (at_sign x after star e) ∙ is)

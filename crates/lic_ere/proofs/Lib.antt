@@ -4,6 +4,10 @@ pub mod BracketLemmas
 pub mod BracketSpelling
 pub mod Complete
 pub mod FaultLemmas
+pub mod FaultRead
+pub mod FaultRuns
+pub mod FaultSpelled
+pub mod FaultStands
 pub mod LexemeSpelling
 pub mod LocatedLemmas
 pub mod ReadLemmas

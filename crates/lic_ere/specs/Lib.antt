@@ -10,3 +10,4 @@ pub mod Reading
 pub mod Views
 pub mod Spelling
 pub mod Grammar
+pub mod FirstFaults

@@ -1,7 +1,9 @@
 //! Reading a pattern from left to right.
-ghost use Rattle.std.specs.Prelude.{◌≡◌, IfOk, Ok};
+ghost use Rattle.std.specs.Prelude.{◌≡◌, ◌⊎◌, IfOk, IfErr, Ok, Err};
 ghost use Rattle.lic_ere.specs.Trees.{Tree, tree_of};
-ghost use Rattle.lic_ere.specs.Faults.{Gives};
+ghost use Rattle.lic_ere.specs.Faults.{Gives, out_of_memory};
+ghost use Rattle.lic_ere.specs.FirstFaults.{IsFaultOf};
+ghost use Rattle.lic_ere.specs.declared.fault.EreFault.{EreFault};
 ghost use Rattle.lic_ere.specs.Grammar.{IsPattern};
 ghost use Rattle.lic_ere.specs.Reading.{start, read_from, reading};
 ghost use Rattle.lic_ere.specs.Views.{left};
@@ -35,6 +37,10 @@ pub fn read(alloc: Global, pattern: &str) -> Result<Ere, EreFault>
     ensures found { IfOk result (λ tree. IsPattern pattern.now (tree_of tree)) }
     // What is in the grammar is read, unless memory runs out.
     ensures only { (tree : Tree) → IsPattern pattern.now tree → Gives tree_of result (Ok tree) }
+    // What is refused is refused by the fault that decides, or since memory ran out.
+    ensures first { IfErr result (λ e. (e ≡ out_of_memory) ⊎ IsFaultOf pattern.now e) }
+    // The fault that decides is reported, unless memory runs out.
+    ensures decides { (e : EreFault) → IsFaultOf pattern.now e → Gives tree_of result (Err e) }
     // Which tree, or which fault it is, unless memory runs out.
     ensures exact { Gives tree_of result (reading pattern.now) }
 {

@@ -1,0 +1,290 @@
+-- The fault that decides is the one that reading meets.
+use Rattle.std.proofs.Common.{◌≡◌, ℕ, suc, ◌≤◌, ◌<◌, true, false, ltb, List, [], ◌∷◌, ◌++◌, length, Option, Some, None, Result, Ok, Err, refl, ap, sym, ◌∙◌, append_assoc, arith}
+use Rattle.std.proofs.lemmas.List.{nil_from_length}
+use Rattle.std.proofs.lemmas.Bool.Decides.{nat_tests}
+use Rattle.lic_ere.specs.declared.bounds.Bounds.{Bounds}
+use Rattle.lic_ere.specs.declared.fault.EreFault.{EreFault}
+use Rattle.lic_ere.specs.declared.fault.EreCause.{EreCause}
+use Rattle.lic_ere.specs.declared.fault.EreCause.TheVariants.{NothingToRepeat, TwoSigns, BadBound, GroupNotClosed, TooDeep}
+use Rattle.lic_ere.specs.Signs.{close_paren}
+use Rattle.lic_ere.specs.Trees.{Tree, repeat, letters_tree}
+use Rattle.lic_ere.specs.Faults.{fault_at, ◌>>=◌}
+use Rattle.lic_ere.specs.Lexemes.{Lexeme, unit, sign, opening, closing, bar, anchor, Lexemes, lexemes}
+use Rattle.lic_ere.specs.Grammar.{without_anchors}
+use Rattle.lic_ere.specs.Reading as reading
+use Rattle.lic_ere.specs.Reading.{LastUnit, Level, new_level, with_unit, with_alternative, level_tree, State, max_depth, meet, finish, read_on, start, reading}
+use Rattle.lic_ere.specs.FirstFaults as faults
+use Rattle.lic_ere.specs.FirstFaults.{EndInNothing, EndInSign, EndInUnit, AreWhole, AreOpen, MayStand, MayNotStand, AllStand, IsFaultOf}
+use Rattle.lic_ere.proofs.FaultRead.{before_these, none_read, one_read, begin_read}
+
+-- ---- what lexemes end in
+
+data Kind : Type 0 where
+  nothing : Kind
+  one_unit : Kind
+  one_sign : Kind
+
+abbrev kind_of : Lexeme → Kind
+kind_of (unit t) = one_unit
+kind_of (sign b) = one_sign
+kind_of opening = nothing
+kind_of closing = one_unit
+kind_of bar = nothing
+kind_of anchor = nothing
+
+-- the same of lexemes, after some that end in a kind
+abbrev last_kind : Kind → List (ℕ × Lexeme) → Kind
+last_kind k [] = k
+last_kind k (x ∷ ls) = last_kind (kind_of x.1) ls
+
+last_kind-snoc : (k : Kind) (ls : List (ℕ × Lexeme)) (x : ℕ × Lexeme) → last_kind k (ls ++ x ∷ []) ≡ kind_of x.1
+last_kind-snoc k [] x = refl
+last_kind-snoc k (y ∷ ls) x = last_kind-snoc (kind_of y.1) ls x
+
+end_in_nothing : {ls : List (ℕ × Lexeme)} → EndInNothing ls → last_kind nothing ls ≡ nothing
+end_in_nothing faults.no_lexeme = refl
+end_in_nothing (faults.opened ls place) = last_kind-snoc nothing ls (place, opening)
+end_in_nothing (faults.divided ls place) = last_kind-snoc nothing ls (place, bar)
+
+end_in_sign : {ls : List (ℕ × Lexeme)} → EndInSign ls → last_kind nothing ls ≡ one_sign
+end_in_sign (faults.repeated ls place b) = last_kind-snoc nothing ls (place, sign (Some b))
+
+end_in_unit : {ls : List (ℕ × Lexeme)} → EndInUnit ls → last_kind nothing ls ≡ one_unit
+end_in_unit (faults.plain ls place t) = last_kind-snoc nothing ls (place, unit t)
+end_in_unit (faults.closed ls place) = last_kind-snoc nothing ls (place, closing)
+
+abbrev unit_kind : LastUnit → Kind
+unit_kind reading.no_unit = nothing
+unit_kind (reading.single t) = one_unit
+unit_kind (reading.repeated t) = one_sign
+
+-- ---- which groups are open, from the inside out
+
+abbrev but_first : List ℕ → List ℕ
+but_first [] = []
+but_first (p ∷ ps) = ps
+
+abbrev open_places : List ℕ → List (ℕ × Lexeme) → List ℕ
+open_places ps [] = ps
+open_places ps ((place, unit t) ∷ ls) = open_places ps ls
+open_places ps ((place, sign b) ∷ ls) = open_places ps ls
+open_places ps ((place, opening) ∷ ls) = open_places (place ∷ ps) ls
+open_places ps ((place, closing) ∷ ls) = open_places (but_first ps) ls
+open_places ps ((place, bar) ∷ ls) = open_places ps ls
+open_places ps ((place, anchor) ∷ ls) = open_places ps ls
+
+places-append : (ps : List ℕ) (ls ms : List (ℕ × Lexeme)) → open_places ps (ls ++ ms) ≡ open_places (open_places ps ls) ms
+places-append ps [] ms = refl
+places-append ps ((place, unit t) ∷ ls) ms = places-append ps ls ms
+places-append ps ((place, sign b) ∷ ls) ms = places-append ps ls ms
+places-append ps ((place, opening) ∷ ls) ms = places-append (place ∷ ps) ls ms
+places-append ps ((place, closing) ∷ ls) ms = places-append (but_first ps) ls ms
+places-append ps ((place, bar) ∷ ls) ms = places-append ps ls ms
+places-append ps ((place, anchor) ∷ ls) ms = places-append ps ls ms
+
+whole-places : {ls : List (ℕ × Lexeme)} → AreWhole ls → (ps : List ℕ) → open_places ps ls ≡ ps
+whole-places faults.no_lexeme ps = refl
+whole-places (faults.a_unit w) ps = whole-places w ps
+whole-places (faults.a_sign w) ps = whole-places w ps
+whole-places (faults.a_bar w) ps = whole-places w ps
+whole-places (faults.a_group {inner = inner} {ls = ls} {place = place} end a w) ps =
+    places-append (place ∷ ps) inner ((end, closing) ∷ ls)
+    ∙ ap (λ qs. open_places qs ((end, closing) ∷ ls)) (whole-places a (place ∷ ps))
+    ∙ whole-places w ps
+
+-- the innermost group, after which all are whole
+inner-places : (before after : List (ℕ × Lexeme)) (place : ℕ) → AreWhole after
+    → open_places [] (before ++ (place, opening) ∷ after) ≡ place ∷ open_places [] before
+inner-places before after place w = places-append [] before ((place, opening) ∷ after) ∙ whole-places w (place ∷ open_places [] before)
+
+open-places : {ls : List (ℕ × Lexeme)} {depth : ℕ} → AreOpen ls depth → length (open_places [] ls) ≡ depth
+open-places (faults.none w) = ap length (whole-places w [])
+open-places (faults.stray {before = before} {after = after} place o w) =
+    let outside : open_places [] before ≡ [] = nil_from_length (open_places [] before) (open-places o) in
+    ap length (places-append [] before ((place, closing) ∷ after)
+    ∙ ap (λ qs. open_places (but_first qs) after) outside ∙ whole-places w [])
+open-places (faults.one_more {before = before} {after = after} place o w) =
+    ap length (inner-places before after place w) ∙ ap (λ n. suc n) (open-places o)
+
+abbrev places : Level → List Level → List ℕ
+places level [] = []
+places level (o ∷ outer) = level.place ∷ places o outer
+
+places-length : (level : Level) (outer : List Level) → length (places level outer) ≡ length outer
+places-length level [] = refl
+places-length level (o ∷ outer) = ap (λ n. suc n) (places-length o outer)
+
+places-same : (l m : Level) (outer : List Level) → l.place ≡ m.place → places l outer ≡ places m outer
+places-same l m [] same = refl
+places-same l m (o ∷ outer) same = ap (λ p. p ∷ places o outer) same
+
+-- ---- reading lexemes that may stand
+
+record Reached (ls : List (ℕ × Lexeme)) (s : State) : Type 0 where
+  last : last_kind nothing ls ≡ unit_kind s.level.last
+  groups : open_places [] ls ≡ places s.level s.outer
+  runs : (more : List (ℕ × Lexeme)) (fault : Option EreFault) → read_on start (ls ++ more) fault ≡ read_on s more fault
+
+reached_depth : (ls : List (ℕ × Lexeme)) (s : State) (depth : ℕ) → Reached ls s → AreOpen ls depth → length s.outer ≡ depth
+reached_depth ls s depth r o = sym (places-length s.level s.outer) ∙ ap length (sym r.groups) ∙ open-places o
+
+module _ (before : List (ℕ × Lexeme)) (place : ℕ) where
+  abbrev Next : Lexeme → Type 0
+  Next l = (t : State) × Reached (before ++ (place, l) ∷ []) t
+
+  next : (l : Lexeme) (s t : State) → Reached before s → kind_of l ≡ unit_kind t.level.last
+      → open_places (places s.level s.outer) ((place, l) ∷ []) ≡ places t.level t.outer
+      → ((more : List (ℕ × Lexeme)) (fault : Option EreFault) → read_on s ((place, l) ∷ more) fault ≡ read_on t more fault) → Next l
+  next l s t r kind groups runs = (
+    t,
+    record {
+      last = last_kind-snoc nothing before (place, l) ∙ kind;
+      groups = places-append [] before ((place, l) ∷ []) ∙ ap (λ ps. open_places ps ((place, l) ∷ [])) r.groups ∙ groups;
+      runs = λ more fault. ap (λ ls. read_on start ls fault) (append_assoc before ((place, l) ∷ []) more) ∙ r.runs ((place, l) ∷ more) fault ∙ runs more fault;
+    },
+  )
+
+  after_unit : (t : Tree) (s : State) → Reached before s → Next (unit t)
+  unfolding read_on meet
+  after_unit t s r =
+      next (unit t) s (record s { level = with_unit t s.level }) r refl (places-same s.level (with_unit t s.level) s.outer refl) (λ more fault. refl)
+
+  after_bar : (s : State) → Reached before s → Next bar
+  unfolding read_on meet
+  after_bar s r =
+      next bar s (record s { level = with_alternative s.level }) r refl (places-same s.level (with_alternative s.level) s.outer refl) (λ more fault. refl)
+
+  after_end : (level : Level) (outer : List Level) → Reached before (record { level = level; outer = outer }) → Next closing
+  unfolding read_on meet
+  after_end level [] r =
+      next closing (record { level = level; outer = [] }) (record { level = with_unit (letters_tree close_paren) level; outer = [] }) r refl refl (λ more fault. refl)
+  after_end level (o ∷ outer) r =
+      next closing (record { level = level; outer = o ∷ outer }) (record { level = with_unit (level_tree level) o; outer = outer }) r refl
+      (places-same o (with_unit (level_tree level) o) outer refl) (λ more fault. refl)
+
+  after_sign : (b : Bounds) (from : ℕ) (alternatives units : List Tree) (last : LastUnit) (outer : List Level)
+      → Reached before (record { level = record { place = from; alternatives = alternatives; before = units; last = last }; outer = outer })
+      → one_unit ≡ unit_kind last → Next (sign (Some b))
+  unfolding read_on meet
+  after_sign b from alternatives units reading.no_unit outer r is = absurd cc
+  after_sign b from alternatives units (reading.repeated t) outer r is = absurd cc
+  after_sign b from alternatives units (reading.single t) outer r is =
+      let old : Level = record { place = from; alternatives = alternatives; before = units; last = reading.single t } in
+      let now : Level = record { place = from; alternatives = alternatives; before = units; last = reading.repeated (repeat t b.min b.max) } in
+      next (sign (Some b)) (record { level = old; outer = outer }) (record { level = now; outer = outer }) r refl (places-same old now outer refl) (λ more fault. refl)
+
+  after_opening : (s : State) → Reached before s → length s.outer < max_depth → Next opening
+  unfolding read_on meet
+  after_opening s r small =
+      let e : ltb (length s.outer) 64 ≡ true = grind (arith, nat_tests) in
+      next opening s (record { level = new_level place; outer = s.level ∷ s.outer }) r refl refl (λ more fault. rw e refl)
+
+  after_one : {l : Lexeme} (s : State) → Reached before s → MayStand before l → Next l
+  after_one s r (faults.a_unit {t = t}) = after_unit t s r
+  after_one s r faults.a_bar = after_bar s r
+  after_one s r faults.an_end = after_end s.level s.outer r
+  after_one s r (faults.a_sign {b = b} is) =
+      after_sign b s.level.place s.level.alternatives s.level.before s.level.last s.outer r (sym (end_in_unit is) ∙ r.last)
+  after_one s r (faults.a_group {depth = depth} is small) =
+      let same : length s.outer ≡ depth = reached_depth before s depth r is in
+      let few : length s.outer < max_depth = omega (arith, same, small) in
+      after_opening s r few
+
+reach : {ls : List (ℕ × Lexeme)} → AllStand ls → (s : State) × Reached ls s
+reach faults.no_lexeme = (start, record { last = refl; groups = refl; runs = λ more fault. refl })
+reach (faults.one_more {before = before} place stand may) =
+    let r = reach stand in
+    after_one before place r.0 r.1 may
+
+after_meet : (r : Result State EreFault) (ls ms : List (ℕ × Lexeme)) (fault : Option EreFault)
+    → ((s : State) → read_on s ls fault ≡ read_on s ms fault)
+    → (r >>= λ s. read_on s ls fault) ≡ (r >>= λ s. read_on s ms fault)
+after_meet (Ok s) ls ms fault same = same s
+after_meet (Err e) ls ms fault same = refl
+
+anchors_run : (ls more : List (ℕ × Lexeme)) (fault : Option EreFault) (s : State)
+    → read_on s (without_anchors ls ++ more) fault ≡ read_on s (ls ++ more) fault
+unfolding read_on meet
+anchors_run [] more fault s = refl
+anchors_run ((p, unit t) ∷ ls) more fault s = anchors_run ls more fault _
+anchors_run ((p, sign b) ∷ ls) more fault s =
+    after_meet (meet p (sign b) s) (without_anchors ls ++ more) (ls ++ more) fault (anchors_run ls more fault)
+anchors_run ((p, opening) ∷ ls) more fault s =
+    after_meet (meet p opening s) (without_anchors ls ++ more) (ls ++ more) fault (anchors_run ls more fault)
+anchors_run ((p, closing) ∷ ls) more fault s = anchors_run ls more fault _
+anchors_run ((p, bar) ∷ ls) more fault s = anchors_run ls more fault _
+anchors_run ((p, anchor) ∷ ls) more fault s = anchors_run ls more fault s
+
+runs_to : (ls : List (ℕ × Lexeme)) (s : State) → Reached (without_anchors ls) s → (more : List (ℕ × Lexeme)) (fault : Option EreFault)
+    → read_on start (ls ++ more) fault ≡ read_on s more fault
+runs_to ls s r more fault = sym (anchors_run ls more fault start) ∙ r.runs more fault
+
+-- ---- reading a lexeme that may not stand
+
+module _ (place : ℕ) (more : List (ℕ × Lexeme)) (fault : Option EreFault) where
+  abbrev Refused : Lexeme → EreCause → State → Type 0
+  Refused l cause s = read_on s ((place, l) ∷ more) fault ≡ Err (fault_at place cause)
+
+  nothing_refused : (b : Option Bounds) (from : ℕ) (alternatives units : List Tree) (last : LastUnit) (outer : List Level)
+      → nothing ≡ unit_kind last
+      → Refused (sign b) NothingToRepeat (record { level = record { place = from; alternatives = alternatives; before = units; last = last }; outer = outer })
+  unfolding read_on meet
+  nothing_refused b from alternatives units reading.no_unit outer is = refl
+  nothing_refused b from alternatives units (reading.single t) outer is = absurd cc
+  nothing_refused b from alternatives units (reading.repeated t) outer is = absurd cc
+
+  sign_refused : (b : Option Bounds) (from : ℕ) (alternatives units : List Tree) (last : LastUnit) (outer : List Level)
+      → one_sign ≡ unit_kind last
+      → Refused (sign b) TwoSigns (record { level = record { place = from; alternatives = alternatives; before = units; last = last }; outer = outer })
+  unfolding read_on meet
+  sign_refused b from alternatives units reading.no_unit outer is = absurd cc
+  sign_refused b from alternatives units (reading.single t) outer is = absurd cc
+  sign_refused b from alternatives units (reading.repeated t) outer is = refl
+
+  bound_refused : (from : ℕ) (alternatives units : List Tree) (last : LastUnit) (outer : List Level)
+      → one_unit ≡ unit_kind last
+      → Refused (sign None) BadBound (record { level = record { place = from; alternatives = alternatives; before = units; last = last }; outer = outer })
+  unfolding read_on meet
+  bound_refused from alternatives units reading.no_unit outer is = absurd cc
+  bound_refused from alternatives units (reading.single t) outer is = refl
+  bound_refused from alternatives units (reading.repeated t) outer is = absurd cc
+
+  depth_refused : (s : State) → max_depth ≤ length s.outer → Refused opening TooDeep s
+  unfolding read_on meet
+  depth_refused s deep = let e : ltb (length s.outer) 64 ≡ false = grind (arith, nat_tests) in rw e refl
+
+  is_refused : (ls : List (ℕ × Lexeme)) {l : Lexeme} {cause : EreCause} (s : State) → Reached ls s → MayNotStand ls l cause → Refused l cause s
+  is_refused ls s r (faults.nothing_to_repeat {b = b} is) =
+      nothing_refused b s.level.place s.level.alternatives s.level.before s.level.last s.outer (sym (end_in_nothing is) ∙ r.last)
+  is_refused ls s r (faults.two_signs {b = b} is) =
+      sign_refused b s.level.place s.level.alternatives s.level.before s.level.last s.outer (sym (end_in_sign is) ∙ r.last)
+  is_refused ls s r (faults.bad_bound is) =
+      bound_refused s.level.place s.level.alternatives s.level.before s.level.last s.outer (sym (end_in_unit is) ∙ r.last)
+  is_refused ls s r (faults.too_deep {depth = depth} is deep) =
+      let same : length s.outer ≡ depth = reached_depth ls s depth r is in
+      let many : max_depth ≤ length s.outer = omega (arith, same, deep) in
+      depth_refused s many
+
+finish_open : (level : Level) (outer : List Level) (place : ℕ) (ps : List ℕ) → places level outer ≡ place ∷ ps
+    → finish level outer ≡ Err (fault_at place GroupNotClosed)
+finish_open level [] place ps e = absurd cc
+finish_open level (o ∷ outer) place ps e = ap (λ (qs : List ℕ). elim qs [ [] ↦ Err (fault_at place GroupNotClosed) | q ∷ more ↦ Err (fault_at q GroupNotClosed) ]) e
+
+-- the fault that decides is the one that reading meets
+pub IsFaultOf-reading : (pattern : List ℕ) (e : EreFault) → IsFaultOf pattern e → reading pattern ≡ Err e
+unfolding read_on lexemes
+IsFaultOf-reading pattern e (faults.no_lexeme {ls = ls} are stand none) =
+    let r = reach stand in
+    ap (λ (ks : Lexemes). read_on start ks.found ks.fault) (begin_read are ∙ ap (before_these ls) (none_read none))
+    ∙ runs_to ls r.0 r.1 [] (Some e)
+IsFaultOf-reading pattern e (faults.misplaced {ls = ls} {x = x} {more = more} {l = l} are stand is not) =
+    let r = reach stand in
+    ap (λ (ks : Lexemes). read_on start ks.found ks.fault) (begin_read are ∙ ap (before_these ls) (one_read is))
+    ∙ runs_to ls r.0 r.1 ((x.0, l) ∷ (lexemes 0 more).found) (lexemes 0 more).fault
+    ∙ is_refused x.0 (lexemes 0 more).found (lexemes 0 more).fault (without_anchors ls) r.0 r.1 not
+IsFaultOf-reading pattern e (faults.group_open {ls = ls} {after = after} {place = place} before are stand is whole) =
+    let r = reach stand in
+    let groups : places r.0.level r.0.outer ≡ place ∷ open_places [] before =
+    sym r.1.groups ∙ ap (open_places []) is ∙ inner-places before after place whole in
+    ap (λ (ks : Lexemes). read_on start ks.found ks.fault) (begin_read are)
+    ∙ runs_to ls r.0 r.1 [] None ∙ finish_open r.0.level r.0.outer place (open_places [] before) groups

@@ -1,0 +1,142 @@
+-- Which fault decides where a pattern is refused: the first from the left. The lexemes before it are spelled and may stand
+-- where they stand; then no lexeme can be read, or the next one may not stand there, or the pattern ends in an open group.
+use Rattle.std.specs.Prelude.{◌≡◌, ◌≢◌, ℕ, suc, ◌<◌, ◌≤◌, false, List, [], ◌∷◌, ◌++◌, Option, Some, None}
+use Rattle.std.specs.Char.{is_ascii_punctuation}
+use Rattle.lic_ere.specs.declared.bounds.Bounds.{Bounds}
+use Rattle.lic_ere.specs.declared.class.Member.{Member}
+use Rattle.lic_ere.specs.declared.fault.EreFault.{EreFault}
+use Rattle.lic_ere.specs.declared.fault.EreCause.{EreCause}
+use Rattle.lic_ere.specs.declared.fault.EreCause.TheVariants.{NothingToRepeat, TwoSigns, BadBound, BracketNotClosed, BracketExtension, RangeOutOfOrder, GroupNotClosed, UnknownEscape, EndsInBackslash, AnchorInside, TooDeep}
+use Rattle.lic_ere.specs.Signs.{dollar, dash, open_bracket, backslash, close_bracket, caret}
+use Rattle.lic_ere.specs.Trees.{Tree}
+use Rattle.lic_ere.specs.Faults.{fault_at}
+use Rattle.lic_ere.specs.Located.{Located, located}
+use Rattle.lic_ere.specs.Lexemes.{Lexeme, unit, sign, opening, closing, bar}
+use Rattle.lic_ere.specs.Reading.{max_depth}
+use Rattle.lic_ere.specs.Spelling.{goes_on_as_range, IsExtension, IsMember, IsLexeme}
+use Rattle.lic_ere.specs.Grammar.{without_anchors}
+
+-- ---- characters that begin with no lexeme
+
+-- the first member of these is at fault
+pub data IsFaultyMember : List Located → EreFault → Type 0 where
+  -- one character, a `[` directly before `:`, `.` or `=`
+  extension : {x : Located} {after : List Located} → goes_on_as_range after ≡ false → IsExtension x.1 after
+      → IsFaultyMember (x ∷ after) (fault_at x.0 BracketExtension)
+  -- a range that ends before it begins, whatever its end is
+  out_of_order : {x hyphen y : Located} {after : List Located} → hyphen.1 ≡ dash → y.1 ≢ close_bracket → y.1 < x.1
+      → IsFaultyMember (x ∷ hyphen ∷ y ∷ after) (fault_at x.0 RangeOutOfOrder)
+  -- a range in order that ends in such a `[`
+  extension_last : {x hyphen y : Located} {after : List Located} → hyphen.1 ≡ dash → y.1 ≢ close_bracket → x.1 ≤ y.1
+      → IsExtension y.1 after → IsFaultyMember (x ∷ hyphen ∷ y ∷ after) (fault_at y.0 BracketExtension)
+
+-- members of the bracket that opens at a place, and then one at fault, or the end of the pattern
+pub data AreFaultyMembers (place : ℕ) : List Located → EreFault → Type 0 where
+  not_closed : AreFaultyMembers place [] (fault_at place BracketNotClosed)
+  this : {x : Located} {after : List Located} {e : EreFault} → x.1 ≢ close_bracket → IsFaultyMember (x ∷ after) e
+      → AreFaultyMembers place (x ∷ after) e
+  later : {x : Located} {after more : List Located} {m : Member} {e : EreFault} → x.1 ≢ close_bracket
+      → IsMember (x ∷ after) more m → AreFaultyMembers place more e → AreFaultyMembers place (x ∷ after) e
+
+-- the same from the first member on, which may be a `]`
+pub data AreFaultyFirstMembers (place : ℕ) : List Located → EreFault → Type 0 where
+  not_closed : AreFaultyFirstMembers place [] (fault_at place BracketNotClosed)
+  this : {cs : List Located} {e : EreFault} → IsFaultyMember cs e → AreFaultyFirstMembers place cs e
+  later : {cs more : List Located} {m : Member} {e : EreFault} → IsMember cs more m → AreFaultyMembers place more e
+      → AreFaultyFirstMembers place cs e
+
+-- what stands after the `[` at a place
+pub data IsFaultyBracket (place : ℕ) : List Located → EreFault → Type 0 where
+  nothing : IsFaultyBracket place [] (fault_at place BracketNotClosed)
+  plain : {x : Located} {cs : List Located} {e : EreFault} → x.1 ≢ caret → AreFaultyFirstMembers place (x ∷ cs) e
+      → IsFaultyBracket place (x ∷ cs) e
+  complement : {x : Located} {cs : List Located} {e : EreFault} → x.1 ≡ caret → AreFaultyFirstMembers place cs e
+      → IsFaultyBracket place (x ∷ cs) e
+
+-- No lexeme begins with a character and those after it, by this fault.
+pub data IsNoLexeme : Located → List Located → EreFault → Type 0 where
+  faulty_bracket : {x : Located} {after : List Located} {e : EreFault} → x.1 ≡ open_bracket → IsFaultyBracket x.0 after e
+      → IsNoLexeme x after e
+  ends_in_backslash : {x : Located} → x.1 ≡ backslash → IsNoLexeme x [] (fault_at x.0 EndsInBackslash)
+  unknown_escape : {x y : Located} {after : List Located} → x.1 ≡ backslash → is_ascii_punctuation y.1 ≡ false
+      → IsNoLexeme x (y ∷ after) (fault_at x.0 UnknownEscape)
+  caret_inside : {x : Located} {after : List Located} → x.1 ≡ caret → x.0 ≢ 0
+      → IsNoLexeme x after (fault_at x.0 AnchorInside)
+  dollar_inside : {x y : Located} {after : List Located} → x.1 ≡ dollar
+      → IsNoLexeme x (y ∷ after) (fault_at x.0 AnchorInside)
+
+-- ---- lexemes where they may stand, and where they may not
+
+-- the last of these is nothing that can be repeated: there is none, or it is a `(` or a `|`
+pub data EndInNothing : List (ℕ × Lexeme) → Type 0 where
+  no_lexeme : EndInNothing []
+  opened : (ls : List (ℕ × Lexeme)) (place : ℕ) → EndInNothing (ls ++ (place, opening) ∷ [])
+  divided : (ls : List (ℕ × Lexeme)) (place : ℕ) → EndInNothing (ls ++ (place, bar) ∷ [])
+
+-- the last of these is a repetition sign
+pub data EndInSign : List (ℕ × Lexeme) → Type 0 where
+  repeated : (ls : List (ℕ × Lexeme)) (place : ℕ) (b : Bounds) → EndInSign (ls ++ (place, sign (Some b)) ∷ [])
+
+-- the last of these ends a unit
+pub data EndInUnit : List (ℕ × Lexeme) → Type 0 where
+  plain : (ls : List (ℕ × Lexeme)) (place : ℕ) (t : Tree) → EndInUnit (ls ++ (place, unit t) ∷ [])
+  closed : (ls : List (ℕ × Lexeme)) (place : ℕ) → EndInUnit (ls ++ (place, closing) ∷ [])
+
+-- Each group that begins among these lexemes ends among them, and no other does.
+pub data AreWhole : List (ℕ × Lexeme) → Type 0 where
+  no_lexeme : AreWhole []
+  a_unit : {ls : List (ℕ × Lexeme)} {place : ℕ} {t : Tree} → AreWhole ls → AreWhole ((place, unit t) ∷ ls)
+  a_sign : {ls : List (ℕ × Lexeme)} {place : ℕ} {b : Bounds} → AreWhole ls → AreWhole ((place, sign (Some b)) ∷ ls)
+  a_bar : {ls : List (ℕ × Lexeme)} {place : ℕ} → AreWhole ls → AreWhole ((place, bar) ∷ ls)
+  a_group : {inner ls : List (ℕ × Lexeme)} {place : ℕ} (end : ℕ) → AreWhole inner → AreWhole ls
+      → AreWhole ((place, opening) ∷ (inner ++ (end, closing) ∷ ls))
+
+-- So many groups are open after these lexemes.
+pub data AreOpen : List (ℕ × Lexeme) → ℕ → Type 0 where
+  none : {ls : List (ℕ × Lexeme)} → AreWhole ls → AreOpen ls 0
+  -- a `)` outside of all groups closes nothing
+  stray : {before after : List (ℕ × Lexeme)} (place : ℕ) → AreOpen before 0 → AreWhole after
+      → AreOpen (before ++ (place, closing) ∷ after) 0
+  one_more : {before after : List (ℕ × Lexeme)} {depth : ℕ} (place : ℕ) → AreOpen before depth → AreWhole after
+      → AreOpen (before ++ (place, opening) ∷ after) (suc depth)
+
+-- a lexeme that may stand after these: a repetition sign with its bounds after a unit, a `(` in less than 64 groups
+pub data MayStand (before : List (ℕ × Lexeme)) : Lexeme → Type 0 where
+  a_unit : {t : Tree} → MayStand before (unit t)
+  a_bar : MayStand before bar
+  an_end : MayStand before closing
+  a_sign : {b : Bounds} → EndInUnit before → MayStand before (sign (Some b))
+  a_group : {depth : ℕ} → AreOpen before depth → depth < max_depth → MayStand before opening
+
+-- A lexeme that may not stand after these, and why: of a repetition sign first what stands before it decides, then its bounds.
+pub data MayNotStand (before : List (ℕ × Lexeme)) : Lexeme → EreCause → Type 0 where
+  nothing_to_repeat : {b : Option Bounds} → EndInNothing before → MayNotStand before (sign b) NothingToRepeat
+  two_signs : {b : Option Bounds} → EndInSign before → MayNotStand before (sign b) TwoSigns
+  bad_bound : EndInUnit before → MayNotStand before (sign None) BadBound
+  too_deep : {depth : ℕ} → AreOpen before depth → max_depth ≤ depth → MayNotStand before opening TooDeep
+
+-- Each of these lexemes may stand after those before it.
+pub data AllStand : List (ℕ × Lexeme) → Type 0 where
+  no_lexeme : AllStand []
+  one_more : {before : List (ℕ × Lexeme)} {l : Lexeme} (place : ℕ) → AllStand before → MayStand before l
+      → AllStand (before ++ (place, l) ∷ [])
+
+-- Characters begin with these lexemes, and go on with the others.
+pub data BeginWith : List Located → List (ℕ × Lexeme) → List Located → Type 0 where
+  no_lexeme : {cs : List Located} → BeginWith cs [] cs
+  one_lexeme : {x : Located} {after more others : List Located} {l : Lexeme} {ls : List (ℕ × Lexeme)}
+      → IsLexeme x after more l → BeginWith more ls others → BeginWith (x ∷ after) ((x.0, l) ∷ ls) others
+
+-- the fault that decides of a pattern, given as its bytes
+pub data IsFaultOf (pattern : List ℕ) : EreFault → Type 0 where
+  no_lexeme : {ls : List (ℕ × Lexeme)} {x : Located} {after : List Located} {e : EreFault}
+      → BeginWith (located pattern) ls (x ∷ after) → AllStand (without_anchors ls) → IsNoLexeme x after e
+      → IsFaultOf pattern e
+  misplaced : {ls : List (ℕ × Lexeme)} {x : Located} {after more : List Located} {l : Lexeme} {cause : EreCause}
+      → BeginWith (located pattern) ls (x ∷ after) → AllStand (without_anchors ls) → IsLexeme x after more l
+      → MayNotStand (without_anchors ls) l cause → IsFaultOf pattern (fault_at x.0 cause)
+  -- the innermost open group: after its `(` each group that begins also ends
+  group_open : {ls after : List (ℕ × Lexeme)} {place : ℕ} (before : List (ℕ × Lexeme))
+      → BeginWith (located pattern) ls [] → AllStand (without_anchors ls)
+      → without_anchors ls ≡ before ++ (place, opening) ∷ after → AreWhole after
+      → IsFaultOf pattern (fault_at place GroupNotClosed)
