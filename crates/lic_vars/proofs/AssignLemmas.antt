@@ -1,6 +1,6 @@
 -- The values of the least record are those of a least derivation.
 use Rattle.std.proofs.Common.{◌≡◌, ℕ, zero, suc, ◌+◌, ◌-◌, ◌<◌, ◌≤◌, inl, inr, ◌↔◌, List, [], ◌∷◌, ◌++◌, length, get_or, ◌==◌, Option, if◌then◌else◌, map, take, drop, chars, Some, None, Ok, Err, Result, slice_get, refl, sym, ap, ◌∙◌, subst, arith, append_assoc}
-use Rattle.std.proofs.lemmas.List.{map-append, take_all, length-take, length-drop}
+use Rattle.std.proofs.lemmas.List.{drop_more, map-append, take_all, length-take, length-drop}
 use Rattle.std.proofs.lemmas.Option.{get_or_from_slice_get}
 use Rattle.std.specs.List.{slice_range}
 use Rattle.std.specs.Result.{IfOk}
@@ -23,7 +23,7 @@ use Rattle.lic_vars.specs.Values.{Assigned, covered, letter_spans, nodes_of, Are
 use Rattle.lic_vars.specs.Moves.{Move, text, variable, optional, moves}
 use Rattle.lic_vars.specs.Making.{CanMake, LeastOf}
 use Rattle.lic_vars.specs.Recorded.{recorded}
-use Rattle.lic_vars.specs.Cuts.{ReadsOn, moves_of, start}
+use Rattle.lic_vars.specs.Cuts.{ReadsOn, move_of, moves_of, start}
 use Rattle.lic_vars.specs.Assigners.{AssignerValue, AreStepsOf}
 use Rattle.lic_vars.specs.Views.{value_of}
 use Rattle.lic_vars.specs.declared.steps.Step.{Step}
@@ -109,6 +109,11 @@ pub moves-of : (set : List Known) (k : ℕ) (steps : List Step) (v : AssignerVal
     record { set = set; template = k } ≡ v → number ≡ v.template → slice_get v.set number ≡ Some known → moves_of steps ≡ moves (nodes_of known)
 moves-of set k steps v number known are view same is =
     are.moves known (ap (λ (a : AssignerValue). slice_get a.set a.template) view ∙ ap (slice_get v.set) (sym same) ∙ is)
+
+-- the moves of the steps from one of them on
+pub moves-more : (steps : List Step) (i : ℕ) (d step : Step) → i < length steps → get_or steps i d ≡ step →
+    moves_of (drop i steps) ≡ move_of step ∷ moves_of (drop (i + 1) steps)
+moves-more steps i d step h e = ap moves_of (drop_more steps i d h ∙ ap (λ x. x ∷ drop (i + 1) steps) e)
 
 -- one step of a record, where it is left out
 less_one : (k : ℕ) → suc k - 1 ≡ k

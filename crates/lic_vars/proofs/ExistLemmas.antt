@@ -1,208 +1,243 @@
--- A match has values: the moves have a least record, or none.
-use Rattle.std.proofs.Common.{◌≡◌, ℕ, zero, suc, ◌+◌, ◌-◌, ◌<◌, ◌≤◌, Bool, true, false, List, [], ◌∷◌, ◌++◌, length, drop, map, Option, Some, None, refl, sym, ap, ◌∙◌, subst, arith, inl, inr, ◌⊎◌, append-nil, append_assoc, eq-eqb}
+-- A match has values: what the moves of its template can make of its letters has a least record.
+use Rattle.std.proofs.Common.{◌≡◌, ℕ, zero, suc, ◌+◌, ◌*◌, ◌≤◌, ◌⊎◌, inl, inr, ◌==◌, ◌&&◌, Bool, true, false, Option, Some, None, List, [], ◌∷◌, ◌++◌, length, drop, refl, sym, ap, ◌∙◌, subst, arith, if◌then◌else◌, eqb-true}
+use Rattle.std.proofs.lemmas.Bool.{and_parts, cases_Bool, true≢false}
 use Rattle.std.proofs.lemmas.List.{length-drop}
 use Rattle.lic_words.specs.Words.{Word, blank}
-use Rattle.lic_words.specs.Expressions.{Expression, tidy}
-use Rattle.lic_words.specs.Spelling.{Gap, no_gap, free, needed, gapped, row_of}
+use Rattle.lic_words.specs.Expressions.{Expression, Language, tidy}
 use Rattle.lic_words.specs.Letters.{letters_in}
-use Rattle.lic_marks.specs.Cores.{Core, WordsOf, HasWordsOf, core}
-use Rattle.lic_marks.specs.Marks.{Marks, no_marks, is_nullable, can_leave}
-use Rattle.lic_marks.specs.Standing.{After, StandsAtOnce}
-use Rattle.lic_marks.specs.Deciding.{over_blanks}
-use Rattle.lic_marks.proofs.Deciding.{LeadsOverBlanks-over_blanks}
-use Rattle.lic_marks.proofs.Repetitions.{core_sound, core_complete}
-use Rattle.lic_marks.proofs.Shifting.{can_leave_sound, can_leave_complete}
-use Rattle.lic_marks.proofs.Standing.{StandsAtOnce-begin, StandsFor-letter}
+use Rattle.lic_words.specs.Spelling.{Gap, Spells, gapped, row_of}
 use Rattle.lic_norm.specs.Tokens.{TokenValue}
+use Rattle.lic_markup.specs.Parts.{Nodes}
 use Rattle.lic_set.specs.Sets.{Known}
 use Rattle.lic_set.specs.Matches.{IsMatch, letters_between}
 use Rattle.lic_set.specs.declared.triple.Triple.{Triple}
+use Rattle.lic_vars.specs.Derivations.{Derivation, record_of, word_of}
 use Rattle.lic_vars.specs.Moves.{Move, text, variable, optional, moves}
-use Rattle.lic_vars.proofs.Ways.{State, NoBlanks, fits, read_word, Finishes, finished, Least}
-use Rattle.lic_vars.proofs.LetterEnds.{gapped_of, left_from}
-use Rattle.lic_vars.proofs.LetterEnds.{joined, CanEnd, MayFollow}
-use Rattle.lic_vars.proofs.LetterEnds.{IsLeastOf, IsNone, BeginsAbove}
+use Rattle.lic_vars.specs.Making.{LeastOf, Makes, ends, writes, picks, enters, skips}
 use Rattle.lic_vars.specs.Values.{Assigned, AreValues, nodes_of}
-use Rattle.lic_vars.proofs.LetterEnds.{Letter}
-use Rattle.lic_vars.proofs.LetterEnds.{Cut}
-use Rattle.lic_vars.proofs.ReadLemmas.{read-left}
-use Rattle.lic_vars.proofs.SpellLemmas.{gapped-letters}
-use Rattle.lic_vars.proofs.EndLemmas.{read-within, left_drop, length_left, no_blanks_left, no_blanks_take}
-use Rattle.lic_vars.proofs.BranchLemmas.{text-least, text-none, text-stuck, present-least, absent-least, optional-none, empty-least, longer-least, longer-none, unbegun-none, next-least, more-least, more-none, ended-none}
-use Rattle.lic_vars.proofs.FinishLemmas.{can-finish, least-way}
+use Rattle.lic_vars.proofs.Ways.{State, fits, pick, read_word}
+use Rattle.lic_vars.proofs.ReadLemmas.{read-append, read-split, read-within}
+use Rattle.lic_vars.proofs.SpellLemmas.{gapped-letters, read-spells, read_letter, spells-read}
 use Rattle.lic_vars.proofs.DescribedLemmas.{derivation-of-word}
+use Rattle.lic_vars.proofs.MakingLemmas.{least-derivation, made-by}
+use Rattle.lic_vars.proofs.DecideLemmas.{Decided, decided-both, decided-language}
+use Rattle.lic_vars.proofs.FoundLemmas.{Found, least, none, found-if, found-next, found-or, found-same}
 
-finished-left : (left : List (Gap × ℕ)) (apart : Bool) (r : List ℕ) → Finishes [] left apart r → left ≡ []
-finished-left left apart r finished = refl
+-- ---- the words of so many letters and blanks that can be read
 
--- marks that stand for some letters and then these
-marks_after : (r : Core) (F G : List (Gap × ℕ)) (entry : Bool) (m : Marks r) → StandsAtOnce r entry m G → NoBlanks F →
-    (e : Bool) × (n : Marks r) × StandsAtOnce r e n (G ++ F)
-marks_after r [] G entry m s n = (entry, m, subst (λ (x : List (Gap × ℕ)). StandsAtOnce r entry m x) (sym (append-nil G)) s)
-marks_after r (p ∷ F) G entry m s n =
-    let next = StandsFor-letter r entry m (over_blanks r entry m) G (LeadsOverBlanks-over_blanks r entry m (After (WordsOf r) G) s) p.0 p.1
-    (λ e. let t = eq-eqb p.1 blank e in let f = n.0 in cc) in
-    let t = marks_after r F (G ++ p ∷ []) false _ next n.1 in
-    (t.0, t.1, subst (λ (x : List (Gap × ℕ)). StandsAtOnce r t.0 t.1 x) (append_assoc G (p ∷ []) F) t.2)
+-- a word that can be read, with a record that it gives with the state behind it
+abbrev Reading : ℕ → List (Gap × ℕ) → Bool → (Word → State → List ℕ → Type 0) → List ℕ → Type 0
+Reading n left apart Q r = (w : Word) × (length w ≤ n) × (s : State) × (read_word w left apart ≡ Some s) × Q w s r
 
--- whether a word ends behind some letters
-decided : (r : Core) (F : List (Gap × ℕ)) (entry : Bool) (m : Marks r) → StandsAtOnce r entry m F → (b : Bool) → can_leave r false entry m ≡ b →
-    After (WordsOf r) F [] ⊎ (After (WordsOf r) F [] → ⊥)
-decided r F entry m s true e = inl (s.sound [] (can_leave_sound r false entry m e))
-decided r F entry m s false e = inr (λ a. let t = can_leave_complete r false entry m (s.complete [] a) in cc)
+-- the next letter, and then such a word
+abbrev Next : ℕ → List (Gap × ℕ) → Bool → (Word → State → List ℕ → Type 0) → List ℕ → Type 0
+Next n [] apart Q r = ⊥
+Next n (p ∷ left) apart Q r = (((p.1 == blank) ≡ false) × (fits p.0 apart ≡ true)) × Reading n left false (λ w. Q (p.1 ∷ w)) r
 
-decide_after : (r : Core) (F : List (Gap × ℕ)) → NoBlanks F → After (WordsOf r) F [] ⊎ (After (WordsOf r) F [] → ⊥)
-decide_after r F n =
-    let t = marks_after r F [] true (no_marks r) (StandsAtOnce-begin r) n in
-    decided r F t.0 t.1 t.2 (can_leave r false t.0 t.1) refl
+-- no letter, or a blank first, or the next letter
+abbrev First : ℕ → List (Gap × ℕ) → Bool → (Word → State → List ℕ → Type 0) → List ℕ → Type 0
+First n left apart Q r = Q [] (left, apart) r ⊎ (Reading n left true (λ w. Q (blank ∷ w)) r ⊎ Next n left apart Q r)
 
-no_blanks_joined : (F : List (Gap × ℕ)) → NoBlanks F → NoBlanks (joined F)
-no_blanks_joined [] n = tt
-no_blanks_joined (p ∷ F) n = n
+picked : (b m : Bool) (x y : Option State) (s : State) → pick b m x y ≡ Some s
+    → ((b ≡ true) × (x ≡ Some s)) ⊎ ((b ≡ false) × (m ≡ true) × (y ≡ Some s))
+picked true m x y s e = inl (refl, e)
+picked false true x y s e = inr (refl, refl, e)
+picked false false x y s e = absurd cc
 
-decide_end : (r : Core) (letters : List Letter) (start n : ℕ) → NoBlanks (gapped_of letters) → CanEnd r letters start n ⊎ (CanEnd r letters start n → ⊥)
-decide_end r letters start n clean = decide_after r _ (no_blanks_joined _ (no_blanks_take n _ (no_blanks_left letters start clean)))
+read_blank : (w : Word) (left : List (Gap × ℕ)) (apart : Bool) → read_word (blank ∷ w) left apart ≡ read_word w left true
+read_blank w [] apart = refl
+read_blank w (p ∷ left) apart = refl
 
-decide_fit : (letters : List Letter) (from : Cut) (left : List (Gap × ℕ)) → left_from letters from.at ≡ left
-    → MayFollow letters from ⊎ (MayFollow letters from → ⊥)
-decide_fit letters from [] e = inl (λ p left f. absurd cc)
-decide_fit letters from (p ∷ left) e = at (fits p.0 from.is_apart) refl
+nothing_read : (left : List (Gap × ℕ)) (apart : Bool) (Q : Word → State → List ℕ → Type 0) (s : State) (r : List ℕ)
+    → read_word [] left apart ≡ Some s → Q [] s r → Q [] (left, apart) r
+nothing_read left apart Q s r e h = let same : s ≡ (left, apart) = cc in subst (λ t. Q [] t r) same h
+
+reading_of : (n : ℕ) (left : List (Gap × ℕ)) (apart : Bool) (Q : Word → State → List ℕ → Type 0) (r : List ℕ) → First n left apart Q r → Reading (suc n) left apart Q r
+reading_of n left apart Q r (inl h) = ([], omega arith, (left, apart), refl, h)
+reading_of n left apart Q r (inr (inl (w, short, s, e, h))) = (blank ∷ w, omega (arith, short), s, read_blank w left apart ∙ e, h)
+reading_of n [] apart Q r (inr (inr h)) = absurd h
+reading_of n (p ∷ left) apart Q r (inr (inr (fit, (w, short, s, e, h)))) = (p.1 ∷ w, omega (arith, short), s, read_letter p left w apart fit.0 fit.1 ∙ e, h)
+
+first_of : (n : ℕ) (left : List (Gap × ℕ)) (apart : Bool) (Q : Word → State → List ℕ → Type 0) (r : List ℕ) → Reading (suc n) left apart Q r → First n left apart Q r
+first_of n left apart Q r ([], short, s, e, h) = inl (nothing_read left apart Q s r e h)
+first_of n [] apart Q r (c ∷ w, short, s, e, h) = by (picked (c == blank) false (read_word w [] true) None s e)
   where
-    at : (b : Bool) → fits p.0 from.is_apart ≡ b → MayFollow letters from ⊎ (MayFollow letters from → ⊥)
-    at true f = inl (λ q rest g. let same : p ≡ q = cc in subst (λ (x : Gap × ℕ). fits x.0 from.is_apart ≡ true) same f)
-    at false f = inr (λ m. let t = m p left e in cc)
+    by : ((c == blank) ≡ true × (read_word w [] true ≡ Some s)) ⊎ ((c == blank) ≡ false × (false ≡ true) × (None ≡ Some s)) → First n [] apart Q r
+    by (inl is) = inr (inl (w, omega (arith, short), s, is.1, subst (λ x. Q (x ∷ w) s r) (eqb-true c blank is.0) h))
+    by (inr other) = absurd (true≢false (sym other.1))
+first_of n (p ∷ left) apart Q r (c ∷ w, short, s, e, h) =
+    by (picked (c == blank) (c == p.1 && fits p.0 apart) (read_word w (p ∷ left) true) (read_word w left false) s e)
+  where
+    by : ((c == blank) ≡ true × (read_word w (p ∷ left) true ≡ Some s)) ⊎ ((c == blank) ≡ false × ((c == p.1 && fits p.0 apart) ≡ true) × (read_word w left false ≡ Some s))
+        → First n (p ∷ left) apart Q r
+    by (inl is) = inr (inl (w, omega (arith, short), s, is.1, subst (λ x. Q (x ∷ w) s r) (eqb-true c blank is.0) h))
+    by (inr is) =
+        let both = and_parts (c == p.1) (fits p.0 apart) is.1 in
+        let same = eqb-true c p.1 both.0 in
+        inr (inr ((subst (λ x. (x == blank) ≡ false) same is.0, both.1), (w, omega (arith, short), s, is.2, subst (λ x. Q (x ∷ w) s r) same h)))
 
-order : (a b : ℕ) → (a ≤ b) ⊎ (b < a)
-order zero b = inl (omega arith)
-order (suc a) zero = inr (omega arith)
-order (suc a) (suc b) = elim (order a b) [ inl x ↦ inl (omega arith) | inr x ↦ inr (omega arith) ]
+found_reading : (n : ℕ) (left : List (Gap × ℕ)) (apart : Bool) (Q : Word → State → List ℕ → Type 0) → ((w : Word) (s : State) → Found (Q w s))
+    → Found (Reading n left apart Q)
+found_reading zero left apart Q each =
+    found-same (Q [] (left, apart)) (Reading 0 left apart Q) (λ r h. ([], omega arith, (left, apart), refl, h)) from (each [] (left, apart))
+  where
+    from : (r : List ℕ) → Reading 0 left apart Q r → Q [] (left, apart) r
+    from r ([], short, s, e, h) = nothing_read left apart Q s r e h
+    from r (c ∷ w, short, s, e, h) = absurd (omega (arith, short))
+found_reading (suc n) [] apart Q each =
+    found-same (First n [] apart Q) (Reading (suc n) [] apart Q) (reading_of n [] apart Q) (first_of n [] apart Q)
+    (found-or _ _ (each [] ([], apart)) (found-or _ _ (found_reading n [] true (λ w. Q (blank ∷ w)) (λ w. each (blank ∷ w))) (none (λ r h. h))))
+found_reading (suc n) (p ∷ left) apart Q each =
+    found-same (First n (p ∷ left) apart Q) (Reading (suc n) (p ∷ left) apart Q) (reading_of n (p ∷ left) apart Q) (first_of n (p ∷ left) apart Q)
+    (found-or _ _ (each [] (p ∷ left, apart)) (found-or _ _ (found_reading n (p ∷ left) true (λ w. Q (blank ∷ w)) (λ w. each (blank ∷ w)))
+    (found-if _ _ (decided-both _ _ (is_bool (p.1 == blank) false) (is_bool (fits p.0 apart) true))
+    (λ h. found_reading n left false (λ w. Q (p.1 ∷ w)) (λ w. each (p.1 ∷ w))))))
+  where
+    is_bool : (a b : Bool) → Decided (a ≡ b)
+    is_bool true true = inl refl
+    is_bool false false = inl refl
+    is_bool true false = inr true≢false
+    is_bool false true = inr (λ e. true≢false (sym e))
 
--- a least one, or none
-data Found (P : List ℕ → Type 0) : Type 0 where
-  least : (r : List ℕ) → IsLeastOf P r → Found P
-  none : IsNone P → Found P
+-- a tidy word has few blanks
+short : (w : Word) → ((u v : Word) → w ≡ u ++ blank ∷ blank ∷ v → ⊥) → length w ≤ 2 * letters_in w + 1
+short [] not_two = omega arith
+short (c ∷ []) not_two = omega arith
+short (c ∷ d ∷ w) not_two =
+    by (cases_Bool (c == blank)) (cases_Bool (d == blank))
+    (short (d ∷ w) (λ u v e. not_two (c ∷ u) v (ap (λ x. c ∷ x) e))) (short w (λ u v e. not_two (c ∷ d ∷ u) v (ap (λ x. c ∷ d ∷ x) e)))
+  where
+    by : ((c == blank) ≡ true) ⊎ ((c == blank) ≡ false) → ((d == blank) ≡ true) ⊎ ((d == blank) ≡ false)
+        → length (d ∷ w) ≤ 2 * letters_in (d ∷ w) + 1 → length w ≤ 2 * letters_in w + 1 → length (c ∷ d ∷ w) ≤ 2 * letters_in (c ∷ d ∷ w) + 1
+    by (inr letter) _ later last =
+        let count : letters_in (c ∷ d ∷ w) ≡ suc (letters_in (d ∷ w)) = ap (λ b. if b then letters_in (d ∷ w) else suc (letters_in (d ∷ w))) letter in
+        omega (arith, count, later)
+    by (inl is) (inl next) later last =
+        let e = eqb-true c blank is in let f = eqb-true d blank next in absurd (not_two [] w cc)
+    by (inl is) (inr letter) later last =
+        let count : letters_in (c ∷ d ∷ w) ≡ letters_in (d ∷ w) = ap (λ b. if b then letters_in (d ∷ w) else suc (letters_in (d ∷ w))) is in
+        let next : letters_in (d ∷ w) ≡ suc (letters_in w) = ap (λ b. if b then letters_in w else suc (letters_in w)) letter in
+        omega (arith, count, next, last)
 
-module _ (letters : List Letter) (clean : NoBlanks (gapped_of letters)) where
-  abbrev Decides : List Move → Type 0
-  Decides ms = (at : ℕ) (apart : Bool) → at ≤ length letters → Found (Finishes ms (left_from letters at) apart)
+-- ---- what moves make of the letters that are left
 
-  module _ (name : List ℕ) (re : Expression) (ms : List Move) (rest : Decides ms) (from : Cut) (within : from.at ≤ length letters) where
-    abbrev r : Core
-    r = core (tidy re)
+abbrev Finishes : List Move → List (Gap × ℕ) → Bool → List ℕ → Type 0
+Finishes ms left apart r = (w : Word) × Makes ms r w × (after : Bool) × (read_word w left apart ≡ Some ([], after))
 
-    words : HasWordsOf r (tidy re)
-    words w = (core_sound (tidy re) w, core_complete (tidy re) w)
+-- what one move leaves
+abbrev Leaves : (u : Word) (ms : List Move) (left : List (Gap × ℕ)) (apart : Bool) (q : List ℕ) → Type 0
+Leaves u ms left apart q = (s : State) × (read_word u left apart ≡ Some s) × Finishes ms s.0 s.1 q
 
-    abbrev whole : List Move
-    whole = variable name re ∷ ms
+left_by : (u w v : Word) (ms : List Move) (left : List (Gap × ℕ)) (apart after : Bool) (q : List ℕ) → v ≡ u ++ w → Makes ms q w
+    → read_word v left apart ≡ Some ([], after) → Leaves u ms left apart q
+left_by u w v ms left apart after q is makes e =
+    let parts = read-split u w left apart ([], after) (ap (λ x. read_word x left apart) (sym is) ∙ e) in
+    (parts.0, parts.1, (w, makes, after, parts.2))
 
-    abbrev More : ℕ → List ℕ → Type 0
-    More n q = Finishes whole (left_from letters from.at) from.is_apart q × BeginsAbove n q
+module _ (ms : List Move) (left : List (Gap × ℕ)) (apart : Bool) (rest : (s : State) → Found (Finishes ms s.0 s.1)) where
+  -- a text
+  text_leaves : (u : Word) (r : List ℕ) → Finishes (text u ∷ ms) left apart r → Leaves u ms left apart r
+  text_leaves u r (v, makes, after, e) = by v makes e
+    where
+      by : (v : Word) → Makes (text u ∷ ms) r v → read_word v left apart ≡ Some ([], after) → Leaves u ms left apart r
+      by v (writes w is f) e = left_by u w v ms left apart after r is f e
 
-    -- one letter more, or more than one
-    longer_of : (k : ℕ) → (CanEnd r letters from.at (suc k)
-        → IsNone (Finishes ms (left_from letters (from.at + suc k)) false)) → Found (More (suc k)) → Found (More k)
-    longer_of k no_next (least q l) = least q (more-least r name re words ms letters from clean within whole refl k no_next q l)
-    longer_of k no_next (none g) = none (more-none r name re words ms letters from clean within whole refl k no_next g)
+  text_found : (u : Word) → Found (Finishes (text u ∷ ms) left apart)
+  text_found u = by (read_word u left apart) refl
+    where
+      by : (o : Option State) → read_word u left apart ≡ o → Found (Finishes (text u ∷ ms) left apart)
+      by None e = none (λ r f. let l = text_leaves u r f in let g = l.1 in absurd cc)
+      by (Some s) e = found-same (Finishes ms s.0 s.1) (Finishes (text u ∷ ms) left apart)
+          (λ r f. (u ++ f.0, writes f.0 refl f.1, f.2, read-append u f.0 left apart s e ∙ f.3))
+          (λ r f. let l = text_leaves u r f in let g = l.1 in let same : l.0 ≡ s = cc in subst (λ t. Finishes ms t.0 t.1 r) same l.2)
+          (rest s)
 
-    step_of : (k : ℕ) → from.at + suc k ≤ length letters → MayFollow letters from → CanEnd r letters from.at (suc k) ⊎ (CanEnd r letters from.at (suc k) → ⊥) →
-        Found (Finishes ms (left_from letters (from.at + suc k)) false) → Found (More (suc k)) → Found (More k)
-    step_of k bound fit (inl can) (least q l) more = least (suc k ∷ q) (next-least r name re words ms letters from clean within whole refl k bound fit can q l)
-    step_of k bound fit (inl can) (none g) more = longer_of k (λ c. g) more
-    step_of k bound fit (inr never) found more = longer_of k (λ c. absurd (never c)) more
+  -- a variable
+  module _ (name : List ℕ) (re : Expression) where
+    abbrev Given : Word → State → List ℕ → Type 0
+    Given w s r = Language (tidy re) w × ((q : List ℕ) × (r ≡ letters_in w ∷ q) × Finishes ms s.0 s.1 q)
 
-    scan_step : (k : ℕ) → MayFollow letters from → Found (More (suc k))
-        → (from.at + suc k ≤ length letters) ⊎ (length letters < from.at + suc k) → Found (More k)
-    scan_step k fit more (inl b) = step_of k b fit (decide_end r letters from.at (suc k) clean) (rest (from.at + suc k) false b) more
-    scan_step k fit more (inr b) = none (ended-none r name re words ms letters from clean within whole refl k (omega arith))
+    abbrev bound : ℕ
+    bound = 2 * length left + 1
 
-    scan : (n k : ℕ) → length letters ≤ from.at + k + n → MayFollow letters from → Found (More k)
-    scan zero k h fit = none (ended-none r name re words ms letters from clean within whole refl k (omega arith))
-    scan (suc n) k h fit = scan_step k fit (scan n (suc k) (omega arith) fit) (order (from.at + suc k) (length letters))
+    given : (r : List ℕ) → Finishes (variable name re ∷ ms) left apart r → Reading bound left apart Given r
+    given r (v, makes, after, e) = by r v makes e
+      where
+        by : (r : List ℕ) (v : Word) → Makes (variable name re ∷ ms) r v → read_word v left apart ≡ Some ([], after) → Reading bound left apart Given r
+        by _ v (picks {r = q} u w l is f) e =
+            let leaves = left_by u w v ms left apart after q is f e in
+            (u, omega (arith, short u l.1.not_two, read-within u left apart leaves.0 leaves.1), leaves.0, leaves.1, (l, (q, refl, leaves.2)))
 
-    abbrev NoEmpty : Type 0
-    NoEmpty = is_nullable r ≡ true → IsNone (Finishes ms (left_from letters from.at) from.is_apart)
+    finish_given : (r : List ℕ) → Reading bound left apart Given r → Finishes (variable name re ∷ ms) left apart r
+    finish_given r (u, few, s, e, (l, (q, same, (w, makes, after, f)))) =
+        (u ++ w, subst (λ x. Makes (variable name re ∷ ms) x (u ++ w)) (sym same) (picks u w l refl makes), after, read-append u w left apart s e ∙ f)
 
-    some_of : NoEmpty → Found (More 0) → Found (Finishes whole (left_from letters from.at) from.is_apart)
-    some_of no_empty (least q l) = least q (longer-least r name re words ms letters from clean within whole refl no_empty q l)
-    some_of no_empty (none g) = none (longer-none r name re words ms letters from clean within whole refl no_empty g)
+    variable_found : Found (Finishes (variable name re ∷ ms) left apart)
+    variable_found = found-same (Reading bound left apart Given) (Finishes (variable name re ∷ ms) left apart) finish_given given
+        (found_reading bound left apart Given
+        (λ w s. found-if (Language (tidy re) w) _ (decided-language (tidy re) w) (λ l. found-next (letters_in w) (Finishes ms s.0 s.1) (rest s))))
 
-    begun_of : MayFollow letters from ⊎ (MayFollow letters from → ⊥) → Found (More 0)
-    begun_of (inl fit) = scan (length letters) 0 (omega arith) fit
-    begun_of (inr never) = none (unbegun-none r name re words ms letters from clean within whole refl (λ l m. never m))
+  -- an optional part
+  module _ (n : ℕ) (skipped : Found (Finishes (drop n ms) left apart)) where
+    abbrev Either : List ℕ → Type 0
+    Either r = ((q : List ℕ) × (r ≡ 0 ∷ q) × Finishes ms left apart q) ⊎ ((q : List ℕ) × (r ≡ 1 ∷ q) × Finishes (drop n ms) left apart q)
 
-    empty_of : (b : Bool) → is_nullable r ≡ b → Found (Finishes ms (left_from letters from.at) from.is_apart) → Found (More 0) →
-        Found (Finishes whole (left_from letters from.at) from.is_apart)
-    empty_of true e (least q l) more = least (0 ∷ q) (empty-least r name re words ms letters from clean within whole refl e q l)
-    empty_of true e (none g) more = some_of (λ n. g) more
-    empty_of false e found more = some_of (λ n. absurd cc) more
+    finish_either : (r : List ℕ) → Either r → Finishes (optional n ∷ ms) left apart r
+    finish_either r (inl (q, same, (w, makes, after, e))) = (w, subst (λ x. Makes (optional n ∷ ms) x w) (sym same) (enters makes), after, e)
+    finish_either r (inr (q, same, (w, makes, after, e))) = (w, subst (λ x. Makes (optional n ∷ ms) x w) (sym same) (skips makes), after, e)
 
-    variable_found : Found (Finishes whole (left_from letters from.at) from.is_apart)
-    variable_found = empty_of (is_nullable r) refl (rest from.at from.is_apart within) (begun_of (decide_fit letters from (left_from letters from.at) refl))
+    either_of : (r : List ℕ) → Finishes (optional n ∷ ms) left apart r → Either r
+    either_of r (w, makes, after, e) = by r w makes e
+      where
+        by : (r : List ℕ) (w : Word) → Makes (optional n ∷ ms) r w → read_word w left apart ≡ Some ([], after) → Either r
+        by _ w (enters {r = q} f) e = inl (q, refl, (w, f, after, e))
+        by _ w (skips {r = q} f) e = inr (q, refl, (w, f, after, e))
 
-  finished_found : (left : List (Gap × ℕ)) (apart : Bool) → Found (Finishes [] left apart)
-  finished_found [] apart = least [] (record { is = finished; least = λ q f. tt })
-  finished_found (p ∷ left) apart = none (λ q f. let e = finished-left (p ∷ left) apart q f in cc)
+    optional_found : Found (Finishes (optional n ∷ ms) left apart)
+    optional_found = found-same Either (Finishes (optional n ∷ ms) left apart) finish_either either_of
+        (found-or _ _ (found-next 0 (Finishes ms left apart) (rest (left, apart))) (found-next 1 (Finishes (drop n ms) left apart) skipped))
 
-  module _ (ms : List Move) (rest : Decides ms) (at : ℕ) (apart : Bool) (within : at ≤ length letters) where
-    text_behind : (w : Word) (s : State) → read_word w (left_from letters at) apart ≡ Some s
-        → Found (Finishes ms s.0 s.1) → Found (Finishes (text w ∷ ms) (left_from letters at) apart)
-    text_behind w s e (least q l) = least q (text-least ms (left_from letters at) apart w s.0 s.1 e q l)
-    text_behind w s e (none g) = none (text-none ms (left_from letters at) apart w s.0 s.1 e g)
+-- no move
+ended : (left : List (Gap × ℕ)) (apart after : Bool) (r : List ℕ) (w : Word) → Makes [] r w → read_word w left apart ≡ Some ([], after) → left ≡ []
+ended left apart after _ _ ends e = let same : (left, apart) ≡ ([], after) = cc in ap (λ (s : State). s.0) same
 
-    text_read : (w : Word) (o : Option State) → read_word w (left_from letters at) apart ≡ o → Found (Finishes (text w ∷ ms) (left_from letters at) apart)
-    text_read w None e = none (text-stuck ms (left_from letters at) apart w e)
-    text_read w (Some s) e =
-        let short = read-within w (left_from letters at) apart s e in
-        let long : length (left_from letters at) ≡ length letters - at = length_left letters at in
-        let gone : s.0 ≡ left_from letters (at + letters_in w) = read-left w (left_from letters at) apart s e ∙ left_drop letters at (letters_in w) in
-        text_behind w s e (subst (λ (x : List (Gap × ℕ)). Found (Finishes ms x s.1)) (sym gone) (rest (at + letters_in w) s.1 (omega arith)))
+end_found : (left : List (Gap × ℕ)) (apart : Bool) → Found (Finishes [] left apart)
+end_found [] apart = least [] (record { is = ([], ends, apart, refl); least = λ q f. tt })
+end_found (p ∷ left) apart = none (λ r f. let e = ended (p ∷ left) apart f.2 r f.0 f.1 f.3 in absurd cc)
 
-    optional_of : (n : ℕ) → Found (Finishes ms (left_from letters at) apart) → Found (Finishes (drop n ms) (left_from letters at) apart) →
-        Found (Finishes (optional n ∷ ms) (left_from letters at) apart)
-    optional_of n (least q l) skipped = least (0 ∷ q) (present-least ms (left_from letters at) apart n q l)
-    optional_of n (none g) (least q l) = least (1 ∷ q) (absent-least ms (left_from letters at) apart n q g l)
-    optional_of n (none g) (none h) = none (optional-none ms (left_from letters at) apart n g h)
+found-finishes : (k : ℕ) (ms : List Move) → length ms ≤ k → (left : List (Gap × ℕ)) (apart : Bool) → Found (Finishes ms left apart)
+found-finishes k [] h left apart = end_found left apart
+found-finishes zero (m ∷ ms) h left apart = absurd (omega (arith, h))
+found-finishes (suc k) (text u ∷ ms) h left apart = text_found ms left apart (λ s. found-finishes k ms (omega (arith, h)) s.0 s.1) u
+found-finishes (suc k) (variable name re ∷ ms) h left apart = variable_found ms left apart (λ s. found-finishes k ms (omega (arith, h)) s.0 s.1) name re
+found-finishes (suc k) (optional n ∷ ms) h left apart =
+    optional_found ms left apart (λ s. found-finishes k ms (omega (arith, h)) s.0 s.1) n (found-finishes k (drop n ms) (omega (arith, h, length-drop n ms)) left apart)
 
-  decides : (k : ℕ) (ms : List Move) → length ms ≤ k → Decides ms
-  decides k [] h at apart within = finished_found (left_from letters at) apart
-  decides zero (m ∷ ms) h at apart within = absurd (omega arith)
-  decides (suc k) (text w ∷ ms) h at apart within = text_read ms (decides k ms (omega arith)) at apart within w (read_word w (left_from letters at) apart) refl
-  decides (suc k) (variable name re ∷ ms) h at apart within =
-      variable_found name re ms (decides k ms (omega arith)) (record { at = at; is_apart = apart }) within
-  decides (suc k) (optional n ∷ ms) h at apart within =
-      let e : length (drop n ms) ≡ length ms - n = length-drop n ms in
-      optional_of ms (decides k ms (omega arith)) at apart within n (decides k ms (omega arith) at apart within)
-      (decides k (drop n ms) (omega arith) at apart within)
+-- ---- the values of a match
 
--- letters with these gaps
-abbrev made : Gap × ℕ → Letter
-made (no_gap, c) = record { letter = c; is_apart = false; are_words = false }
-made (free, c) = record { letter = c; is_apart = true; are_words = false }
-made (needed, c) = record { letter = c; is_apart = true; are_words = true }
+module _ (ns : Nodes) (ts : List (List ℕ)) where
+  finishes_by : (q : List ℕ) (w : Word) → Makes (moves ns) q w → Spells w ts → Finishes (moves ns) (gapped ts) false q
+  finishes_by q w makes spells =
+      let read = spells-read (gapped ts) w (gapped-letters blank false (row_of ts)) spells in
+      (w, makes, read.0, read.1)
 
-gapped-made : (gs : List (Gap × ℕ)) → gapped_of (map made gs) ≡ gs
-gapped-made [] = refl
-gapped-made ((no_gap, c) ∷ gs) = ap (λ s. (no_gap, c) ∷ s) (gapped-made gs)
-gapped-made ((free, c) ∷ gs) = ap (λ s. (free, c) ∷ s) (gapped-made gs)
-gapped-made ((needed, c) ∷ gs) = ap (λ s. (needed, c) ∷ s) (gapped-made gs)
+  least_by : Derivation ns ts → Found (Finishes (moves ns) (gapped ts) false) → (r : List ℕ) × LeastOf (moves ns) (λ w. Spells w ts) r
+  least_by d (none never) = absurd (never (record_of ns d.choice) (finishes_by _ (word_of ns d.choice) (made-by ns d.choice d.allowed) d.spells))
+  least_by d (least r h) = (
+    r,
+    record {
+      word = h.is.0;
+      makes = h.is.1;
+      is = read-spells h.is.0 (gapped ts) h.is.2 (gapped-letters blank false (row_of ts)) h.is.3;
+      least = λ q w makes spells. h.least q (finishes_by q w makes spells);
+    },
+  )
 
-found_any : (gs : List (Gap × ℕ)) (ms : List Move) → NoBlanks gs → Found (Finishes ms gs false)
-found_any gs ms clean =
-    let e = gapped-made gs in
-    subst (λ (x : List (Gap × ℕ)). Found (Finishes ms x false)) e
-    (decides (map made gs) (subst NoBlanks (sym e) clean) (length ms) ms (omega arith) 0 false (omega arith))
-
-least_any : (gs : List (Gap × ℕ)) (ms : List Move) (q : List ℕ) → Finishes ms gs false q → Found (Finishes ms gs false) → (r : List ℕ) × Least ms gs false r
-least_any gs ms q f (least r l) = (r, record { finishes = l.is; least = l.least })
-least_any gs ms q f (none g) = absurd (g q f)
-
--- a match has values
 pub values-exist : (set : List Known) (tokens : List TokenValue) (t : Triple) → IsMatch set tokens t → (values : List Assigned) × AreValues set tokens t values
 values-exist set tokens t h =
+    let ns : Nodes = nodes_of h.known in
     let ts : List (List ℕ) = letters_between tokens t.first t.last in
-    let can = can-finish (nodes_of h.known) ts (derivation-of-word (nodes_of h.known) ts (h.described.1, h.described.2, h.described.3)) in
-    let found = least_any (gapped ts) (moves (nodes_of h.known)) can.0 can.1
-    (found_any (gapped ts) (moves (nodes_of h.known)) (gapped-letters blank false (row_of ts))) in
-    let d = least-way (nodes_of h.known) ts found.0 found.1 in
+    let some = derivation-of-word ns ts (h.described.1, h.described.2, h.described.3) in
+    let found = least_by ns ts some (found-finishes (length (moves ns)) (moves ns) (omega arith) (gapped ts) false) in
+    let d = least-derivation ns ts (λ w. Spells w ts) found.0 (λ w. (λ s. s, λ s. s)) found.1 in
     (_, record { known = h.known; number = h.number; derivation = d.0; least = d.1; same = refl })

@@ -97,7 +97,7 @@ true_fits p F v apart true m x h k = absurd cc
 true_fits p F v apart false true x h k = refl
 true_fits p F v apart false false x h k = absurd cc
 
-read_letter : (p : Gap × ℕ) (F : List (Gap × ℕ)) (v : Word) (apart : Bool) → (p.1 == blank) ≡ false → fits p.0 apart ≡ true →
+pub read_letter : (p : Gap × ℕ) (F : List (Gap × ℕ)) (v : Word) (apart : Bool) → (p.1 == blank) ≡ false → fits p.0 apart ≡ true →
     read_word (p.1 ∷ v) (p ∷ F) apart ≡ read_word v F false
 read_letter p F v apart h k =
     true_fits p F v apart (p.1 == blank) (p.1 == p.1 && fits p.0 apart) (read_word v (p ∷ F) true) h

@@ -10,8 +10,27 @@ use lic_search::view::View;
 use lic_spans::span::PlaceSpan;
 use std::alloc::{AllocError, Global};
 
-// How many spans the sets of a block may have at least.
-const ROOM: usize = 1 << 21;
+// While all sets have no more spans, none is let go.
+const LEAST_KEPT: usize = 1 << 20;
+
+// The sets that were made last, of which none is let go, have no more spans.
+const MOST_KEPT: usize = 1 << 21;
+
+// How many spans a block of the sets before them has at least.
+const LEAST_BLOCK: usize = 1 << 17;
+
+// How far sets were let go.
+#[derive(Drop)]
+struct Progress {
+    // the spans of all sets so far
+    made: usize,
+    // the spans of those of which none was let go
+    kept: usize,
+    // the number of the set before these
+    border: usize,
+    // the spans of the last block up to that set
+    block: usize,
+}
 
 /// For each number of steps but all, the places from which the last so many steps lead to the end of the last token: those of the
 /// first steps, and of the others as many as are needed to make the rest of them again in blocks.
@@ -26,65 +45,88 @@ pub fn suffix_sets(
     ensures count { IfOk result (λ sets. length sets.items ≡ length steps.now + 1) }
 {
     let mut sets = end_alone(alloc, view, steps)?;
-    let room = room_of(view, steps);
-    let mut border = 0;
-    let mut spans: usize = 0;
+    let uses = last_uses(alloc, steps)?;
+    let mut progress = Progress {
+        made: 0,
+        kept: 0,
+        border: 0,
+        block: 0,
+    };
     for number in 1..steps.len() {
         fill(alloc, view, steps, &mut sets, number)?;
-        spans = spans.saturating_add(set_of(&sets, number).len());
-        if spans > room {
-            release(alloc, view, steps, &mut sets, border, number)?;
-            border = number;
-            spans = 0;
-        }
+        let count = set_of(&sets, number).len();
+        progress.made = progress.made.saturating_add(count);
+        progress.kept = progress.kept.saturating_add(count);
+        release(view, steps, &mut sets, &uses, number, &mut progress);
     }
     Ok(sets)
 }
 
-// How many spans the sets of a block may have: for each byte so many as the root of the number of steps.
-fn room_of(view: &View<'_>, steps: &[Step]) -> usize {
-    let root = steps.len().isqrt();
-    root.saturating_mul(view.bytes().len()).max(ROOM)
-}
-
-// Lets go the sets of a block that no step in front of it leads to.
+// Lets go the first of the last sets while they have too many spans, but the last set of a block and what a step in front of
+// `number` leads to.
 fn release(
-    alloc: Global,
     view: &View<'_>,
     steps: &[Step],
     sets: &mut Vec<Option<Vec<PlaceSpan>>>,
-    border: usize,
+    uses: &[usize],
     number: usize,
-) -> Result<(), AllocError>
+    progress: &mut Progress,
+)
     requires sets { AreSuffixSets view.now steps.now sets.old.items }
-    requires order { border < number }
-    requires within { number ≤ length steps.now }
-    requires room { number < length sets.old.items }
-    ensures sets { OnOk result (AreSuffixSets view.now steps.now sets.new.items) }
-    ensures count { OnOk result (length sets.new.items ≡ length sets.old.items) }
+    requires uses { number < length uses.now }
+    requires within { number < length sets.old.items }
+    ensures sets { AreSuffixSets view.now steps.now sets.new.items }
+    ensures count { length sets.new.items ≡ length sets.old.items }
 {
-    let needed = needed_above(alloc, steps, number)?;
-    for k in border + 1..number {
-        if !needed[k] {
-            sets[k] = None;
+    let most = block_size(view, steps);
+    for first in progress.border.saturating_add(1)..number {
+        if !is_full(progress) {
+            break;
+        }
+        let count = span_count(sets, first);
+        progress.border = first;
+        progress.kept = progress.kept.saturating_sub(count);
+        progress.block = progress.block.saturating_add(count);
+        if progress.block > most {
+            progress.block = 0;
+        } else if uses[first] <= number {
+            sets[first] = None;
         }
     }
-    Ok(())
 }
 
-// Which sets up to a number the steps in front of it lead to when they are left out.
-fn needed_above(alloc: Global, steps: &[Step], number: usize) -> Result<Vec<bool>, AllocError>
-    requires { number ≤ length steps.now }
-    ensures { IfOk result (λ needed. length needed.items ≡ number) }
+// How many spans a block has: for each byte so many as the root of the number of steps.
+fn block_size(view: &View<'_>, steps: &[Step]) -> usize {
+    let root = steps.len().isqrt();
+    root.saturating_mul(view.bytes().len()).max(LEAST_BLOCK)
+}
+
+// Whether the last sets have too many spans: more than the geometric mean of the least number and of all spans so far.
+fn is_full(progress: &Progress) -> bool {
+    let square = progress.kept.saturating_mul(progress.kept);
+    progress.kept > MOST_KEPT || square > LEAST_KEPT.saturating_mul(progress.made)
+}
+
+// How many spans a set has, or none where it was let go.
+fn span_count(sets: &[Option<Vec<PlaceSpan>>], number: usize) -> usize
+    requires { number < length sets.now }
 {
-    let mut needed = vec![in alloc; false; number]?;
-    for before in number..steps.len() {
-        if let Step::Optional(size) = &steps[steps.len() - 1 - before] {
-            let other = before.saturating_sub(*size);
-            if other < number {
-                needed[other] = true;
-            }
+    match &sets[number] {
+        Some(set) => set.len(),
+        None => 0,
+    }
+}
+
+// For each set the number of the last step that leads to it when it is left out, or 0.
+fn last_uses(alloc: Global, steps: &[Step]) -> Result<Vec<usize>, AllocError>
+    ensures { IfOk result (λ uses. length uses.items ≡ length steps.now + 1) }
+{
+    let mut uses = Vec::new(alloc);
+    uses.resize(steps.len() + 1, 0)?;
+    for number in 1..steps.len() {
+        if let Step::Optional(size) = &steps[steps.len() - number] {
+            uses[(number - 1).saturating_sub(*size)] = number;
         }
     }
-    Ok(needed)
+    Ok(uses)
 }

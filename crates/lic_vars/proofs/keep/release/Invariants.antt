@@ -3,8 +3,8 @@ use Rattle.std.proofs.Common.{◌≡◌, length}
 use Rattle.lic_vars.specs.Sets.{AreSuffixSets}
 use Rattle.lic_vars.proofs.keep.release.Given as goal
 
-abbrev pub invariant-loop-k : goal.invariant-loop-k
-invariant-loop-k l = record {
+abbrev pub invariant-loop-first : goal.invariant-loop-first
+invariant-loop-first l = record {
   sets : AreSuffixSets l.view l.steps l.sets.items;
   count : length l.sets.items ≡ length l.initial.sets.items;
 }

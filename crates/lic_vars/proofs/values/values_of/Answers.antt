@@ -3,8 +3,7 @@ use Rattle.std.proofs.Common.{◌++◌, ℕ, drop, map, sym, ap, ◌∙◌, arit
 use Rattle.lic_ere.specs.Trees.{tree_of}
 use Rattle.lic_markup.specs.Meaning.{tree_words}
 use Rattle.lic_vars.specs.Views.{value_of}
-use Rattle.lic_vars.proofs.FillLemmas.{moves-more}
-use Rattle.lic_vars.proofs.AssignLemmas.{taken-text, taken-variable, taken-optional, value-pushed}
+use Rattle.lic_vars.proofs.AssignLemmas.{moves-more, taken-text, taken-variable, taken-optional, value-pushed}
 use Rattle.lic_vars.proofs.values.values_of.Goals as goal
 
 pub loop-i-preserved-in-Text : goal.loop-i-preserved-in-Text
