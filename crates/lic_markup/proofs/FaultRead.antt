@@ -1,5 +1,5 @@
 -- A template at fault is refused by the fault that decides.
-use Rattle.std.proofs.Common.{◌≡◌, ℕ, zero, suc, ◌≤◌, ◌<◌, Bool, true, false, cond, not, List, [], ◌∷◌, ◌++◌, length, Result, Ok, Err, IfErr, refl, sym, ap, subst, ◌∙◌, append-nil, arith}
+use Rattle.std.proofs.Common.{◌≡◌, ℕ, zero, suc, ◌<◌, true, false, cond, not, List, [], ◌∷◌, ◌++◌, length, Result, Ok, Err, IfErr, refl, ap, subst, ◌∙◌, arith}
 use Rattle.std.specs.Prelude.{nat_lt}
 use Rattle.std.proofs.lemmas.Bool.Decides.{nat_tests}
 use Rattle.lic_ere.specs.declared.fault.EreFault.{EreFault}
@@ -14,9 +14,9 @@ use Rattle.lic_markup.specs.Faults.{fault_at, Gives, IsLasting}
 use Rattle.lic_markup.specs.Rules as rules
 use Rattle.lic_markup.specs.Elements.{Element, text, rule, refused, elements}
 use Rattle.lic_markup.specs.Lines.{with_next, next_of}
-use Rattle.lic_markup.specs.Parts.{Node, Reading, TemplateValue, row, row_weight, row_has_token, template_of}
+use Rattle.lic_markup.specs.Parts.{Reading, TemplateValue, row, row_weight, template_of}
 use Rattle.lic_markup.specs.Reading as reading
-use Rattle.lic_markup.specs.Reading.{Level, State, meet, meet_text, meet_variable, meet_end, finish, read_on, read_elements, start, whole, max_depth, max_length, max_weight}
+use Rattle.lic_markup.specs.Reading.{Level, State, meet, meet_text, meet_variable, meet_end, finish, read_on, read_elements, start, max_depth, max_length, max_weight}
 use Rattle.lic_markup.specs.Templates.{original_of}
 use Rattle.lic_markup.specs.FirstFaults as faults
 use Rattle.lic_markup.specs.FirstFaults.{AreSound, IsAtFault, of_rule, bad_pattern, too_deep, no_begin, Lead, nowhere, on, over, into, out, IsFirstFault, at_rule, not_ended, no_token, too_heavy, IsFaultOf, too_long, otherwise}

@@ -1,17 +1,16 @@
 -- The first fault that is met is the one that a rule is refused by.
-use Rattle.std.proofs.Common.{◌≡◌, ℕ, ◌+◌, Bool, true, false, cond, ◌==◌, ◌||◌, List, [], ◌∷◌, ◌++◌, drop, Result, Ok, Err, refl, sym, ap, subst, ◌∙◌, eq-eqb, eqb}
+use Rattle.std.proofs.Common.{◌≡◌, ℕ, ◌+◌, Bool, true, false, cond, ◌||◌, List, [], ◌∷◌, ◌++◌, drop, Result, Ok, Err, refl, sym, ap, ◌∙◌, eq-eqb, eqb}
 use Rattle.std.proofs.lemmas.Bool.{false≢true}
 use Rattle.std.proofs.lemmas.List.{drop-drop}
 use Rattle.lic_ere.specs.Located.{Located, further}
 use Rattle.lic_markup.specs.declared.tag.Tag.{Tag}
-use Rattle.lic_markup.specs.declared.fields.Field.{Field}
 use Rattle.lic_markup.specs.declared.fault.MarkupFault.{MarkupFault}
-use Rattle.lic_markup.specs.declared.fault.MarkupCause.TheVariants.{NotClosed, FieldMissing, FieldTwice, NoEquals}
+use Rattle.lic_markup.specs.declared.fault.MarkupCause.TheVariants.{NotClosed, FieldMissing, NoEquals}
 use Rattle.lic_markup.specs.Signs.{double_quote, semicolon, equals, greater, backslash}
 use Rattle.lic_markup.specs.Texts.{text_of, place_of, begins_with, begins_with_two, spaces, trim_end, trim_front}
 use Rattle.lic_markup.specs.Faults.{fault_at, map_ok, ◌>>=◌}
-use Rattle.lic_markup.specs.Rules.{Values, no_values, field_of, has_value, with_value, at_end, one_more, name_at, quoted_at, plain_at, value_at, field_at, field_or_none, fields_at, Rule, rule_of, rule_at}
-use Rattle.lic_markup.specs.Markup.{UpTo, IsTag, IsField, ends_field, ends_name, ends_quote, ends_value}
+use Rattle.lic_markup.specs.Rules.{Values, no_values, field_of, has_value, with_value, one_more, name_at, quoted_at, plain_at, value_at, field_at, fields_at, Rule, rule_of, rule_at}
+use Rattle.lic_markup.specs.Markup.{UpTo, IsTag, ends_field, ends_name, ends_quote}
 use Rattle.lic_markup.specs.RuleFaults.{Nowhere, is_second, AreSoundFields, none, empty, further as one_further, IsOpenValue, quoted, plain, IsFieldFault, open_name, no_equals, twice, open_value, IsFaultBehind, not_closed, in_field, missing, IsRuleFault, at_fault}
 use Rattle.lic_markup.proofs.RuleLemmas.{read, name-refused, name-goes_on, name-open, quoted-goes_on, quoted-open, plain-goes_on, plain-open}
 use Rattle.lic_markup.proofs.FieldLemmas.{fields_of, fields-end, fields_turn, fields_fail, fields-refused, fields-open}

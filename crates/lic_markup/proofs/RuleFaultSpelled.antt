@@ -1,5 +1,5 @@
 -- The fault that a rule is refused by is the first that is met.
-use Rattle.std.proofs.Common.{◌≡◌, ℕ, zero, suc, ◌+◌, ◌≤◌, Bool, true, false, cond, ◌==◌, ◌&&◌, ◌||◌, List, [], ◌∷◌, ◌++◌, length, drop, Option, Some, None, Result, Ok, Err, refl, sym, ap, ap₂, subst, ◌∙◌, arith, eqb}
+use Rattle.std.proofs.Common.{◌≡◌, ℕ, zero, suc, ◌+◌, ◌≤◌, Bool, true, false, cond, ◌&&◌, ◌||◌, List, [], ◌∷◌, ◌++◌, length, drop, Option, Some, None, Result, Ok, Err, refl, sym, ap, ap₂, subst, ◌∙◌, arith, eqb}
 use Rattle.std.specs.Prelude.{codes}
 use Rattle.std.specs.Option.{is_some}
 use Rattle.std.specs.Str.{bytes_eq}
@@ -8,15 +8,13 @@ use Rattle.std.proofs.lemmas.Slice.Eq.{bytes_eq-Decides}
 use Rattle.lic_ere.specs.Located.{Located, further}
 use Rattle.lic_markup.specs.declared.tag.Tag.{Tag}
 use Rattle.lic_markup.specs.declared.tag.Tag.TheVariants.{Var, BeginOptional, EndOptional}
-use Rattle.lic_markup.specs.declared.fields.Field.{Field}
-use Rattle.lic_markup.specs.declared.fields.Field.TheVariants.{Name, Original, Match, Other}
 use Rattle.lic_markup.specs.declared.fault.MarkupFault.{MarkupFault}
-use Rattle.lic_markup.specs.declared.fault.MarkupCause.TheVariants.{NotClosed, FieldMissing, FieldTwice, NoEquals}
+use Rattle.lic_markup.specs.declared.fault.MarkupCause.TheVariants.{NotClosed, FieldMissing, NoEquals}
 use Rattle.lic_markup.specs.Signs.{double_quote, semicolon, equals, greater, backslash}
 use Rattle.lic_markup.specs.Texts.{text_of, place_of, begins_with, begins_with_two, spaces, trim_end, trim_front}
 use Rattle.lic_markup.specs.Faults.{fault_at, map_ok, ◌>>=◌}
-use Rattle.lic_markup.specs.Rules.{Values, no_values, field_of, has_value, with_value, at_end, ends_quoted, ends_plain, one_more, name_at, quoted_at, plain_at, value_at, field_at, field_or_none, fields_at, Rule, variable, begin, finish, complete, rule_of, rule_at}
-use Rattle.lic_markup.specs.Markup.{UpTo, IsTag, IsField, ends_field, ends_name, ends_quote, ends_value}
+use Rattle.lic_markup.specs.Rules.{Values, no_values, field_of, has_value, with_value, at_end, ends_quoted, ends_plain, one_more, name_at, quoted_at, plain_at, value_at, field_at, field_or_none, fields_at, variable, begin, finish, complete, rule_of, rule_at}
+use Rattle.lic_markup.specs.Markup.{UpTo, IsTag, IsField, ends_field, ends_name, ends_quote}
 use Rattle.lic_markup.specs.RuleFaults.{Nowhere, needed, is_among, is_second, AreSoundFields, none, empty, further as one_further, IsOpenValue, quoted, plain, IsFieldFault, open_name, no_equals, twice, open_value, IsFaultBehind, not_closed, in_field, missing, IsRuleFault, at_fault}
 use Rattle.lic_markup.proofs.RuleLemmas.{read, name-ends, name-refused, name-goes_on, name-open, quoted-ends, quoted-goes_on, quoted-open, plain-ends, plain-goes_on, plain-open}
 use Rattle.lic_markup.proofs.FieldLemmas.{read-shorter, fields_of, fields-end, fields_turn, fields_fail, fields-refused, fields-open, trim_front-shorter}
