@@ -9,12 +9,17 @@ use Rattle.lic_markup.specs.Faults.{map_ok}
 use Rattle.lic_markup.specs.Rules.{Rule, tag_at, rule_at}
 use Rattle.lic_markup.specs.Elements.{Element, text, rule, refused, and_then, elements}
 use Rattle.lic_markup.specs.Markup.{IsRule, BeginsRule}
-use Rattle.lic_markup.specs.Templates.{HasNoRule, AreElements, last, further as one_further}
+use Rattle.lic_markup.specs.RuleFaults.{IsRuleFault}
+use Rattle.lic_markup.specs.Templates as templates
+use Rattle.lic_markup.specs.Templates.{HasNoRule, AreElements}
+use Rattle.lic_markup.specs.FirstFaults.{AreCut, last, further as one_further, unreadable}
 use Rattle.lic_markup.proofs.RuleLemmas.{read}
 use Rattle.lic_markup.proofs.ElementLemmas.{step, elements-step, elements-skipped, elements-end}
 use Rattle.lic_markup.proofs.TagSpelled.{there, tag_spelled, tag_read}
 use Rattle.lic_markup.proofs.Spelled.{got, empty_no, head_same, tail_same, read_was}
 use Rattle.lic_markup.proofs.RuleSpelled.{rule_spelled, rule_read}
+use Rattle.lic_markup.proofs.RuleFaultSpelled.{rule_faulty}
+use Rattle.lic_markup.proofs.RuleFaultRead.{rule_refused}
 
 -- ---- where a rule begins
 
@@ -77,6 +82,47 @@ elements-onto (x ∷ xs) piece =
 
 -- ---- what is cut is spelled
 
+grow : (x : Located) {cs : List Located} {es : List Element} → (BeginsRule (x ∷ cs) → ⊥) → AreCut cs es → AreCut (x ∷ cs) (onto (x ∷ []) es)
+unfolding onto
+grow x never (last {piece = piece} none) = last (no_rule-cons x piece [] (λ begins. never (subst (λ l. BeginsRule (x ∷ l)) (append-nil piece) begins)) none)
+grow x never (one_further {piece = piece} {behind = behind} is none r others) =
+    one_further (ap (λ l. x ∷ l) is) (no_rule-cons x piece behind (λ begins. never (subst (λ l. BeginsRule (x ∷ l)) (sym is) begins)) none) r others
+grow x never (unreadable {piece = piece} {behind = behind} is none fault) =
+    unreadable (ap (λ l. x ∷ l) is) (no_rule-cons x piece behind (λ begins. never (subst (λ l. BeginsRule (x ∷ l)) (sym is) begins)) none) fault
+
+-- the rules and pieces that are cut, from behind some characters
+abbrev Cut : List Located → Type 0
+Cut xs = (n : ℕ) → AreCut (drop n xs) (elements [] n xs)
+
+plain_cut : (x : Located) (xs : List Located) → tag_at x xs ≡ None → Cut xs → AreCut (x ∷ xs) (elements (x ∷ []) 0 xs)
+plain_cut x xs none others = subst (AreCut (x ∷ xs)) (sym (elements-onto xs (x ∷ []))) (grow x (begins_none x xs none) (others 0))
+
+rule_cut : (x : Located) (xs : List Located) (tag : Tag) (n : ℕ) → tag_at x xs ≡ Some (tag, n) → Cut xs
+    → (r : Result (Rule × ℕ) MarkupFault) → rule_at x.0 tag (drop n xs) ≡ r
+    → AreCut (x ∷ xs) (text [] ∷ and_then (map_ok (further n) r) (λ taken. elements [] taken xs))
+rule_cut x xs tag n is others (Err e) was =
+    unreadable refl (no_rule-nil (x ∷ xs)) (rule_faulty (x ∷ xs) (drop n xs) tag e (tag_spelled x xs tag n is) was)
+rule_cut x xs tag n is others (Ok y) was =
+    let rest : List Located = drop (n + y.1) xs in
+    let spelled : IsRule (x ∷ xs) rest y.0 =
+    rule_spelled x.0 tag (x ∷ xs) (drop n xs) rest y.0 refl (tag_spelled x xs tag n is)
+    (ap (read (drop n xs)) was ∙ ap (λ (l : List Located). got y.0 l) (drop-drop y.1 n xs)) in
+    one_further refl (no_rule-nil (x ∷ xs)) spelled (others (n + y.1))
+
+tag_cut : (x : Located) (xs : List Located) (t : Option (Tag × ℕ)) → tag_at x xs ≡ t → Cut xs → AreCut (x ∷ xs) (step [] x xs t)
+tag_cut x xs None is others = plain_cut x xs is others
+tag_cut x xs (Some t) is others = rule_cut x xs t.0 t.1 is others (rule_at x.0 t.0 (drop t.1 xs)) refl
+
+cut : (xs : List Located) → Cut xs
+unfolding elements
+cut [] zero = last (no_rule-nil [])
+cut [] (suc n) = last (no_rule-nil [])
+cut (x ∷ xs) (suc n) = cut xs n
+cut (x ∷ xs) zero = tag_cut x xs (tag_at x xs) refl (cut xs)
+
+pub elements_are_cut : (cs : List Located) → AreCut cs (elements [] 0 cs)
+elements_are_cut cs = cut cs 0
+
 -- no rule is refused
 unfoldable pub NotRefused : List Element → Type 0
 NotRefused [] = Unit {0}
@@ -84,56 +130,14 @@ NotRefused (text piece ∷ es) = NotRefused es
 NotRefused (rule r ∷ es) = NotRefused es
 NotRefused (refused e ∷ es) = ⊥
 
-not_refused-onto : (front : List Located) (es : List Element) → NotRefused (onto front es) → NotRefused es
-unfolding onto NotRefused
-not_refused-onto front [] h = tt
-not_refused-onto front (text piece ∷ es) h = h
-not_refused-onto front (rule r ∷ es) h = h
-not_refused-onto front (refused e ∷ es) h = h
-
-grow : (x : Located) {cs : List Located} {es : List Element} → (BeginsRule (x ∷ cs) → ⊥) → AreElements cs es → AreElements (x ∷ cs) (onto (x ∷ []) es)
-unfolding onto
-grow x never (last {piece = piece} none) = last (no_rule-cons x piece [] (λ begins. never (subst (λ l. BeginsRule (x ∷ l)) (append-nil piece) begins)) none)
-grow x never (one_further {piece = piece} {behind = behind} is none r others) =
-    one_further (ap (λ l. x ∷ l) is) (no_rule-cons x piece behind (λ begins. never (subst (λ l. BeginsRule (x ∷ l)) (sym is) begins)) none) r others
-
--- the rules and pieces that are cut, from behind some characters
-abbrev Cut : List Located → Type 0
-Cut xs = (n : ℕ) → NotRefused (elements [] n xs) → AreElements (drop n xs) (elements [] n xs)
-
-plain_cut : (x : Located) (xs : List Located) → tag_at x xs ≡ None → Cut xs → NotRefused (elements (x ∷ []) 0 xs)
-    → AreElements (x ∷ xs) (elements (x ∷ []) 0 xs)
-plain_cut x xs none others h =
-    let same : elements (x ∷ []) 0 xs ≡ onto (x ∷ []) (elements [] 0 xs) = elements-onto xs (x ∷ []) in
-    subst (AreElements (x ∷ xs)) (sym same) (grow x (begins_none x xs none) (others 0 (not_refused-onto (x ∷ []) (elements [] 0 xs) (subst NotRefused same h))))
-
-rule_cut : (x : Located) (xs : List Located) (tag : Tag) (n : ℕ) → tag_at x xs ≡ Some (tag, n) → Cut xs
-    → (r : Result (Rule × ℕ) MarkupFault) → rule_at x.0 tag (drop n xs) ≡ r
-    → NotRefused (text [] ∷ and_then (map_ok (further n) r) (λ taken. elements [] taken xs))
-    → AreElements (x ∷ xs) (text [] ∷ and_then (map_ok (further n) r) (λ taken. elements [] taken xs))
+all_read : {cs : List Located} {es : List Element} → AreCut cs es → NotRefused es → AreElements cs es
 unfolding NotRefused
-rule_cut x xs tag n is others (Err e) was h = absurd h
-rule_cut x xs tag n is others (Ok y) was h =
-    let rest : List Located = drop (n + y.1) xs in
-    let spelled : IsRule (x ∷ xs) rest y.0 =
-    rule_spelled x.0 tag (x ∷ xs) (drop n xs) rest y.0 refl (tag_spelled x xs tag n is)
-    (ap (read (drop n xs)) was ∙ ap (λ (l : List Located). got y.0 l) (drop-drop y.1 n xs)) in
-    one_further refl (no_rule-nil (x ∷ xs)) spelled (others (n + y.1) h)
-
-tag_cut : (x : Located) (xs : List Located) (t : Option (Tag × ℕ)) → tag_at x xs ≡ t → Cut xs
-    → NotRefused (step [] x xs t) → AreElements (x ∷ xs) (step [] x xs t)
-tag_cut x xs None is others h = plain_cut x xs is others h
-tag_cut x xs (Some t) is others h = rule_cut x xs t.0 t.1 is others (rule_at x.0 t.0 (drop t.1 xs)) refl h
-
-cut : (xs : List Located) → Cut xs
-unfolding elements
-cut [] zero h = last (no_rule-nil [])
-cut [] (suc n) h = last (no_rule-nil [])
-cut (x ∷ xs) (suc n) h = cut xs n h
-cut (x ∷ xs) zero h = tag_cut x xs (tag_at x xs) refl (cut xs) h
+all_read (last none) h = templates.last none
+all_read (one_further is none r others) h = templates.further is none r (all_read others h)
+all_read (unreadable is none fault) h = absurd h
 
 pub elements_spelled : (cs : List Located) → NotRefused (elements [] 0 cs) → AreElements cs (elements [] 0 cs)
-elements_spelled cs h = cut cs 0 h
+elements_spelled cs h = all_read (elements_are_cut cs) h
 
 -- ---- what is spelled is cut so
 
@@ -160,9 +164,29 @@ rule_elements piece behind rest r is =
     (elements-skipped [] (two.taken + three.0) two.after
     ∙ ap (elements [] 0) (sym (drop-drop three.0 two.taken two.after) ∙ ap (λ (l : List Located). drop three.0 l) two.rest ∙ three.2))
 
-pub elements_cut : {cs : List Located} {es : List Element} → AreElements cs es → elements [] 0 cs ≡ es
-elements_cut (last {piece = piece} none) =
+fault_elements : (piece behind : List Located) (e : MarkupFault) → IsRuleFault behind e → elements piece 0 behind ≡ text piece ∷ refused e ∷ []
+fault_elements piece behind e is =
+    let one = rule_refused is in
+    let two = tag_read behind one.behind one.tag one.is in
+    let gives : rule_at two.first.0 one.tag (drop two.taken two.after) ≡ Err e =
+    (λ i. rule_at (place_of (sym two.all i)) one.tag (two.rest i)) ∙ one.refuses in
+    ap (elements piece 0) two.all
+    ∙ elements-step piece two.first two.after
+    ∙ ap (step piece two.first two.after) two.read
+    ∙ ap (λ (m : Result (Rule × ℕ) MarkupFault). text piece ∷ and_then (map_ok (further two.taken) m) (λ taken. elements [] taken two.after)) gives
+
+pub cut_elements : {cs : List Located} {es : List Element} → AreCut cs es → elements [] 0 cs ≡ es
+cut_elements (last {piece = piece} none) =
     ap (elements [] 0) (sym (append-nil piece)) ∙ plain_elements piece [] [] none ∙ elements-end piece [] refl
-elements_cut (one_further {piece = piece} {behind = behind} {rest = rest} {r = r} is none spelled others) =
+cut_elements (one_further {piece = piece} {behind = behind} {rest = rest} {r = r} is none spelled others) =
     ap (elements [] 0) is ∙ plain_elements piece behind [] none ∙ rule_elements piece behind rest r spelled
-    ∙ ap (λ es. text piece ∷ rule r ∷ es) (elements_cut others)
+    ∙ ap (λ es. text piece ∷ rule r ∷ es) (cut_elements others)
+cut_elements (unreadable {piece = piece} {behind = behind} {e = e} is none fault) =
+    ap (elements [] 0) is ∙ plain_elements piece behind [] none ∙ fault_elements piece behind e fault
+
+are_cut : {cs : List Located} {es : List Element} → AreElements cs es → AreCut cs es
+are_cut (templates.last none) = last none
+are_cut (templates.further is none r others) = one_further is none r (are_cut others)
+
+pub elements_cut : {cs : List Located} {es : List Element} → AreElements cs es → elements [] 0 cs ≡ es
+elements_cut is = cut_elements (are_cut is)

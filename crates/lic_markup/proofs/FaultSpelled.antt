@@ -22,7 +22,8 @@ use Rattle.lic_markup.specs.Reading.{Level, State, meet, meet_text, meet_variabl
 use Rattle.lic_markup.specs.Templates as templates
 use Rattle.lic_markup.specs.Templates.{Item, letters, opens_line, is_piece, is_variable, is_begin, is_finish, AreItems, no_item, one_item}
 use Rattle.lic_markup.specs.FirstFaults as faults
-use Rattle.lic_markup.specs.FirstFaults.{AreSound, IsAtFault, unreadable, bad_pattern, too_deep, no_begin, Lead, nowhere, on, over, into, out, IsFirstFault, at_rule, not_ended, no_token, too_heavy, IsFaultOf, too_long, otherwise}
+use Rattle.lic_markup.specs.FirstFaults.{AreSound, IsAtFault, of_rule, bad_pattern, too_deep, no_begin, Lead, nowhere, on, over, into, out, IsFirstFault, at_rule, not_ended, no_token, too_heavy, IsFaultOf, too_long, otherwise}
+use Rattle.lic_markup.proofs.CutSpelled.{elements_are_cut}
 use Rattle.lic_markup.proofs.LineSpelled.{opens-text, opens-variable, opens-begin, opens-finish}
 use Rattle.lic_markup.proofs.PartSpelled.{run, run_spelled}
 use Rattle.lic_markup.proofs.TemplateSpelled.{parts_in, letters_of, run_text, run_variable, run_begin, run_finish, run_nothing, behind_variable, behind_begin, behind_finish, then}
@@ -185,7 +186,7 @@ module _ (line_rules : LineRules) (words : List Phrase) where
       (sound-append (x ∷ []) sound (faults.finish faults.none))
       (open-end before place s.level o t.level os refl opens) is)
 
-  with_letters-place : (l : List ℕ) (level : Level) → (reading.with_letters l level).place ≡ level.place
+  pub with_letters-place : (l : List ℕ) (level : Level) → (reading.with_letters l level).place ≡ level.place
   with_letters-place [] level = refl
   with_letters-place (c ∷ cs) level = refl
 
@@ -209,7 +210,7 @@ module _ (line_rules : LineRules) (words : List Phrase) where
   faulty (rule (rules.begin place) ∷ es) before s e starts sound opens is =
       begin_by es before s e place (faulty es) starts sound opens (nat_lt (length s.outer) max_depth) refl is
   faulty (rule (rules.finish place) ∷ es) before s e starts sound opens is = finish_by es before s e place (faulty es) starts s.outer refl sound opens is
-  faulty (refused d ∷ es) before s e starts sound opens is = early es refl sound (subst (IsAtFault (length s.outer) (refused d)) (same_fault d e is) unreadable)
+  faulty (refused d ∷ es) before s e starts sound opens is = early es refl sound (subst (IsAtFault (length s.outer) (refused d)) (same_fault d e is) of_rule)
 
   whole_by : (es : List Element) (items : List Item) (ps : List Node) (original : List ℕ) (e : MarkupFault)
       → AreItems line_rules words [] es items → run [] [] items ≡ Some ps → (token heavy : Bool)
@@ -241,7 +242,7 @@ module _ (line_rules : LineRules) (words : List Phrase) where
   long_by template e false is h =
       let short : length template ≤ max_length = grind (arith, nat_tests) in
       let es : List Element = elements [] 0 (located template) in
-      otherwise short (first_by es e (faulty es [] start e refl faults.none nowhere h))
+      otherwise short (elements_are_cut (located template)) (first_by es e (faulty es [] start e refl faults.none nowhere h))
 
   -- the fault that is reported is the first
   pub reading-IsFaultOf : (template : List ℕ) (e : MarkupFault) → reading.reading line_rules words template ≡ Err e → IsFaultOf line_rules words template e

@@ -17,8 +17,11 @@ pub mod ReadingLemmas
 pub mod Spelled
 pub mod TagSpelled
 pub mod RuleSpelled
+pub mod RuleFaultSpelled
+pub mod RuleFaultRead
 pub mod CutSpelled
 pub mod LineSpelled
 pub mod PartSpelled
 pub mod TemplateSpelled
 pub mod FaultSpelled
+pub mod FaultRead

@@ -4,11 +4,11 @@ use Rattle.std.specs.Char.{is_ascii_alphanumeric}
 use Rattle.std.proofs.lemmas.List.{drop-drop, append-nil}
 use Rattle.lic_ere.specs.Located.{Located, with_rest, further}
 use Rattle.lic_markup.specs.declared.fault.MarkupFault.{MarkupFault}
-use Rattle.lic_markup.specs.declared.fault.MarkupCause.TheVariants.{NotClosed, NoEquals}
+use Rattle.lic_markup.specs.declared.fault.MarkupCause.TheVariants.{NotClosed}
 use Rattle.lic_markup.specs.Signs.{equals, backslash}
 use Rattle.lic_markup.specs.Texts.{begins_with}
 use Rattle.lic_markup.specs.Faults.{fault_at, map_ok}
-use Rattle.lic_markup.specs.Rules.{word_at, at_end, ends_quoted, ends_plain, one_more, name_at, quoted_at, plain_at}
+use Rattle.lic_markup.specs.Rules.{word_at, at_end, ends_quoted, ends_plain, one_more, open_field, without_equals, name_at, quoted_at, plain_at}
 use Rattle.lic_markup.proofs.FaultLemmas.{behind, behind-behind}
 
 -- a word is a front
@@ -85,15 +85,15 @@ name-ends rule start rest x after is found =
     ap (name_at rule start) is ∙ rw here refl
 
 pub name-refused : (rule start : ℕ) (rest : List Located) (x : Located) (after : List Located) → rest ≡ x ∷ after
-    → begins_with equals rest ≡ false → at_end rest ≡ true → name_at rule start rest ≡ Err (fault_at start NoEquals)
+    → begins_with equals rest ≡ false → at_end rest ≡ true → name_at rule start rest ≡ Err (without_equals rule start)
 unfolding name_at
 name-refused rule start rest x after is other found =
     let one : begins_with equals (x ∷ after) ≡ false = ap (begins_with equals) (sym is) ∙ other in
     let two : at_end (x ∷ after) ≡ true = ap at_end (sym is) ∙ found in
     ap (name_at rule start) is ∙ ap (λ b.
-    cond b (Ok ([], 1)) (cond (at_end (x ∷ after)) (Err (fault_at start NoEquals))
+    cond b (Ok ([], 1)) (cond (at_end (x ∷ after)) (Err (without_equals rule start))
     (map_ok (one_more x) (name_at rule start after)))) one
-    ∙ ap (λ b. cond b (Err (fault_at start NoEquals)) (map_ok (one_more x) (name_at rule start after))) two
+    ∙ ap (λ b. cond b (Err (without_equals rule start)) (map_ok (one_more x) (name_at rule start after))) two
 
 pub name-goes_on : (rule start : ℕ) (rest : List Located) (x : Located) (after : List Located) → rest ≡ x ∷ after
     → begins_with equals rest ≡ false → at_end rest ≡ false
@@ -102,10 +102,10 @@ unfolding name_at
 name-goes_on rule start rest x after is other further =
     let one : begins_with equals (x ∷ after) ≡ false = ap (begins_with equals) (sym is) ∙ other in
     let two : at_end (x ∷ after) ≡ false = ap at_end (sym is) ∙ further in
-    ap (λ b. cond b (Ok ([], 1)) (cond (at_end (x ∷ after)) (Err (fault_at start NoEquals)) (map_ok (one_more x) (name_at rule start after)))) one
-    ∙ ap (λ b. cond b (Err (fault_at start NoEquals)) (map_ok (one_more x) (name_at rule start after))) two
+    ap (λ b. cond b (Ok ([], 1)) (cond (at_end (x ∷ after)) (Err (without_equals rule start)) (map_ok (one_more x) (name_at rule start after)))) one
+    ∙ ap (λ b. cond b (Err (without_equals rule start)) (map_ok (one_more x) (name_at rule start after))) two
 
-pub name-open : (rule start : ℕ) (rest : List Located) → length rest ≡ 0 → name_at rule start rest ≡ Err (fault_at rule NotClosed)
+pub name-open : (rule start : ℕ) (rest : List Located) → length rest ≡ 0 → name_at rule start rest ≡ Err (open_field rule start)
 unfolding name_at
 name-open rule start [] none = refl
 name-open rule start (x ∷ rest) none = absurd (omega arith)

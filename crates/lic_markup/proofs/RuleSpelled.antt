@@ -12,12 +12,11 @@ use Rattle.lic_markup.specs.declared.tag.Tag.TheVariants.{Var, BeginOptional, En
 use Rattle.lic_markup.specs.declared.fields.Field.{Field}
 use Rattle.lic_markup.specs.declared.fields.Field.TheVariants.{Name, Original, Match, Other}
 use Rattle.lic_markup.specs.declared.fault.MarkupFault.{MarkupFault}
-use Rattle.lic_markup.specs.declared.fault.MarkupCause.TheVariants.{FieldTwice}
 use Rattle.lic_markup.specs.Signs.{semicolon, equals, greater}
 use Rattle.lic_markup.specs.Texts.{text_of, place_of, unescaped, begins_with, begins_with_two, spaces, trim_end, trim_front}
-use Rattle.lic_markup.specs.Faults.{fault_at, map_ok, ◌>>=◌}
+use Rattle.lic_markup.specs.Faults.{map_ok, ◌>>=◌}
 use Rattle.lic_markup.specs.Rules as rules
-use Rattle.lic_markup.specs.Rules.{Values, no_values, field_of, has_value, with_value, at_end, name_at, value_at, field_at, field_or_none, fields_at, Rule, complete, rule_of, tag_at, rule_at}
+use Rattle.lic_markup.specs.Rules.{Values, no_values, field_of, has_value, with_value, at_end, second_field, name_at, value_at, field_at, field_or_none, fields_at, Rule, complete, rule_of, tag_at, rule_at}
 use Rattle.lic_markup.specs.Markup.{UpTo, ends_field, ends_name, IsValue, IsField, field, IsFields, closed, empty, further as one_further, values_of, IsTag, IsRule, variable, begin, finish}
 use Rattle.lic_markup.proofs.RuleLemmas.{read}
 use Rattle.lic_markup.proofs.FieldLemmas.{read-shorter, fields_of, fields-end, fields_turn, fields_fail, fields-refused, fields-open, trim_front-shorter}
@@ -28,16 +27,16 @@ use Rattle.lic_markup.proofs.Spelled.{got, same_value, same_rest, refused, name_
 
 module _ (rule start : ℕ) (tag : Tag) (values : Values) where
   -- a field whose name was read
-  abbrev value_then : List Located → Bool → Field → List Located × ℕ → Result (Values × ℕ) MarkupFault
+  abbrev pub value_then : List Located → Bool → Field → List Located × ℕ → Result (Values × ℕ) MarkupFault
   value_then cs twice meant name =
-      cond twice (Err (fault_at start FieldTwice))
+      cond twice (Err (second_field rule start))
       (map_ok (λ value. (with_value meant value.0 values, name.1 + (spaces (drop name.1 cs) + value.1)))
       (value_at rule (trim_front (drop name.1 cs))))
 
-  abbrev meaning : List Located × ℕ → Field
+  abbrev pub meaning : List Located × ℕ → Field
   meaning name = field_of tag (text_of (trim_end name.0))
 
-  field_is : (cs : List Located)
+  pub field_is : (cs : List Located)
       → field_at rule start tag values cs
       ≡ (name_at rule start cs >>= λ name. value_then cs (has_value (meaning name) values) (meaning name) name)
   unfolding field_at
@@ -79,7 +78,7 @@ module _ (rule start : ℕ) (tag : Tag) (values : Values) where
       → UpTo ends_name cs name.0 (sign ∷ drop name.1 cs) → sign.1 ≡ equals → (t : Bool)
       → has_value (meaning name) values ≡ t
       → read cs (value_then cs t (meaning name) name) ≡ got v rest → WasField cs rest v
-  twice_by cs rest v name sign up is true h e = refused (fault_at start FieldTwice) v rest e
+  twice_by cs rest v name sign up is true h e = refused (second_field rule start) v rest e
   twice_by cs rest v name sign up is false h e = value_by cs rest v name sign up is h (value_at rule (trim_front (drop name.1 cs))) refl e
 
   name_by : (cs rest : List Located) (v : Values) (r : Result (List Located × ℕ) MarkupFault) → name_at rule start cs ≡ r
@@ -165,10 +164,10 @@ module _ {A : Type 0} (f : List Located → A) (o p : Option A) (y : List Locate
   mine_on true h s = not_two o p s
   mine_on false h s = absurd (false≢true h)
 
-abbrev meant_by : Bool → Bool → Bool → Field
+abbrev pub meant_by : Bool → Bool → Bool → Field
 meant_by b1 b2 b3 = cond b1 Name (cond b2 Original (cond b3 Match Other))
 
-other_word : (word one two : List ℕ) → bytes_eq one two ≡ false → bytes_eq word one ≡ true → bytes_eq word two ≡ false
+pub other_word : (word one two : List ℕ) → bytes_eq one two ≡ false → bytes_eq word one ≡ true → bytes_eq word two ≡ false
 other_word word one two differ h = ap (λ (l : List ℕ). bytes_eq l two) ((bytes_eq-Decides word one).0 h) ∙ differ
 
 module _ (values v : Values) (word : List ℕ) (value : List Located) (fs : List (List ℕ × List Located)) where
@@ -285,7 +284,7 @@ no_fields (closed one two) e = cc
 no_fields (empty one two more) e = cc
 no_fields (one_further one two three more) e = cc
 
-no_field : {cs rest value : List Located} {name : List ℕ} → IsField cs rest name value → cs ≡ [] → ⊥
+pub no_field : {cs rest value : List Located} {name : List ℕ} → IsField cs rest name value → cs ≡ [] → ⊥
 no_field (field {cs = cs} {behind = behind} {name = name} {sign = sign} up is value) e = empty_no name sign behind (sym e ∙ up.parts)
 
 module _ (rule : ℕ) (tag : Tag) where
@@ -385,18 +384,18 @@ module _ (rule : ℕ) (tag : Tag) where
   fields_spelled values v cs rest e = spelled (length cs) values v cs rest (omega arith) e
 
   -- what stands behind a `;`
-  none_read : (values : Values) (front : List Located) → at_end front ≡ true → read front (field_or_none rule tag values front) ≡ got values front
+  pub none_read : (values : Values) (front : List Located) → at_end front ≡ true → read front (field_or_none rule tag values front) ≡ got values front
   none_read values [] h = absurd (false≢true h)
   none_read values (z ∷ zs) h = ap (λ b. read (z ∷ zs) (cond b (Ok (values, 0)) (field_at rule z.0 tag values (z ∷ zs)))) h
 
-  some_read : (values : Values) (front more value : List Located) (name : List ℕ) → at_end front ≡ false
+  pub some_read : (values : Values) (front more value : List Located) (name : List ℕ) → at_end front ≡ false
       → IsField front more name value → has_value (field_of tag name) values ≡ false
       → read front (field_or_none rule tag values front) ≡ got (with_value (field_of tag name) value values) more
   some_read values [] more value name h is once = absurd (no_field is refl)
   some_read values (z ∷ zs) more value name h is once =
       ap (λ b. read (z ∷ zs) (cond b (Ok (values, 0)) (field_at rule z.0 tag values (z ∷ zs)))) h ∙ field_read rule z.0 tag values is once
 
-  not_two_signs : (x : Located) (cs : List Located) → x.1 ≡ semicolon → begins_with_two greater (x ∷ cs) ≡ false
+  pub not_two_signs : (x : Located) (cs : List Located) → x.1 ≡ semicolon → begins_with_two greater (x ∷ cs) ≡ false
   not_two_signs x cs is = ap (λ c. c == greater && begins_with greater cs) is
 
   fields_read : {cs rest : List Located} {fs : List (List ℕ × List Located)} → IsFields cs rest fs
@@ -419,10 +418,10 @@ module _ (rule : ℕ) (tag : Tag) where
 
 -- ---- rules
 
-abbrev rule_then : ℕ → Tag → List Located → Values × ℕ → Result (Rule × ℕ) MarkupFault
+abbrev pub rule_then : ℕ → Tag → List Located → Values × ℕ → Result (Rule × ℕ) MarkupFault
 rule_then place tag rest fields = map_ok (λ rule. (rule, spaces rest + fields.1)) (rule_of place tag fields.0)
 
-rule_is : (place : ℕ) (tag : Tag) (rest : List Located)
+pub rule_is : (place : ℕ) (tag : Tag) (rest : List Located)
     → rule_at place tag rest ≡ (fields_at place tag no_values 0 (trim_front rest) >>= rule_then place tag rest)
 unfolding rule_at
 rule_is place tag rest = refl

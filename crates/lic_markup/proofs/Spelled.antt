@@ -23,7 +23,7 @@ head_same x y xs ys e = ap (λ (l : List Located). elim l [ [] ↦ x | z ∷ zs 
 pub tail_same : (x y : Located) (xs ys : List Located) → x ∷ xs ≡ y ∷ ys → xs ≡ ys
 tail_same x y xs ys e = ap (λ (l : List Located). elim l [ [] ↦ xs | z ∷ zs ↦ zs ]) e
 
-here_at : (stands : List Located → List Located → Bool) (cs : List Located) → stands [] cs ≡ true → UpTo stands cs [] cs
+pub here_at : (stands : List Located → List Located → Bool) (cs : List Located) → stands [] cs ≡ true → UpTo stands cs [] cs
 here_at stands cs h = record { parts = refl; here = h; first = λ before x after e. absurd (empty_no before x after e) }
 
 later_first : (stands : List Located → List Located → Bool) (x : Located) (cs front rest : List Located)
@@ -35,16 +35,16 @@ later_first stands x cs front rest none up (z ∷ before) y after e =
     ap (λ (w : Located). stands (w ∷ before) (y ∷ (after ++ rest))) (sym (head_same x z front (before ++ y ∷ after) e))
     ∙ up.first before y after (tail_same x z front (before ++ y ∷ after) e)
 
-later : (stands : List Located → List Located → Bool) (x : Located) (cs front rest : List Located)
+pub later : (stands : List Located → List Located → Bool) (x : Located) (cs front rest : List Located)
     → stands [] (x ∷ cs) ≡ false → UpTo (λ before. stands (x ∷ before)) cs front rest
     → UpTo stands (x ∷ cs) (x ∷ front) rest
 later stands x cs front rest none up = record { parts = ap (λ l. x ∷ l) up.parts; here = up.here; first = later_first stands x cs front rest none up }
 
-not_here : (stands : List Located → List Located → Bool) (x : Located) (cs front rest : List Located)
+pub not_here : (stands : List Located → List Located → Bool) (x : Located) (cs front rest : List Located)
     → UpTo stands cs (x ∷ front) rest → stands [] (x ∷ (front ++ rest)) ≡ false
 not_here stands x cs front rest up = up.first [] x front refl
 
-past : (stands : List Located → List Located → Bool) (x : Located) (cs front rest : List Located)
+pub past : (stands : List Located → List Located → Bool) (x : Located) (cs front rest : List Located)
     → UpTo stands cs (x ∷ front) rest → UpTo (λ before. stands (x ∷ before)) (front ++ rest) front rest
 past stands x cs front rest up = record { parts = refl; here = up.here; first = λ before y after e. up.first (x ∷ before) y after (ap (λ l. x ∷ l) e) }
 
@@ -166,7 +166,7 @@ module _ (rule : ℕ) where
       ∙ ap (behind (x ∷ [])) (quoted_read front end l rest (past ends_quote x cs front (end ∷ rest) up))
 
   -- the end of a value, where what is before it ends so
-  abbrev ends_from : Bool → List Located → List Located → Bool
+  abbrev pub ends_from : Bool → List Located → List Located → Bool
   ends_from escaped before here = begins_with_two greater here || (begins_with semicolon here && not (ends_escaped escaped before))
 
   plain_by : (escaped : Bool) (x : Located) (cs v rest : List Located) (t : Bool) → ends_plain escaped (x ∷ cs) ≡ t
@@ -202,10 +202,10 @@ module _ (rule : ℕ) where
       ∙ ap (behind (x ∷ [])) (plain_read (eqb x.1 backslash) front l rest (past (ends_from escaped) x cs front rest up))
 
   -- a value, by whether a `"` stands in front
-  abbrev value_by : Bool → List Located → Result (List Located × ℕ) MarkupFault
+  abbrev pub value_by : Bool → List Located → Result (List Located × ℕ) MarkupFault
   value_by t cs = cond t (map_ok (further 1) (quoted_at rule (drop 1 cs))) (map_ok (λ v. (trim_end v.0, v.1)) (plain_at rule false cs))
 
-  value_is : (cs : List Located) → value_at rule cs ≡ value_by (begins_with double_quote cs) cs
+  pub value_is : (cs : List Located) → value_at rule cs ≡ value_by (begins_with double_quote cs) cs
   unfolding value_at
   value_is cs = refl
 

@@ -26,7 +26,7 @@ use Rattle.lic_markup.specs.Parts.{Node, Reading, TemplateValue, row, row_weight
 use Rattle.lic_markup.specs.Reading as reading
 use Rattle.lic_markup.specs.Reading.{Level, State, new_level, with_part, meet, meet_text, meet_variable, meet_begin, meet_end, finish, read_on, read_elements, start, whole, told, max_depth, max_length, max_weight}
 use Rattle.lic_markup.specs.Templates as templates
-use Rattle.lic_markup.specs.Templates.{Item, letters, variable, begin, original_of, opens_line, follows, IsItem, is_piece, is_variable, is_begin, is_finish, AreItems, no_item, one_item, IsTemplate}
+use Rattle.lic_markup.specs.Templates.{Item, letters, variable, begin, original_of, opens_line, follows, IsItem, is_piece, is_variable, is_begin, is_finish, AreItems, no_item, one_item, AreParts, IsTemplate}
 use Rattle.lic_markup.proofs.FaultLemmas.{Gives-same}
 use Rattle.lic_markup.proofs.CutSpelled.{NotRefused, elements_spelled, elements_cut}
 use Rattle.lic_markup.proofs.LineSpelled.{follows-is, opens-text, opens-variable, opens-begin, opens-finish}
@@ -320,70 +320,73 @@ module _ (line_rules : LineRules) (words : List Phrase) where
 
   -- ---- what is spelled is read
 
-  run_end : (s : State) (r : Reading) (os : List Level) → s.outer ≡ os
-      → run s.level.parts (parts_in s.outer) [] ≡ Some r.parts → r.original ≡ s.original ++ [] → IsWhole r
-      → finish s.level os s.original ≡ Ok r
+  run_end : (s : State) (ps : List Node) (os : List Level) → s.outer ≡ os
+      → run s.level.parts (parts_in s.outer) [] ≡ Some ps → finish s.level os s.original ≡ whole ps (s.original ++ [])
   unfolding run
-  run_end s r [] none e original is =
-      let ps : s.level.parts ≡ r.parts = items.same s.level.parts r.parts (sym (ap (λ (os : List Level). items.ended s.level.parts (parts_in os)) none) ∙ e) in
-      (λ i. whole (ps i) ((sym (append-nil s.original) ∙ sym original) i)) ∙ whole_read r is
-  run_end s r (o ∷ os) some e original is = absurd (never (sym (ap (λ (os : List Level). items.ended s.level.parts (parts_in os)) some) ∙ e))
+  run_end s ps [] none e =
+      let same : s.level.parts ≡ ps = items.same s.level.parts ps (sym (ap (λ (os : List Level). items.ended s.level.parts (parts_in os)) none) ∙ e) in
+      (λ i. whole (same i) (sym (append-nil s.original) i))
+  run_end s ps (o ∷ os) some e = absurd (never (sym (ap (λ (os : List Level). items.ended s.level.parts (parts_in os)) some) ∙ e))
     where
-      never : None ≡ items.got r.parts → ⊥
+      never : None ≡ items.got ps → ⊥
       never h = cc
 
   -- what the rest of the elements gives
   abbrev Reads : List Element → List Element → List Item → Type 0
-  Reads before es is = (s : State) (r : Reading) → s.at_start ≡ opens_line before
-      → run s.level.parts (parts_in s.outer) is ≡ Some r.parts → r.original ≡ s.original ++ original_of es → IsWhole r
-      → read_on line_rules words s (with_next es) ≡ Ok r
+  Reads before es is = (s : State) (ps : List Node) → s.at_start ≡ opens_line before
+      → run s.level.parts (parts_in s.outer) is ≡ Some ps
+      → read_on line_rules words s (with_next es) ≡ whole ps (s.original ++ original_of es)
 
   begin_reads : (before es : List Element) (place : ℕ) (is : List Item)
-      → Reads (before ++ rule (rules.begin place) ∷ []) es is → (s : State) (r : Reading)
+      → Reads (before ++ rule (rules.begin place) ∷ []) es is → (s : State) (ps : List Node)
       → s.at_start ≡ opens_line before → (t : Bool) → nat_lt (length s.outer) max_depth ≡ t
-      → run s.level.parts (parts_in s.outer) (begin ∷ is) ≡ Some r.parts → r.original ≡ s.original ++ original_of es
-      → IsWhole r → then (cond t (Ok (behind_begin s place)) (Err (fault_at place TooDeep))) es ≡ Ok r
+      → run s.level.parts (parts_in s.outer) (begin ∷ is) ≡ Some ps
+      → then (cond t (Ok (behind_begin s place)) (Err (fault_at place TooDeep))) es ≡ whole ps (s.original ++ original_of es)
   unfolding run
-  begin_reads before es place is others s r starts true small e original w =
-      others (behind_begin s place) r (opens-begin s.at_start before place starts) (sym (run_begin s is small) ∙ e) original w
-  begin_reads before es place is others s r starts false small e original w =
+  begin_reads before es place is others s ps starts true small e =
+      others (behind_begin s place) ps (opens-begin s.at_start before place starts) (sym (run_begin s is small) ∙ e)
+  begin_reads before es place is others s ps starts false small e =
       absurd (never (sym (ap (λ b. cond b (run [] (s.level.parts ∷ parts_in s.outer) is) None)
       (ap (λ n. ltb n max_depth) (length-map s.outer (λ l. l.parts)) ∙ small)) ∙ e))
     where
-      never : None ≡ items.got r.parts → ⊥
+      never : None ≡ items.got ps → ⊥
       never h = cc
 
   finish_reads : (before es : List Element) (place : ℕ) (is : List Item)
-      → Reads (before ++ rule (rules.finish place) ∷ []) es is → (s : State) (r : Reading)
+      → Reads (before ++ rule (rules.finish place) ∷ []) es is → (s : State) (ps : List Node)
       → s.at_start ≡ opens_line before → (os : List Level) → s.outer ≡ os
-      → run s.level.parts (parts_in s.outer) (templates.finish ∷ is) ≡ Some r.parts
-      → r.original ≡ s.original ++ original_of es → IsWhole r → then (meet_end place s.level os s) es ≡ Ok r
+      → run s.level.parts (parts_in s.outer) (templates.finish ∷ is) ≡ Some ps
+      → then (meet_end place s.level os s) es ≡ whole ps (s.original ++ original_of es)
   unfolding run
-  finish_reads before es place is others s r starts [] none e original w =
+  finish_reads before es place is others s ps starts [] none e =
       absurd (never (sym (ap (λ (os : List Level). run s.level.parts (parts_in os) (templates.finish ∷ is)) none) ∙ e))
     where
-      never : None ≡ items.got r.parts → ⊥
+      never : None ≡ items.got ps → ⊥
       never h = cc
-  finish_reads before es place is others s r starts (o ∷ os) some e original w =
-      others (behind_finish s o os) r (opens-finish s.at_start before place starts) (sym (run_finish s o os is some) ∙ e) original w
+  finish_reads before es place is others s ps starts (o ∷ os) some e =
+      others (behind_finish s o os) ps (opens-finish s.at_start before place starts) (sym (run_finish s o os is some) ∙ e)
 
   reads : {before es : List Element} {is : List Item} → AreItems line_rules words before es is → Reads before es is
   unfolding read_on meet run
-  reads no_item s r starts e original w = run_end s r s.outer refl e original w
-  reads (one_item {before = before} {after = es} {is = is} (is_piece {cs = cs}) others) s r starts e original w =
-      reads others (meet_text line_rules words cs (next_of es) s) r (opens-text s.at_start before cs starts)
-      (sym (run_text s before cs es is starts) ∙ e)
-      (original ∙ sym (append_assoc s.original (text_of cs) (original_of es))) w
+  reads no_item s ps starts e = run_end s ps s.outer refl e
+  reads (one_item {before = before} {after = es} {is = is} (is_piece {cs = cs}) others) s ps starts e =
+      reads others (meet_text line_rules words cs (next_of es) s) ps (opens-text s.at_start before cs starts) (sym (run_text s before cs es is starts) ∙ e)
+      ∙ ap (whole ps) (append_assoc s.original (text_of cs) (original_of es))
   reads (one_item {before = before} {after = es} {is = is}
       (is_variable {name = name} {original = o} {pattern = pattern} {place = place} {tree =
-      tree} spelled) others) s r starts e original w =
+      tree} spelled) others) s ps starts e =
       ap (λ (p : Result Tree EreFault). then (meet_variable name o place p s) es) (IsPattern-read pattern tree spelled)
-      ∙ reads others (behind_variable s name o tree) r (opens-variable before name o place pattern) e
-      (original ∙ sym (append_assoc s.original o (original_of es))) w
-  reads (one_item {before = before} {after = es} {is = is} (is_begin {place = place}) others) s r starts e original w =
-      begin_reads before es place is (reads others) s r starts (nat_lt (length s.outer) max_depth) refl e original w
-  reads (one_item {before = before} {after = es} {is = is} (is_finish {place = place}) others) s r starts e original w =
-      finish_reads before es place is (reads others) s r starts s.outer refl e original w
+      ∙ reads others (behind_variable s name o tree) ps (opens-variable before name o place pattern) e
+      ∙ ap (whole ps) (append_assoc s.original o (original_of es))
+  reads (one_item {before = before} {after = es} {is = is} (is_begin {place = place}) others) s ps starts e =
+      begin_reads before es place is (reads others) s ps starts (nat_lt (length s.outer) max_depth) refl e
+  reads (one_item {before = before} {after = es} {is = is} (is_finish {place = place}) others) s ps starts e =
+      finish_reads before es place is (reads others) s ps starts s.outer refl e
+
+  -- the parts that elements say are read
+  pub items_read : (es : List Element) (is : List Item) (ps : List Node) → AreItems line_rules words [] es is
+      → AreParts 0 is ps → read_elements line_rules words es ≡ whole ps (original_of es)
+  items_read es is ps are nested = reads are start ps refl (spelled_run is ps nested)
 
   -- a template of the markup is read
   pub IsTemplate-read : (template : List ℕ) (r : Reading) → IsTemplate line_rules words template r → reading.reading line_rules words template ≡ Ok r
@@ -391,8 +394,9 @@ module _ (line_rules : LineRules) (words : List Phrase) where
       let short : nat_lt max_length (length template) ≡ false = grind (arith, nat_tests, is.short) in
       ap (λ b. cond b (Err (fault_at 0 TooLong)) (read_elements line_rules words (elements [] 0 (located template)))) short
       ∙ ap (read_elements line_rules words) (elements_cut is.cut)
-      ∙ reads is.read start r refl (spelled_run is.items r.parts is.nested) is.original
-      (record { some_token = is.some_token; weight = is.weight; light = is.light })
+      ∙ items_read is.elements is.items r.parts is.read is.nested
+      ∙ ap (whole r.parts) (sym is.original)
+      ∙ whole_read r (record { some_token = is.some_token; weight = is.weight; light = is.light })
 
 -- ---- what the reader of the code gives
 

@@ -12,10 +12,20 @@ use Rattle.lic_markup.specs.declared.fault.MarkupFault.{MarkupFault}
 use Rattle.lic_markup.specs.declared.fault.MarkupCause.TheVariants.{EndWithoutBegin, NotEnded, TooDeep, TooHeavy, NoLetter, TooLong}
 use Rattle.lic_markup.specs.Faults.{fault_at}
 use Rattle.lic_markup.specs.Rules as rules
-use Rattle.lic_markup.specs.Elements.{Element, text, rule, refused, elements}
+use Rattle.lic_markup.specs.Elements.{Element, text, rule, refused}
+use Rattle.lic_markup.specs.Markup.{IsRule}
 use Rattle.lic_markup.specs.Parts.{Node, row, row_weight, row_has_token}
 use Rattle.lic_markup.specs.Reading.{max_depth, max_length, max_weight, told}
-use Rattle.lic_markup.specs.Templates.{Item, AreItems, AreParts}
+use Rattle.lic_markup.specs.RuleFaults.{IsRuleFault}
+use Rattle.lic_markup.specs.Templates.{Item, HasNoRule, AreItems, AreParts}
+
+-- Pieces of text and rules in turn, as far as rules can be read: to the end, or to the first one that is at fault by itself.
+pub data AreCut : List Located → List Element → Type 0 where
+  last : {piece : List Located} → HasNoRule piece [] → AreCut piece (text piece ∷ [])
+  further : {cs piece behind rest : List Located} {r : rules.Rule} {es : List Element} → cs ≡ piece ++ behind
+      → HasNoRule piece behind → IsRule behind rest r → AreCut rest es → AreCut cs (text piece ∷ rule r ∷ es)
+  unreadable : {cs piece behind : List Located} {e : MarkupFault} → cs ≡ piece ++ behind → HasNoRule piece behind
+      → IsRuleFault behind e → AreCut cs (text piece ∷ refused e ∷ [])
 
 -- None of these elements is at fault, and they lead from so many open optional parts to so many.
 pub data AreSound : ℕ → List Element → ℕ → Type 0 where
@@ -32,8 +42,8 @@ pub data AreSound : ℕ → List Element → ℕ → Type 0 where
 
 -- an element at fault, with so many optional parts open
 pub data IsAtFault : ℕ → Element → MarkupFault → Type 0 where
-  -- a rule that cannot be read, by its first fault
-  unreadable : {depth : ℕ} {e : MarkupFault} → IsAtFault depth (refused e) e
+  -- a rule that is at fault by itself
+  of_rule : {depth : ℕ} {e : MarkupFault} → IsAtFault depth (refused e) e
   bad_pattern : {depth place : ℕ} {name original pattern : List ℕ} {e : EreFault} → ere.reading pattern ≡ Err e
       → IsAtFault depth (rule (rules.variable name original place pattern)) (told place e)
   too_deep : {depth place : ℕ} → max_depth ≤ depth → IsAtFault depth (rule (rules.begin place)) (fault_at place TooDeep)
@@ -70,5 +80,5 @@ pub data IsFirstFault (line_rules : LineRules) (words : List Phrase) (es : List 
 -- the fault that decides of a template, given as its bytes
 pub data IsFaultOf (line_rules : LineRules) (words : List Phrase) (template : List ℕ) : MarkupFault → Type 0 where
   too_long : max_length < length template → IsFaultOf line_rules words template (fault_at 0 TooLong)
-  otherwise : {e : MarkupFault} → length template ≤ max_length
-      → IsFirstFault line_rules words (elements [] 0 (located template)) e → IsFaultOf line_rules words template e
+  otherwise : {es : List Element} {e : MarkupFault} → length template ≤ max_length → AreCut (located template) es
+      → IsFirstFault line_rules words es e → IsFaultOf line_rules words template e

@@ -11,6 +11,7 @@ pub mod Reading
 pub mod ReadTexts
 pub mod Markup
 pub mod Templates
+pub mod RuleFaults
 pub mod FirstFaults
 pub mod Meaning
 pub mod Views

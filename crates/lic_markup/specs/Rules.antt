@@ -79,13 +79,23 @@ at_end rest = begins_with semicolon rest || begins_with_two greater rest
 abbrev pub one_more : Located → List Located × ℕ → List Located × ℕ
 one_more x read = (x ∷ read.0, 1 + read.1)
 
+-- The faults of a field, by the places of its rule and of the field: the text ends in it, it has no `=`, it is a second one.
+abbrev pub open_field : ℕ → ℕ → MarkupFault
+open_field rule start = fault_at rule NotClosed
+
+abbrev pub without_equals : ℕ → ℕ → MarkupFault
+without_equals rule start = fault_at start NoEquals
+
+abbrev pub second_field : ℕ → ℕ → MarkupFault
+second_field rule start = fault_at start FieldTwice
+
 -- A field's name with the white space behind it: the characters up to the first `=`, which is taken too.
 -- `rule` and `start` are the places of the rule and of the field.
 unfoldable pub name_at : ℕ → ℕ → List Located → Result (List Located × ℕ) MarkupFault
-name_at rule start [] = Err (fault_at rule NotClosed)
+name_at rule start [] = Err (open_field rule start)
 name_at rule start (x ∷ rest) =
     if begins_with equals (x ∷ rest) then Ok ([], 1)
-    else (if at_end (x ∷ rest) then Err (fault_at start NoEquals)
+    else (if at_end (x ∷ rest) then Err (without_equals rule start)
     else map_ok (one_more x) (name_at rule start rest))
 
 -- a `"` directly before `;` or `>>`
@@ -124,7 +134,7 @@ field_at rule start tag values rest =
     name_at rule start rest >>= λ name.
     let field : Field = field_of tag (text_of (trim_end name.0)) in
     let behind : List Located = drop name.1 rest in
-    (if has_value field values then Err (fault_at start FieldTwice)
+    (if has_value field values then Err (second_field rule start)
     else map_ok (λ value. (with_value field value.0 values, name.1 + (spaces behind + value.1)))
     (value_at rule (trim_front behind)))
 

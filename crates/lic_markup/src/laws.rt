@@ -1,5 +1,5 @@
 //! Laws of what parts of templates stand for, each the contract of a function that does nothing.
-ghost use Rattle.std.specs.Prelude.{◌≡◌, ◌↔◌, ◌++◌, ◌∷◌, [], ◌==◌, ℕ, Bool, true, false, not};
+ghost use Rattle.std.specs.Prelude.{◌≡◌, ◌↔◌, ◌++◌, ◌∷◌, ◌⊎◌, [], ◌==◌, ℕ, Bool, true, false, not};
 ghost use Rattle.std.specs.Prelude.{List, Vec, String, Ok, Err, All, chars, map};
 ghost use Rattle.std.specs.Global.{Global};
 ghost use Rattle.std.specs.List.{concat, filter, list_any};
@@ -84,8 +84,9 @@ pub fn a_template_without_rules_is_one_text()
         → read.parts ≡ letters (piece_of rules words true LineEnd template) ∷ [] }
 {}
 
-/// The fault that a template is refused by is the one that decides: that it is too long; else the first rule at fault; else,
-/// behind the last rule, that a part is open, that no piece gives a token, that the template is too heavy.
+/// The fault that a template is refused by is the one that decides: that it is too long; else the first rule at fault, by what is
+/// met first in it from the left; else, behind the last rule, that a part is open, that no piece gives a token, that the template
+/// is too heavy.
 pub fn a_template_is_refused_by_the_fault_that_decides()
     ensures { (rules : LineRules) (words : List Phrase) (template : List ℕ) (e : MarkupFault)
         → reading rules words template ≡ Err e → IsFaultOf rules words template e }
@@ -95,6 +96,20 @@ pub fn a_template_is_refused_by_the_fault_that_decides()
 pub fn a_template_says_one_thing()
     ensures { (rules : LineRules) (words : List Phrase) (template : List ℕ) (one other : Reading)
         → IsTemplate rules words template one → IsTemplate rules words template other
+        → one ≡ other }
+{}
+
+/// A text says something as a template of the markup, or one fault decides of it, and never both.
+pub fn a_template_says_something_or_is_at_fault()
+    ensures either { (rules : LineRules) (words : List Phrase) (template : List ℕ)
+        → ((says : Reading) × IsTemplate rules words template says)
+        ⊎ ((e : MarkupFault) × IsFaultOf rules words template e) }
+    ensures never_both { (rules : LineRules) (words : List Phrase) (template : List ℕ)
+        (says : Reading) (e : MarkupFault)
+        → IsTemplate rules words template says → ¬ (IsFaultOf rules words template e) }
+    ensures one_fault { (rules : LineRules) (words : List Phrase) (template : List ℕ)
+        (one other : MarkupFault)
+        → IsFaultOf rules words template one → IsFaultOf rules words template other
         → one ≡ other }
 {}
 

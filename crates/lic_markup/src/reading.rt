@@ -1,7 +1,8 @@
 //! Reading a template.
-ghost use Rattle.std.specs.Prelude.{◌≡◌, ◌≤◌, IfOk, Ok, map, reverse};
+ghost use Rattle.std.specs.Prelude.{◌≡◌, ◌<◌, ◌≤◌, IfErr, IfOk, Ok, Err, length, map, reverse};
 ghost use Rattle.lic_kind.specs.LineRules.{rules_of};
-ghost use Rattle.lic_markup.specs.Faults.{Gives};
+ghost use Rattle.lic_markup.specs.Faults.{Gives, IsLasting, fault_at};
+ghost use Rattle.lic_markup.specs.FirstFaults.{IsFaultOf};
 ghost use Rattle.lic_markup.specs.Parts.{GiveToken, Reading, template_of, weight_of};
 ghost use Rattle.lic_markup.specs.Reading.{start, read_on, reading};
 ghost use Rattle.lic_markup.specs.Templates.{IsTemplate};
@@ -57,6 +58,14 @@ pub fn read_template(
         → Gives template_of result (Ok says) }
     // The parts, the weight and the original text, or the fault that decides, unless memory runs out.
     ensures exact { Gives template_of result (reading (rules_of rules.now) words.now text.now) }
+    // What refuses a template is the fault that decides, unless memory runs out.
+    ensures refused { IfErr result (λ e. IsLasting e
+        → IsFaultOf (rules_of rules.now) words.now text.now e) }
+    // A template is refused by the fault that decides, where one does, unless memory runs out.
+    ensures faulty { (e : MarkupFault) → IsFaultOf (rules_of rules.now) words.now text.now e
+        → Gives template_of result (Err e) }
+    // A template that is too long is refused as such, whatever memory there is.
+    ensures long { 1048576 < length text.now → result ≡ Err (fault_at 0 MarkupCause.TooLong) }
     // What a template weighs and holds, whatever was read.
     ensures weighed { IfOk result (λ t. t.weight ≡ weight_of t.parts) }
     ensures light { IfOk result (λ t. t.weight ≤ 131072) }
