@@ -27,3 +27,9 @@ pub fn no_fault_is_in_the_grammar()
     ensures { (pattern : List ℕ) (tree : Tree) (e : EreFault) → IsPattern pattern tree
         → ¬ (IsFaultOf pattern e) }
 {}
+
+/// Each pattern is in the grammar or has a first fault.
+pub fn each_pattern_has_a_tree_or_a_fault()
+    ensures { (pattern : List ℕ) → ((tree : Tree) × IsPattern pattern tree)
+        ⊎ ((e : EreFault) × IsFaultOf pattern e) }
+{}
