@@ -11,7 +11,7 @@ use Rattle.std.proofs.lemmas.List.Elements.{All-nil, All-cons, All-head, All-tai
 use Rattle.std.proofs.Math.Seq.{get_or-append_seam}
 use Rattle.lic_lines.specs.Sources.{placed, chars_of}
 use Rattle.lic_lines.specs.declared.source.SourceChar.{SourceChar}
-use Rattle.lic_norm.specs.Sources.{width_of_first, first_width, first_char, source_behind, source_of}
+use Rattle.lic_norm.specs.Sources.{width_of_first, first_width, first_char, source_behind, source_of, AreSourceChars}
 
 -- a character begins these bytes
 pub record Begins (bytes : List ℕ) : Type 0 where
@@ -165,19 +165,11 @@ source_of-byte at b rest none =
           at + unwrap_or o 1;
     }) ∷ source_behind (unwrap_or o 1 - 1) (at + 1) rest) found
 
--- Source characters as they are read from the front of bytes that begin at this byte of the input.
-pub data AreRead : ℕ → List ℕ → List SourceChar → Type 0 where
-  no_bytes : (at : ℕ) → AreRead at [] []
-  a_char : (at : ℕ) (bytes : List ℕ) (c : ℕ) (rest : List ℕ) (cs : List SourceChar) → IsScalar c → bytes ≡ encode_utf8 c ++ rest
-      → AreRead (at + len_utf8 c) rest cs → AreRead at bytes ((record { char = c; start = at; end = at + len_utf8 c }) ∷ cs)
-  a_byte : (at b : ℕ) (rest : List ℕ) (cs : List SourceChar) → StartsWithNoChar (b ∷ rest)
-      → AreRead (at + 1) rest cs → AreRead at (b ∷ rest) ((record { char = 0xFFFD; start = at; end = at + 1 }) ∷ cs)
-
-pub source_of-AreRead : (at : ℕ) (bytes : List ℕ) → AreRead at bytes (source_of at bytes)
-source_of-AreRead at bytes = within (length bytes) at bytes (omega arith)
+pub source_of-AreSourceChars : (at : ℕ) (bytes : List ℕ) → AreSourceChars at bytes (source_of at bytes)
+source_of-AreSourceChars at bytes = within (length bytes) at bytes (omega arith)
   where
-    within : (n at : ℕ) (bytes : List ℕ) → length bytes ≤ n → AreRead at bytes (source_of at bytes)
-    within n at [] short = subst (AreRead at []) (sym (source_of-none at)) (AreRead.no_bytes at)
+    within : (n at : ℕ) (bytes : List ℕ) → length bytes ≤ n → AreSourceChars at bytes (source_of at bytes)
+    within n at [] short = subst (AreSourceChars at []) (sym (source_of-none at)) (AreSourceChars.no_bytes at)
     within zero at (b ∷ bytes) short = absurd (omega arith)
     within (suc n) at (b ∷ bytes) short =
         elim (begins_or_not (b ∷ bytes) (omega arith)) [
@@ -190,11 +182,20 @@ source_of-AreRead at bytes = within (length bytes) at bytes (omega arith)
                 length-encode first.c,
                 len_utf8_bounds first.c,
               ) in
-              subst (AreRead at (b ∷ bytes)) (sym (ap (source_of at) first.parts ∙ source_of-char at first.c first.rest first.scalar))
-              (AreRead.a_char at (b ∷ bytes) first.c first.rest _ first.scalar first.parts (within n (at + len_utf8 first.c) first.rest less))
-          | inr none ↦ subst (AreRead at (b ∷ bytes)) (sym (source_of-byte at b bytes none))
-              (AreRead.a_byte at b bytes _ none (within n (at + 1) bytes (omega arith)))
+              subst (AreSourceChars at (b ∷ bytes)) (sym (ap (source_of at) first.parts ∙ source_of-char at first.c first.rest first.scalar))
+              (AreSourceChars.a_char at (b ∷ bytes) first.c first.rest _ first.scalar first.parts (within n (at + len_utf8 first.c) first.rest less))
+          | inr none ↦ subst (AreSourceChars at (b ∷ bytes)) (sym (source_of-byte at b bytes none))
+              (AreSourceChars.a_byte at b bytes _ none (within n (at + 1) bytes (omega arith)))
         ]
+
+-- and no other list is read so
+pub AreSourceChars-same : {at : ℕ} {bytes : List ℕ} {cs : List SourceChar} → AreSourceChars at bytes cs → cs ≡ source_of at bytes
+AreSourceChars-same (AreSourceChars.no_bytes at) = sym (source_of-none at)
+AreSourceChars-same (AreSourceChars.a_char at bytes c rest cs scalar came read) =
+    ap (λ l. (record { char = c; start = at; end = at + len_utf8 c }) ∷ l) (AreSourceChars-same read)
+    ∙ sym (ap (source_of at) came ∙ source_of-char at c rest scalar)
+AreSourceChars-same (AreSourceChars.a_byte at b rest cs none read) =
+    ap (λ l. (record { char = 0xFFFD; start = at; end = at + 1 }) ∷ l) (AreSourceChars-same read) ∙ sym (source_of-byte at b rest none)
 
 -- ---- cuts that go through no character
 
@@ -236,7 +237,7 @@ no_char_sooner front rest none = λ c behind scalar parts.
 -- No character goes over an ASCII byte: what stands before it is read by itself.
 pub source_of-before_ascii : (at : ℕ) (front : List ℕ) (b : ℕ) (rest : List ℕ) → b < 128
     → source_of at (front ++ b ∷ rest) ≡ source_of at front ++ source_of (at + length front) (b ∷ rest)
-source_of-before_ascii at front b rest ascii = by (source_of-AreRead at (front ++ b ∷ rest)) front refl
+source_of-before_ascii at front b rest ascii = by (source_of-AreSourceChars at (front ++ b ∷ rest)) front refl
   where
     nothing : (at : ℕ) → source_of at (b ∷ rest) ≡ source_of at [] ++ source_of (at + 0) (b ∷ rest)
     nothing at = ap₂ (λ l n. l ++ source_of n (b ∷ rest)) (sym (source_of-none at)) (let e : at ≡ at + 0 = omega arith in e)
@@ -252,12 +253,12 @@ source_of-before_ascii at front b rest ascii = by (source_of-AreRead at (front +
         (λ (within : len_utf8 c ≤ length front). within)
         (cases_lt (length front) (len_utf8 c))
 
-    by : {at : ℕ} {bytes : List ℕ} {cs : List SourceChar} → AreRead at bytes cs → (front : List ℕ)
+    by : {at : ℕ} {bytes : List ℕ} {cs : List SourceChar} → AreSourceChars at bytes cs → (front : List ℕ)
         → bytes ≡ front ++ b ∷ rest → source_of at bytes
         ≡ source_of at front ++ source_of (at + length front) (b ∷ rest)
-    by (AreRead.no_bytes at) front parts = absurd (omega (arith, ap length parts, length-append front (b ∷ rest)))
-    by (AreRead.a_char at bytes c behind cs scalar came read) [] parts = ap (source_of at) parts ∙ nothing at
-    by (AreRead.a_char at bytes c behind cs scalar came read) (x ∷ front) parts =
+    by (AreSourceChars.no_bytes at) front parts = absurd (omega (arith, ap length parts, length-append front (b ∷ rest)))
+    by (AreSourceChars.a_char at bytes c behind cs scalar came read) [] parts = ap (source_of at) parts ∙ nothing at
+    by (AreSourceChars.a_char at bytes c behind cs scalar came read) (x ∷ front) parts =
         let whole = x ∷ front in
         let le : length (encode_utf8 c) ≤ length whole = omega (arith, length-encode c, ends_before c whole behind (omega arith) (sym parts ∙ came)) in
         let cut = parts_behind (encode_utf8 c) whole behind (b ∷ rest) (sym parts ∙ came) le in
@@ -267,8 +268,8 @@ source_of-before_ascii at front b rest ascii = by (source_of-AreRead at (front +
         ap (source_of at) came ∙ source_of-char at c behind scalar
         ∙ ap (λ l. first ∷ l) (by read mid cut.2 ∙ ap (λ n. source_of (at + len_utf8 c) mid ++ source_of n (b ∷ rest)) long)
         ∙ ap (λ l. l ++ source_of (at + length whole) (b ∷ rest)) (sym (ap (source_of at) cut.1 ∙ source_of-char at c mid scalar))
-    by (AreRead.a_byte at a behind cs none read) [] parts = ap (source_of at) parts ∙ nothing at
-    by (AreRead.a_byte at a behind cs none read) (x ∷ front) parts =
+    by (AreSourceChars.a_byte at a behind cs none read) [] parts = ap (source_of at) parts ∙ nothing at
+    by (AreSourceChars.a_byte at a behind cs none read) (x ∷ front) parts =
         let same : a ≡ x = ap (λ l. get_or l 0 0) parts in
         let later : behind ≡ front ++ b ∷ rest = ap (drop 1) parts in
         let first : SourceChar = record { char = 0xFFFD; start = at; end = at + 1 } in
@@ -288,14 +289,14 @@ source_of-ascii at b rest ascii =
 
 -- where no byte is this ASCII byte, no character is
 pub source_of-has_none : (at b : ℕ) (bytes : List ℕ) → b < 0xFFFD → b < 128 → All (λ a. a ≢ b) bytes → All (λ c. c ≢ b) (chars_of (source_of at bytes))
-source_of-has_none at b bytes other ascii none = by (source_of-AreRead at bytes) none
+source_of-has_none at b bytes other ascii none = by (source_of-AreSourceChars at bytes) none
   where
     IsOther : ℕ → Type 0
     IsOther a = a ≢ b
 
-    by : {at : ℕ} {bytes : List ℕ} {cs : List SourceChar} → AreRead at bytes cs → All IsOther bytes → All IsOther (chars_of cs)
-    by (AreRead.no_bytes at) none = All-nil IsOther
-    by (AreRead.a_char at bytes c rest cs scalar came read) none =
+    by : {at : ℕ} {bytes : List ℕ} {cs : List SourceChar} → AreSourceChars at bytes cs → All IsOther bytes → All IsOther (chars_of cs)
+    by (AreSourceChars.no_bytes at) none = All-nil IsOther
+    by (AreSourceChars.a_char at bytes c rest cs scalar came read) none =
         All-cons IsOther c (chars_of cs)
         (λ same.
         let first : bytes ≡ b ∷ rest = came ∙ ap (λ d. encode_utf8 d ++ rest) same ∙ ap (λ l. l ++ rest) (encode_ascii b ascii) in
@@ -303,6 +304,6 @@ source_of-has_none at b bytes other ascii none = by (source_of-AreRead at bytes)
         (by read (subst (All IsOther)
         (ap (drop (len_utf8 c)) came ∙ drop_at (encode_utf8 c) rest (len_utf8 c) (length-encode c))
         (All-drop IsOther (len_utf8 c) bytes none)))
-    by (AreRead.a_byte at a rest cs nothing read) none =
+    by (AreSourceChars.a_byte at a rest cs nothing read) none =
         All-cons IsOther 0xFFFD (chars_of cs) (λ same. absurd (omega (arith, same)))
         (by read (All-tail IsOther a rest none))

@@ -16,9 +16,9 @@ use Rattle.lic_lines.specs.declared.line_part.LinePart.{LinePart}
 use Rattle.lic_lines.specs.LineRules.{LineRules}
 use Rattle.lic_lines.specs.Lines.{whole_line, blank_for, cell_of, cut_of, line_cells, cells_of}
 use Rattle.lic_lines.specs.Runs.{same_mark, same_family, end_after, without_separator, without_separators, joined, runs_joined}
-use Rattle.lic_norm.specs.Sources.{source_of}
+use Rattle.lic_norm.specs.Sources.{AreSourceChars, source_of}
 use Rattle.lic_norm.specs.Spans.{EndsAt}
-use Rattle.lic_norm.proofs.AnyBytes.{AreRead, source_of-AreRead}
+use Rattle.lic_norm.proofs.AnyBytes.{source_of-AreSourceChars}
 use Rattle.lic_norm.proofs.Lying.{Lie, Lie-order, Lie-append, Lie-split, Lie-rest, Lie-take, Lie-drop, Lie-filter}
 
 -- source characters lie from one byte up to another
@@ -76,10 +76,10 @@ parts_of_groups {A} together (x ∷ xs) = join (groups together xs) ∙ ap (λ l
 -- ---- characters
 
 -- source characters that are read lie in the source, if it has them
-read-Lie : (source : List ℕ) {at : ℕ} {bytes : List ℕ} {cs : List SourceChar} → AreRead at bytes cs
+read-Lie : (source : List ℕ) {at : ℕ} {bytes : List ℕ} {cs : List SourceChar} → AreSourceChars at bytes cs
     → ((s : SourceChar) → Contains cs s → Contains (source_of 0 source) s) → CharsLie source at cs (at + length bytes)
-read-Lie source (AreRead.no_bytes at) has = omega arith
-read-Lie source (AreRead.a_char at bytes c rest cs scalar came read) has =
+read-Lie source (AreSourceChars.no_bytes at) has = omega arith
+read-Lie source (AreSourceChars.a_char at bytes c rest cs scalar came read) has =
     let s : SourceChar = record { char = c; start = at; end = at + len_utf8 c } in
     let known = has s (Contains-append_left (s ∷ []) cs s (0, omega arith, refl)) in
     let to : at + len_utf8 c + length rest ≡ at + length bytes = omega (arith, ap length came, length-append (encode_utf8 c) rest, length-encode c) in (
@@ -89,7 +89,7 @@ read-Lie source (AreRead.a_char at bytes c rest cs scalar came read) has =
       (s, known, refl),
       subst (CharsLie source (at + len_utf8 c) cs) to (read-Lie source read (λ t among. has t (Contains-append_right (s ∷ []) cs t among))),
     )
-read-Lie source (AreRead.a_byte at b rest cs nothing read) has =
+read-Lie source (AreSourceChars.a_byte at b rest cs nothing read) has =
     let s : SourceChar = record { char = 0xFFFD; start = at; end = at + 1 } in
     let known = has s (Contains-append_left (s ∷ []) cs s (0, omega arith, refl)) in
     let to : at + 1 + length rest ≡ at + length (b ∷ rest) = omega arith in (
@@ -104,7 +104,7 @@ module _ (source : List ℕ) where
   pub source-Lie : CharsLie source 0 (source_of 0 source) (length source)
   source-Lie = subst (CharsLie source 0 (source_of 0 source))
       (let e : 0 + length source ≡ length source = omega arith in e)
-      (read-Lie source (source_of-AreRead 0 source) (λ s among. among))
+      (read-Lie source (source_of-AreSourceChars 0 source) (λ s among. among))
 
   -- ---- cells of lines
 

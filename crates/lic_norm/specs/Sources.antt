@@ -1,7 +1,8 @@
 -- The source characters of an input of any bytes.
-use Rattle.std.specs.Prelude.{ℕ, zero, suc, ◌+◌, ◌-◌, List, [], ◌∷◌, take, Option, find, unwrap_or, slice_index}
+use Rattle.std.specs.Prelude.{◌≡◌, ℕ, zero, suc, ◌+◌, ◌-◌, List, [], ◌∷◌, ◌++◌, take, Option, find, unwrap_or, slice_index}
 use Rattle.std.specs.Option.{option_map_or}
-use Rattle.std.specs.Str.{is_utf8, chars}
+use Rattle.std.specs.Char.{len_utf8, encode_utf8, IsScalar}
+use Rattle.std.specs.Str.{is_utf8, chars, StartsWithNoChar}
 use Rattle.lic_lines.specs.declared.source.SourceChar.{SourceChar}
 
 -- how many bytes the character takes that begins these bytes, if one does (Unicode, table 3-7)
@@ -28,3 +29,12 @@ source_behind zero at (byte ∷ bytes) =
 -- character begun before it, and at which none begins.
 unfoldable pub source_of : ℕ → List ℕ → List SourceChar
 source_of at bytes = source_behind 0 at bytes
+
+-- These are the source characters of bytes that begin at this byte of the input, read from the front: a character where one begins, and
+-- U+FFFD for one byte where none begins.
+pub data AreSourceChars : ℕ → List ℕ → List SourceChar → Type 0 where
+  no_bytes : (at : ℕ) → AreSourceChars at [] []
+  a_char : (at : ℕ) (bytes : List ℕ) (c : ℕ) (rest : List ℕ) (cs : List SourceChar) → IsScalar c → bytes ≡ encode_utf8 c ++ rest
+      → AreSourceChars (at + len_utf8 c) rest cs → AreSourceChars at bytes ((record { char = c; start = at; end = at + len_utf8 c }) ∷ cs)
+  a_byte : (at b : ℕ) (rest : List ℕ) (cs : List SourceChar) → StartsWithNoChar (b ∷ rest)
+      → AreSourceChars (at + 1) rest cs → AreSourceChars at (b ∷ rest) ((record { char = 0xFFFD; start = at; end = at + 1 }) ∷ cs)

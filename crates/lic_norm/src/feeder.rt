@@ -1,6 +1,11 @@
 //! An input that comes in pieces.
 
 ghost use Rattle.std.specs.Prelude.{◌≡◌, ◌≢◌, ◌<◌, ◌≤◌, ◌+◌, ◌++◌, ℕ, [], List, length, slice_index_or, IfOk, IfErr, OnOk, Some, None};
+ghost use Rattle.std.specs.List.{flat_map};
+ghost use Rattle.lic_lines.specs.LineRules.{rules_of};
+ghost use Rattle.lic_norm.specs.Refusal.{refusal_of};
+ghost use Rattle.lic_norm.specs.Spans.{AreSpans, AreTokenTexts};
+ghost use Rattle.lic_norm.specs.Tokens.{tokens_of};
 
 use crate::fault::TextFault;
 use crate::reader::Reader;
@@ -77,8 +82,11 @@ impl<'w> Feeder<'w> {
         ensures open { OnOk result (self.new.refused ≡ None) }
         ensures refused { IfErr result (λ fault. self.old.refused ≡ None → fault ≢ TextFault.Memory
             → refusal_of (self.old.bytes ++ bytes.now) ≡ Some fault) }
+        ensures long { (fault : _) → self.old.refused ≡ None
+            → refusal_of (self.old.bytes ++ bytes.now) ≡ Some fault → result ≡ Err fault }
         ensures stays { IfErr result (λ fault. self.new.refused ≡ Some fault) }
         ensures again { (fault : _) → self.old.refused ≡ Some fault → result ≡ Err fault }
+        ensures unchanged { (fault : _) → self.old.refused ≡ Some fault → self.new ≡ self.old }
         ensures words { self.new.words ≡ self.old.words }
         ensures rules { self.new.rules ≡ self.old.rules }
     {
@@ -146,4 +154,31 @@ impl<'w> Feeder<'w> {
             None => Ok(Text::of(reader, words)?),
         }
     }
+}
+
+/// The text of an input that comes in these pieces, fed one after another: that of all of them joined.
+///
+/// # Errors
+///
+/// `TooLong` where they have more than 67,108,864 bytes together; `Memory` if memory ran out.
+pub fn read_pieces(
+    alloc: Global,
+    pieces: &[&[u8]],
+    words: &Words,
+    rules: &Rules,
+) -> Result<Text, TextFault>
+    ensures source { IfOk result (λ t. t.source ≡ flat_map (λ p. p.now) pieces.now) }
+    ensures tokens { IfOk result (λ t. t.tokens
+        ≡ tokens_of (rules_of rules.now) words.now (flat_map (λ p. p.now) pieces.now)) }
+    ensures spans { IfOk result (λ t. AreSpans t.source t.tokens) }
+    ensures words { IfOk result (λ t. AreTokenTexts t.tokens) }
+    ensures accepted { OnOk result (refusal_of (flat_map (λ p. p.now) pieces.now) ≡ None) }
+    ensures refused { IfErr result (λ fault. fault ≢ TextFault.Memory
+        → refusal_of (flat_map (λ p. p.now) pieces.now) ≡ Some fault) }
+{
+    let mut feeder = Feeder::new(alloc, words, rules);
+    for piece in pieces {
+        feeder.feed(piece)?;
+    }
+    feeder.finish()
 }

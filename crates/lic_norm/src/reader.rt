@@ -116,6 +116,8 @@ impl<'w> Reader<'w> {
         ensures short { OnOk result (length self.new.source.items ≤ max_bytes) }
         ensures refused { IfErr result (λ fault. fault ≢ TextFault.Memory
             → refusal_of (self.old.source.items ++ bytes.now) ≡ Some fault) }
+        ensures long { max_bytes < length (self.old.source.items ++ bytes.now)
+            → result ≡ Err TextFault.TooLong }
         ensures words { self.new.rewriting.phrases.now ≡ self.old.rewriting.phrases.now }
         ensures rules { self.new.rules.now ≡ self.old.rules.now }
     {

@@ -65,6 +65,7 @@ impl Text {
         ensures accepted { OnOk result (refusal_of source.items ≡ None) }
         ensures refused { IfErr result (λ fault. fault ≢ TextFault.Memory
             → refusal_of source.items ≡ Some fault) }
+        ensures long { (fault : _) → refusal_of source.items ≡ Some fault → result ≡ Err fault }
     {
         check_length(source.as_slice())?;
         let mut reader = Reader::new(alloc, source, words, rules);
