@@ -94,7 +94,8 @@ fn take_step(
             Ok(())
         }
         Step::Optional(size) => {
-            if have_cut(view, rest, walk.cut) {
+            let can_be_present = have_cut(view, rest, walk.cut);
+            if can_be_present {
                 walk.record.push(0)?;
                 return Ok(());
             }

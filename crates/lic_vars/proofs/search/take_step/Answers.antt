@@ -81,22 +81,22 @@ returns-in_ok-push-in-Variable-clause-walk c =
     short (c.letters_up_to.ensures ∙ sym short.count) in
     subst (λ l. IsWalk tokens (moves_of steps) (last_moves steps (left - 1)) l c.in_ok-next-in-Variable.next) (sym c.in_ok-push-in-Variable.ensures.items) next
 
-pub have_cut-requires-clause-placed : goal.have_cut-requires-clause-placed
-have_cut-requires-clause-placed c = c.requires.rest.placed
+pub have_cut-can_be_present-requires-clause-placed : goal.have_cut-can_be_present-requires-clause-placed
+have_cut-can_be_present-requires-clause-placed c = c.requires.rest.placed
 
-pub have_cut-requires-clause-open : goal.have_cut-requires-clause-open
-have_cut-requires-clause-open c =
+pub have_cut-can_be_present-requires-clause-open : goal.have_cut-can_be_present-requires-clause-open
+have_cut-can_be_present-requires-clause-open c =
     open-can c.args.view.now c.tokens_have_texts.ensures (last_moves c.args.steps.now c.args.walk.now.left) c.args.walk.now.cut c.requires.walk.can
 
-pub returns-then-have_cut-clause-walk : goal.returns-then-have_cut-clause-walk
-returns-then-have_cut-clause-walk c =
+pub returns-then-can_be_present-clause-walk : goal.returns-then-can_be_present-clause-walk
+returns-then-can_be_present-clause-walk c =
     let tokens = c.args.view.now in
     let steps = c.args.steps.now in
     let left = c.args.walk.now.left in
     let walk = walk_at tokens steps left c.index-steps-steps.result _ c.args.walk.now.record.items c.args.walk.now.cut
     c.requires.more c.requires.within c.index-steps-steps.is c.in-Optional.is c.requires.walk in
     let can = (finish-cut tokens c.tokens_have_texts.ensures (moves_of steps) (last_moves steps (left - 1)) c.args.walk.now.record.items c.args.walk.now.cut
-    c.args.rest.now c.requires.rest).0 (c.have_cut.ensures.0 c.if-have_cut.true) in
+    c.args.rest.now c.requires.rest).0 (c.have_cut-can_be_present.ensures.0 c.if-can_be_present.true) in
     subst (λ l. IsWalk tokens (moves_of steps) (last_moves steps (left - 1)) l c.args.walk.now.cut) (sym c.in_ok-push-in-Optional.ensures.items)
     (walk-present tokens c.tokens_have_texts.ensures (moves_of steps) (last_moves steps (left - 1)) c.args.walk.now.record.items c.args.walk.now.cut c.in-Optional.size walk can)
 
@@ -109,8 +109,8 @@ returns-in_ok-push-in-Optional-2-clause-walk c =
     let walk = walk_at tokens steps left c.index-steps-steps.result _ c.args.walk.now.record.items c.args.walk.now.cut
     c.requires.more c.requires.within c.index-steps-steps.is c.in-Optional.is c.requires.walk in
     let skipped = walk-absent tokens c.tokens_have_texts.ensures (moves_of steps) (last_moves steps (left - 1)) c.args.walk.now.record.items c.args.walk.now.cut size walk
-    (λ can. true≢false (sym (c.have_cut.ensures.1 ((finish-cut tokens c.tokens_have_texts.ensures (moves_of steps) (last_moves steps (left - 1))
-    c.args.walk.now.record.items c.args.walk.now.cut c.args.rest.now c.requires.rest).1 can)) ∙ c.if-have_cut.false)) in
+    (λ can. true≢false (sym (c.have_cut-can_be_present.ensures.1 ((finish-cut tokens c.tokens_have_texts.ensures (moves_of steps) (last_moves steps (left - 1))
+    c.args.walk.now.record.items c.args.walk.now.cut c.args.rest.now c.requires.rest).1 can)) ∙ c.if-can_be_present.false)) in
     let fewer : left - 1 - size ≡ c.saturating_sub-walk.result = omega (arith, c.saturating_sub-walk.ensures) in
     let moves = last-fewer steps (left - 1) size (omega (arith, c.requires.within)) ∙ ap (last_moves steps) fewer in
     subst (λ l. IsWalk tokens (moves_of steps) (last_moves steps c.saturating_sub-walk.result) l c.args.walk.now.cut) (sym c.in_ok-push-in-Optional-2.ensures.items)
