@@ -9,3 +9,8 @@ pub mod KnownLemmas
 pub mod CellLemmas
 pub mod MarkLemmas
 pub mod TextLemmas
+pub mod FirstTokens
+pub mod SpanLemmas
+pub mod Separators
+pub mod FlagCells
+pub mod LineTokens

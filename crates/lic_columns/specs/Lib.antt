@@ -7,3 +7,4 @@ pub mod Known
 pub mod Cells
 pub mod Marks
 pub mod Tokens
+pub mod SpanTokens

@@ -1,7 +1,12 @@
 //! Laws of what is known of bytes, each the contract of a function that does nothing.
-ghost use Rattle.std.specs.Prelude.{◌≡◌, ◌↔◌, ℕ, suc, ◌+◌, ◌≤◌, Bool, true, List, length};
+ghost use Rattle.std.specs.Prelude.{◌≡◌, ◌↔◌, ℕ, suc, ◌+◌, ◌≤◌, Bool, true, List, length, IsAscii};
+ghost use Rattle.lic_kind.specs.LineRules.{LineRules};
+ghost use Rattle.lic_lines.specs.Sources.{placed};
+ghost use Rattle.lic_lines.specs.Tokens.{tokens_after};
 ghost use Rattle.lic_columns.specs.Known.{Known, IsText, known_of, blanked};
 ghost use Rattle.lic_columns.specs.Marks.{is_same_as_next, same_as_next, middles, is_in_separator};
+ghost use Rattle.lic_columns.specs.SpanTokens.{span_tokens};
+ghost use Rattle.lic_columns.specs.Tokens.{text_spans};
 
 /// What bytes say by themselves is known of all of them, and none is a word character and a mark; and so it is where bytes
 /// of a range are taken away.
@@ -16,4 +21,12 @@ pub fn separators_are_three_or_more()
         → (is_in_separator (middles (same_as_next bytes marks)) k ≡ true)
         ↔ ((j : ℕ) × (j ≤ k) × (k ≤ j + 2) × (is_same_as_next bytes marks j ≡ true)
         × (is_same_as_next bytes marks (suc j) ≡ true)) }
+{}
+
+/// The tokens of the spans of a text of ASCII of which nothing is taken away are the first tokens of its characters: the longest
+/// runs of word characters and each mark, once separators are blanks and quotes and dashes are joined.
+pub fn spans_are_first_tokens()
+    ensures { (rules : LineRules) (after_blank : Bool) (at : ℕ) (text : List ℕ) → IsAscii text
+        → span_tokens after_blank at at (known_of text).letters (text_spans rules.separators at text (known_of text))
+        ≡ tokens_after rules after_blank (placed at text) }
 {}
