@@ -14,3 +14,6 @@ pub mod SpanLemmas
 pub mod Separators
 pub mod FlagCells
 pub mod LineTokens
+pub mod EdgeLemmas
+pub mod SpanTokenLemmas
+pub mod AsciiLetters

@@ -101,7 +101,7 @@ module _ (at : ℕ) (text : List ℕ) (cells : List Cell) (known : Known) (is : 
 abbrev byte_char : ℕ → ℕ → SourceChar
 byte_char at b = record { char = b; start = at; end = at + len_utf8 b }
 
-letter_is : (b l : ℕ) → b < 128 → spell b ≡ l ∷ [] → (is_word_kind (kind_of b) || is_mark_kind (kind_of b)) ≡ true → letter b ≡ l
+pub letter_is : (b l : ℕ) → b < 128 → spell b ≡ l ∷ [] → (is_word_kind (kind_of b) || is_mark_kind (kind_of b)) ≡ true → letter b ≡ l
 letter_is b l small e has =
     cond-true (bytes.has_letter b) _ _ (ap₂ (λ t u. t && u) (lt-ltb b 128 small) has) ∙ ap (λ s. get_or s 0 0) e
 
@@ -125,7 +125,7 @@ dash_letter : (b : ℕ) → b < 128 → is_dash b ≡ (letter_of b == 0x2D)
 unfolding is_dash is_quote
 dash_letter b small = agree_below_at is_dash (λ d. letter_of d == 0x2D) 128 b refl small
 
-letter_below : (b : ℕ) → b < 128 → letter_of b < 128
+pub letter_below : (b : ℕ) → b < 128 → letter_of b < 128
 letter_below b small = go (is_dash b) (is_quote b)
   where
     go : (t u : Bool) → (if t then 0x2D else (if u then 0x27 else b)) < 128

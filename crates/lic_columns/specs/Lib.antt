@@ -8,3 +8,4 @@ pub mod Cells
 pub mod Marks
 pub mod Tokens
 pub mod SpanTokens
+pub mod Edges

@@ -24,3 +24,9 @@ abbrev pub span_tokens : Bool → ℕ → ℕ → List ℕ → List Span → Lis
 span_tokens after_blank at before letters [] = []
 span_tokens after_blank at before letters (s ∷ spans) =
     span_token after_blank at before letters s ∷ span_tokens false at s.end letters spans
+
+-- the spans that begin at these places and end at those
+abbrev pub spans_by : List ℕ → List ℕ → List Span
+spans_by [] ends = []
+spans_by (s ∷ starts) [] = []
+spans_by (s ∷ starts) (e ∷ ends) = record { start = s; end = e } ∷ spans_by starts ends
