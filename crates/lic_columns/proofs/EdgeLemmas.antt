@@ -1,8 +1,8 @@
 -- What the line rules take away, cell by cell.
-use Rattle.std.proofs.Common.{◌≡◌, ℕ, zero, suc, ◌+◌, ◌-◌, ◌<◌, ◌≤◌, Bool, true, false, not, ◌&&◌, ◌==◌, if◌then◌else◌, List, [], ◌∷◌, ◌++◌, length, take, drop, map, get_or, replicate, refl, sym, ap, ap₂, ◌∙◌, ⊎_elim, inl, inr, arith, subst, append_assoc, length-append}
-use Rattle.std.specs.Prelude.{IsAscii, filter, slice_range}
+use Rattle.std.proofs.Common.{◌≡◌, ℕ, zero, suc, ◌+◌, ◌-◌, ◌<◌, ◌≤◌, Bool, true, false, not, ◌&&◌, ◌==◌, if◌then◌else◌, List, [], ◌∷◌, ◌++◌, length, take, drop, map, get_or, replicate, refl, sym, ap, ap₂, ◌∙◌, inl, inr, arith, subst, append_assoc, length-append}
+use Rattle.std.specs.Prelude.{IsAscii, slice_range}
 use Rattle.std.specs.List.{flat_map, onto_first}
-use Rattle.std.proofs.lemmas.Bool.{cases_Bool, cases_lt, cond-true, cond-false, agree_below_at}
+use Rattle.std.proofs.lemmas.Bool.{cases_lt, cond-true, cond-false}
 use Rattle.std.proofs.lemmas.List.{append-nil, map-append, length-map, length-take-le, length-drop, length-replicate, get_or-replicate, get_or_append_left, get_or-append_right, ext_get_or, take-append-drop, drop-drop, drop_all, get_or-drop, get_or-map}
 use Rattle.std.specs.Char.{len_utf8}
 use Rattle.lic_kind.specs.Kinds.{is_dropped}
@@ -18,7 +18,7 @@ use Rattle.lic_lines.specs.Runs.{runs_joined}
 use Rattle.lic_lines.specs.Tokens.{Token, first_tokens}
 use Rattle.lic_lines.proofs.AsciiLemmas.{chars_of-placed, take-placed, drop-placed, get_or-placed, length-placed}
 use Rattle.lic_lines.proofs.Gaps.{is_word, is_mark, no_runs, runs_joined-gap, first_tokens-gap}
-use Rattle.lic_columns.specs.Bytes.{letter, is_feed}
+use Rattle.lic_columns.specs.Bytes.{is_feed}
 use Rattle.lic_columns.specs.Flags.{cleared, is_within}
 use Rattle.lic_columns.specs.Known.{Known, blanked, known_of}
 use Rattle.lic_columns.specs.Masks.{flag_at}
@@ -29,7 +29,7 @@ use Rattle.std.proofs.lemmas.Str.{IsAscii-drop}
 use Rattle.lic_columns.proofs.BitLemmas.{within_is, within_before, within_after}
 use Rattle.lic_columns.proofs.FlagLemmas.{length-cleared, flag_at-cleared}
 use Rattle.lic_columns.proofs.SpanLemmas.{Fit}
-use Rattle.lic_columns.proofs.FlagCells.{words, marks, flag_at-cells}
+use Rattle.lic_columns.proofs.FlagCells.{flag_at-cells}
 use Rattle.lic_columns.proofs.Lanes.{every_below}
 use Rattle.lic_columns.proofs.LineTokens.{IsOfCells, tokens_of_cells, ascii_is}
 

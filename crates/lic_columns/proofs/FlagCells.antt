@@ -1,10 +1,9 @@
 -- Cells by flags are the cells of lic_lines, where they stand one byte after another.
-use Rattle.std.proofs.Common.{◌≡◌, ℕ, zero, suc, ◌+◌, ◌<◌, ◌≤◌, Bool, true, false, not, ◌&&◌, ◌||◌, ◌==◌, if◌then◌else◌, List, [], ◌∷◌, length, drop, map, get_or, refl, sym, ap, ap₂, ◌∙◌, ⊎_elim, inl, inr, arith, subst, eqb-true, eq-eqb}
+use Rattle.std.proofs.Common.{◌≡◌, ℕ, zero, suc, ◌+◌, ◌<◌, Bool, true, false, not, ◌&&◌, ◌||◌, ◌==◌, if◌then◌else◌, List, [], ◌∷◌, length, drop, map, get_or, refl, sym, ap, ap₂, ◌∙◌, ⊎_elim, inl, inr, arith, subst, eqb-true, eq-eqb}
 use Rattle.std.proofs.lemmas.Bool.{cases_Bool, cases_lt, cases_eq}
 use Rattle.std.proofs.lemmas.List.{get_or-map, get_or_past, length-map, ext_get_or}
 use Rattle.std.proofs.lemmas.List.FromFn.{get_or-map-range_with_len, length-map-range_with_len}
 use Rattle.lic_kind.specs.Kinds.{is_dash, is_quote}
-use Rattle.lic_lines.specs.declared.source.SourceChar.{SourceChar}
 use Rattle.lic_lines.specs.declared.cell.Cell.{Cell}
 use Rattle.lic_lines.specs.declared.cell.Cell.TheVariants.{Blank, Mark, Word}
 use Rattle.lic_lines.specs.Runs.{same_mark, same_family}
@@ -17,8 +16,7 @@ use Rattle.lic_columns.specs.Marks.{is_same_as_next, same_as_next, middles, is_i
 use Rattle.lic_columns.proofs.FlagLemmas.{length-listed, flag_at-listed}
 use Rattle.lic_columns.proofs.MarkLemmas.{joined_is, same_is}
 use Rattle.lic_columns.proofs.TextLemmas.{same_at, middle_at}
-use Rattle.lic_columns.proofs.FirstTokens.{next}
-use Rattle.lic_columns.proofs.SpanLemmas.{column_cell, column_cells, IsMarkByte, CellFits, Fit}
+use Rattle.lic_columns.proofs.SpanLemmas.{column_cell, column_cells, CellFits, Fit}
 use Rattle.lic_columns.proofs.Separators.{same_first, unmarked, is_gone, parted, one_before, two_before, parted-at}
 
 -- ---- lists of flags of cells

@@ -1,8 +1,8 @@
 -- The tokens of spans of a text of ASCII are its first tokens.
-use Rattle.std.proofs.Common.{◌≡◌, ℕ, zero, suc, ◌+◌, ◌-◌, ◌<◌, ◌≤◌, Bool, true, false, not, ◌&&◌, ◌||◌, ◌==◌, if◌then◌else◌, List, [], ◌∷◌, ◌++◌, length, drop, map, get_or, refl, sym, ap, ap₂, ◌∙◌, arith, subst, cond}
-use Rattle.std.specs.Prelude.{IsAscii, encode_utf8_all, nat_lt}
-use Rattle.std.specs.Char.{encode_utf8, len_utf8, to_ascii_lowercase}
-use Rattle.std.proofs.lemmas.Bool.{agree_below_at, lt-ltb, le-ltb, cond-true, cond-false}
+use Rattle.std.proofs.Common.{◌≡◌, ℕ, suc, ◌+◌, ◌-◌, ◌<◌, Bool, true, false, not, ◌&&◌, ◌||◌, ◌==◌, if◌then◌else◌, List, [], ◌∷◌, ◌++◌, drop, map, get_or, refl, sym, ap, ap₂, ◌∙◌, arith, subst}
+use Rattle.std.specs.Prelude.{IsAscii, encode_utf8_all}
+use Rattle.std.specs.Char.{len_utf8, to_ascii_lowercase}
+use Rattle.std.proofs.lemmas.Bool.{agree_below_at, lt-ltb, le-ltb, cond-true}
 use Rattle.std.proofs.lemmas.Str.{len_utf8_ascii, encode_ascii}
 use Rattle.std.proofs.lemmas.Str.Ascii.{lowercase_ascii}
 use Rattle.lic_kind.specs.declared.Kind.{Kind}
@@ -18,11 +18,10 @@ use Rattle.lic_lines.specs.declared.cell.Cell.{Cell}
 use Rattle.lic_lines.specs.declared.cell.Cell.TheVariants.{Blank, Mark, Word}
 use Rattle.lic_lines.specs.Lines.{cell_of}
 use Rattle.lic_lines.specs.Runs.{runs_joined, with_joined, without_separators}
-use Rattle.lic_lines.specs.Tokens.{Token, both_words, tokens_from, tokens_after}
+use Rattle.lic_lines.specs.Tokens.{both_words, tokens_from, tokens_after}
 use Rattle.lic_lines.proofs.Gaps.{is_word, is_mark}
 use Rattle.lic_columns.specs.Bytes as bytes
 use Rattle.lic_columns.specs.Bytes.{letter}
-use Rattle.lic_columns.specs.Cells as columns
 use Rattle.lic_columns.specs.Cells.{cells_of, spans}
 use Rattle.lic_columns.specs.Known.{Known, known_of}
 use Rattle.lic_columns.specs.Marks as taken

@@ -1,5 +1,5 @@
 -- The tokens of spans are the tokens of cells that stand one byte after another.
-use Rattle.std.proofs.Common.{◌≡◌, ℕ, zero, suc, ◌+◌, ◌-◌, ◌<◌, ◌≤◌, Bool, true, false, ◌&&◌, ◌||◌, ◌==◌, if◌then◌else◌, List, [], ◌∷◌, ◌++◌, length, take, drop, map, refl, sym, ap, ap₂, ◌∙◌, ⊎_elim, arith}
+use Rattle.std.proofs.Common.{◌≡◌, ℕ, suc, ◌+◌, ◌-◌, ◌<◌, ◌≤◌, Bool, true, false, ◌&&◌, ◌||◌, ◌==◌, if◌then◌else◌, List, [], ◌∷◌, ◌++◌, take, drop, map, refl, sym, ap, ap₂, ◌∙◌, ⊎_elim, arith}
 use Rattle.std.specs.Prelude.{encode_utf8_all, slice_range, nat_lt}
 use Rattle.std.proofs.lemmas.Bool.{cases_Bool, cond-true, cond-false, lt-ltb, le-ltb}
 use Rattle.std.proofs.lemmas.List.{drop-drop, append-nil}
@@ -8,7 +8,7 @@ use Rattle.lic_lines.specs.declared.source.SourceChar.{SourceChar}
 use Rattle.lic_lines.specs.declared.cell.Cell.{Cell}
 use Rattle.lic_lines.specs.declared.cell.Cell.TheVariants.{Blank, Mark, Word}
 use Rattle.lic_lines.specs.Runs.{same_family}
-use Rattle.lic_lines.specs.Tokens.{Token, token_of, letters_of}
+use Rattle.lic_lines.specs.Tokens.{Token}
 use Rattle.lic_columns.specs.Cells as columns
 use Rattle.lic_columns.specs.Cells.{Span, from_here, next_cell, with_cell, spans, goes_on, is_blank}
 use Rattle.lic_columns.specs.Bytes.{letter}

@@ -1,4 +1,4 @@
-use Rattle.std.proofs.Common.{◌≡◌, ◌++◌, ◌≤◌, true, length, drop}
+use Rattle.std.proofs.Common.{◌≡◌, ◌++◌, true, drop}
 use Rattle.lic_lines.specs.Tokens.{tokens_in}
 use Rattle.lic_columns.specs.SpanTokens.{spans_by, span_tokens}
 use Rattle.lic_columns.proofs.first_tokens.push_span_tokens.Given as goal
