@@ -9,3 +9,11 @@ pub mod KnownLemmas
 pub mod CellLemmas
 pub mod MarkLemmas
 pub mod TextLemmas
+pub mod FirstTokens
+pub mod SpanLemmas
+pub mod Separators
+pub mod FlagCells
+pub mod LineTokens
+pub mod EdgeLemmas
+pub mod SpanTokenLemmas
+pub mod AsciiLetters

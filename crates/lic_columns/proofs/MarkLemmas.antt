@@ -115,7 +115,7 @@ length-kept false bytes marks = refl
 -- ---- marks that are joined are cells
 
 module _ (letters : List ℕ) (word marks : List Bool) (long : length marks ≡ length word) (apart : (k : ℕ) → (flag_at word k && flag_at marks k) ≡ false) where
-  joined_is : (k : ℕ) → flag_at (joined_marks letters marks) k ≡ is_joined letters (same_as_next letters marks) marks k
+  pub joined_is : (k : ℕ) → flag_at (joined_marks letters marks) k ≡ is_joined letters (same_as_next letters marks) marks k
   joined_is k = elim (cases_lt k (length marks)) [
     | inl inside ↦ flag_at-listed (is_joined letters (same_as_next letters marks) marks) (length marks) k inside
     | inr past ↦
@@ -123,7 +123,7 @@ module _ (letters : List ℕ) (word marks : List Bool) (long : length marks ≡ 
         ∙ sym (joined_past letters (same_as_next letters marks) marks k past)
   ]
 
-  same_is : (k : ℕ) → flag_at (same_as_next letters marks) k ≡ is_same_as_next letters marks k
+  pub same_is : (k : ℕ) → flag_at (same_as_next letters marks) k ≡ is_same_as_next letters marks k
   same_is k = elim (cases_lt k (length marks)) [
     | inl inside ↦ flag_at-listed (is_same_as_next letters marks) (length marks) k inside
     | inr past ↦

@@ -86,7 +86,7 @@ module _ (n : ℕ) (known : Known) (is : IsText n known) (bytes : List ℕ) wher
 -- ---- separators
 
 module _ (bytes : List ℕ) (marks : List Bool) where
-  same_at : (k : ℕ) → flag_at (same_as_next bytes marks) k ≡ is_same_as_next bytes marks k
+  pub same_at : (k : ℕ) → flag_at (same_as_next bytes marks) k ≡ is_same_as_next bytes marks k
   same_at k = elim (cases_lt k (length marks)) [
     | inl inside ↦ flag_at-listed (is_same_as_next bytes marks) (length marks) k inside
     | inr past ↦
@@ -94,7 +94,7 @@ module _ (bytes : List ℕ) (marks : List Bool) where
         ∙ sym (same_past bytes marks k past)
   ]
 
-  middle_at : (k : ℕ) → flag_at (middles (same_as_next bytes marks)) k ≡ is_middle (same_as_next bytes marks) k
+  pub middle_at : (k : ℕ) → flag_at (middles (same_as_next bytes marks)) k ≡ is_middle (same_as_next bytes marks) k
   middle_at k = elim (cases_lt k (length (same_as_next bytes marks))) [
     | inl inside ↦ flag_at-listed (is_middle (same_as_next bytes marks)) (length (same_as_next bytes marks)) k inside
     | inr past ↦

@@ -7,3 +7,5 @@ pub mod Known
 pub mod Cells
 pub mod Marks
 pub mod Tokens
+pub mod SpanTokens
+pub mod Edges

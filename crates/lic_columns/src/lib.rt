@@ -3,6 +3,8 @@
 
 pub mod block;
 pub mod columns;
+pub mod edges;
+pub mod first_tokens;
 pub mod flags;
 pub mod laws;
 pub mod marks;
