@@ -3,7 +3,7 @@ ghost use Rattle.std.specs.Prelude.{◌<◌};
 
 use lic_kind::Rules;
 use lic_norm::fault::TextFault;
-use lic_norm::feeder::Feeder;
+use lic_norm::feeder::{Feeder, read_pieces};
 use lic_norm::refusal::MAX_BYTES;
 use lic_norm::text::Text;
 use lic_norm::words::Words;
@@ -80,6 +80,14 @@ fn told(
     Ok((refused, ready, shown(alloc, &text)?))
 }
 
+/// What a list of pieces is read as, with the same words.
+fn read_in_pieces(alloc: Global, pieces: &[&[u8]]) -> Result<String, Fail> {
+    let words = Words::read(alloc, "sub-license,sub license\n")?;
+    let rules = Rules::profile(alloc);
+    let text = read_pieces(alloc, pieces, &words, &rules);
+    Ok(shown(alloc, &text)?)
+}
+
 #[test]
 fn pieces_are_read_as_the_whole(rt: HostRuntime) -> Result<(), Fail> {
     let table: &[(&[u8], &str)] = &[
@@ -109,11 +117,13 @@ fn pieces_are_read_as_the_whole(rt: HostRuntime) -> Result<(), Fail> {
     ];
     for (input, wanted) in table {
         for front in 0..input.len() + 1 {
+            let (first, rest) = input.split_at(front.min(input.len()));
             for size in [1, MAX_BYTES] {
-                let (first, rest) = input.split_at(front.min(input.len()));
                 let told = told(rt.alloc(), first, rest, size)?;
                 assert_eq!(rt; told.2.as_str(), *wanted, "{input:?} cut at {front}");
             }
+            let read = read_in_pieces(rt.alloc(), &[first, rest])?;
+            assert_eq!(rt; read.as_str(), *wanted, "{input:?} cut at {front}");
         }
     }
     Ok(())
