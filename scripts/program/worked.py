@@ -1,4 +1,4 @@
-"""The worked rows that crates/lic_command_rows runs on `command` over streams in memory, as cases of the built program."""
+"""The worked examples that crates/lic_command_rows runs on `command` over streams in memory, as cases of the built program."""
 import json, os
 
 from harness import Case

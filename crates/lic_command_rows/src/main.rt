@@ -1,4 +1,4 @@
-//! Runs worked rows on the whole program over streams in memory, and shows which end otherwise than they should.
+//! Runs worked examples on the whole program over streams in memory, and shows which end otherwise than they should.
 #![tactic(auto)]
 
 mod bytes;

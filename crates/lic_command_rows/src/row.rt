@@ -1,4 +1,4 @@
-//! A worked row: what a run is given, and what comes of it.
+//! A worked example: what a run is given, and what comes of it.
 
 use crate::bytes::bytes_of;
 use crate::outcome::Outcome;
