@@ -12,7 +12,7 @@ fn add_often(bytes: &mut Vec<u8>, text: &str, count: u64) -> anyhow::Result<()> 
     Ok(())
 }
 
-/// Adds what a piece of a list stands for.
+/// Adds the bytes of one piece of a list.
 fn add_piece(bytes: &mut Vec<u8>, piece: &Value) -> anyhow::Result<()> {
     if let Some(byte) = piece.as_u64() {
         bytes.push(u8::try_from(byte)?)?;

@@ -80,7 +80,7 @@ impl Reader {
         Ok(())
     }
 
-    /// Behind the last lexeme.
+    /// After the last lexeme.
     pub fn finish(self, alloc: Global) -> Result<Ere, EreFault>
         ensures { Gives tree_of result (finish (state_of self).level (state_of self).outer) }
     {

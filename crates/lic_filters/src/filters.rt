@@ -41,7 +41,7 @@ pub fn outermost(alloc: Global, mut tight: Vec<Triple>) -> Result<Vec<Triple>, A
     Ok(tight)
 }
 
-// The tight members of a list, each once. In this order what lies inside a range of its template stands before it, and
+// The tight members of a list, each once. In this order what lies inside a range of its template precedes it, and
 // the last one kept has the least last token of its template so far.
 fn tight_members(alloc: Global, triples: &[Triple]) -> Result<Vec<Triple>, AllocError>
     ensures { IfOk result (λ members. SameMembers members.items (tight_of triples.now)) }
@@ -52,7 +52,7 @@ fn tight_members(alloc: Global, triples: &[Triple]) -> Result<Vec<Triple>, Alloc
     Ok(members)
 }
 
-// The outermost members of a list of tight ones. In this order what contains a range stands before it, and the last one
+// The outermost members of a list of tight ones. In this order what contains a range precedes it, and the last one
 // kept has the greatest last token so far. Tight ranges of one template do not contain each other, so no template is
 // asked for.
 fn outermost_members(alloc: Global, tight: &[Triple]) -> Result<Vec<Triple>, AllocError>

@@ -36,7 +36,7 @@ impl Model for Keys {
 }
 
 impl Keys {
-    /// The longest text of each template, if it has one that stands outside optional parts and has letters.
+    /// The longest text of each template outside optional parts, if some such text has letters.
     ///
     /// # Errors
     ///
