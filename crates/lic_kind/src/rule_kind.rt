@@ -5,7 +5,7 @@
 pub enum RuleKind {
     /// A piece of a lead.
     Lead,
-    /// A piece of a lead together with one white space character behind it.
+    /// A piece of a lead together with one white space character after it.
     LeadSpace,
     /// A piece of a tail.
     Tail,
