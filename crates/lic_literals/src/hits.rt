@@ -9,10 +9,10 @@ ghost use Rattle.std.proofs.Props.{props};
 use std::alloc::{AllocError, Global};
 use std::collections::HashMap;
 
-// The most places of all windows that are listed. Past it a window that stands somewhere counts as standing anywhere.
+// The most places of all windows that are listed. Past it a window that occurs counts as occurring anywhere.
 const MOST_PLACES: usize = 262_144;
 
-/// A window that stands somewhere, by its number, and its places in rising order.
+/// A window that occurs, by its number, and its places in rising order.
 #[derive(Debug, Drop)]
 pub struct Standing {
     pub window: usize,
@@ -46,7 +46,7 @@ impl Hits {
         }
     }
 
-    /// Notes that a window stands at a place.
+    /// Notes that a window is at a place.
     pub fn note(&mut self, window: usize, place: usize) -> Result<(), AllocError>
         ensures { OnOk result (NotesPlace window place self.old self.new) }
     {
@@ -84,7 +84,7 @@ impl Hits {
         Ok(())
     }
 
-    /// Whether a window that stands somewhere counts as standing anywhere.
+    /// Whether a window that occurs counts as occurring anywhere.
     pub fn is_full(&self) -> bool
         ensures { IsTrue result ↔ (262144 ≤ self.now.count) }
     {
