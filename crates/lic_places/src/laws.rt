@@ -10,7 +10,7 @@ ghost use Rattle.lic_norm.specs.PieceTexts.{IsPieceText};
 ghost use Rattle.lic_places.specs.Places.{AreTexts, IsBehindBlank, OverBlank, Stands, is_blank_at, spelling_of};
 ghost use Rattle.lic_places.specs.Reads.{Reads, ReadsTokens};
 
-/// A word that spells tokens spells, in the canonical spelling of all tokens, what stands from the first of them to the last.
+/// A word that spells tokens spells, in the canonical spelling of all tokens, what is there from the first of them to the last.
 pub fn a_spelling_is_read_from_token_to_token()
     ensures { (tokens : List TokenValue) (first last : ℕ) (w : Word)
         → AreTexts tokens → first ≤ last → last < length tokens
@@ -18,7 +18,7 @@ pub fn a_spelling_is_read_from_token_to_token()
         ↔ ReadsTokens tokens first w last }
 {}
 
-/// Words one after another spell what stands from place to place.
+/// Words one after another spell what is from place to place.
 pub fn joined_words_are_read_one_after_another()
     ensures { (tokens : List TokenValue) (u v : Word) (p q : ℕ)
         → Reads tokens p (u ++ v) q ↔ ((r : ℕ) × Reads tokens p u r × Reads tokens r v q) }
