@@ -1,5 +1,5 @@
-//! Ranges of a row of words: the bits from one to before another. Whole words are done at once, and what stands in
-//! the two words at the ends outside of the range is put back.
+//! Ranges of a row of words: the bits from one to before another. Whole words are done at once, and what the two
+//! words at the ends have outside of the range is put back.
 
 ghost use Rattle.std.specs.Prelude.{◌≡◌, ◌≢◌, ℕ, suc, ◌/◌, ◌%◌, ◌==◌, ◌≤◌, ◌<◌, List, IfSome, IfNone, true, false, length, slice_index};
 ghost use Rattle.std.specs.Int.{bit_at};
