@@ -230,7 +230,7 @@ impl Reader {
         }
     }
 
-    /// Behind the last element.
+    /// After the last element.
     pub fn finish(self) -> Result<Template, MarkupFault>
         requires { HasReadTexts (state_of self) }
         ensures exact { Gives template_of result
