@@ -117,7 +117,7 @@ fn last_letters_of_row(subs: &[Ere]) -> Option<u64>
     hash_of_some(hash, subs.len())
 }
 
-// The hash of so many letters, if there are any.
+// The hash of `count` letters, if there are any.
 fn hash_of_some(hash: u64, count: usize) -> Option<u64>
     ensures { IfSome result (λ known. (known ≡ hash) × (0 < count)) }
 {

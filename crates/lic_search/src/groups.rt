@@ -87,7 +87,7 @@ pub(crate) fn count_of(spans: &[PlaceSpan]) -> usize {
     count
 }
 
-// So many lists without an entry.
+// `count` lists without an entry.
 fn empty_lists(alloc: Global, count: usize) -> Result<Vec<Vec<Entry>>, AllocError>
     ensures count { IfOk result (λ lists. length lists.items ≡ count) }
     ensures none { IfOk result (λ lists. HasNone lists.items) }

@@ -13,7 +13,7 @@ use crate::passing::{is_any, passes};
 use crate::view::{View, tokens_have_texts};
 use lic_ere::Ere;
 
-/// So many letters, from one place up to another.
+/// A number of letters, from one place up to another.
 #[derive(Clone, Copy, Debug)]
 pub(crate) struct Run {
     pub(crate) low: usize,
@@ -32,9 +32,9 @@ pub(crate) fn first_run() -> Run
     }
 }
 
-/// The place from which so many letters at most stand up to a place that all pass.
+/// The place at which the letters before a place begin that all pass, `count` of them at most.
 ///
-/// It goes on from a known run: places that are asked for in rising order cost the letters of the text once together. A place before
+/// The known run is continued: places that are asked for in rising order cost the letters of the text once together. A place before
 /// the known one costs the letters of its own run.
 pub(crate) fn run_start(
     view: &View<'_>,
@@ -124,7 +124,7 @@ fn stretch_back(
     }
 }
 
-// Whether so many letters of one byte each end at a place.
+// Whether `size` letters of one byte each end at a place.
 fn ends_block(bytes: &[u8], size: usize, place: usize) -> bool
     ensures { IsTrue result → (size ≤ place) × (place ≤ length bytes.now) × IsAscii (slice_range bytes.now (place - size) place) }
 {
