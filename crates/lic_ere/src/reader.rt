@@ -9,7 +9,7 @@ use crate::lexeme::Lexeme;
 use std::alloc::{AllocError, Global};
 use std::mem;
 
-/// How deep groups may stand in one another.
+/// How deep groups may be in one another.
 const MAX_DEPTH: usize = 64;
 
 /// The innermost level, and those round it.
