@@ -25,7 +25,7 @@ fn escape_of(byte: u8) -> Option<&'static str>
 }
 
 /// Whether a byte has to be looked at one by one: a backslash, and the bytes up to a carriage return, of which a tab and a line
-/// feed are two. All others stand in a field as they are.
+/// feed are two. All others are unchanged in a field.
 #[inline(always)]
 fn may_be_escaped(byte: u8) -> bool
     ensures { result ≡ false → escaped_byte byte ≡ byte ∷ [] }
@@ -54,7 +54,7 @@ fn add_escaped_byte(line: &mut Vec<u8>, byte: u8) -> Result<(), AllocError>
     Ok(())
 }
 
-/// Adds these bytes as they stand in a field, byte by byte.
+/// Adds these bytes as a field has them, byte by byte.
 fn add_each_escaped(line: &mut Vec<u8>, bytes: &[u8]) -> Result<(), AllocError>
     ensures { OnOk result (line.new.items ≡ line.old.items ++ escaped bytes.now) }
 {
