@@ -76,7 +76,7 @@ fn keep_members(triples: &mut Vec<Triple>, mut members: Vec<Triple>)
     triples.retain(|triple| is_member(&members, triple));
 }
 
-// Whether a triple is among others, which stand in order.
+// Whether a triple is among others, which are in order.
 fn is_member(sorted: &[Triple], triple: &Triple) -> bool
     requires { IsSorted triple_cmp sorted.now }
     ensures { IsTrue result ↔ Contains sorted.now triple.now }
