@@ -55,7 +55,7 @@ impl Keys {
         Ok(Keys { literals, texts })
     }
 
-    /// The templates that have no text and those whose text may stand in the bytes, by rising numbers.
+    /// The templates that have no text and those whose text may occur in the bytes, by rising numbers.
     ///
     /// # Errors
     ///
