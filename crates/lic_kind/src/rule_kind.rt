@@ -11,6 +11,6 @@ pub enum RuleKind {
     Tail,
     /// A piece of a tail together with one white space character before it.
     TailSpace,
-    /// A piece of a tail, its first character standing once or more.
+    /// A piece of a tail, with its first character once or more.
     TailRepeat,
 }
