@@ -1,4 +1,4 @@
-//! How often windows stand in literals.
+//! How often windows occur in literals.
 
 ghost use Rattle.std.specs.Prelude.{◌+◌, ◌≤◌, length};
 
@@ -11,7 +11,7 @@ const MAX_COUNTERS: usize = 1 << 19;
 // How many windows of a literal are counted, the first ones: one of these is rare enough, and a set of long texts is made soon.
 const MOST_WINDOWS: usize = 512;
 
-/// How often windows stand in literals, counted by their hashes.
+/// How often windows occur in literals, counted by their hashes.
 #[derive(Debug, Drop)]
 pub struct Counts {
     counters: Vec<u16>,

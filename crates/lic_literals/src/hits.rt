@@ -1,4 +1,4 @@
-//! Where windows stand in bytes.
+//! Where windows occur in bytes.
 
 ghost use Rattle.std.specs.Prelude.{◌≡◌, ◌<◌, ◌≤◌, ◌↔◌, ℕ, None, Some, [], IsTrue, OnOk, All, Contains, length, map, nat_eq, slice_index_or};
 ghost use Rattle.std.specs.HashMap.{get};
@@ -19,7 +19,7 @@ pub struct Standing {
     pub places: Vec<usize>,
 }
 
-/// Where windows stand.
+/// Where windows occur.
 #[derive(Drop)]
 pub struct Hits {
     standing: Vec<Standing>,
@@ -91,7 +91,7 @@ impl Hits {
         self.count >= MOST_PLACES
     }
 
-    /// The windows that stand somewhere.
+    /// The windows that occur.
     pub fn standing(&self) -> &[Standing]
         ensures { result.now ≡ self.now.standing.items }
     {

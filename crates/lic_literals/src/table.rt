@@ -1,4 +1,4 @@
-//! Windows of one length, and where they stand in bytes.
+//! Windows of one length, and where they occur in bytes.
 
 ghost use Rattle.std.specs.Prelude.{◌≡◌, ◌+◌, ◌<◌, ◌≤◌, ℕ, List, Some, length, IfOk, OnOk};
 ghost use Rattle.memchr.specs.Find.{OccursAt};
