@@ -1,4 +1,4 @@
-//! Laws of what parts of templates stand for, each the contract of a function that does nothing.
+//! Laws of the words of a template's parts, each the contract of a function that does nothing.
 ghost use Rattle.std.specs.Prelude.{◌≡◌, ◌↔◌, ◌++◌, ◌∷◌, ◌⊎◌, [], ◌==◌, ℕ, Bool, true, false, not};
 ghost use Rattle.std.specs.Prelude.{List, Vec, String, Ok, Err, All, chars, map};
 ghost use Rattle.std.specs.Global.{Global};
@@ -30,7 +30,7 @@ ghost use Rattle.lic_markup.specs.Meaning.{parts_words, part_words, piece_texts}
 
 pub use crate::part::{templates_give_a_token, templates_weigh_little, texts_are_those_of_pieces};
 
-/// Parts in a row stand for a word of the first of them and then one of the others.
+/// A word of parts in a row is a word of the first of them and then one of the others.
 pub fn parts_in_a_row_stand_for_both()
     ensures { (xs ys : List Part) (w : List ℕ)
         → Language (parts_words (map part_of (xs ++ ys))) w

@@ -95,7 +95,7 @@ impl Template {
     }
 }
 
-/// The texts of a template's parts have letters, and blanks within them stand between letters of words.
+/// The texts of a template's parts have letters, and blanks within them are between letters of words.
 pub fn texts_are_those_of_pieces(template: &Template)
     ensures { HavePieceTexts (row (map part_of template.now.parts)) }
 {

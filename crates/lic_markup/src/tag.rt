@@ -27,7 +27,7 @@ fn tag_of(word: &str) -> Option<Tag>
     }
 }
 
-/// How many ASCII letters and digits stand in front.
+/// How many ASCII letters and digits the text begins with.
 fn word_length(all: &[(usize, char)]) -> usize
     ensures length { result ≡ length (word_at all.now) }
     ensures within { result ≤ length all.now }
