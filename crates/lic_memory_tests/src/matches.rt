@@ -267,7 +267,7 @@ fn go_on(
     Ok((later.next(), found.next()))
 }
 
-/// What the two variables of a match stand for; nothing where it is none.
+/// The values of the two variables of a match; nothing if it is no match.
 fn spans(
     alloc: Global,
     set: &Set,
