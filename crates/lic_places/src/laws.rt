@@ -24,7 +24,7 @@ pub fn joined_words_are_read_one_after_another()
         → Reads tokens p (u ++ v) q ↔ ((r : ℕ) × Reads tokens p u r × Reads tokens r v q) }
 {}
 
-/// The letters of a text with no blank at its edges are read exactly where its bytes stand.
+/// The letters of a text with no blank at its edges are read exactly where its bytes are.
 pub fn a_text_is_read_where_its_bytes_stand()
     ensures { (tokens : List TokenValue) (text : List ℕ) (p q : ℕ)
         → AreTexts tokens → IsUtf8 text → IsPieceText text → 0 < length text
@@ -48,7 +48,7 @@ pub fn a_blank_leads_one_way()
     ensures order { (tokens : List TokenValue) (p q : ℕ) → OverBlank tokens p q → p ≤ q }
 {}
 
-/// The texts of tokens stand in the canonical spelling one after another, with a blank between two of them or none.
+/// The texts of tokens follow one another in the canonical spelling, with a blank between two of them or none.
 pub fn tokens_stand_one_after_another()
     ensures first { (tokens : List TokenValue) → 0 < length tokens → place_start tokens 0 ≡ 0 }
     ensures next { (tokens : List TokenValue) (i : ℕ) → AreTexts tokens → suc i < length tokens
@@ -72,7 +72,7 @@ pub fn tokens_have_no_blank_at_their_edges()
         → ¬ IsBehindBlank (spelling_of tokens) (place_end tokens i) }
 {}
 
-/// A canonical spelling is in UTF-8, and no two blanks stand together in it.
+/// A canonical spelling is in UTF-8, and no two blanks are together in it.
 pub fn spellings_are_in_utf8()
     ensures utf8 { (tokens : List TokenValue) → AreTexts tokens → IsUtf8 (spelling_of tokens) }
     ensures blanks { (tokens : List TokenValue) (p : ℕ) → AreTexts tokens
