@@ -48,7 +48,7 @@ fn add_place(lines: &mut Vec<u8>, text: &Text, span: Option<Span>) -> Result<(),
     add_text(lines, text.slice(span), b'\n')
 }
 
-/// Adds the line of a variable: an empty field, its name, and the bytes that it stood for.
+/// Adds the line of a variable: an empty field, its name, and the bytes of its value.
 pub fn add_value(lines: &mut Vec<u8>, text: &Text, value: &Value<'_>) -> Result<(), AllocError>
     requires { (s : Span) → value.now.span ≡ Some s
         → (s.start ≤ s.end) × (s.end ≤ length text.now.source) }
