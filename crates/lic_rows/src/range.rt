@@ -27,7 +27,7 @@ pub fn put(row: &mut [u64], at: usize, is_set: bool)
     row[at / 64] = with_bit(row[at / 64], at % 64, is_set);
 }
 
-// Puts back what stood outside of the range in the words at its ends, which were `low` and `high`.
+// Puts back what the words at the ends of the range, which were `low` and `high`, had outside of it.
 fn put_back(row: &mut [u64], from: usize, to: usize, low: u64, high: u64)
     requires order { from ≤ to }
     requires room { to / 64 < length row.old }
