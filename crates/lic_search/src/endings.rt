@@ -51,7 +51,7 @@ impl GroupedWays {
         }))
     }
 
-    // The places before which letters with this hash stand.
+    // The places right after letters with this hash.
     fn with(&self, alloc: Global, hash: u64) -> Result<Ways, AllocError>
         ensures nothing { IfOk result (λ found. (s : PlaceSpan) → Contains found.nothing.items s ↔ HasEntry self.now.nothing.lists.items hash s) }
         ensures letter { IfOk result (λ found. (s : PlaceSpan) → Contains found.letter.items s ↔ HasEntry self.now.letter.lists.items hash s) }

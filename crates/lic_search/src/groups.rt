@@ -54,7 +54,7 @@ impl Groups {
         Ok(Groups { lists })
     }
 
-    /// The places before which letters with this hash stand.
+    /// The places right after letters with this hash.
     pub(crate) fn with(&self, alloc: Global, hash: u64) -> Result<Vec<PlaceSpan>, AllocError>
         ensures { IfOk result (λ found. (s : PlaceSpan) → Contains found.items s ↔ HasEntry self.now.lists.items hash s) }
     {

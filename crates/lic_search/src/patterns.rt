@@ -87,7 +87,7 @@ fn over_row(
     Ok(ways)
 }
 
-// Any one of the patterns: where there are many, each goes back from those places alone before which its last letters stand.
+// Any one of the patterns: where there are many, each goes back from those places alone that are right after its last letters.
 // What several of them lead to does not pile up.
 #[cycle(over)]
 fn over_choice(

@@ -1,4 +1,4 @@
-//! The letters in a row that stand up to a place and pass.
+//! The letters in a row up to a place that pass.
 
 ghost use Rattle.std.specs.Prelude.{◌≡◌, ◌+◌, ◌-◌, ◌<◌, ◌≤◌, ℕ, Bool, IsTrue, MatchOption, length, List, slice_index, slice_range};
 ghost use Rattle.std.specs.Str.{IsAscii};
@@ -95,7 +95,7 @@ fn run_back(view: &View<'_>, ere: &Ere, count: usize, until: usize, place: usize
     Run { low, place, number }
 }
 
-// Where the letters begin that stand right before a place and pass, and how many they are: a block of this size, or one. None if the
+// Where the letters right before a place begin that pass, and how many they are: a block of this size, or one. None if the
 // letter before the place does not pass.
 fn stretch_back(
     view: &View<'_>,

@@ -1,4 +1,4 @@
-//! A text in canonical spelling, and where its tokens stand in it.
+//! A text in canonical spelling, and where its tokens are in it.
 
 ghost use Rattle.std.specs.Prelude.{◌≡◌, ◌+◌, ◌<◌, ◌≤◌, ◌↔◌, ℕ, IsTrue, length, slice_range, MatchOption};
 ghost use Rattle.std.specs.Str.{IsAscii, IsCharBoundary};
@@ -179,7 +179,7 @@ impl View<'_> {
         token < self.len() && self.end(token) == place
     }
 
-    /// Where a blank leads from the place before which it is to stand: over a blank of the text, nowhere, or there is no such place.
+    /// The place from which a blank leads to this one: that of the blank of the text before it, this place itself, or none.
     pub(crate) fn over_blank(&self, place: usize) -> Option<usize>
         ensures { MatchOption result ((p : ℕ) → ¬ (OverBlank self.now p place))
             (λ p. OverBlank self.now p place) }
