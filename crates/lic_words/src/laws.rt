@@ -9,18 +9,18 @@ ghost use Rattle.lic_words.specs.Mirrors.{mirrored, turned};
 ghost use Rattle.lic_words.specs.Spelling.{Spells};
 ghost use Rattle.lic_words.specs.Words.{Cat, blank, blanks};
 
-/// Letters stand for themselves alone.
+/// Letters in a row have one word, themselves.
 pub fn letters_stand_for_themselves()
     ensures { (text w : List ℕ) → Language (letters text) w ↔ (w ≡ text) }
 {}
 
-/// Texts in a row stand for their letters one after another.
+/// Texts in a row have one word, their letters one after another.
 pub fn texts_stand_for_their_letters()
     ensures { (texts : List (List ℕ)) (w : List ℕ)
         → Language (cat_all (map letters texts)) w ↔ (w ≡ concat texts) }
 {}
 
-/// Two rows of expressions together stand for a word of the first and then one of the second.
+/// A word of two rows of expressions together is a word of the first and then one of the second.
 pub fn rows_together_stand_for_both()
     ensures { (xs ys : List Expression) (w : List ℕ)
         → Language (cat_all (xs ++ ys)) w ↔ Cat (Language (cat_all xs)) (Language (cat_all ys)) w }
