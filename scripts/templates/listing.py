@@ -15,7 +15,7 @@ MOST_LETTERS = 160
 HEAD = """\
 # The templates of the starter set
 
-Made by `python3 scripts/templates/listing.py`. After each name stands a text that the template
+Made by `python3 scripts/templates/listing.py`. After each name is a text that the template
 describes: its beginning, with all optional parts and with the text that is published in place of
 each variable. What the endings of names mean is in
 [the manual](../docs/MANUAL.md#where-templates-come-from).

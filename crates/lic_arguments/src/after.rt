@@ -1,4 +1,4 @@
-//! The triple after which a scan goes on, as it is written in an argument.
+//! The triple after which a scan resumes, as an argument has it.
 
 ghost use Rattle.std.specs.Prelude.{ℕ, IfOk, IfErr, IfSome, IfNone};
 ghost use Rattle.lic_arguments.specs.After.{IsNumber, IsAfter, IsAsGiven, IsFirstFault};

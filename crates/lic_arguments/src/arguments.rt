@@ -248,7 +248,7 @@ pub struct ScanArguments<'a> {
     pub all: bool,
     /// Only what comes after this triple; given with `all` alone.
     pub after: Option<After<'a>>,
-    /// At most so many lines for each file; given with `all` alone.
+    /// At most this many lines for each file; given with `all` alone.
     pub limit: Option<u64>,
     /// Standard input alone where no file is given.
     pub files: Vec<&'a str>,

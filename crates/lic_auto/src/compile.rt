@@ -181,7 +181,7 @@ fn row(alloc: Global, children: Vec<Node>) -> Result<Node, AllocError>
     joined(kept)
 }
 
-/// Puts the child behind the others. A letter is joined to the text or the letter before it.
+/// Appends the child. A letter is joined to the text or the letter before it.
 fn push_joined(alloc: Global, kept: &mut Vec<Node>, child: Node) -> Result<(), AllocError>
     requires kept { IsTrue (list_all is_measured kept.old.items) }
     requires child { IsTrue (is_measured child) }
@@ -214,7 +214,7 @@ fn letter_of(node: &Node) -> Option<char>
     }
 }
 
-// The text of the last child, which is not among the others; where it is none, it is put behind them, and the text is empty.
+// The text of the last child, which is not among the others; if it is no text, it is appended to them, and the answer is empty.
 fn end_text(alloc: Global, kept: &mut Vec<Node>, last: Node) -> Result<Vec<char>, AllocError>
     requires kept { IsTrue (list_all is_measured kept.old.items) }
     requires last { IsTrue (is_measured last) }
@@ -256,7 +256,7 @@ fn letter_text(alloc: Global, kept: &mut Vec<Node>, test: Test) -> Result<Vec<ch
     }
 }
 
-/// One child after another; one alone stands by itself.
+/// Children in a row; a single one is the answer itself.
 fn joined(mut children: Vec<Node>) -> Result<Node, AllocError>
     requires { IsTrue (list_all is_measured children.items) }
     ensures { IfOk result (HasWords (WordsOf (cat_all (map core_of children.items)))) }

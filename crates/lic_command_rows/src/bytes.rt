@@ -1,4 +1,4 @@
-//! The bytes that a row gives: a text, or a list of texts, of bytes by their numbers, and of texts with how often they stand.
+//! The bytes that a row gives: a text, or a list of texts, of bytes by their numbers, and of texts with how often they occur.
 
 use anyhow::Context;
 use serde_json::Value;
@@ -12,7 +12,7 @@ fn add_often(bytes: &mut Vec<u8>, text: &str, count: u64) -> anyhow::Result<()> 
     Ok(())
 }
 
-/// Adds what a piece of a list stands for.
+/// Adds the bytes of one piece of a list.
 fn add_piece(bytes: &mut Vec<u8>, piece: &Value) -> anyhow::Result<()> {
     if let Some(byte) = piece.as_u64() {
         bytes.push(u8::try_from(byte)?)?;
@@ -26,7 +26,7 @@ fn add_piece(bytes: &mut Vec<u8>, piece: &Value) -> anyhow::Result<()> {
     add_often(bytes, text.context("no text")?, count.context("no count")?)
 }
 
-/// The bytes that stand for nothing, a text or a list.
+/// The bytes of nothing, a text or a list.
 pub fn bytes_of(alloc: Global, value: Option<&Value>) -> anyhow::Result<Vec<u8>> {
     let mut bytes = Vec::new(alloc);
     let Some(value) = value else {

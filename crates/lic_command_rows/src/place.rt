@@ -23,7 +23,7 @@ fn lay_templates<Rt: Files>(rt: &Rt, alloc: Global, templates: &Value) -> anyhow
     Ok(())
 }
 
-/// Lays so many templates of one letter.
+/// Lays `count` templates of one letter each.
 fn lay_numbered<Rt: Files>(rt: &Rt, alloc: Global, count: u64) -> anyhow::Result<()> {
     for k in 0..count {
         let path = format!(in alloc; "{FOLDER}/K{k}.template.txt")?;

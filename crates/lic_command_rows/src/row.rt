@@ -20,7 +20,7 @@ pub struct Row<'a> {
     pub arguments: Vec<&'a str>,
     /// The members of the folder of templates, by their identifiers; without them there is no folder.
     pub templates: Option<&'a Value>,
-    /// Besides so many templates of one letter.
+    /// How many templates of one letter there are besides.
     pub numbered: u64,
     /// Other files, by their names.
     pub files: Option<&'a Value>,

@@ -20,7 +20,7 @@ pub struct Bounds {
 /// The greatest bound.
 const MAX_BOUND: u32 = 65_535;
 
-/// The bounds behind a `{`, and what stands behind their `}`.
+/// The bounds after a `{`, and what follows their `}`.
 pub fn read_bounds(rest: Rest<'_>) -> Option<(Bounds, Rest<'_>)>
     // What is read is spelled so.
     ensures found { IfSome result (λ x. IsBounds (left rest.entry) (left x.1) x.0) }
@@ -53,7 +53,7 @@ fn bounds_behind(rest: Rest<'_>) -> Option<(Bounds, Rest<'_>)>
     }
 }
 
-/// The bounds behind the lower one and its comma.
+/// Both bounds, from what follows the lower one and its comma.
 #[tactic(auto, unfolding(crate::specs::Bounds::upper_bound))]
 fn upper_bound(min: u32, rest: Rest<'_>) -> Option<(Bounds, Rest<'_>)>
     ensures { option_map seen result
@@ -78,7 +78,7 @@ fn upper_bound(min: u32, rest: Rest<'_>) -> Option<(Bounds, Rest<'_>)>
     }
 }
 
-/// The number that the digits in front write, if it is a bound, and what stands behind them.
+/// The number that the leading digits write, if it is a bound, and what follows them.
 #[tactic(auto, unfolding(crate::specs::Bounds::number_at))]
 fn number(rest: Rest<'_>) -> Option<(u32, Rest<'_>)>
     ensures { option_map seen result
@@ -91,8 +91,8 @@ fn number(rest: Rest<'_>) -> Option<(u32, Rest<'_>)>
     Some((value, rest))
 }
 
-/// The number that the digits in front write, or 65,536 for a greater one, whether there are some, and what stands
-/// behind them.
+/// The number that the leading digits write, or 65,536 for a greater one; whether there are digits; and what follows
+/// them.
 fn digits(all: Rest<'_>) -> (u32, bool, Rest<'_>)
     ensures value { result.0 ≡ min (digits_value 10 (digits (left all.entry))) 65536 }
     ensures some { result.1 ≡ not (length (digits (left all.entry)) == 0) }

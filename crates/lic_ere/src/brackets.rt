@@ -12,7 +12,7 @@ use crate::fault::{EreCause, EreFault};
 use crate::rest::Rest;
 use std::alloc::Global;
 
-/// Whether a `[` stands directly before `:`, `.` or `=`, which is no part of a set here.
+/// Whether a character is a `[` directly before `:`, `.` or `=`, which is no part of a set here.
 fn begins_extension(character: char, rest: Rest<'_>) -> bool
     ensures { result ≡ begins_extension character (left rest.entry) }
 {
@@ -60,7 +60,7 @@ fn range(first: (usize, char), last: (usize, char), rest: Rest<'_>) -> Result<Me
     })
 }
 
-/// The member that begins with a character, and what stands behind it.
+/// The member that begins with a character, and what follows it.
 #[tactic(auto, unfolding(crate::specs::Brackets::member_at))]
 fn member(first: (usize, char), rest: Rest<'_>) -> Result<(Member, Rest<'_>), EreFault>
     ensures { Gives seen result
@@ -82,7 +82,7 @@ fn closes(first: bool, character: char) -> bool
     !first && character == ']'
 }
 
-/// The members of the bracket that opens at a place, and what stands behind its `]`.
+/// The members of the bracket that opens at a place, and what follows its `]`.
 fn members(alloc: Global, place: usize, all: Rest<'_>) -> Result<(Vec<Member>, Rest<'_>), EreFault>
     ensures { Gives (λ x. (x.0.items, left x.1)) result
         (map_ok (with_rest (left all.entry)) (members_at place true 0 (left all.entry))) }
@@ -103,7 +103,7 @@ fn members(alloc: Global, place: usize, all: Rest<'_>) -> Result<(Vec<Member>, R
     })
 }
 
-/// Whether a `^` stands first, and what stands behind it.
+/// Whether a `^` comes first, and what follows it.
 fn complement(rest: Rest<'_>) -> (bool, Rest<'_>)
     ensures { (result.0, left result.1)
         ≡ with_rest (left rest.entry) (complement_at (left rest.entry)) }
@@ -114,7 +114,7 @@ fn complement(rest: Rest<'_>) -> (bool, Rest<'_>)
     }
 }
 
-/// The set that a bracket stands for which opens at a place, and what stands behind it.
+/// The set of the bracket that opens at a place, and what follows the bracket.
 pub fn bracket(alloc: Global, place: usize, rest: Rest<'_>) -> Result<(Class, Rest<'_>), EreFault>
     // What is read is spelled so.
     ensures found { IfOk result (λ x. IsBracket (left rest.entry) (left x.1) x.0) }

@@ -1,4 +1,4 @@
-//! The set of letters that a bracket stands for.
+//! The set of letters that a bracket means.
 ghost use Rattle.std.specs.Prelude.{◌≡◌, ◌↔◌, ◌==◌, ◌&&◌, IsTrue, IfOk};
 ghost use Rattle.std.specs.List.{list_any};
 ghost use Rattle.lic_ere.specs.Sets.{image, meets, meets_any, has_image, is_in, IsIn};
@@ -21,7 +21,7 @@ struct Bracket {
     complement: bool,
 }
 
-/// The set of letters that a bracket stands for. It is behind a box, since it stands in trees beside smaller values.
+/// The set of letters that a bracket means. It is boxed, since the other nodes of a tree are smaller.
 #[derive(Debug, Drop)]
 pub struct Class {
     bracket: Box<Bracket>,
@@ -68,7 +68,7 @@ impl Class {
         Class::new(alloc, members, self.bracket.complement)
     }
 
-    /// Whether the letter is in the set: some character of the bracket has it as its image, or, behind
+    /// Whether the letter is in the set: some character of the bracket has it as its image, or, after
     /// a `^`, none has.
     pub fn has(&self, letter: char) -> bool
         ensures meaning { IsTrue result ↔ IsIn self.now letter }
@@ -120,7 +120,7 @@ const QUOTES: [(char, char); 8] = [
     ('\u{2039}', '\u{203A}'),
 ];
 
-/// The letter that a character stands for inside a bracket.
+/// The letter that a character means inside a bracket.
 #[tactic(auto, unfolding(crate::specs::Sets::image))]
 fn image(character: char) -> char
     ensures { result ≡ image character }

@@ -20,7 +20,7 @@ pub enum Ere {
     Cat(Vec<Ere>),
     /// One of these.
     Alt(Vec<Ere>),
-    /// The body so many times; without `max` as often as one likes.
+    /// The body, `min` to `max` times; without `max` any number of times from `min` on.
     Repeat {
         body: Box<Ere>,
         min: u32,
@@ -31,8 +31,8 @@ pub enum Ere {
 /// A pattern of a million bytes has up to a million of them.
 const _: () = prove!(size_of::<Ere>() == 32);
 
-/// A list of at most so many trees is moved to a place of its own size, since the rest of its place, given back alone,
-/// is too small to be of use.
+/// A list of at most this many trees is moved to memory of its own size: what it leaves free would be too small to be of
+/// use if it were given back alone.
 const SHORT: usize = 64;
 
 /// The same trees with no room to spare.
@@ -52,7 +52,7 @@ fn fitted(alloc: Global, trees: Vec<Ere>) -> Result<Vec<Ere>, AllocError>
 impl Ere {
     ghost use Rattle.lic_ere.specs.Trees.{tree_of, units_tree, choice_tree};
 
-    /// Units in a row: one stands by itself, and none is the empty word.
+    /// Units in a row: a single one is the answer itself, and none is the empty word.
     pub(crate) fn row(alloc: Global, mut units: Vec<Ere>) -> Result<Ere, AllocError>
         ensures { IfOk result (λ row. tree_of row ≡ units_tree (map tree_of units.items)) }
     {
@@ -63,7 +63,7 @@ impl Ere {
         }
     }
 
-    /// Alternatives: one stands by itself.
+    /// Alternatives: a single one is the answer itself.
     pub(crate) fn choice(alloc: Global, mut alternatives: Vec<Ere>) -> Result<Ere, AllocError>
         ensures { IfOk result (λ choice. tree_of choice
             ≡ choice_tree (map tree_of alternatives.items)) }

@@ -10,9 +10,9 @@ use thiserror::Error;
 pub enum EreCause {
     /// A repetition sign with nothing before it.
     NothingToRepeat,
-    /// A repetition sign directly behind a repetition sign.
+    /// A repetition sign directly after a repetition sign.
     TwoSigns,
-    /// A `{` with no bounds behind it, or with bounds too great or out of order.
+    /// A `{` that no bounds follow, or bounds that are too great or out of order.
     BadBound,
     BracketNotClosed,
     /// A `[` directly before `:`, `.` or `=` inside a bracket.

@@ -24,7 +24,7 @@ pub struct Level {
     pub place: usize,
     /// The alternatives before the last `|`.
     pub alternatives: Vec<Ere>,
-    /// The units behind that `|`, but for the last one.
+    /// The units after that `|`, but for the last one.
     pub before: Vec<Ere>,
     pub last: LastUnit,
 }

@@ -14,7 +14,7 @@ use crate::letters::letters;
 use crate::rest::Rest;
 use std::alloc::Global;
 
-/// What stands at one place of a pattern.
+/// What is at one place of a pattern.
 #[derive(Drop)]
 pub enum Lexeme {
     /// A unit that is no group: `.`, a bracket, or a character.
@@ -31,7 +31,7 @@ pub enum Lexeme {
     Anchor,
 }
 
-/// Whether a character is a `^` that stands first or a `$` that stands last.
+/// Whether a character is a `^` at the beginning or a `$` at the end.
 fn means_nothing(place: usize, character: char, rest: Rest<'_>) -> bool
     ensures { result ≡ means_nothing (place, character) (left rest.entry) }
 {
@@ -53,7 +53,7 @@ fn anchor(place: usize, character: char, rest: Rest<'_>) -> Result<Lexeme, EreFa
     }
 }
 
-/// What a `\` at a place begins, and what stands behind it.
+/// What a `\` at a place begins, and what follows it.
 fn escaped(alloc: Global, place: usize, rest: Rest<'_>) -> Result<(Lexeme, Rest<'_>), EreFault>
     ensures { Gives (λ x. (lexeme_of x.0, left x.1)) result
         (map_ok (with_rest (left rest.entry)) (escaped_at place (left rest.entry))) }
@@ -73,7 +73,7 @@ fn escaped(alloc: Global, place: usize, rest: Rest<'_>) -> Result<(Lexeme, Rest<
     Ok((Lexeme::Unit(letters(alloc, next.1)?), after))
 }
 
-/// What a `{` begins, and what stands behind it.
+/// What a `{` begins, and what follows it.
 fn counted(rest: Rest<'_>) -> (Lexeme, Rest<'_>)
     ensures { (lexeme_of result.0, left result.1)
         ≡ with_rest (left rest.entry) (counted_sign (bounds_at (left rest.entry))) }
@@ -91,7 +91,7 @@ fn sign(min: u32, max: Option<u32>) -> Lexeme
     Lexeme::Sign(Some(Bounds { min, max }))
 }
 
-/// The lexeme that begins with a character, and what stands behind it.
+/// The lexeme that begins with a character, and what follows it.
 #[tactic(auto, unfolding(crate::specs::Lexemes::lexeme_at))]
 pub fn next_lexeme(
     alloc: Global,

@@ -9,7 +9,7 @@ use crate::lexeme::Lexeme;
 use std::alloc::{AllocError, Global};
 use std::mem;
 
-/// How deep groups may stand in one another.
+/// How deep groups may be in one another.
 const MAX_DEPTH: usize = 64;
 
 /// The innermost level, and those round it.
@@ -80,7 +80,7 @@ impl Reader {
         Ok(())
     }
 
-    /// Behind the last lexeme.
+    /// After the last lexeme.
     pub fn finish(self, alloc: Global) -> Result<Ere, EreFault>
         ensures { Gives tree_of result (finish (state_of self).level (state_of self).outer) }
     {

@@ -26,7 +26,7 @@ impl<'a> Rest<'a> {
         }
     }
 
-    /// The first character with its place, and those behind it.
+    /// The first character with its place, and those after it.
     pub fn split_first(self) -> Option<((usize, char), Rest<'a>)>
         ensures some { IfSome result (λ x. left self.entry ≡ x.0 ∷ left x.1) }
         ensures none { IfNone result (length (left self.entry) ≡ 0) }

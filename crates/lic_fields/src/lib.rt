@@ -9,8 +9,8 @@ use itoa::{Buffer, write_digits};
 use std::alloc::AllocError;
 use std::fmt;
 
-/// What stands for a byte that may not stand in a field: for a backslash, a line feed, a carriage return and
-/// a tab.
+/// How a byte is written that a field must not have: a backslash, a line feed, a carriage return or a tab. None for any
+/// other byte.
 fn escape_of(byte: u8) -> Option<&'static str>
     ensures { MatchOption result
         (escaped_byte byte ≡ byte ∷ []) (λ text. escaped_byte byte ≡ text.now) }
@@ -25,7 +25,7 @@ fn escape_of(byte: u8) -> Option<&'static str>
 }
 
 /// Whether a byte has to be looked at one by one: a backslash, and the bytes up to a carriage return, of which a tab and a line
-/// feed are two. All others stand in a field as they are.
+/// feed are two. All others are unchanged in a field.
 #[inline(always)]
 fn may_be_escaped(byte: u8) -> bool
     ensures { result ≡ false → escaped_byte byte ≡ byte ∷ [] }
@@ -54,7 +54,7 @@ fn add_escaped_byte(line: &mut Vec<u8>, byte: u8) -> Result<(), AllocError>
     Ok(())
 }
 
-/// Adds these bytes as they stand in a field, byte by byte.
+/// Adds these bytes as a field has them, byte by byte.
 fn add_each_escaped(line: &mut Vec<u8>, bytes: &[u8]) -> Result<(), AllocError>
     ensures { OnOk result (line.new.items ≡ line.old.items ++ escaped bytes.now) }
 {
@@ -64,7 +64,7 @@ fn add_each_escaped(line: &mut Vec<u8>, bytes: &[u8]) -> Result<(), AllocError>
     Ok(())
 }
 
-/// Adds these bytes as they stand in a field: mostly they stand as they are.
+/// Adds these bytes as a field has them: mostly unchanged.
 fn add_escaped(line: &mut Vec<u8>, bytes: &[u8]) -> Result<(), AllocError>
     ensures { OnOk result (line.new.items ≡ line.old.items ++ escaped bytes.now) }
 {
@@ -74,10 +74,10 @@ fn add_escaped(line: &mut Vec<u8>, bytes: &[u8]) -> Result<(), AllocError>
     line.extend_from_slice(bytes)
 }
 
-/// Adds a text as a field, and the tab or the line end behind it.
+/// Adds a text as a field, and the tab or the line end after it.
 ///
 /// A backslash is written `\\`, a line feed `\n`, a carriage return `\r` and a tab `\t`; all other bytes
-/// stand as they are.
+/// are unchanged.
 pub fn add_text(line: &mut Vec<u8>, bytes: &[u8], mark: u8) -> Result<(), AllocError>
     ensures { OnOk result (line.new.items ≡ line.old.items ++ field (escaped bytes.now) mark) }
 {
@@ -86,7 +86,7 @@ pub fn add_text(line: &mut Vec<u8>, bytes: &[u8], mark: u8) -> Result<(), AllocE
     Ok(())
 }
 
-/// Adds a number as a field in decimal digits, and the tab or the line end behind it.
+/// Adds a number as a field in decimal digits, and the tab or the line end after it.
 pub fn add_number(line: &mut Vec<u8>, n: u64, mark: u8) -> Result<(), AllocError>
     ensures { OnOk result (line.new.items ≡ line.old.items ++ field (decimal n) mark) }
 {
@@ -96,7 +96,7 @@ pub fn add_number(line: &mut Vec<u8>, n: u64, mark: u8) -> Result<(), AllocError
     Ok(())
 }
 
-/// Writes a number and the mark behind it so that they end at `end`, and answers where they start.
+/// Writes a number and the mark after it so that they end at `end`, and answers where they start.
 #[inline(always)]
 fn write_number(buffer: &mut [u8], end: usize, n: u64, mark: u8) -> usize
     requires { (21 ≤ end) × (end ≤ length buffer.old) }
@@ -121,7 +121,7 @@ pub fn add_last_numbers(
         ++ (field (decimal first) 0x09 ++ (field (decimal second) 0x09
         ++ (field (decimal third) 0x09 ++ field (decimal fourth) 0x0A)))) }
 {
-    // a number has at most 20 digits, and a mark behind it
+    // a number has at most 20 digits, and a mark after it
     let mut buffer = [0; 84];
     let at = write_number(&mut buffer, 84, fourth, b'\n');
     let at = write_number(&mut buffer, at, third, b'\t');
@@ -134,7 +134,7 @@ pub fn add_last_numbers(
 #[derive(Clone, Copy, Debug)]
 pub struct Escaped<'a>(pub &'a str);
 
-/// What stands for a character that may not stand in a field.
+/// How a character is written that a field must not have.
 fn escape_of_char(c: char) -> Option<&'static str>
     ensures { MatchOption result
         (escaped (encode_utf8 c) ≡ encode_utf8 c) (λ text. escaped (encode_utf8 c) ≡ text.now) }
@@ -146,7 +146,7 @@ fn escape_of_char(c: char) -> Option<&'static str>
     }
 }
 
-/// Writes a character as it stands in a field.
+/// Writes a character as a field has it.
 fn write_escaped<W: fmt::Write>(f: &mut fmt::Formatter<W>, c: char) -> fmt::Result
     ensures { WritesOnOk W.write_str_gives f.old result (escaped (encode_utf8 c)) f.new }
 {

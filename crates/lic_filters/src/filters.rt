@@ -41,7 +41,7 @@ pub fn outermost(alloc: Global, mut tight: Vec<Triple>) -> Result<Vec<Triple>, A
     Ok(tight)
 }
 
-// The tight members of a list, each once. In this order what lies inside a range of its template stands before it, and
+// The tight members of a list, each once. In this order what lies inside a range of its template precedes it, and
 // the last one kept has the least last token of its template so far.
 fn tight_members(alloc: Global, triples: &[Triple]) -> Result<Vec<Triple>, AllocError>
     ensures { IfOk result (λ members. SameMembers members.items (tight_of triples.now)) }
@@ -52,7 +52,7 @@ fn tight_members(alloc: Global, triples: &[Triple]) -> Result<Vec<Triple>, Alloc
     Ok(members)
 }
 
-// The outermost members of a list of tight ones. In this order what contains a range stands before it, and the last one
+// The outermost members of a list of tight ones. In this order what contains a range precedes it, and the last one
 // kept has the greatest last token so far. Tight ranges of one template do not contain each other, so no template is
 // asked for.
 fn outermost_members(alloc: Global, tight: &[Triple]) -> Result<Vec<Triple>, AllocError>
@@ -76,7 +76,7 @@ fn keep_members(triples: &mut Vec<Triple>, mut members: Vec<Triple>)
     triples.retain(|triple| is_member(&members, triple));
 }
 
-// Whether a triple is among others, which stand in order.
+// Whether a triple is among others, which are in order.
 fn is_member(sorted: &[Triple], triple: &Triple) -> bool
     requires { IsSorted triple_cmp sorted.now }
     ensures { IsTrue result ↔ Contains sorted.now triple.now }

@@ -9,6 +9,6 @@ pub struct Ask {
     pub all: bool,
     /// Of all matches only those that come after a triple, which need be no match.
     pub after: Option<Triple>,
-    /// Of all matches only the first so many.
+    /// The greatest number of matches that are given.
     pub limit: Option<u64>,
 }

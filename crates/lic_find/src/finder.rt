@@ -44,7 +44,7 @@ pub struct Finder<'a> {
     given: Option<Triple>,
     /// The first token of the range that it has come to.
     first: usize,
-    /// The end of this range: the run stands for the tokens from the first one up to here.
+    /// The end of this range: the run has read the tokens from the first one up to here.
     end: usize,
     ghost come: { ∥ HasCome set.now text.now.tokens (option_or given began) run
         (starts_in starts) first end ∥₁ },
@@ -223,7 +223,7 @@ fn first_token(place: Option<Triple>) -> usize
     place.map_or(0, |triple| triple.first)
 }
 
-// Takes the least noted first token that is left, and begins a run with it over the templates that it stands for.
+// Takes the least noted first token that is left, and begins a run there over the templates that are noted with it.
 fn begin_next(run: &mut Run<'_>, starts: &mut Starts) -> Option<usize>
     requires { (noted : NotedFirst) (more : List NotedFirst)
         → starts_in starts.old ≡ noted ∷ more

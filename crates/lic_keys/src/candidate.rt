@@ -2,7 +2,7 @@
 
 use lic_literals::kept::Kept;
 
-/// A template that has no text with letters, or one whose longest text may stand in the bytes.
+/// A template that has no text with letters, or one whose longest text may occur in the bytes.
 #[derive(Drop)]
 pub struct Candidate {
     /// The number of the template.

@@ -6,7 +6,7 @@ ghost use Rattle.lic_norm.specs.PieceTexts.{IsPieceText};
 ghost use Rattle.lic_places.specs.Places.{IsBehindBlank, is_blank_at};
 ghost use Rattle.lic_keys.specs.Texts.{AreEdges};
 
-/// Whether blanks stand at the edges of a text, and the letters between them.
+/// Whether there are blanks at the edges of a text, and the letters between them.
 #[derive(Clone, Copy, Debug)]
 pub struct Edges<'t> {
     pub has_front: bool,

@@ -36,7 +36,7 @@ impl Model for Keys {
 }
 
 impl Keys {
-    /// The longest text of each template, if it has one that stands outside optional parts and has letters.
+    /// The longest text of each template outside optional parts, if some such text has letters.
     ///
     /// # Errors
     ///
@@ -55,7 +55,7 @@ impl Keys {
         Ok(Keys { literals, texts })
     }
 
-    /// The templates that have no text and those whose text may stand in the bytes, by rising numbers.
+    /// The templates that have no text and those whose text may occur in the bytes, by rising numbers.
     ///
     /// # Errors
     ///

@@ -1,4 +1,4 @@
-//! Of each template a required text, which stands in whatever it describes, and a prefilter by these texts.
+//! The required literal of each template, which is in whatever it describes, and a prefilter by these literals.
 #![tactic(auto)]
 
 pub mod candidate;

@@ -15,7 +15,7 @@ pub struct LongestText<'t> {
     pub letters: &'t [u8],
 }
 
-/// The longest text of a template that stands outside optional parts, the first of those, where there is one with letters.
+/// The longest text of a template outside optional parts, the first of these if several are as long; None if none has letters.
 pub fn longest_text(parts: &[Part]) -> Option<LongestText<'_>>
     requires { HavePieceTexts (row (map part_of parts.now)) }
     ensures { MatchOption result (HasNoLetters parts.now)

@@ -1,4 +1,4 @@
-//! The letters that a character stands for.
+//! The letters that a character is compared as.
 
 ghost use Rattle.std.specs.Prelude.{◌≡◌, ◌∷◌, [], IfOk, IsOk};
 ghost use Rattle.caseless.specs.Caseless.{default_case_fold};
@@ -11,10 +11,10 @@ use smallvec::SmallVec;
 use std::alloc::{AllocError, Global};
 use std::iter::once;
 
-/// The letters that a character stands for (this project's profile): one blank for white space,
+/// The letters that a character is compared as (this project's profile): one blank for white space,
 /// none for a dropped character, `-` for a dash, `'` for a quote, any other mark itself, and for a
 /// word character its full case folding (The Unicode Standard, toCasefold). A word character whose
-/// folding holds a character of another kind would stay as it is, and Unicode has none.
+/// folding holds a character of another kind would stay as it is; Unicode has none.
 ///
 /// The answer is never an error: it has room for four letters and no folding has more than three,
 /// so no memory is asked for.

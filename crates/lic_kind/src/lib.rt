@@ -1,4 +1,4 @@
-//! The kind of a character, and the letters that it stands for; the line rules (this project's profile).
+//! The kind of a character, and the letters that it is compared as; the line rules (this project's profile).
 #![tactic(auto)]
 
 ghost use Rattle.std.specs.Prelude.{◌≡◌};
@@ -30,7 +30,7 @@ pub use texts::Texts;
 pub enum Kind {
     /// White space, `char::is_whitespace`.
     Blank,
-    /// Taken out of the text: it stands for nothing and parts nothing.
+    /// Taken out of the text: it has no letter, and does not separate what is beside it.
     Dropped,
     /// A sign of punctuation, a token by itself.
     Mark,
@@ -38,7 +38,7 @@ pub enum Kind {
     Word,
 }
 
-/// The kind of a character as it stands in the text, before folding (this project's profile).
+/// The kind of a character as it is in the text, before folding (this project's profile).
 #[inline(always)]
 pub fn kind_of(c: char) -> Kind
     ensures { result ≡ kind_of c }

@@ -1,4 +1,4 @@
-//! A quick look at the characters that texts of line rules begin or end in.
+//! Prefilters of lines: the characters that texts of line rules begin or end in.
 ghost use Rattle.std.specs.Prelude.{◌≡◌, ℕ, ◌∷◌, [], reverse, true};
 ghost use Rattle.std.specs.List.{All};
 ghost use Rattle.lic_kind.specs.Openers.{opens_in, may_open, IsKnown, Grows};

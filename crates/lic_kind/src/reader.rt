@@ -89,7 +89,7 @@ impl Reader {
         Ok(())
     }
 
-    /// Reads a text of this kind, which is missing where not one word stands behind the kind.
+    /// Reads a text of this kind, which is missing unless exactly one word follows the kind.
     fn read_text(
         &mut self,
         alloc: Global,

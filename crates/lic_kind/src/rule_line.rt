@@ -11,7 +11,7 @@ use crate::rule_kind::RuleKind;
 pub(crate) enum RuleLine<'a> {
     /// Nothing: it is white space, or a comment.
     Comment,
-    /// A text of this kind, which is missing where not one word stands behind the kind.
+    /// A text of this kind, which is missing unless exactly one word follows the kind.
     Text(RuleKind, Option<&'a str>),
     /// Whether items are taken.
     Items(bool),
@@ -46,14 +46,14 @@ fn switched(word: &str) -> Option<bool>
     }
 }
 
-/// What stands behind the word `items` or `separators`, if it is a switch.
+/// What follows the word `items` or `separators`, if it is a switch.
 fn switch(behind: Option<&str>) -> Option<bool>
     ensures { result ≡ switch (read behind.entry) }
 {
     switched(behind?)
 }
 
-/// The rule of this word and what stands behind it.
+/// The rule of this word and what follows it.
 fn rule_line<'a>(word: &str, behind: Option<&'a str>) -> RuleLine<'a>
     ensures { said result ≡ rule_line (chars word.now) (read behind.entry) }
 {

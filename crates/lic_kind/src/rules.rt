@@ -191,7 +191,7 @@ impl Rules {
         self.texts(kind).text(i)
     }
 
-    /// Whether a list item behind the lead of a line is taken.
+    /// Whether a list item after the lead of a line is taken.
     pub fn items(&self) -> bool
         ensures { result ≡ (rules_of self.now).items }
     {
@@ -205,8 +205,8 @@ impl Rules {
         self.separators
     }
 
-    /// A quick look at the front of a line behind white space: false where no text of a lead begins in white space
-    /// or in this character.
+    /// A prefilter for the front of a line, by its first character after white space: false only if no text of a lead
+    /// begins in white space or in this character.
     #[inline(always)]
     pub fn may_open_lead(&self, c: char) -> bool
         ensures lead { result ≡ false → list_any (opens_in c) (rules_of self.now).lead ≡ false }
@@ -216,8 +216,8 @@ impl Rules {
         self.front.may_open(c)
     }
 
-    /// A quick look at the end of a line before white space: false where no text of a tail ends in white space or
-    /// in this character.
+    /// A prefilter for the end of a line, by its last character before white space: false only if no text of a tail ends
+    /// in white space or in this character.
     #[inline(always)]
     pub fn may_open_tail(&self, c: char) -> bool
         ensures tail { result ≡ false

@@ -29,7 +29,7 @@ pub fn is_dash(c: char) -> bool
     )
 }
 
-/// Whether the character is a quotation mark, an apostrophe or an accent that stands for one.
+/// Whether the character is a quotation mark, an apostrophe or an accent that is used as one.
 /// Its letter is `'`.
 #[tactic(auto, unfolding(crate::specs::Kinds::is_quote))]
 pub fn is_quote(c: char) -> bool

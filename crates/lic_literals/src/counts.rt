@@ -1,4 +1,4 @@
-//! How often windows stand in literals.
+//! How often windows occur in literals.
 
 ghost use Rattle.std.specs.Prelude.{◌+◌, ◌≤◌, length};
 
@@ -8,10 +8,10 @@ use std::alloc::{AllocError, Global};
 // The most counters for windows.
 const MAX_COUNTERS: usize = 1 << 19;
 
-// So many windows of a literal are counted, the first ones: of these one is rare enough, and a set of long texts is soon made.
+// How many windows of a literal are counted, the first ones: one of these is rare enough, and a set of long texts is made soon.
 const MOST_WINDOWS: usize = 512;
 
-/// How often windows stand in literals, counted by their hashes.
+/// How often windows occur in literals, counted by their hashes.
 #[derive(Debug, Drop)]
 pub struct Counts {
     counters: Vec<u16>,
@@ -29,7 +29,7 @@ impl Counts {
         })
     }
 
-    /// Counts the first windows of so many bytes in one more literal.
+    /// Counts the first windows of `size` bytes in one more literal.
     pub fn add(&mut self, literal: &[u8], size: usize)
         requires { 4 ≤ size }
     {
@@ -41,7 +41,7 @@ impl Counts {
         }
     }
 
-    /// Where the window of so many bytes begins that was counted least, the first of these, among the first windows.
+    /// Where, among the first windows of `size` bytes, the one begins that was counted least; of several such the first.
     pub fn rarest(&self, literal: &[u8], size: usize) -> usize
         requires long { 4 ≤ size }
         requires within { size ≤ length literal.now }

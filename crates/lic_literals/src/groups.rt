@@ -40,7 +40,7 @@ impl Groups {
         Ok(groups)
     }
 
-    /// The literals without a window and those whose window stands somewhere, by rising numbers.
+    /// The literals without a window and those whose window occurs, by rising numbers.
     pub fn numbers(&self, alloc: Global, hits: &Hits) -> Result<Vec<usize>, AllocError>
         ensures rising { IfOk result (λ numbers. IsStrictlyIncreasing numbers.items) }
         ensures complete { IfOk result (λ numbers. (k : ℕ) → IsCandidate self.now hits.now k
@@ -58,7 +58,7 @@ impl Groups {
     }
 }
 
-// So many lists without an element.
+// `count` lists without an element.
 fn empty_lists(alloc: Global, count: usize) -> Result<Vec<Vec<usize>>, AllocError>
     ensures { IfOk result (λ lists. length lists.items ≡ count) }
 {

@@ -1,4 +1,4 @@
-//! Where windows stand in bytes.
+//! Where windows occur in bytes.
 
 ghost use Rattle.std.specs.Prelude.{◌≡◌, ◌<◌, ◌≤◌, ◌↔◌, ℕ, None, Some, [], IsTrue, OnOk, All, Contains, length, map, nat_eq, slice_index_or};
 ghost use Rattle.std.specs.HashMap.{get};
@@ -9,17 +9,17 @@ ghost use Rattle.std.proofs.Props.{props};
 use std::alloc::{AllocError, Global};
 use std::collections::HashMap;
 
-// The most places of all windows that are listed. Past it a window that stands somewhere counts as standing anywhere.
+// The most places of all windows that are listed. Past it a window that occurs counts as occurring anywhere.
 const MOST_PLACES: usize = 262_144;
 
-/// A window that stands somewhere, by its number, and its places in rising order.
+/// A window that occurs, by its number, and its places in rising order.
 #[derive(Debug, Drop)]
 pub struct Standing {
     pub window: usize,
     pub places: Vec<usize>,
 }
 
-/// Where windows stand.
+/// Where windows occur.
 #[derive(Drop)]
 pub struct Hits {
     standing: Vec<Standing>,
@@ -46,7 +46,7 @@ impl Hits {
         }
     }
 
-    /// Notes that a window stands at a place.
+    /// Notes that a window is at a place.
     pub fn note(&mut self, window: usize, place: usize) -> Result<(), AllocError>
         ensures { OnOk result (NotesPlace window place self.old self.new) }
     {
@@ -84,14 +84,14 @@ impl Hits {
         Ok(())
     }
 
-    /// Whether a window that stands somewhere counts as standing anywhere.
+    /// Whether a window that occurs counts as occurring anywhere.
     pub fn is_full(&self) -> bool
         ensures { IsTrue result ↔ (262144 ≤ self.now.count) }
     {
         self.count >= MOST_PLACES
     }
 
-    /// The windows that stand somewhere.
+    /// The windows that occur.
     pub fn standing(&self) -> &[Standing]
         ensures { result.now ≡ self.now.standing.items }
     {

@@ -132,7 +132,7 @@ fn candidate(
     })
 }
 
-// How often each window of the literals stands in them.
+// How often each window of the literals occurs in them.
 fn count_windows(alloc: Global, literals: &[&[u8]]) -> Result<Counts, AllocError> {
     let mut counts = Counts::new(alloc, literals)?;
     for literal in literals {

@@ -1,4 +1,4 @@
-//! Windows of one length, and where they stand in bytes.
+//! Windows of one length, and where they occur in bytes.
 
 ghost use Rattle.std.specs.Prelude.{◌≡◌, ◌+◌, ◌<◌, ◌≤◌, ℕ, List, Some, length, IfOk, OnOk};
 ghost use Rattle.memchr.specs.Find.{OccursAt};
@@ -13,7 +13,7 @@ use std::collections::HashMap;
 
 /// Windows of one length in bytes, each with a number.
 ///
-/// Every `STEP`-th place of the bytes is looked at: wherever a window stands, one of its first `STEP` grams begins there.
+/// Every `STEP`-th place of the bytes is looked at: wherever a window is, one of its first `STEP` grams begins there.
 #[derive(Drop)]
 pub struct Table<const LENGTH: usize, const GRAM: usize, const STEP: usize> {
     // the marks of the first grams of the windows
@@ -64,7 +64,7 @@ impl<const LENGTH: usize, const GRAM: usize, const STEP: usize> Table<LENGTH, GR
         }
     }
 
-    /// Notes each place at which a window stands in the bytes.
+    /// Notes each place at which a window occurs in the bytes.
     pub fn note_all(&self, bytes: &[u8], hits: &mut Hits) -> Result<(), AllocError>
         requires sizes { AreSizes LENGTH GRAM STEP }
         ensures { OnOk result (NotesWhere self.now bytes.now (λ _. Unit {0}) hits.old hits.new) }
@@ -83,7 +83,7 @@ impl<const LENGTH: usize, const GRAM: usize, const STEP: usize> Table<LENGTH, GR
         Ok(())
     }
 
-    // Notes each window that stands in the bytes so that one of its first grams is the one at this place, which has this hash.
+    // Notes each window that occurs in the bytes so that one of its first grams is the one at this place, which has this hash.
     #[inline(never)]
     fn note_around(
         &self,
@@ -107,7 +107,7 @@ impl<const LENGTH: usize, const GRAM: usize, const STEP: usize> Table<LENGTH, GR
         Ok(())
     }
 
-    // Notes the window that stands in the bytes at this place, if there is one.
+    // Notes the window that the bytes have at this place, if there is one.
     fn note_at(&self, bytes: &[u8], place: usize, hits: &mut Hits) -> Result<(), AllocError>
         requires sizes { AreSizes LENGTH GRAM STEP }
         requires place { place ≤ length bytes.now }
@@ -119,7 +119,7 @@ impl<const LENGTH: usize, const GRAM: usize, const STEP: usize> Table<LENGTH, GR
         Ok(())
     }
 
-    // The number of the window that stands in the bytes at this place, if there is one.
+    // The number of the window that the bytes have at this place, if there is one.
     fn number_at(&self, bytes: &[u8], place: usize) -> Option<usize>
         requires sizes { AreSizes LENGTH GRAM STEP }
         requires place { place ≤ length bytes.now }

@@ -68,7 +68,7 @@ impl Tables {
         Ok(Some(key))
     }
 
-    /// Notes each place at which a window stands in the bytes.
+    /// Notes each place at which a window occurs in the bytes.
     pub fn note_all(&self, bytes: &[u8], hits: &mut Hits) -> Result<(), AllocError>
         ensures { OnOk result (NotesKeys self.now bytes.now hits.old hits.new) }
     {

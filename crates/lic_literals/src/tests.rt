@@ -1,4 +1,4 @@
-//! Worked literals: where one ends, and which of many may stand in some bytes.
+//! Worked literals: where one ends, and which of many may occur in some bytes.
 
 use crate::ends::ends_within;
 use crate::kept::Kept;

@@ -24,7 +24,7 @@ use thiserror::Error;
 /// The most bytes that a template may have.
 const MAX_BYTES: usize = 1_048_576;
 
-/// What stands behind the identifier in the name of a template's file.
+/// What follows the identifier in the name of a template's file.
 const ENDING: &str = ".template.txt";
 
 /// Why one template is left out.

@@ -24,14 +24,14 @@ pub fn one(test: Test) -> Node
     Node::One(test)
 }
 
-/// So many letters in a row that each pass.
+/// `count` letters in a row that each pass.
 pub fn copies(test: Test, count: usize) -> Node
     ensures { IsBuilt (cat_all (replicate count (one (passes test)))) result }
 {
     Node::Copies { test, count }
 }
 
-/// Letters in a row that each pass, up to so many.
+/// Up to `count` letters in a row that each pass.
 pub fn up_to(test: Test, count: usize) -> Node
     ensures { IsBuilt (any_front (replicate count (one (passes test)))) result }
 {
@@ -58,7 +58,7 @@ pub fn alt(children: Vec<Node>) -> Option<Node>
     Some(Node::Alt { children, weight })
 }
 
-/// The child's words, so many in a row, or `None` where they weigh more than the greatest `usize`.
+/// The child's words, `times` in a row, or `None` if they weigh more than the greatest `usize`.
 pub fn repeat(child: Box<Node>, times: Times) -> Option<Node>
     requires { IsTrue (is_measured child.value) }
     ensures built { IfSome result (IsBuilt (so_many times (core_of child.value))) }

@@ -53,8 +53,8 @@ fn advance(text: &[char], row: &mut Bits, at: usize, place: usize, letter: char)
     }
 }
 
-/// Takes the active positions of so many letters, which all pass or do not, over the letter that is read. They are a row of
-/// counts: the one numbered `k` says that `k + 1` of the letters were taken.
+/// Takes the active positions of `count` letters over the letter that is read, which passes the test of all of them or of
+/// none. They are a row of counts: the one numbered `k` says that `k + 1` of the letters were taken.
 pub fn move_copies(count: usize, is_passed: bool, row: &mut Bits, at: usize, entry: bool)
     requires { at + count ≤ length row.old }
     ensures moves { Moves (λ j. is_passed) entry row.old at count row.new }

@@ -4,12 +4,12 @@ ghost use Rattle.std.specs.Prelude.{◌≡◌, ◌+◌, ◌*◌, IsTrue};
 
 use crate::test::Test;
 
-/// How many words stand in a row.
+/// How many words are in a row.
 #[derive(Clone, Copy, Debug)]
 pub enum Times {
-    /// So many, and up to so many more.
+    /// `needed` words, and up to `more` more.
     Bounded { needed: usize, more: usize },
-    /// So many, and one or more.
+    /// `before` words, and one or more.
     Unbounded { before: usize },
 }
 
@@ -37,12 +37,12 @@ pub enum Node {
     Letters(Vec<char>),
     /// One letter that passes.
     One(Test),
-    /// So many letters in a row that each pass.
+    /// `count` letters in a row that each pass.
     Copies {
         test: Test,
         count: usize,
     },
-    /// Letters in a row that each pass, up to so many.
+    /// Up to `count` letters in a row that each pass.
     UpTo {
         test: Test,
         count: usize,
@@ -57,7 +57,7 @@ pub enum Node {
         children: Vec<Node>,
         weight: usize,
     },
-    /// The child's words, so many in a row.
+    /// The child's words, `times` in a row.
     Repeat {
         child: Box<Node>,
         times: Times,

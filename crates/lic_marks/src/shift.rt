@@ -134,7 +134,7 @@ fn shift_letters_of(test: &Test, row: &mut Bits, at: usize, entry: bool, reading
     again
 }
 
-// The same for so many of the child's words in a row.
+// The same for the child's words, `times` in a row.
 #[cycle(shift)]
 fn shift_repeat(
     child: &Node,
@@ -167,7 +167,7 @@ fn shift_repeat(
     }
 }
 
-// The same for so many copies of the child, one after another. Answers whether a word could end before the letter after all
+// The same for `count` copies of the child, one after another. Answers whether a word could end before the letter after all
 // copies, and whether after any of them or before the first.
 #[cycle(shift)]
 fn shift_copies_of(

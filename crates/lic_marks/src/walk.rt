@@ -78,7 +78,7 @@ pub fn leaves_letters(text: &[char], row: &Bits, at: usize, after: bool, entry: 
     }
 }
 
-/// The same for so many letters: the last one is active, or there is none and a word begins here.
+/// The same for `count` letters: the last one is active, or there is none and a word begins here.
 pub fn leaves_copies(count: usize, row: &Bits, at: usize, after: bool, entry: bool) -> bool
     requires { at + count ≤ length row.now }
     ensures { (passes : ℕ → Bool)
@@ -93,7 +93,7 @@ pub fn leaves_copies(count: usize, row: &Bits, at: usize, after: bool, entry: bo
     }
 }
 
-/// The same for up to so many letters: one of them is active, or a word begins here.
+/// The same for up to `count` letters: one of them is active, or a word begins here.
 pub fn leaves_up_to(count: usize, row: &Bits, at: usize, after: bool, entry: bool) -> bool
     requires { at + count ≤ length row.now }
     ensures { (passes : ℕ → Bool)
@@ -105,7 +105,7 @@ pub fn leaves_up_to(count: usize, row: &Bits, at: usize, after: bool, entry: boo
     entry | is_marked
 }
 
-// The same for so many of the child's words in a row.
+// The same for the child's words, `times` in a row.
 #[cycle(leaves)]
 fn leaves_repeat(
     child: &Node,
@@ -136,7 +136,7 @@ fn leaves_repeat(
     }
 }
 
-// The same for so many copies of the child, one after another; and whether a word may end after any of them or before the
+// The same for `count` copies of the child, one after another; and whether a word may end after any of them or before the
 // first.
 #[cycle(leaves)]
 fn leaves_copies_of(

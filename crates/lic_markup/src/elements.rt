@@ -35,7 +35,7 @@ fn lasting(fault: MarkupFault) -> Result<MarkupFault, AllocError>
     }
 }
 
-/// Pushes the rule at a place whose tag was read, or its fault, and gives what stands behind the rule.
+/// Pushes the rule at a place whose tag was read, or its fault, and gives what follows the rule.
 fn push_rule<'a>(
     alloc: Global,
     found: &mut Vec<Element>,

@@ -9,7 +9,7 @@ use thiserror::Error;
 /// What is wrong with a template.
 #[derive(Clone, Copy, Debug, PartialEq, Eq, Error)]
 pub enum MarkupCause {
-    /// Behind the tag or a field's value neither `;` nor `>>` stands, or the text ends inside the rule.
+    /// Neither `;` nor `>>` follows the tag or a field's value, or the text ends inside the rule.
     #[error("rule not closed")]
     NotClosed,
     /// An `endOptional` with no `beginOptional` open.

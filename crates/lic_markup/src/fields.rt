@@ -94,14 +94,14 @@ fn field_of(tag: Tag, name: &str) -> Field
     }
 }
 
-/// Whether `;` or `>>` stands in front.
+/// Whether the text begins with `;` or `>>`.
 fn at_end(rest: &[(usize, char)]) -> bool
     ensures { result ≡ at_end rest.now }
 {
     begins_with(rest, ';') || begins_with_two(rest, '>')
 }
 
-/// The name of a field that begins here, with the white space behind it, and what stands behind its `=`.
+/// The name of a field that begins here, with the white space after it, and what follows its `=`.
 /// `rule` and `start` are the places of the rule and of the field.
 fn name(
     rule: usize,
@@ -132,7 +132,7 @@ fn name(
     })
 }
 
-/// Whether a `"` stands here directly before `;` or `>>`.
+/// Whether the text begins with a `"` directly before `;` or `>>`.
 fn ends_quoted(rest: &[(usize, char)]) -> bool
     ensures { result ≡ ends_quoted rest.now }
 {
@@ -142,7 +142,7 @@ fn ends_quoted(rest: &[(usize, char)]) -> bool
     *first == '"' && at_end(after)
 }
 
-/// A value behind its `"`, and what stands behind the `"` that ends it.
+/// A value from after its `"`, and what follows the `"` that ends it.
 fn quoted(
     rule: usize,
     all: &[(usize, char)],
@@ -165,14 +165,14 @@ fn quoted(
     })
 }
 
-/// Whether `>>` stands here, or a `;` that no backslash stands directly before.
+/// Whether the text begins with `>>`, or with a `;` that is not directly after a backslash.
 fn ends_plain(rest: &[(usize, char)], escaped: bool) -> bool
     ensures { result ≡ ends_plain escaped rest.now }
 {
     begins_with_two(rest, '>') || (begins_with(rest, ';') && !escaped)
 }
 
-/// A value without quotes, with the white space behind it, and the `;` or `>>` that ends it with what follows.
+/// A value without quotes, with the white space after it, and the `;` or `>>` that ends it with what follows.
 fn plain(
     rule: usize,
     all: &[(usize, char)],
@@ -197,7 +197,7 @@ fn plain(
     })
 }
 
-/// The value that begins here, and what stands behind it.
+/// The value that begins here, and what follows it.
 #[tactic(auto, unfolding(crate::specs::Rules::value_at))]
 fn value(
     rule: usize,
@@ -213,7 +213,7 @@ fn value(
     Ok((trim_end(value), after))
 }
 
-/// Reads the field that begins here into the values, and gives what stands behind it. `rule` and `start` are the
+/// Reads the field that begins here into the values, and gives what follows it. `rule` and `start` are the
 /// places of the rule and of the field.
 #[tactic(auto, unfolding(crate::specs::Rules::field_at))]
 fn read_field<'a>(
@@ -241,7 +241,7 @@ fn read_field<'a>(
     Ok(behind)
 }
 
-/// Behind a `;` and white space: reads a field, unless it is empty, and gives what stands behind it.
+/// After a `;` and white space: reads a field, unless it is empty, and gives what follows it.
 fn field_or_none<'a>(
     alloc: Global,
     rule: usize,
@@ -261,7 +261,7 @@ fn field_or_none<'a>(
     read_field(alloc, rule, *start, tag, values, rest)
 }
 
-/// The values of a rule's fields from a place where `;` or `>>` must stand, and what stands behind its `>>`.
+/// The values of a rule's fields from a place where `;` or `>>` must be, and what follows its `>>`.
 pub fn fields(
     alloc: Global,
     rule: usize,

@@ -1,4 +1,4 @@
-//! Laws of what parts of templates stand for, each the contract of a function that does nothing.
+//! Laws of the words of a template's parts, each the contract of a function that does nothing.
 ghost use Rattle.std.specs.Prelude.{◌≡◌, ◌↔◌, ◌++◌, ◌∷◌, ◌⊎◌, [], ◌==◌, ℕ, Bool, true, false, not};
 ghost use Rattle.std.specs.Prelude.{List, Vec, String, Ok, Err, All, chars, map};
 ghost use Rattle.std.specs.Global.{Global};
@@ -30,7 +30,7 @@ ghost use Rattle.lic_markup.specs.Meaning.{parts_words, part_words, piece_texts}
 
 pub use crate::part::{templates_give_a_token, templates_weigh_little, texts_are_those_of_pieces};
 
-/// Parts in a row stand for a word of the first of them and then one of the others.
+/// A word of parts in a row is a word of the first of them and then one of the others.
 pub fn parts_in_a_row_stand_for_both()
     ensures { (xs ys : List Part) (w : List ℕ)
         → Language (parts_words (map part_of (xs ++ ys))) w
@@ -38,7 +38,7 @@ pub fn parts_in_a_row_stand_for_both()
         (Language (parts_words (map part_of ys))) w }
 {}
 
-/// An optional part that has only an optional part stands for what that part does.
+/// An optional part of nothing but an optional part has the words of that part.
 pub fn optional_twice_is_optional()
     ensures { (once twice : Vec Part Global) (w : List ℕ) → twice.items ≡ Optional once ∷ []
         → Language (part_words (Optional twice)) w ↔ Language (part_words (Optional once)) w }
@@ -85,7 +85,7 @@ pub fn a_template_without_rules_is_one_text()
 {}
 
 /// The fault that a template is refused by is the one that decides: that it is too long; else the first rule at fault, by what is
-/// met first in it from the left; else, behind the last rule, that a part is open, that no piece gives a token, that the template
+/// met first in it from the left; else, after the last rule, that a part is open, that no piece gives a token, that the template
 /// is too heavy.
 pub fn a_template_is_refused_by_the_fault_that_decides()
     ensures { (rules : LineRules) (words : List Phrase) (template : List ℕ) (e : MarkupFault)

@@ -16,8 +16,8 @@ fn is_space(character: char) -> bool
     character.is_whitespace() || is_dropped(character)
 }
 
-/// Whether only white space stands between the start of a line and the end of a piece, where `so_far` says so of
-/// what is before it.
+/// Whether there is only white space between the start of a line and the end of a piece, where `so_far` says so of
+/// what is before the piece.
 pub fn at_line_start(so_far: bool, piece: &[(usize, char)]) -> bool
     ensures { result ≡ lines.at_line_start so_far piece.now }
 {
@@ -34,8 +34,8 @@ pub fn at_line_start(so_far: bool, piece: &[(usize, char)]) -> bool
     so_far
 }
 
-/// Whether only white space stands from the beginning of a piece to the end of the line, where `behind` says so of what
-/// follows it.
+/// Whether there is only white space from the beginning of a piece to the end of the line, where the flag handed in says
+/// so of what follows the piece.
 fn line_ends(behind: bool, piece: &[(usize, char)]) -> bool
     ensures { result ≡ lines.line_ends behind piece.now }
 {
@@ -52,8 +52,8 @@ fn line_ends(behind: bool, piece: &[(usize, char)]) -> bool
     behind
 }
 
-/// Whether only white space and optional rules stand from an element to the end of the line, where `behind` says so
-/// of what follows it.
+/// Whether there are only white space and optional rules from an element to the end of the line, where the flag handed
+/// in says so of what follows the element.
 fn line_ends_at(behind: bool, element: &Element) -> bool
     ensures { result ≡ lines.line_ends_at behind (element_of element.now) }
 {
@@ -64,7 +64,7 @@ fn line_ends_at(behind: bool, element: &Element) -> bool
     }
 }
 
-/// What an element counts as, if the line goes on from it.
+/// What an element counts as, if the line continues after it.
 fn counts_as(element: &Element) -> Next
     ensures { result ≡ lines.counts_as (element_of element.now) }
 {

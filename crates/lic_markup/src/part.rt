@@ -15,9 +15,9 @@ pub enum Part {
     /// Text that may be replaced.
     Var {
         name: String,
-        /// What stands in the original text.
+        /// What the original text has here.
         original: String,
-        /// What may stand instead.
+        /// What a text may have instead.
         ere: Ere,
     },
     /// Parts that may be left out together.
@@ -80,7 +80,7 @@ impl Template {
 
     /// What the template weighs (this project's profile): the letters of its texts, blanks included, and the weights
     /// of its patterns, where each letter, `.` and bracket weighs 1, rows and alternatives the sum, and a repetition
-    /// its body so many times.
+    /// its body as often as it may occur.
     pub fn weight(&self) -> u64
         ensures { result ≡ self.now.weight }
     {
@@ -95,7 +95,7 @@ impl Template {
     }
 }
 
-/// The texts of a template's parts have letters, and blanks within them stand between letters of words.
+/// The texts of a template's parts have letters, and blanks within them are between letters of words.
 pub fn texts_are_those_of_pieces(template: &Template)
     ensures { HavePieceTexts (row (map part_of template.now.parts)) }
 {

@@ -24,7 +24,7 @@ use lic_norm::words::Words;
 use std::alloc::{AllocError, Global};
 use std::mem;
 
-/// How deep optional parts may stand in one another.
+/// How deep optional parts may be in one another.
 const MAX_DEPTH: usize = 64;
 
 /// The greatest weight of a template.
@@ -69,7 +69,7 @@ pub struct Reader {
     pub outer: Vec<Level>,
     /// The original text so far.
     pub original: String,
-    /// Whether only white space and optional rules stand between the start of the line and here.
+    /// Whether there are only white space and optional rules between the start of the line and here.
     pub at_start: bool,
 }
 
@@ -230,7 +230,7 @@ impl Reader {
         }
     }
 
-    /// Behind the last element.
+    /// After the last element.
     pub fn finish(self) -> Result<Template, MarkupFault>
         requires { HasReadTexts (state_of self) }
         ensures exact { Gives template_of result

@@ -55,7 +55,7 @@ fn complete(rule: usize, tag: Tag, values: Values) -> Result<Rule, MarkupFault>
     }
 }
 
-/// The rule at a place whose tag was read, from behind the tag on, and what stands behind it.
+/// The rule at a place whose tag was read, from after the tag on, and what follows the rule.
 #[tactic(auto, unfolding(crate::specs::Rules::rule_at))]
 pub fn read_rule(
     alloc: Global,

@@ -27,7 +27,7 @@ fn tag_of(word: &str) -> Option<Tag>
     }
 }
 
-/// How many ASCII letters and digits stand in front.
+/// How many ASCII letters and digits the text begins with.
 fn word_length(all: &[(usize, char)]) -> usize
     ensures length { result ≡ length (word_at all.now) }
     ensures within { result ≤ length all.now }
@@ -42,7 +42,7 @@ fn word_length(all: &[(usize, char)]) -> usize
     count
 }
 
-/// The ASCII letters and digits in front, and what stands behind them.
+/// The ASCII letters and digits that the text begins with, and what follows them.
 fn split_word(all: &[(usize, char)]) -> (&[(usize, char)], &[(usize, char)])
     ensures word { result.0.now ≡ word_at all.now }
     ensures behind { result.1.now ≡ drop (length (word_at all.now)) all.now }
@@ -50,7 +50,7 @@ fn split_word(all: &[(usize, char)]) -> (&[(usize, char)], &[(usize, char)])
     all.split_at(word_length(all))
 }
 
-/// The tag of the rule that begins with a character, if one does, and what stands behind it.
+/// The tag of the rule that begins with a character, if one does, and what follows the tag.
 #[tactic(auto, unfolding(crate::specs::Rules::tag_at))]
 pub fn read_tag(
     alloc: Global,

@@ -23,7 +23,7 @@ pub fn place_of(text: &[(usize, char)]) -> usize
     *place
 }
 
-/// Whether a character stands in front.
+/// Whether the text begins with a character.
 pub fn begins_with(rest: &[(usize, char)], character: char) -> bool
     ensures { result ≡ begins_with character rest.now }
 {
@@ -33,7 +33,7 @@ pub fn begins_with(rest: &[(usize, char)], character: char) -> bool
     *first == character
 }
 
-/// Whether a character stands in front, twice.
+/// Whether the text begins with a character, twice.
 pub fn begins_with_two(rest: &[(usize, char)], character: char) -> bool
     ensures { result ≡ begins_with_two character rest.now }
 {

@@ -105,7 +105,7 @@ fn steps_of(mut finder: Finder<'_>) -> Steps {
     (new, last.max(most_of_next), finder.steps())
 }
 
-/// A text: its beginning, what stands so often after that, and its end.
+/// A text: its beginning, what follows and how often, and its end.
 type Source = (&'static str, &'static str, usize, &'static str);
 
 fn source_of(alloc: Global, source: &Source) -> Result<Text, Fail> {
@@ -142,7 +142,7 @@ fn counts_the_steps_of_worked_texts(rt: HostRuntime) -> Result<(), Fail> {
             (0, 66),
             (24, 78),
         ),
-        // Seven letters; matches begin with three tokens, and go on for seven, six and four letters.
+        // Seven letters; matches begin with three tokens, and are up to seven, six and four letters long.
         (
             &[OF],
             ("x of y of z", "", 0, ""),

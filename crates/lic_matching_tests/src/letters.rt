@@ -6,7 +6,7 @@ use std::fmt::Write;
 use std::test::Fail;
 
 /// The letters of a token as they are given, each with whether it is apart and whether it and the letter before are of words; then
-/// the last letter, and whether a gap stands behind it.
+/// the last letter, and whether a gap follows it.
 fn told(alloc: Global, token: &str, last: char, is_apart: bool) -> Result<String, AllocError> {
     let mut letters = Letters::new(token, last, is_apart);
     let mut told = String::new(alloc);
@@ -23,7 +23,7 @@ fn told(alloc: Global, token: &str, last: char, is_apart: bool) -> Result<String
 
 #[test]
 fn letters_come_one_by_one_with_their_gaps(rt: HostRuntime) -> Result<(), Fail> {
-    // a token, the letter before it and whether a gap stands there
+    // a token, the letter before it and whether there is a gap between them
     let table: &[(&str, char, bool, &str)] = &[
         ("ab", 'x', true, "a true true, b false true, b false"),
         ("a  b ", '.', false, "a false false, b true true, b true"),

@@ -12,7 +12,7 @@ pub fn template_of(alloc: Global, text: &str) -> Result<Template, MarkupFault> {
     read_template(alloc, text, &Words::none(alloc), &Rules::profile(alloc))
 }
 
-/// A set of templates, at most ten, which are numbered as they stand here.
+/// A set of templates, at most ten, which are numbered in this order.
 pub fn set_of(alloc: Global, texts: &[&str]) -> Result<Set, Fail> {
     let mut templates = Vec::new(alloc);
     for (k, text) in texts.iter().enumerate() {

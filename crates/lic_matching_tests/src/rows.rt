@@ -4,7 +4,7 @@ use lic_rows::{and_into, any_from, is_zero, or_into, shift_up_one};
 use std::alloc::{AllocError, Global};
 use std::test::Fail;
 
-/// The greatest number of words that is tried: five blocks of four, and every rest in between.
+/// The greatest number of words that is tried: up to five blocks of four, with each remainder in between.
 const MAX_WORDS: usize = 20;
 
 /// The bit number `b`, by itself.
@@ -15,7 +15,7 @@ fn bit(row: &[u64], b: usize) -> bool {
     }
 }
 
-/// So many words, each with about half of its bits set; another seed gives another row.
+/// A row of words, each with about half of its bits set; another seed gives another row.
 fn mixed(alloc: Global, words: usize, seed: u64) -> Result<Vec<u64>, AllocError> {
     let mut row = Vec::new(alloc);
     let mut state = seed;
@@ -28,7 +28,7 @@ fn mixed(alloc: Global, words: usize, seed: u64) -> Result<Vec<u64>, AllocError>
     Ok(row)
 }
 
-/// So many words with the bit `b` alone.
+/// A row of words with the bit `b` alone.
 fn single(alloc: Global, words: usize, b: usize) -> Result<Vec<u64>, AllocError> {
     let mut row = vec![in alloc; 0; words]?;
     if b / 64 < row.len() {
@@ -37,7 +37,7 @@ fn single(alloc: Global, words: usize, b: usize) -> Result<Vec<u64>, AllocError>
     Ok(row)
 }
 
-/// At how many bits either kernel of two rows says otherwise than bit by bit, also behind the rows.
+/// At how many bits, those after the rows included, either kernel of two rows differs from the answer bit by bit.
 fn wrong_bits(alloc: Global, words: usize) -> Result<usize, AllocError> {
     let one = mixed(alloc, words, 1)?;
     let two = mixed(alloc, words, 2)?;
@@ -78,7 +78,7 @@ fn wrong_shifts(alloc: Global, words: usize, limit: usize) -> Result<usize, Allo
     Ok(wrong)
 }
 
-/// Whether a row with one bit, or with none where the bit lies behind it, is told as such from each side of the bit.
+/// Whether a row with one bit, or with none if the bit is after its end, is seen to be so from each side of the bit.
 fn is_seen(alloc: Global, words: usize, b: usize) -> Result<bool, AllocError> {
     let row = single(alloc, words, b)?;
     let stands = b / 64 < row.len();
@@ -102,7 +102,7 @@ fn kernels_are_bit_by_bit(rt: HostRuntime) -> Result<(), Fail> {
                 "{words} words, {limit}"
             );
         }
-        // one bit behind the last word too
+        // one bit after the last word too
         for b in 0..64 * words + 1 {
             assert!(rt; is_seen(rt.alloc(), words, b)?, "bit {b} of {words} words");
         }

@@ -136,7 +136,7 @@ fn tell_live(back: &Back<'_>, told: &mut String) -> Result<(), Fail> {
     Ok(())
 }
 
-/// What is said of each token that comes from the end, and once the machine begins anew.
+/// What the machine answers after each token, taken from the end, and once it has begun anew.
 fn told_from_the_end(alloc: Global, tokens: &[&str]) -> Result<String, Fail> {
     let set = set_of(alloc, &TWO)?;
     let mut back = Back::new(alloc, &set)?;

@@ -31,7 +31,7 @@ fn named(alloc: Global, set: &Set) -> Result<String, Fail> {
     Ok(named)
 }
 
-/// What is said of templates: how they are numbered, or why they are no set. Of those that are many, how many they are.
+/// What comes of templates: how they are numbered, or why they are no set. Of many, how many they are.
 fn told(alloc: Global, count: usize, ids: &str) -> Result<String, Fail> {
     match Set::build(alloc, templates(alloc, count, ids)?) {
         Ok(set) if count > 0 => Ok(format!(in alloc; "{} templates", set.len())?),
@@ -93,7 +93,7 @@ fn a_set_rules_out_templates_for_a_text(rt: HostRuntime) -> Result<(), Fail> {
             "Foo BAR  foo",
             "0: 7; 1: 3 11; 2:; ",
         ),
-        // with no blank beside a mark, wherever one stands in the source
+        // with no blank beside a mark, wherever the source has one
         (
             &["licens", "( licens )"],
             "the license ( Licens )",

@@ -124,7 +124,7 @@ fn finds(finder: &mut Finder<'_>, matches: &[(usize, usize, usize)]) -> bool {
     finder.next().is_none() && finder.next().is_none() && finder.steps() > 0
 }
 
-/// Whether the bytes of each token are bytes of the source, and its text stands in the canonical spelling.
+/// Whether the bytes of each token are bytes of the source, and its text is part of the canonical spelling.
 fn tells_tokens(text: &Text) -> bool {
     let mut count = 0usize;
     for k in 0..text.len() {
@@ -246,7 +246,7 @@ fn moves_words() -> bool {
     is_carried && is_joined && is_zero(&row)
 }
 
-/// Whether a row of bits does as it should; it has so many as `other`.
+/// Whether a row of bits does as it should; it has as many as `other`.
 fn moves_bits(row: &mut Bits, other: &Bits) -> bool
     requires same { length row.old ≡ length other.now }
     requires room { 70 ≤ length row.old }

@@ -150,7 +150,7 @@ fn gives_tight(alloc: Global, set: &Set, text: &Text, matches: &[Range]) -> Resu
     Ok(tight_matches(alloc, set, text)?.as_slice() == wanted.as_slice())
 }
 
-/// Whether no template is ruled out, and a text of each stands in the text.
+/// Whether no template is ruled out, and the required literal of each occurs in the text.
 fn keeps_all(alloc: Global, set: &Set, text: &Text) -> Result<bool, Refused> {
     let candidates = set.candidates(alloc, text)?;
     for candidate in &candidates {
@@ -267,7 +267,7 @@ fn go_on(
     Ok((later.next(), found.next()))
 }
 
-/// What the two variables of a match stand for; nothing where it is none.
+/// The values of the two variables of a match; nothing if it is no match.
 fn spans(
     alloc: Global,
     set: &Set,

@@ -1,4 +1,4 @@
-//! Runs of the engine, from a reader to a writer: the report of an input, the lines of its tokens, and what is said of templates.
+//! Runs of the engine, from a reader to a writer: the report of an input, the lines of its tokens, and the check of templates.
 
 use crate::lent::{CHECKED, OF, OPTIONAL, TWO, Templates, set_of, text_of};
 use crate::refused::{Refused, retried};
@@ -19,7 +19,7 @@ const ALL: Ask = Ask {
     limit: None,
 };
 
-/// Those behind the match of the first template in the first two tokens.
+/// Those after the match of the first template in the first two tokens.
 const LATER: Ask = Ask {
     all: true,
     after: Some(Triple {
@@ -37,7 +37,7 @@ const OUTER: Ask = Ask {
     limit: None,
 };
 
-/// Templates and what is said of them, an input, what is asked of it, and the report.
+/// Templates and what `check` says of them, an input, what is asked of it, and the report.
 #[derive(Clone, Copy)]
 struct Row {
     templates: Templates<'static>,
@@ -107,7 +107,7 @@ const ROWS: &[Row] = &[
     },
 ];
 
-/// Whether what is said of templates is all that, and no more.
+/// Whether `check` says just this of templates.
 fn says(
     alloc: Global,
     set: &Set,
@@ -193,7 +193,7 @@ const LISTED: &[Listed] = &[
     },
 ];
 
-/// Whether an input has so many tokens, and the lines that are written of them are all of the row's.
+/// Whether an input has as many tokens as the row says, and the lines that are written of them are just the row's.
 fn lists(alloc: Global, words: &Words, rules: &Rules, row: &Listed) -> Result<bool, Refused> {
     let count = count_tokens(alloc, row.input, words, rules)?;
     let mut input = Pieces::of(row.input);

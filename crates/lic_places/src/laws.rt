@@ -10,7 +10,7 @@ ghost use Rattle.lic_norm.specs.PieceTexts.{IsPieceText};
 ghost use Rattle.lic_places.specs.Places.{AreTexts, IsBehindBlank, OverBlank, Stands, is_blank_at, spelling_of};
 ghost use Rattle.lic_places.specs.Reads.{Reads, ReadsTokens};
 
-/// A word that spells tokens spells, in the canonical spelling of all tokens, what stands from the first of them to the last.
+/// A word that spells tokens spells, in the canonical spelling of all tokens, what is there from the first of them to the last.
 pub fn a_spelling_is_read_from_token_to_token()
     ensures { (tokens : List TokenValue) (first last : ℕ) (w : Word)
         → AreTexts tokens → first ≤ last → last < length tokens
@@ -18,13 +18,13 @@ pub fn a_spelling_is_read_from_token_to_token()
         ↔ ReadsTokens tokens first w last }
 {}
 
-/// Words one after another spell what stands from place to place.
+/// Words one after another spell what is from place to place.
 pub fn joined_words_are_read_one_after_another()
     ensures { (tokens : List TokenValue) (u v : Word) (p q : ℕ)
         → Reads tokens p (u ++ v) q ↔ ((r : ℕ) × Reads tokens p u r × Reads tokens r v q) }
 {}
 
-/// The letters of a text with no blank at its edges are read exactly where its bytes stand.
+/// The letters of a text with no blank at its edges are read exactly where its bytes are.
 pub fn a_text_is_read_where_its_bytes_stand()
     ensures { (tokens : List TokenValue) (text : List ℕ) (p q : ℕ)
         → AreTexts tokens → IsUtf8 text → IsPieceText text → 0 < length text
@@ -48,7 +48,7 @@ pub fn a_blank_leads_one_way()
     ensures order { (tokens : List TokenValue) (p q : ℕ) → OverBlank tokens p q → p ≤ q }
 {}
 
-/// The texts of tokens stand in the canonical spelling one after another, with a blank between two of them or none.
+/// The texts of tokens follow one another in the canonical spelling, with a blank between two of them or none.
 pub fn tokens_stand_one_after_another()
     ensures first { (tokens : List TokenValue) → 0 < length tokens → place_start tokens 0 ≡ 0 }
     ensures next { (tokens : List TokenValue) (i : ℕ) → AreTexts tokens → suc i < length tokens
@@ -72,7 +72,7 @@ pub fn tokens_have_no_blank_at_their_edges()
         → ¬ IsBehindBlank (spelling_of tokens) (place_end tokens i) }
 {}
 
-/// A canonical spelling is in UTF-8, and no two blanks stand together in it.
+/// A canonical spelling is in UTF-8, and no two blanks are together in it.
 pub fn spellings_are_in_utf8()
     ensures utf8 { (tokens : List TokenValue) → AreTexts tokens → IsUtf8 (spelling_of tokens) }
     ensures blanks { (tokens : List TokenValue) (p : ℕ) → AreTexts tokens

@@ -1,4 +1,4 @@
-//! Texts in canonical spelling by their places: which words spell what stands between two places of a text.
+//! Texts in canonical spelling by their places: which words spell what is between two places of a text.
 #![tactic(auto)]
 
 pub mod laws;

@@ -11,7 +11,7 @@ use std::alloc::{AllocError, Global};
 use std::fmt::Write;
 use std::test::Fail;
 
-/// Feeds pieces of so many bytes, whatever is answered: how many are refused.
+/// Feeds pieces of `size` bytes, whatever is answered: how many are refused.
 fn feed(feeder: &mut Feeder<'_>, input: &[u8], size: usize) -> usize
     requires { 0 < size }
 {
@@ -24,7 +24,7 @@ fn feed(feeder: &mut Feeder<'_>, input: &[u8], size: usize) -> usize
     refused
 }
 
-/// What comes of a front and of pieces of so many bytes behind it: how many of these are refused, how many tokens are ready then, and the
+/// What comes of a front and of pieces of `size` bytes after it: how many of these are refused, how many tokens are ready then, and the
 /// text.
 fn fed(
     alloc: Global,

@@ -15,7 +15,7 @@ use lic_set::set::Set;
 use lic_vars::values::Value;
 use std::alloc::AllocError;
 
-/// Adds the file's name, which stands first in each line.
+/// Adds the file's name, the first field of each line.
 pub fn add_file(lines: &mut Vec<u8>, name: &str) -> Result<(), AllocError>
     ensures { OnOk result (lines.new.items ≡ lines.old.items ++ field (escaped name.now) 0x09) }
 {
@@ -48,7 +48,7 @@ fn add_place(lines: &mut Vec<u8>, text: &Text, span: Option<Span>) -> Result<(),
     add_text(lines, text.slice(span), b'\n')
 }
 
-/// Adds the line of a variable: an empty field, its name, and the bytes that it stood for.
+/// Adds the line of a variable: an empty field, its name, and the bytes of its value.
 pub fn add_value(lines: &mut Vec<u8>, text: &Text, value: &Value<'_>) -> Result<(), AllocError>
     requires { (s : Span) → value.now.span ≡ Some s
         → (s.start ≤ s.end) × (s.end ≤ length text.now.source) }
@@ -60,7 +60,7 @@ pub fn add_value(lines: &mut Vec<u8>, text: &Text, value: &Value<'_>) -> Result<
     add_place(lines, text, value.span)
 }
 
-/// Adds the line of a template: its identifier, its weight, and what is said of it.
+/// Adds the line of a template: its identifier, its weight, and the verdict.
 pub fn add_checked(lines: &mut Vec<u8>, set: &Set, k: usize, yes: bool) -> Result<(), AllocError>
     requires { k < length set.now }
     ensures { OnOk result (lines.new.items

@@ -14,7 +14,7 @@ use std::alloc::{AllocError, Global};
 use std::collections::HashMap;
 use std::marker::Model;
 
-/// Writes the lines of matches in one file. What stands first in each line of a template is made with its first line, and kept
+/// Writes the lines of matches in one file. What the lines of a template begin with is made with its first line, and kept
 /// for the others.
 #[derive(Debug, Drop)]
 pub struct MatchLines<'a> {
@@ -70,7 +70,7 @@ impl<'a> MatchLines<'a> {
         add_last_numbers(lines, triple.first as u64, triple.last as u64, start, end)
     }
 
-    /// Adds what stands first in the lines of a template.
+    /// Adds what the lines of a template begin with.
     fn add_front(&mut self, alloc: Global, lines: &mut Vec<u8>, k: usize) -> Result<(), AllocError>
         ensures of { self.new ≡ self.old }
         ensures front { OnOk result (lines.new.items
@@ -86,7 +86,7 @@ impl<'a> MatchLines<'a> {
     }
 }
 
-/// What stands first in the lines of a template: the fields of the file's name and of its identifier.
+/// What the lines of a template begin with: the fields of the file's name and of its identifier.
 #[inline(never)]
 fn front_of(alloc: Global, name: &str, set: &Set, k: usize) -> Result<Vec<u8>, AllocError>
     ensures { IfOk result (λ front. front.items ≡ match_front name.now set.now k) }

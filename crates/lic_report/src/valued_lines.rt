@@ -20,8 +20,8 @@ use lic_vars::values::Value;
 use std::alloc::{AllocError, Global};
 use std::marker::Model;
 
-/// Writes the lines of matches in one file, each before those of its variables. What stands first in the lines of a template is made, and
-/// the template is compiled, with its first match.
+/// Writes the lines of matches in one file, each before those of its variables. With the first match of a template what its lines begin
+/// with is made, and the template is compiled.
 #[derive(Debug, Drop)]
 pub struct ValuedLines<'a> {
     matches: MatchLines<'a>,

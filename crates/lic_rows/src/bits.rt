@@ -30,7 +30,7 @@ impl Model for Bits {
 }
 
 impl Bits {
-    /// So many bits, none of them set.
+    /// `len` bits, none of them set.
     ///
     /// # Errors
     /// Memory ran out.

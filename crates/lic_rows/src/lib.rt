@@ -1,5 +1,5 @@
-//! Rows of bits. A row of any length is a `Bits`. The calls of this module are its kernels on whole words, which move lanes
-//! of four words and a plain loop for the rest. Bit number `b` of a row is bit `b % 64`, counted from the lowest, of word
+//! Rows of bits. A row of any length is a `Bits`. The calls of this module are its kernels on whole words, which take lanes
+//! of four words, and what is left by a plain loop. Bit number `b` of a row is bit `b % 64`, counted from the lowest, of word
 //! `b / 64`; after its last word a row has no set bit. Only `Bits::new` takes memory and can fail.
 #![tactic(auto)]
 

@@ -1,5 +1,5 @@
-//! Ranges of a row of words: the bits from one to before another. Whole words are done at once, and what stands in
-//! the two words at the ends outside of the range is put back.
+//! Ranges of a row of words: the bits from one to before another. Whole words are done at once, and what the two
+//! words at the ends have outside of the range is put back.
 
 ghost use Rattle.std.specs.Prelude.{◌≡◌, ◌≢◌, ℕ, suc, ◌/◌, ◌%◌, ◌==◌, ◌≤◌, ◌<◌, List, IfSome, IfNone, true, false, length, slice_index};
 ghost use Rattle.std.specs.Int.{bit_at};
@@ -27,7 +27,7 @@ pub fn put(row: &mut [u64], at: usize, is_set: bool)
     row[at / 64] = with_bit(row[at / 64], at % 64, is_set);
 }
 
-// Puts back what stood outside of the range in the words at its ends, which were `low` and `high`.
+// Puts back what the words at the ends of the range, which were `low` and `high`, had outside of it.
 fn put_back(row: &mut [u64], from: usize, to: usize, low: u64, high: u64)
     requires order { from ≤ to }
     requires room { to / 64 < length row.old }

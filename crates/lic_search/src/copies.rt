@@ -24,7 +24,7 @@ pub(crate) struct Copies<'t> {
     pub(crate) first: usize,
 }
 
-/// The optional copies of one text, if any, that stand last of the parts before one of them.
+/// The optional copies of one text, if any, with which the parts before one of them end.
 pub(crate) fn last_copies(parts: &[Part], end: usize) -> Option<Copies<'_>>
     requires some { 0 < end }
     requires within { end ≤ length parts.now }
@@ -58,7 +58,7 @@ fn copied_text(part: &Part) -> Option<&str>
     }
 }
 
-// The optional copies of a text that stand last of the parts before one of them.
+// The optional copies of a text with which the parts before one of them end.
 #[cycle(copies)]
 fn copies_before<'t>(parts: &[Part], end: usize, text: &'t str) -> Copies<'t>
     requires { end ≤ length parts.now }

@@ -51,7 +51,7 @@ impl GroupedWays {
         }))
     }
 
-    // The places before which letters with this hash stand.
+    // The places right after letters with this hash.
     fn with(&self, alloc: Global, hash: u64) -> Result<Ways, AllocError>
         ensures nothing { IfOk result (λ found. (s : PlaceSpan) → Contains found.nothing.items s ↔ HasEntry self.now.nothing.lists.items hash s) }
         ensures letter { IfOk result (λ found. (s : PlaceSpan) → Contains found.letter.items s ↔ HasEntry self.now.letter.lists.items hash s) }
@@ -117,7 +117,7 @@ fn last_letters_of_row(subs: &[Ere]) -> Option<u64>
     hash_of_some(hash, subs.len())
 }
 
-// The hash of so many letters, if there are any.
+// The hash of `count` letters, if there are any.
 fn hash_of_some(hash: u64, count: usize) -> Option<u64>
     ensures { IfSome result (λ known. (known ≡ hash) × (0 < count)) }
 {

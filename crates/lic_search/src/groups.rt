@@ -54,7 +54,7 @@ impl Groups {
         Ok(Groups { lists })
     }
 
-    /// The places before which letters with this hash stand.
+    /// The places right after letters with this hash.
     pub(crate) fn with(&self, alloc: Global, hash: u64) -> Result<Vec<PlaceSpan>, AllocError>
         ensures { IfOk result (λ found. (s : PlaceSpan) → Contains found.items s ↔ HasEntry self.now.lists.items hash s) }
     {
@@ -87,7 +87,7 @@ pub(crate) fn count_of(spans: &[PlaceSpan]) -> usize {
     count
 }
 
-// So many lists without an entry.
+// `count` lists without an entry.
 fn empty_lists(alloc: Global, count: usize) -> Result<Vec<Vec<Entry>>, AllocError>
     ensures count { IfOk result (λ lists. length lists.items ≡ count) }
     ensures none { IfOk result (λ lists. HasNone lists.items) }

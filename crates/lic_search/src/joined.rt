@@ -8,7 +8,7 @@ use crate::keep::Keep;
 use crate::stop::Stop;
 use lic_spans::span::PlaceSpan;
 
-/// Adds a span. Where it goes on from the last one, that one is made longer.
+/// Adds a span. If it continues the last one, that one is made longer.
 pub(crate) fn push_joined(
     keep: Keep,
     spans: &mut Vec<PlaceSpan>,
@@ -26,7 +26,7 @@ pub(crate) fn push_joined(
     keep.push(spans, span)
 }
 
-// Whether a span goes on from another: it begins within it or right after it, and ends no earlier.
+// Whether a span continues another: it begins within it or right after it, and ends no earlier.
 fn goes_on(before: &PlaceSpan, span: &PlaceSpan) -> bool
     ensures { IsTrue result → GoesOn before.now span.now }
 {

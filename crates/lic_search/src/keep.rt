@@ -10,7 +10,7 @@ use lic_spans::span::PlaceSpan;
 pub(crate) enum Keep {
     /// The least one.
     Least,
-    /// Each one, and no more than so many spans.
+    /// Each one, but of no more spans than `most`.
     Each { most: usize },
 }
 
@@ -23,8 +23,8 @@ impl Keep {
         self.check(spans.len())
     }
 
-    /// Stops the search where the spans have so many numbers that going over all of them would take long. Where the least last
-    /// token alone is kept, no number of a kind is in two of them.
+    /// Stops the search if the spans have too many numbers to go over them all. Where the least last token alone is kept, no
+    /// number of a kind is in two of them, and nothing has to be stopped.
     pub(crate) fn check_numbers(self, spans: &[PlaceSpan], length: usize) -> Result<(), Stop> {
         if let Keep::Least = self {
             return Ok(());

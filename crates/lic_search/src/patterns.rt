@@ -87,7 +87,7 @@ fn over_row(
     Ok(ways)
 }
 
-// Any one of the patterns: where there are many, each goes back from those places alone before which its last letters stand.
+// Any one of the patterns: where there are many, each goes back from those places alone that are right after its last letters.
 // What several of them lead to does not pile up.
 #[cycle(over)]
 fn over_choice(
@@ -148,7 +148,7 @@ fn are_one_letter(one: &Ere, other: &Ere) -> bool
 // How many spans may be found before those that are there twice go.
 const MANY: usize = 1024;
 
-// Twice as many spans as were left, where there were more than so many.
+// Twice as many spans as were left, if there were more than `most`, and no fewer than `most`.
 fn limit_after(most: usize, count: usize, left: usize) -> usize {
     if count <= most {
         return most;
@@ -156,7 +156,7 @@ fn limit_after(most: usize, count: usize, left: usize) -> usize {
     most.max(left.saturating_mul(2))
 }
 
-// The ways, and where they have more spans than so many, each place once.
+// The ways; if they have more spans than `most`, with each place once.
 fn kept_if_many(
     alloc: Global,
     view: &View<'_>,
@@ -210,7 +210,7 @@ fn more_than(min: u32, max: Option<u32>) -> Option<usize>
     }
 }
 
-// So many words of the body in a row.
+// `count` words of the body in a row.
 #[cycle(over)]
 fn over_times(
     alloc: Global,
@@ -234,7 +234,7 @@ fn over_times(
     Ok(ways)
 }
 
-// Up to so many words of the body in a row: each time on from what was not found before.
+// Up to `count` words of the body in a row: each time on from what was not found before.
 #[cycle(over)]
 fn over_up_to(
     alloc: Global,

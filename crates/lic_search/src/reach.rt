@@ -57,7 +57,7 @@ fn most_letters(ere: &Ere) -> usize
     }
 }
 
-// How many letters so many words have together at most, each with so many at most.
+// How many letters up to `max` words have together at most, if each has at most `most`.
 fn most_repeated(most: usize, max: Option<u32>) -> usize
     ensures { MatchOption max (result ≡ usize.MAX) (λ times. result ≡ min (most * times) usize.MAX) }
 {

@@ -31,7 +31,7 @@ impl Reached {
         }
     }
 
-    /// Adds ways, and answers from which to go on: those that were not reached before are among them.
+    /// Adds ways, and answers those from which to continue: what was not reached before is among them.
     pub(crate) fn add(
         &mut self,
         alloc: Global,

@@ -1,4 +1,4 @@
-//! The letters in a row that stand up to a place and pass.
+//! The letters in a row up to a place that pass.
 
 ghost use Rattle.std.specs.Prelude.{◌≡◌, ◌+◌, ◌-◌, ◌<◌, ◌≤◌, ℕ, Bool, IsTrue, MatchOption, length, List, slice_index, slice_range};
 ghost use Rattle.std.specs.Str.{IsAscii};
@@ -13,7 +13,7 @@ use crate::passing::{is_any, passes};
 use crate::view::{View, tokens_have_texts};
 use lic_ere::Ere;
 
-/// So many letters, from one place up to another.
+/// A number of letters, from one place up to another.
 #[derive(Clone, Copy, Debug)]
 pub(crate) struct Run {
     pub(crate) low: usize,
@@ -32,9 +32,9 @@ pub(crate) fn first_run() -> Run
     }
 }
 
-/// The place from which so many letters at most stand up to a place that all pass.
+/// The place at which the letters before a place begin that all pass, `count` of them at most.
 ///
-/// It goes on from a known run: places that are asked for in rising order cost the letters of the text once together. A place before
+/// The known run is continued: places that are asked for in rising order cost the letters of the text once together. A place before
 /// the known one costs the letters of its own run.
 pub(crate) fn run_start(
     view: &View<'_>,
@@ -95,7 +95,7 @@ fn run_back(view: &View<'_>, ere: &Ere, count: usize, until: usize, place: usize
     Run { low, place, number }
 }
 
-// Where the letters begin that stand right before a place and pass, and how many they are: a block of this size, or one. None if the
+// Where the letters right before a place begin that pass, and how many they are: a block of this size, or one. None if the
 // letter before the place does not pass.
 fn stretch_back(
     view: &View<'_>,
@@ -124,7 +124,7 @@ fn stretch_back(
     }
 }
 
-// Whether so many letters of one byte each end at a place.
+// Whether `size` letters of one byte each end at a place.
 fn ends_block(bytes: &[u8], size: usize, place: usize) -> bool
     ensures { IsTrue result → (size ≤ place) × (place ≤ length bytes.now) × IsAscii (slice_range bytes.now (place - size) place) }
 {

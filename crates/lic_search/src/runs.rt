@@ -27,7 +27,7 @@ use lic_ere::Ere;
 use lic_spans::span::{Kind, PlaceSpan};
 use std::alloc::Global;
 
-/// Up to so many letters and blanks in a row that pass, the first of which is no blank.
+/// Up to `count` letters and blanks in a row that pass, the first of which is no blank.
 #[derive(Debug, Drop)]
 pub(crate) struct Letters<'e> {
     pub(crate) ere: &'e Ere,
@@ -36,7 +36,7 @@ pub(crate) struct Letters<'e> {
     pub(crate) after: bool,
 }
 
-/// Where up to so many letters in a row that pass lead to these ways.
+/// Where up to `count` letters in a row that pass lead to these ways.
 pub(crate) fn over_many(
     alloc: Global,
     view: &View<'_>,
@@ -62,7 +62,7 @@ pub(crate) fn over_many(
     found.kept(alloc, view, keep)
 }
 
-// These ways, and where up to so many letters that pass lead to them, the first of which is no blank.
+// These ways, and where up to `count` letters that pass lead to them, the first of which is no blank.
 fn with_runs(
     alloc: Global,
     view: &View<'_>,
@@ -92,7 +92,7 @@ fn over_one_blank(alloc: Global, view: &View<'_>, keep: Keep, ways: &Ways) -> Re
     })
 }
 
-// Where up to so many letters that pass lead to these ways, the first of which is no blank.
+// Where up to `count` letters that pass lead to these ways, the first of which is no blank.
 fn over_runs(
     alloc: Global,
     view: &View<'_>,

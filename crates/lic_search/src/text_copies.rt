@@ -20,7 +20,7 @@ use crate::ways::Ways;
 use lic_spans::span::PlaceSpan;
 use std::alloc::Global;
 
-/// The places from which up to so many copies of a text lead to those of the spans: each time on from the places that are new.
+/// The places from which up to `count` copies of a text lead to those of the spans: each time on from the places that are new.
 pub(crate) fn over_copies(
     alloc: Global,
     view: &View<'_>,

@@ -1,4 +1,4 @@
-//! A text in canonical spelling, and where its tokens stand in it.
+//! A text in canonical spelling, and where its tokens are in it.
 
 ghost use Rattle.std.specs.Prelude.{◌≡◌, ◌+◌, ◌<◌, ◌≤◌, ◌↔◌, ℕ, IsTrue, length, slice_range, MatchOption};
 ghost use Rattle.std.specs.Str.{IsAscii, IsCharBoundary};
@@ -13,14 +13,14 @@ use lic_norm::laws::{tokens_are_token_texts, tokens_are_utf8};
 use lic_norm::text::Text;
 use std::marker::Model;
 
-/// Tokens of a text that stand one after another, in canonical spelling. A place is a number of bytes of it.
+/// Tokens of a text that follow one another, in canonical spelling. A place is a number of bytes of it.
 #[derive(Debug, Drop)]
 pub struct View<'t> {
     text: &'t Text,
     // the number of the first token, and how many there are
     first: usize,
     count: usize,
-    // where the first token stands in the canonical spelling of the whole text
+    // where the first token begins in the canonical spelling of the whole text
     start: usize,
     spelled: &'t str,
     is_ascii: bool,
@@ -51,7 +51,7 @@ impl<'t> View<'t> {
         View::of(text, 0, text.len())
     }
 
-    /// So many tokens of a text from the token number `first` on.
+    /// `count` tokens of a text from the token number `first` on.
     pub fn of(text: &'t Text, first: usize, count: usize) -> View<'t>
         requires { first + count ≤ length text.now.tokens }
         ensures { result ≡ slice_range text.now.tokens first (first + count) }
@@ -125,14 +125,14 @@ impl View<'_> {
         self.spelled.is_char_boundary(place)
     }
 
-    /// Whether a blank stands at a place.
+    /// Whether a blank is at a place.
     pub fn is_blank(&self, place: usize) -> bool
         ensures { result ≡ is_blank_at (spelling_of self.now) place }
     {
         place < self.spelled.len() && self.spelled.as_bytes()[place] == b' '
     }
 
-    /// Whether a blank stands in front of a place.
+    /// Whether a blank is right before a place.
     pub(crate) fn is_behind_blank(&self, place: usize) -> bool
         ensures { IsTrue result ↔ IsBehindBlank (spelling_of self.now) place }
     {
@@ -179,7 +179,7 @@ impl View<'_> {
         token < self.len() && self.end(token) == place
     }
 
-    /// Where a blank leads from the place before which it is to stand: over a blank of the text, nowhere, or there is no such place.
+    /// The place from which a blank leads to this one: that of the blank of the text before it, this place itself, or none.
     pub(crate) fn over_blank(&self, place: usize) -> Option<usize>
         ensures { MatchOption result ((p : ℕ) → ¬ (OverBlank self.now p place))
             (λ p. OverBlank self.now p place) }
@@ -205,7 +205,7 @@ impl View<'_> {
     }
 }
 
-// Where so many tokens of a text from a token on begin in its canonical spelling, and their own.
+// Where `count` tokens of a text, from a token on, begin in its canonical spelling, and their own spelling.
 fn spelled_from(text: &Text, first: usize, count: usize) -> (usize, &str)
     requires { first + count ≤ length text.now.tokens }
     ensures { AreSpelledFrom text.now.tokens first count result.0 result.1.now }

@@ -45,7 +45,7 @@ pub(crate) fn candidate_ends(
     Ok(ends_within(alloc, view, places, most)?)
 }
 
-// The ends of the tokens that end at one of the places or no more than so many bytes after it.
+// The ends of the tokens that end at one of the places or at most `most` bytes after it.
 fn ends_within(
     alloc: Global,
     view: &View<'_>,

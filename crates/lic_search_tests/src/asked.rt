@@ -42,7 +42,7 @@ fn random_match(seed: &mut Seed, matches: &[Triple]) -> Option<Triple> {
     matches.get(number as usize).copied()
 }
 
-// Any triple of a text of so many tokens and of three templates, or a little out of their range.
+// Any triple over `tokens` tokens and three templates, or a little out of their range.
 fn random_triple(seed: &mut Seed, tokens: usize) -> Triple {
     let limit = (tokens as u64).saturating_add(2);
     Triple {

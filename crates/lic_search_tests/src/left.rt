@@ -16,7 +16,7 @@ pub fn left_in(alloc: Global, set: &Set, text: &Text) -> Result<Vec<usize>, Allo
     Ok(matches.left)
 }
 
-/// A word so many times.
+/// A word `count` times.
 fn repeated(alloc: Global, word: &str, count: u64) -> Result<String, AllocError> {
     let mut text = String::new(alloc);
     for _ in 0..count {

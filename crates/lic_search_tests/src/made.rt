@@ -34,7 +34,7 @@ const PATTERNS: &[&str] = &[
 /// What texts are made of.
 const TOKENS: &[&str] = &["a", "b", "ab", "a", "b", "ba", "-", ".", "(", ")"];
 
-/// What stands between two of these.
+/// What is between two of these.
 const GAPS: &[&str] = &[" ", " ", " ", "", "  ", "\n"];
 
 /// Adds a piece, a variable, or where an optional part begins or ends. Gives how many parts are open then.
@@ -73,7 +73,7 @@ pub fn template(alloc: Global, seed: &mut Seed) -> Result<String, AllocError> {
     Ok(text)
 }
 
-/// A text of so many words and marks, which are as many tokens or some fewer.
+/// A text of `count` words and marks, which are as many tokens or some fewer.
 pub fn source(alloc: Global, seed: &mut Seed, count: u64) -> Result<String, AllocError> {
     let mut text = String::new(alloc);
     for _ in 0..count {

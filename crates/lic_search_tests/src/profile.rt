@@ -24,7 +24,7 @@ impl Profile {
         })
     }
 
-    /// A set of templates, at most ten, which are numbered as they stand here; none if one of them is refused.
+    /// A set of templates, at most ten, which are numbered in this order; none if one of them is refused.
     pub fn set(&self, alloc: Global, texts: &[&str]) -> Result<Option<Set>, Fail> {
         let none = Words::none(alloc);
         let mut templates = Vec::new(alloc);

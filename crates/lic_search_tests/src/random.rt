@@ -50,7 +50,7 @@ impl Kind {
     }
 }
 
-/// A template that the search leaves to the finder in a long text, as two wide counts stand side by
+/// A template that the search leaves to the finder in a long text, as two wide counts are side by
 /// side in it.
 const WIDE: &str =
     "a<<var;name=v;original=o;match=.{0,300}>><<var;name=w;original=o;match=.{0,300}>>";

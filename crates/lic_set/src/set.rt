@@ -94,7 +94,7 @@ impl Set {
             → (length templates.items ≤ 4096)
             × StandsTwice (string_bytes id) (pairs_known templates.items) }
 
-        // Lack of memory is reported only where nothing else stands against a set.
+        // Lack of memory is reported only if nothing else prevents a set.
         ensures memory { IsErrOf result BuildFault.Memory
             → (set : _) × IsSetOf (pairs_known templates.items) set }
     {
@@ -144,8 +144,8 @@ impl Set {
         &self.named[k].template
     }
 
-    /// The templates that can describe a range of a text's tokens, by rising numbers: a text of each of the others stands nowhere
-    /// in the canonical spelling of the text.
+    /// The templates that can describe a range of a text's tokens, by rising numbers: the required literal of each of the others
+    /// does not occur in the canonical spelling of the text.
     ///
     /// # Errors
     ///
@@ -161,8 +161,8 @@ impl Set {
         self.keys.candidates(alloc, text.spelled().as_bytes())
     }
 
-    /// A text of a candidate that stands in whatever its template describes, and where its letters end in the canonical spelling of
-    /// the text, in rising order. None where the template has no such text.
+    /// The text of a candidate that is in whatever its template describes, and where its letters end in the canonical spelling of
+    /// the text, in rising order. None if the template has no such text.
     ///
     /// # Errors
     ///

@@ -80,7 +80,7 @@ pub fn put_all<W: Sink>(out: &mut W, piece: &[u8]) -> Result<(), WriteFailed>
     Ok(())
 }
 
-/// So many bytes of lines are gathered before they are written.
+/// How many bytes of lines are gathered before they are written.
 const GATHERED: usize = 65_536;
 
 /// Writes the gathered lines and empties the list, where there are enough of them.

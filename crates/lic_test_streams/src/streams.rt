@@ -53,7 +53,7 @@ impl Source for Pieces {
     }
 }
 
-/// A writer that takes one byte a call, and fails at a byte with which the report does not go on. So what it took is a beginning of
+/// A writer that takes one byte a call, and fails at a byte that is not the report's next one. So what it took is a beginning of
 /// the report.
 #[derive(Drop)]
 pub struct Awaited {

@@ -9,30 +9,30 @@ ghost use Rattle.lic_words.specs.Mirrors.{mirrored, turned};
 ghost use Rattle.lic_words.specs.Spelling.{Spells};
 ghost use Rattle.lic_words.specs.Words.{Cat, blank, blanks};
 
-/// Letters stand for themselves alone.
+/// Letters in a row have one word, themselves.
 pub fn letters_stand_for_themselves()
     ensures { (text w : List ℕ) → Language (letters text) w ↔ (w ≡ text) }
 {}
 
-/// Texts in a row stand for their letters one after another.
+/// Texts in a row have one word, their letters one after another.
 pub fn texts_stand_for_their_letters()
     ensures { (texts : List (List ℕ)) (w : List ℕ)
         → Language (cat_all (map letters texts)) w ↔ (w ≡ concat texts) }
 {}
 
-/// Two rows of expressions together stand for a word of the first and then one of the second.
+/// A word of two rows of expressions together is a word of the first and then one of the second.
 pub fn rows_together_stand_for_both()
     ensures { (xs ys : List Expression) (w : List ℕ)
         → Language (cat_all (xs ++ ys)) w ↔ Cat (Language (cat_all xs)) (Language (cat_all ys)) w }
 {}
 
-/// An optional part that has only an optional part stands for what that part does.
+/// An optional part of nothing but an optional part has the words of that part.
 pub fn optional_twice_is_optional()
     ensures { (a : Expression) (w : List ℕ)
         → Language (alt empty (cat_all (alt empty a ∷ []))) w ↔ Language (alt empty a) w }
 {}
 
-/// A letter so many times stands for the letter as often as the bounds say, and for nothing else.
+/// A repeated letter has as words the letter as often as the bounds say, and no others.
 pub fn repetitions_stay_within_their_bounds()
     ensures between { (c min max n : ℕ)
         → Language (repeat min (Some max) (letter c)) (replicate n c) ↔ ((min ≤ n) × (n ≤ max)) }
@@ -42,7 +42,7 @@ pub fn repetitions_stay_within_their_bounds()
         → Language (repeat min max (letter c)) w → (n : ℕ) × (w ≡ replicate n c) }
 {}
 
-/// Alternatives stand for what any of them stands for.
+/// Alternatives have the words of each of them.
 pub fn alternatives_stand_for_each_of_them()
     ensures { (xs : List Expression) (w : List ℕ) → Language (alt_all xs) w
         ↔ ((front back : List Expression) × (a : Expression) × (xs ≡ front ++ a ∷ back)
@@ -83,7 +83,7 @@ pub fn a_blank_behind_is_free()
     ensures { (w : List ℕ) (ts : List (List ℕ)) → Spells w ts ↔ Spells (w ++ blank ∷ []) ts }
 {}
 
-/// A token with no blank is written whole: its letters side by side, and no blanks but before and behind them.
+/// A token with no blank is written whole: its letters side by side, and no blanks but before and after them.
 pub fn a_token_is_written_whole()
     ensures { (t w : List ℕ) → All (λ c. c ≢ blank) t
         → Spells w (t ∷ []) ↔ ((before behind : ℕ) × (w ≡ blanks before ++ t ++ blanks behind)) }
@@ -104,7 +104,7 @@ pub fn a_blank_within_a_token_is_a_gap()
         → Spells w ((t ++ blank ∷ u) ∷ ts) ↔ Spells w (t ∷ u ∷ ts) }
 {}
 
-/// What an expression stands for is, read from the end, what the mirrored expression stands for.
+/// The words of an expression, read from the end, are those of the mirrored expression.
 pub fn words_are_read_from_the_end()
     ensures { (e : Expression) (w : List ℕ) → Language (mirrored e) (reverse w) ↔ Language e w }
 {}

@@ -7,11 +7,11 @@ ghost use Rattle.lic_words.specs.Spelling.{gapped_from, last_letter, apart_after
 
 use lic_kind::is_word;
 
-/// A letter that is no blank, and how it stands behind the letter before it.
+/// A letter that is no blank, and how it follows the letter before it.
 #[derive(Clone, Copy, Debug)]
 pub struct Letter {
     pub letter: char,
-    /// A gap stands before it.
+    /// There is a gap before it.
     pub is_apart: bool,
     /// It and the letter before it are letters of words, so that a gap before it is written as a blank at least.
     pub are_words: bool,
@@ -30,7 +30,7 @@ pub struct Letters<'a> {
 impl<'a> Letters<'a> {
     ghost use Rattle.lic_words.specs.Reading.{letters_left, last_in, is_apart_in};
 
-    /// The letters of a token behind the letter `last`. `is_apart` says that a gap stands there already.
+    /// The letters of a token after the letter `last`. `is_apart` says that there is a gap already.
     pub fn new(token: &'a str, last: char, is_apart: bool) -> Letters<'a>
         ensures letters { letters_left result ≡ gapped_from last is_apart (chars token.now) }
         ensures last { last_in result ≡ last_letter last (chars token.now) }
@@ -50,7 +50,7 @@ impl<'a> Letters<'a> {
         self.last
     }
 
-    /// Once all letters are given: whether a gap stands behind the last one, or behind the letter before the token.
+    /// Once all letters are given: whether a gap follows the last one, or the letter before the token if there was none.
     pub fn is_apart(&self) -> bool
         ensures { letters_left self.now ≡ [] → result ≡ is_apart_in self.now }
     {

@@ -1,4 +1,4 @@
-//! Words over letters and blanks, the expressions that stand for sets of them, and the words that
+//! Words over letters and blanks, the expressions that have sets of them, and the words that
 //! spell a list of tokens: definitions and their laws, read from either end; and the letters of a token one by one.
 #![tactic(auto)]
 

@@ -19,7 +19,7 @@ pub struct TurnedLetters<'a> {
 impl<'a> TurnedLetters<'a> {
     ghost use Rattle.lic_words.specs.Reading.{turned_letters_left, turned_last_in};
 
-    /// The letters of a token, read from its end behind the letter `last`. `is_apart` says that a gap stands there already.
+    /// The letters of a token, read from its end after the letter `last`. `is_apart` says that there is a gap already.
     pub fn new(token: &'a str, last: char, is_apart: bool) -> TurnedLetters<'a>
         ensures letters { turned_letters_left result
             ≡ gapped_from last is_apart (reverse (chars token.now)) }
@@ -32,7 +32,7 @@ impl<'a> TurnedLetters<'a> {
         }
     }
 
-    /// Once all letters are given: the first letter of the token, or else the letter behind which it was read.
+    /// Once all letters are given: the first letter of the token, or else the letter after which it was read.
     pub fn last_letter(&self) -> char
         ensures { turned_letters_left self.now ≡ [] → result ≡ turned_last_in self.now }
     {

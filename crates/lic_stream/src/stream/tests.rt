@@ -1,4 +1,4 @@
-//! A reader and a writer of std's kind of which one call fails and the next go on: each call is made once, and its failure is answered.
+//! A reader and a writer of std's kind of which one call fails and later ones succeed: each call is made once, and its failure is answered.
 
 use super::{Counted, Sink, Source};
 use crate::transfer::{ReadFault, WriteFailed, put_all, read_up_to};
@@ -68,7 +68,7 @@ impl Write for Page {
     }
 }
 
-/// Reads to the end, where this call fails, and then goes on with what is left.
+/// Reads to the end, where this call fails, and then reads what is left.
 fn fail_read(rt: &impl Abort, alloc: Global, kind: ErrorKind, fails_at: usize) -> Result<(), Fail> {
     let mut source = Counted::new(Letters {
         rest: TEXT,
