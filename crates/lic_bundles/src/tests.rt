@@ -131,7 +131,7 @@ fn gives_triples_in_order_after_any_triple(rt: HostRuntime) -> Result<(), Fail> 
     Ok(())
 }
 
-/// `count` bundles of ten triples each. Each begins one token after the one before, and all end far beyond.
+/// `count` bundles of ten triples each. Each begins one token after the one before, and ends far after it.
 fn overlapping(alloc: Global, count: u32) -> Result<Vec<Bundle>, AllocError>
     ensures apart { IfOk result (λ all. AreApart all.items) }
 {
