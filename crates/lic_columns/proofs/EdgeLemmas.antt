@@ -1,36 +1,29 @@
 -- What the line rules take away, cell by cell.
-use Rattle.std.proofs.Common.{◌≡◌, ℕ, zero, suc, ◌+◌, ◌-◌, ◌<◌, ◌≤◌, Bool, true, false, not, ◌&&◌, ◌==◌, if◌then◌else◌, List, [], ◌∷◌, ◌++◌, length, take, drop, map, get_or, replicate, refl, sym, ap, ap₂, ◌∙◌, inl, inr, arith, subst, append_assoc, length-append}
-use Rattle.std.specs.Prelude.{IsAscii, slice_range}
-use Rattle.std.specs.List.{flat_map, onto_first}
-use Rattle.std.proofs.lemmas.Bool.{cases_lt, cond-true, cond-false}
-use Rattle.std.proofs.lemmas.List.{append-nil, map-append, length-map, length-take-le, length-drop, length-replicate, get_or-replicate, get_or_append_left, get_or-append_right, ext_get_or, take-append-drop, drop-drop, drop_all, get_or-drop, get_or-map}
-use Rattle.std.specs.Char.{len_utf8}
-use Rattle.lic_kind.specs.Kinds.{is_dropped}
-use Rattle.lic_lines.specs.Texts.{cut_after}
+use Rattle.std.proofs.Common.{◌≡◌, ℕ, zero, suc, ◌+◌, ◌-◌, ◌≤◌, Bool, true, false, not, ◌&&◌, List, [], ◌∷◌, ◌++◌, length, take, drop, map, get_or, replicate, refl, sym, ap, ap₂, ◌∙◌, inl, inr, arith, subst, append_assoc, length-append}
+use Rattle.std.specs.Prelude.{IsAscii}
+use Rattle.std.specs.List.{flat_map}
+use Rattle.std.proofs.lemmas.Bool.{cases_lt}
+use Rattle.std.proofs.lemmas.List.{append-nil, map-append, length-map, length-take-le, length-drop, length-replicate, get_or-replicate, get_or_append_left, get_or-append_right, ext_get_or, take-append-drop}
 use Rattle.lic_lines.specs.declared.source.SourceChar.{SourceChar}
-use Rattle.lic_lines.specs.Sources.{placed, chars_of, lines_of, without_dropped}
+use Rattle.lic_lines.specs.Sources.{placed, chars_of}
 use Rattle.lic_kind.specs.LineRules.{LineRules}
 use Rattle.lic_lines.specs.declared.cell.Cell.{Cell}
 use Rattle.lic_lines.specs.declared.cell.Cell.TheVariants.{Blank}
 use Rattle.lic_lines.specs.declared.cut.LineCut.{LineCut}
-use Rattle.lic_lines.specs.Lines.{cell_of, whole_line, cut_of, blank_for, left_of, cells_of_cut, line_cells, cells_of}
+use Rattle.lic_lines.specs.Lines.{cell_of, whole_line, cut_of, blank_for, left_of, cells_of_cut, line_cells}
 use Rattle.lic_lines.specs.Runs.{runs_joined}
 use Rattle.lic_lines.specs.Tokens.{Token, first_tokens}
-use Rattle.lic_lines.proofs.AsciiLemmas.{chars_of-placed, take-placed, drop-placed, get_or-placed, length-placed}
+use Rattle.lic_lines.proofs.AsciiLemmas.{chars_of-placed, length-placed}
 use Rattle.lic_lines.proofs.Gaps.{is_word, is_mark, no_runs, runs_joined-gap, first_tokens-gap}
-use Rattle.lic_columns.specs.Bytes.{is_feed}
 use Rattle.lic_columns.specs.Flags.{cleared, is_within}
 use Rattle.lic_columns.specs.Known.{Known, blanked, known_of}
-use Rattle.lic_columns.specs.Masks.{flag_at}
 use Rattle.lic_columns.specs.Edges.{edges_blanked}
 use Rattle.lic_columns.specs.SpanTokens.{span_tokens}
 use Rattle.lic_columns.specs.Tokens.{text_spans}
-use Rattle.std.proofs.lemmas.Str.{IsAscii-drop}
 use Rattle.lic_columns.proofs.BitLemmas.{within_is, within_before, within_after}
 use Rattle.lic_columns.proofs.FlagLemmas.{length-cleared, flag_at-cleared}
 use Rattle.lic_columns.proofs.SpanLemmas.{Fit}
 use Rattle.lic_columns.proofs.FlagCells.{flag_at-cells}
-use Rattle.lic_columns.proofs.Lanes.{every_below}
 use Rattle.lic_columns.proofs.LineTokens.{IsOfCells, tokens_of_cells, ascii_is}
 
 -- so many blanks
@@ -207,7 +200,7 @@ module _ (cut : LineCut) (line : List SourceChar) (within : cut.lead + cut.item 
 
 -- ---- as many blanks as bytes are as good as one
 
-abbrev found : LineRules → List Cell → List Token
+abbrev pub found : LineRules → List Cell → List Token
 found rules cells = first_tokens (runs_joined rules cells)
 
 -- the one list gives what the other gives, wherever they stand
@@ -262,153 +255,6 @@ module _ (rules : LineRules) where
   lines_found lines =
       ap (found rules) (sym (append-nil (flat_map standing_line lines))) ∙ (lines_same lines).same [] []
       ∙ ap (found rules) (append-nil (flat_map (line_cells rules whole_line) lines))
-
--- ---- the first line
-
-module _ {A : Type 0} (ends : A → Bool) where
-  first_part : (xs : List A) (m : ℕ) (d : A) → suc m ≤ length xs → ((i : ℕ) → i < m → ends (get_or xs i d) ≡ false)
-      → (suc m < length xs → ends (get_or xs m d) ≡ true) → cut_after ends xs ≡ take (suc m) xs ∷ cut_after ends (drop (suc m) xs)
-  first_part [] m d within inside last = absurd (omega arith)
-  first_part (x ∷ []) (suc m) d within inside last = absurd (omega arith)
-  first_part (x ∷ []) zero d within inside last = one (ends x)
-    where
-      one : (t : Bool) → (if t then (x ∷ []) ∷ [] else onto_first x []) ≡ (x ∷ []) ∷ []
-      one true = refl
-      one false = refl
-  first_part (x ∷ y ∷ xs) zero d within inside last = cond-true (ends x) _ _ (last (omega arith))
-  first_part (x ∷ y ∷ xs) (suc m) d within inside last =
-      cond-false (ends x) _ _ (inside 0 (omega arith))
-      ∙ ap (onto_first x) (first_part (y ∷ xs) m d (omega arith) (λ i lt. inside (suc i) (omega arith)) (λ lt. last (omega arith)))
-
--- ---- the lines of a text of ASCII, one after another
-
--- the lines before this place are cleared
-pub record AreCleared (rules : LineRules) (text : List ℕ) (place : ℕ) (known : Known) : Type 0 where
-  pub within : place ≤ length text
-  pub feed : known.feed ≡ map is_feed text
-  pub cells : (at : ℕ) → (front : List Cell) × (length front ≡ place)
-      × IsOfCells at text (front ++ map cell_of (placed (at + place) (drop place text))) known
-      × (front ++ flat_map (standing_line rules) (lines_of (placed (at + place) (drop place text)))
-      ≡ flat_map (standing_line rules) (lines_of (placed at text)))
-
-pub start_cleared : (rules : LineRules) (text : List ℕ) → IsAscii text → AreCleared rules text 0 (known_of text)
-start_cleared rules text ascii = record {
-  within = omega arith;
-  feed = refl;
-  cells = λ at.
-      let same : at ≡ at + 0 = omega arith in (
-        [],
-        refl,
-        subst (λ n. IsOfCells at text (map cell_of (placed n text)) (known_of text)) same (ascii_is at text ascii),
-        ap (λ n. flat_map (standing_line rules) (lines_of (placed n text))) (sym same),
-      );
-}
-
-module _ (rules : LineRules) (text : List ℕ) (ascii : IsAscii text) (place end : ℕ) (known : Known) (are : AreCleared rules text place known)
-    (some : place < end) (within : end ≤ length text)
-    (inside : (k : ℕ) → place ≤ k → k + 1 < end → flag_at known.feed k ≡ false)
-    (last : end < length text → flag_at known.feed (end - 1) ≡ true) (cut : LineCut)
-    (is_cut : cut ≡ cut_of rules whole_line (slice_range text place end)) (fits : cut.lead + cut.item + cut.tail ≤ length (slice_range text place end)) where
-  abbrev tail : List ℕ
-  tail = drop place text
-
-  abbrev count : ℕ
-  count = end - place - 1
-
-  size : suc count ≡ end - place
-  size = omega arith
-
-  tail_ascii : IsAscii tail
-  tail_ascii = IsAscii-drop text place ascii
-
-  length_line : length (slice_range text place end) ≡ end - place
-  length_line = length-take-le (end - place) tail (omega (arith, length-drop place text))
-
-  feed_at : (i : ℕ) → i < length tail → is_feed (get_or tail i 0) ≡ flag_at known.feed (place + i)
-  feed_at i lt =
-      ap is_feed (get_or-drop place text i 0)
-      ∙ sym (ap (λ f. flag_at f (place + i)) are.feed ∙ get_or-map is_feed text (place + i) 0 false (omega (arith, length-drop place text)))
-
-  module _ (at : ℕ) where
-    abbrev line : List SourceChar
-    line = placed (at + place) (slice_range text place end)
-
-    abbrev behind : List SourceChar
-    behind = placed (at + end) (drop end text)
-
-    front_is : take (suc count) (placed (at + place) tail) ≡ line
-    front_is = take-placed (suc count) (at + place) tail ∙ ap (λ n. placed (at + place) (take n tail)) size
-
-    behind_is : drop (suc count) (placed (at + place) tail) ≡ behind
-    behind_is =
-        let sum : at + place + suc count ≡ at + end = omega arith in
-        let sum_here : place + suc count ≡ end = omega arith in
-        drop-placed (suc count) (at + place) tail tail_ascii (omega (arith, length-drop place text))
-        ∙ ap₂ (λ n l. placed n l) sum (drop-drop (suc count) place text ∙ ap (λ n. drop n text) sum_here)
-
-    parts : placed (at + place) tail ≡ line ++ behind
-    parts = sym (take-append-drop (suc count) (placed (at + place) tail)) ∙ ap₂ (λ a b. a ++ b) front_is behind_is
-
-    char_at : (i : ℕ) (d : SourceChar) → i < length tail → ((get_or (placed (at + place) tail) i d).char == 0x0A) ≡ flag_at known.feed (place + i)
-    char_at i d lt = ap (λ (s : SourceChar). s.char == 0x0A) (get_or-placed (at + place) tail i d tail_ascii lt) ∙ feed_at i lt
-
-    lines_are : lines_of (placed (at + place) tail) ≡ line ∷ lines_of behind
-    lines_are =
-        let long = length-placed (at + place) tail in
-        let rest = length-drop place text in
-        let d : SourceChar = record { char = 0; start = 0; end = 0 } in
-        first_part (λ (s : SourceChar). s.char == 0x0A) (placed (at + place) tail) count d (omega (arith, long, rest))
-        (λ i lt. char_at i d (omega (arith, rest)) ∙ inside (place + i) (omega arith) (omega arith))
-        (λ lt. let e : place + count ≡ end - 1 = omega arith in
-        char_at count d (omega (arith, rest)) ∙ ap (flag_at known.feed) e ∙ last (omega (arith, long, rest)))
-        ∙ ap₂ (λ a b. a ∷ lines_of b) front_is behind_is
-
-    length_placed : length line ≡ length (slice_range text place end)
-    length_placed = length-placed (at + place) (slice_range text place end)
-
-    cut_is : cut ≡ cut_of rules whole_line (chars_of line)
-    cut_is = is_cut ∙ ap (cut_of rules whole_line) (sym (chars_of-placed (at + place) (slice_range text place end)))
-
-    next_cells : (front : List Cell) × (length front ≡ end)
-        × IsOfCells at text (front ++ map cell_of behind) (edges_blanked cut place end known)
-        × (front ++ flat_map (standing_line rules) (lines_of behind) ≡ flat_map (standing_line rules) (lines_of (placed at text)))
-    next_cells =
-        let c = are.cells at in
-        let fit : cut.lead + cut.item + cut.tail ≤ length line = omega (arith, fits, length_placed) in
-        let here : IsOfCells at text (c.0 ++ (map cell_of line ++ map cell_of behind)) known =
-        subst (λ l. IsOfCells at text (c.0 ++ l) known) (ap (map cell_of) parts ∙ map-append cell_of line behind) c.2 in (
-          c.0 ++ standing cut line,
-          omega (arith, length-append c.0 (standing cut line), c.1, length-standing cut line fit, length_placed, length_line),
-          subst (λ l. IsOfCells at text l (edges_blanked cut place end known))
-              (sym (append_assoc c.0 (standing cut line) (map cell_of behind)))
-              (edges_are cut line fit at text c.0 (map cell_of behind) known place end (sym c.1) (omega (arith, c.1, length_placed, length_line)) here),
-          append_assoc c.0 (standing cut line) (flat_map (standing_line rules) (lines_of behind))
-              ∙ ap (λ k. c.0 ++ (standing k line ++ flat_map (standing_line rules) (lines_of behind))) cut_is
-              ∙ ap (λ l. c.0 ++ flat_map (standing_line rules) l) (sym lines_are) ∙ c.3,
-        )
-
-  pub line_cleared : AreCleared rules text end (edges_blanked cut place end known)
-  line_cleared = record { within = within; feed = are.feed; cells = next_cells }
-
--- ---- the whole text
-
-without_dropped-ascii : (at : ℕ) (text : List ℕ) → IsAscii text → without_dropped (placed at text) ≡ placed at text
-without_dropped-ascii at [] ascii = refl
-without_dropped-ascii at (b ∷ text) ascii =
-    cond-true (not (is_dropped b)) _ _ (every_below (λ d. not (is_dropped d)) 128 refl b (ascii 0))
-    ∙ ap (λ l. record { char = b; start = at; end = at + len_utf8 b } ∷ l) (without_dropped-ascii (at + len_utf8 b) text (λ i. ascii (suc i)))
-
-pub cleared_tokens : (rules : LineRules) (text : List ℕ) (place : ℕ) (known : Known) → IsAscii text → length text ≤ place → AreCleared rules text place known
-    → (at : ℕ) → span_tokens true at at known.letters (text_spans rules.separators at text known) ≡ first_tokens (runs_joined rules (cells_of rules (placed at text)))
-cleared_tokens rules text place known ascii past are at =
-    let c = are.cells at in
-    let none : drop place text ≡ [] = drop_all place text past in
-    let whole : c.0 ++ map cell_of (placed (at + place) (drop place text)) ≡ flat_map (standing_line rules) (lines_of (placed at text)) =
-    ap (λ l. c.0 ++ map cell_of (placed (at + place) l)) none
-    ∙ sym (sym c.3 ∙ ap (λ l. c.0 ++ flat_map (standing_line rules) (lines_of (placed (at + place) l))) none) in
-    tokens_of_cells at text (flat_map (standing_line rules) (lines_of (placed at text))) known (subst (λ l. IsOfCells at text l known) whole c.2) rules true
-    ∙ lines_found rules (lines_of (placed at text))
-    ∙ ap (λ l. found rules (flat_map (line_cells rules whole_line) (lines_of l))) (sym (without_dropped-ascii at text ascii))
 
 -- ---- one line
 

@@ -15,5 +15,7 @@ pub mod Separators
 pub mod FlagCells
 pub mod LineTokens
 pub mod EdgeLemmas
+pub mod EdgesOfLines
 pub mod SpanTokenLemmas
 pub mod AsciiLetters
+pub mod ReadLines

@@ -1,8 +1,22 @@
 -- What the line rules take away: bytes that count as blanks.
-use Rattle.std.specs.Prelude.{ℕ, ◌+◌, ◌-◌}
+use Rattle.std.specs.Prelude.{ℕ, ◌+◌, ◌-◌, List, [], ◌∷◌, length}
+use Rattle.lic_kind.specs.LineRules.{LineRules}
+use Rattle.lic_lines.specs.Lines.{cut_of, whole_line}
+use Rattle.lic_lines.specs.Texts.{cut_after}
 use Rattle.lic_lines.specs.declared.cut.LineCut.{LineCut}
+use Rattle.lic_columns.specs.Bytes.{is_feed}
 use Rattle.lic_columns.specs.Known.{Known, blanked}
 
 -- without lead, item and tail of a line from this place to that
 abbrev pub edges_blanked : LineCut → ℕ → ℕ → Known → Known
 edges_blanked cut at end known = blanked (end - cut.tail) end (blanked at (at + (cut.lead + cut.item)) known)
+
+-- the lines of a text by its bytes: each line feed ends one, and belongs to it
+abbrev pub byte_lines : List ℕ → List (List ℕ)
+byte_lines = cut_after is_feed
+
+-- without lead, item and tail of each of these lines, of which the first stands at this place
+abbrev pub lines_blanked : LineRules → ℕ → List (List ℕ) → Known → Known
+lines_blanked rules at [] known = known
+lines_blanked rules at (line ∷ lines) known =
+    lines_blanked rules (at + length line) lines (edges_blanked (cut_of rules whole_line line) at (at + length line) known)

@@ -9,3 +9,4 @@ pub mod Marks
 pub mod Tokens
 pub mod SpanTokens
 pub mod Edges
+pub mod TokenPlaces

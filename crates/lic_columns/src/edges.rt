@@ -1,9 +1,13 @@
-//! The line rules: what they take from a line of ASCII counts as blanks.
-ghost use Rattle.std.specs.Prelude.{◌≡◌, ◌+◌, ◌≤◌, length};
-ghost use Rattle.lic_columns.specs.Edges.{edges_blanked};
+//! The line rules: what they take from lines of ASCII counts as blanks.
+ghost use Rattle.std.specs.Prelude.{◌≡◌, ◌+◌, ◌<◌, ◌≤◌, ◌^◌, length, OnOk, IsAscii};
+ghost use Rattle.lic_kind.specs.LineRules.{rules_of};
+ghost use Rattle.lic_columns.specs.Edges.{byte_lines, edges_blanked, lines_blanked};
+ghost use Rattle.lic_columns.specs.Known.{known_of};
 
 use crate::columns::Columns;
 use lic_lines::cut::LineCut;
+use lic_lines::{Rules, SourceChar, cut_of_ascii};
+use std::alloc::{AllocError, Global};
 
 /// Takes lead, item and tail of a line away, which stands from this place to that.
 #[inline]
@@ -15,4 +19,31 @@ pub fn clear_edges(cut: LineCut, at: usize, end: usize, columns: &mut Columns)
 {
     columns.clear(at, at + (cut.lead + cut.item));
     columns.clear(end - cut.tail, end);
+}
+
+/// Takes lead, item and tail of each line of a text of ASCII away. The characters are room for those of a line, whatever they
+/// hold.
+///
+/// # Errors
+/// Memory ran out. Which lines are then cleared is not said.
+pub fn clear_lines(
+    alloc: Global,
+    rules: &Rules,
+    text: &[u8],
+    columns: &mut Columns,
+    characters: &mut Vec<SourceChar>,
+) -> Result<(), AllocError>
+    requires ascii { IsAscii text.now }
+    requires fits { length text.now < 2 ^ 32 }
+    requires read { columns.old ≡ known_of text.now }
+    ensures { OnOk result (columns.new ≡ lines_blanked (rules_of rules.now) 0 (byte_lines text.now) (known_of text.now)) }
+{
+    let mut at = 0;
+    while at < text.len() {
+        let end = columns.line_end(at);
+        let cut = cut_of_ascii(alloc, rules, &text[at..end], characters)?;
+        clear_edges(cut, at, end, columns);
+        at = end;
+    }
+    Ok(())
 }

@@ -1,12 +1,12 @@
 //! Laws of what is known of bytes, each the contract of a function that does nothing.
 ghost use Rattle.std.specs.Prelude.{◌≡◌, ◌↔◌, ℕ, suc, ◌+◌, ◌≤◌, Bool, true, List, length, IsAscii};
 ghost use Rattle.lic_kind.specs.LineRules.{LineRules};
-ghost use Rattle.lic_lines.specs.Lines.{cut_of, line_cells, whole_line};
+ghost use Rattle.lic_lines.specs.Lines.{cells_of, cut_of, line_cells, whole_line};
 ghost use Rattle.lic_lines.specs.Runs.{runs_joined};
 ghost use Rattle.lic_lines.specs.Sources.{placed};
 ghost use Rattle.lic_lines.specs.Tokens.{first_tokens, tokens_after};
 ghost use Rattle.lic_lines.specs.declared.cut.LineCut.{LineCut};
-ghost use Rattle.lic_columns.specs.Edges.{edges_blanked};
+ghost use Rattle.lic_columns.specs.Edges.{byte_lines, edges_blanked, lines_blanked};
 ghost use Rattle.lic_columns.specs.Known.{Known, IsText, known_of, blanked};
 ghost use Rattle.lic_columns.specs.Marks.{is_same_as_next, same_as_next, middles, is_in_separator};
 ghost use Rattle.lic_columns.specs.SpanTokens.{span_tokens};
@@ -43,4 +43,12 @@ pub fn edges_are_blanks()
         → span_tokens true at at (known_of line).letters
         (text_spans rules.separators at line (edges_blanked cut 0 (length line) (known_of line)))
         ≡ first_tokens (runs_joined rules (line_cells rules whole_line (placed at line))) }
+{}
+
+/// The same of a text of ASCII of any number of lines, of which the last may have no line feed.
+pub fn edges_of_lines_are_blanks()
+    ensures { (rules : LineRules) (at : ℕ) (text : List ℕ) → IsAscii text
+        → span_tokens true at at (known_of text).letters
+        (text_spans rules.separators at text (lines_blanked rules 0 (byte_lines text) (known_of text)))
+        ≡ first_tokens (runs_joined rules (cells_of rules (placed at text))) }
 {}

@@ -7,9 +7,12 @@ pub mod edges;
 pub mod first_tokens;
 pub mod flags;
 pub mod laws;
+pub mod lines;
 pub mod marks;
 pub mod mask;
 mod search;
 #[cfg(test)]
 mod tests;
 pub mod tokens;
+
+pub use lines::Lines;

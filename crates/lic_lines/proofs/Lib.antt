@@ -12,6 +12,8 @@ pub mod TailRows
 pub mod Stops
 pub mod SpaceRows
 pub mod StandingTexts
+pub mod PieceLengths
+pub mod RowPlaces
 pub mod ItemLemmas
 pub mod NoItems
 pub mod Gaps

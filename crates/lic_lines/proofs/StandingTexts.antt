@@ -1,9 +1,7 @@
 -- What shows that a text does not stand in front of a way.
 use Rattle.std.proofs.Common.{◌≡◌, ◌≢◌, ℕ, zero, suc, ◌<◌, ◌&&◌, ◌==◌, Bool, true, false, List, [], ◌∷◌, length, get_or, refl, ap, arith}
-use Rattle.std.specs.Char.{is_whitespace}
 use Rattle.std.proofs.lemmas.Bool.{eqb-true, and_right}
-use Rattle.lic_lines.specs.Walks.{stands_in, may_stand}
-use Rattle.lic_lines.proofs.SpaceRows.{or_off}
+use Rattle.lic_lines.specs.Walks.{stands_in}
 
 pub stands_short : (way text : List ℕ) → length way < length text → stands_in way text ≡ false
 stands_short way [] short = absurd (omega arith)
@@ -20,11 +18,3 @@ stands_other (d ∷ way) (c ∷ text) zero within inside other = ap (λ b. b && 
     apart true is = absurd (other (eqb-true d c is))
 stands_other (d ∷ way) (c ∷ text) (suc i) within inside other =
     and_right (d == c) (stands_in way text) (stands_other way text i (omega arith) (omega arith) other)
-
-pub may_stand_none : (way text : List ℕ) → length text ≡ 0 → may_stand way text ≡ false
-may_stand_none way [] none = refl
-may_stand_none way (c ∷ text) none = absurd (omega arith)
-
-pub may_stand_off : (way text : List ℕ) → is_whitespace (get_or text 0 0) ≡ false → stands_in way text ≡ false → may_stand way text ≡ false
-may_stand_off way [] dark other = refl
-may_stand_off way (c ∷ text) dark other = or_off (is_whitespace c) (stands_in way (c ∷ text)) dark other

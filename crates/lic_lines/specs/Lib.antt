@@ -7,5 +7,6 @@ pub mod SmallStrings
 pub mod Tokens
 pub mod Groupings
 pub mod Walks
+pub mod PieceLengths
 pub mod AsciiFronts
 pub mod TextFronts

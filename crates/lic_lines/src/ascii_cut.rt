@@ -7,7 +7,7 @@ ghost use Rattle.lic_lines.specs.Lines.{cut_of, is_item_form, item_length, whole
 ghost use Rattle.lic_lines.specs.Texts.{is_row, longest_front};
 ghost use Rattle.lic_lines.specs.Walks.{walked, is_walked_piece};
 
-use crate::ascii_texts::any_text_may_stand;
+use crate::ascii_rows::row_by_places;
 use crate::cut::LineCut;
 use crate::item::item_length;
 use crate::rows::longest_row;
@@ -47,7 +47,7 @@ fn spaces(side: Side, line: &[u8]) -> usize
 
 /// Whether three of one same byte stand at this place of the way.
 #[inline(always)]
-fn three_alike(side: Side, line: &[u8], place: usize) -> bool
+pub(crate) fn three_alike(side: Side, line: &[u8], place: usize) -> bool
     requires { place < length line.now }
     ensures { result ≡ false → place + 2 < length line.now
         → slice_index (walked side line.now) (place + 1) ≡ slice_index (walked side line.now) place
@@ -60,7 +60,7 @@ fn three_alike(side: Side, line: &[u8], place: usize) -> bool
         && byte_at(line, side, place + 2) == byte
 }
 
-/// How long the longest row of pieces is where it is white space alone, as far as the bytes behind that show.
+/// How long the longest row of pieces is where it is white space alone, as far as the byte behind that shows.
 #[inline(always)]
 fn space_row(rules: &Rules, side: Side, line: &[u8]) -> Option<usize>
     ensures row { IfSome result (λ n. n
@@ -75,10 +75,7 @@ fn space_row(rules: &Rules, side: Side, line: &[u8]) -> Option<usize>
     if three_alike(side, line, count) {
         return None;
     }
-    if !quick_look(rules, side, byte_at(line, side, count) as char) {
-        return Some(count);
-    }
-    if any_text_may_stand(rules, side, line, count) {
+    if quick_look(rules, side, byte_at(line, side, count) as char) {
         return None;
     }
     Some(count)
@@ -138,8 +135,8 @@ fn has_no_item(line: &[u8]) -> bool
     end >= line.len() || !may_be_item(&line[..end])
 }
 
-/// How long the longest row of pieces is that stands at this side of a line: mostly it is white space alone. The characters
-/// are room for those of the line, whatever they hold.
+/// How long the longest row of pieces is that stands at this side of a line: mostly it is white space alone, or a few texts
+/// and white space. The characters are room for those of the line, whatever they hold.
 #[inline(always)]
 fn row_of_ascii(
     alloc: Global,
@@ -156,6 +153,9 @@ fn row_of_ascii(
     ensures within { IfOk result (λ n. n ≤ length line.now) }
 {
     if let Some(count) = space_row(rules, side, line) {
+        return Ok(count);
+    }
+    if let Some(count) = row_by_places(rules, side, line) {
         return Ok(count);
     }
     place(characters, 0, line)?;
@@ -182,8 +182,10 @@ fn item_of_ascii(
     Ok(item_length(rules, characters, None))
 }
 
-/// What is taken from a whole line. The characters are room for those of the line, whatever they hold.
-pub(crate) fn cut_of_ascii(
+/// What is taken from a whole line of ASCII. The characters are room for those of the line, whatever they hold.
+///
+/// The error is that memory ran out.
+pub fn cut_of_ascii(
     alloc: Global,
     rules: &Rules,
     line: &[u8],

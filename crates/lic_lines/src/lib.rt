@@ -5,6 +5,7 @@
 mod ascii;
 mod ascii_cut;
 mod ascii_front;
+mod ascii_rows;
 mod ascii_texts;
 pub mod cell;
 pub mod cut;
@@ -26,6 +27,7 @@ pub mod tokens;
 mod walk;
 
 pub use ascii::{front_part_of_ascii, left_of_ascii};
+pub use ascii_cut::cut_of_ascii;
 pub use ascii_front::{AsciiFront, front_of_ascii};
 pub use cell::Cell;
 pub use lic_kind::Rules;

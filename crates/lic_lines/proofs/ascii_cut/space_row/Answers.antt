@@ -1,21 +1,9 @@
 use Rattle.std.proofs.Common.{◌≡◌, ◌∙◌, length, sym, ap, arith}
 use Rattle.lic_lines.specs.LineRules.{rules_of}
 use Rattle.lic_lines.specs.Walks.{walked, may_open}
-use Rattle.lic_lines.proofs.SpaceRows.{longest_spaces, longest_standing, longest_of_spaces}
+use Rattle.lic_lines.proofs.SpaceRows.{longest_spaces, longest_of_spaces}
 use Rattle.lic_lines.proofs.Walking.{length-walked}
 use Rattle.lic_lines.proofs.ascii_cut.space_row.Goals as goal
-
-pub returns-then-not-quick_look-clause-row : goal.returns-then-not-quick_look-clause-row
-returns-then-not-quick_look-clause-row c =
-    let rules = rules_of c.args.rules.now in
-    let side = c.args.side in
-    let line = walked side c.args.line.now in
-    let n = c.spaces-count.result in
-    let many = length-walked side c.args.line.now in
-    let known = c.spaces-count.ensures in
-    longest_spaces rules side line n (omega arith) known.all (known.stop (omega arith))
-    (ap (may_open rules side) (sym c.byte_at.ensures) ∙ c.quick_look.ensures c.if-not-quick_look.true)
-    (λ lt. c.three_alike.ensures c.if-three_alike.false (omega arith))
 
 pub returns-clause-row : goal.returns-clause-row
 returns-clause-row c =
@@ -25,8 +13,8 @@ returns-clause-row c =
     let n = c.spaces-count.result in
     let many = length-walked side c.args.line.now in
     let known = c.spaces-count.ensures in
-    longest_standing rules side line n (omega arith) known.all (known.stop (omega arith))
-    (c.any_text_may_stand.ensures c.if-any_text_may_stand.false)
+    longest_spaces rules side line n (omega arith) known.all (known.stop (omega arith))
+    (ap (may_open rules side) (sym c.byte_at.ensures) ∙ c.quick_look.ensures c.if-quick_look.false)
     (λ lt. c.three_alike.ensures c.if-three_alike.false (omega arith))
 
 pub returns-then-count-line-clause-row : goal.returns-then-count-line-clause-row

@@ -1,0 +1,164 @@
+//! The tokens of lines of ASCII.
+ghost use Rattle.std.specs.Prelude.{◌≡◌, ℕ, ◌+◌, ◌^◌, ◌<◌, ◌≤◌, [], true, length, map, slice_index, string_bytes, OnOk, IsAscii};
+ghost use Rattle.lic_lines.specs.LineRules.{rules_of};
+ghost use Rattle.lic_lines.specs.Lines.{cells_of};
+ghost use Rattle.lic_lines.specs.Runs.{runs_joined};
+ghost use Rattle.lic_lines.specs.Sources.{placed};
+ghost use Rattle.lic_lines.specs.Tokens.{first_tokens};
+ghost use Rattle.lic_columns.specs.Bytes.{letter};
+ghost use Rattle.lic_columns.specs.Cells.{starts_of, ends_of};
+ghost use Rattle.lic_columns.specs.Known.{IsText};
+ghost use Rattle.lic_columns.specs.SpanTokens.{span_tokens, spans_by};
+ghost use Rattle.lic_columns.specs.Tokens.{text_spans};
+
+use crate::columns::Columns;
+use crate::edges::clear_lines;
+use crate::marks::Marks;
+use crate::tokens::push_tokens;
+use lic_lines::{Rules, SourceChar};
+use std::alloc::{AllocError, Global};
+use std::marker::Model;
+use std::str::from_utf8;
+
+/// The tokens of lines of ASCII, read 64 bytes at a time. What it holds from one text to the next is room alone.
+#[derive(Drop)]
+pub struct Lines {
+    columns: Columns,
+    marks: Marks,
+    /// The characters of a line.
+    characters: Vec<SourceChar>,
+    letters: String,
+    starts: Vec<u32>,
+    ends: Vec<u32>,
+}
+
+impl Model for Lines {
+    ghost use Rattle.std.specs.Prelude.{string_bytes};
+    ghost use Rattle.lic_columns.specs.TokenPlaces.{TokenPlaces};
+
+    ghost Value = { TokenPlaces };
+
+    ghost view = { λ l. record { letters = string_bytes l.letters; starts = l.starts.items; ends = l.ends.items } };
+}
+
+/// Bytes of ASCII as a text.
+fn ascii_text(bytes: &[u8]) -> &str
+    requires { IsAscii bytes.now }
+    ensures { result.now ≡ bytes.now }
+{
+    match from_utf8(bytes) {
+        Ok(text) => text,
+        Err(_) => unreachable!(),
+    }
+}
+
+/// Puts bytes of ASCII in the place of a text.
+fn put_letters(text: &mut String, bytes: &[u8]) -> Result<(), AllocError>
+    requires { IsAscii bytes.now }
+    ensures { OnOk result (string_bytes text.new ≡ bytes.now) }
+{
+    text.clear();
+    text.push_str(ascii_text(bytes))?;
+    Ok(())
+}
+
+/// Puts the places where the tokens of a text begin and end in the place of those that are there.
+fn put_spans(
+    separators: bool,
+    at: u32,
+    bytes: &[u8],
+    columns: &Columns,
+    marks: &mut Marks,
+    starts: &mut Vec<u32>,
+    ends: &mut Vec<u32>,
+) -> Result<(), AllocError>
+    requires fits { at + length bytes.now + 65 ≤ 2 ^ 32 }
+    requires text { IsText (length bytes.now) columns.now }
+    ensures starts { OnOk result (starts.new.items ≡ starts_of (text_spans separators at bytes.now columns.now)) }
+    ensures ends { OnOk result (ends.new.items ≡ ends_of (text_spans separators at bytes.now columns.now)) }
+{
+    starts.clear();
+    ends.clear();
+    push_tokens(separators, at, bytes, columns, marks, starts, ends)
+}
+
+impl Lines {
+    /// Room that takes no memory yet.
+    pub fn new(alloc: Global) -> Lines
+        ensures { result ≡ record { letters = []; starts = []; ends = [] } }
+    {
+        Lines {
+            columns: Columns::new(alloc),
+            marks: Marks::new(alloc),
+            characters: Vec::new(alloc),
+            letters: String::new(alloc),
+            starts: Vec::new(alloc),
+            ends: Vec::new(alloc),
+        }
+    }
+
+    /// The letter of each byte of the text.
+    #[inline(always)]
+    pub fn letters(&self) -> &str
+        ensures { result.now ≡ self.now.letters }
+    {
+        self.letters.as_str()
+    }
+
+    /// Where each token begins.
+    #[inline(always)]
+    pub fn starts(&self) -> &[u32]
+        ensures { result.now ≡ self.now.starts }
+    {
+        &self.starts
+    }
+
+    /// The place after each token.
+    #[inline(always)]
+    pub fn ends(&self) -> &[u32]
+        ensures { result.now ≡ self.now.ends }
+    {
+        &self.ends
+    }
+
+    /// Reads a text of ASCII that begins at this place, whole lines, by these line rules: its first tokens.
+    ///
+    /// # Errors
+    /// Memory ran out. What it then holds is not said.
+    pub fn read(
+        &mut self,
+        alloc: Global,
+        rules: &Rules,
+        at: u32,
+        text: &str,
+    ) -> Result<(), AllocError>
+        requires ascii { IsAscii text.now }
+        requires fits { at + length text.now + 65 ≤ 2 ^ 32 }
+        ensures letters { OnOk result (self.new.letters ≡ map letter text.now) }
+        ensures ascii { OnOk result (IsAscii self.new.letters) }
+        ensures long { OnOk result (length self.new.letters ≡ length text.now) }
+        ensures paired { OnOk result (length self.new.ends ≡ length self.new.starts) }
+        ensures from { OnOk result ((i : ℕ) → i < length self.new.starts → at ≤ slice_index self.new.starts i) }
+        ensures some { OnOk result ((i : ℕ) → i < length self.new.starts
+            → slice_index self.new.starts i < slice_index self.new.ends i) }
+        ensures to { OnOk result ((i : ℕ) → i < length self.new.starts
+            → slice_index self.new.ends i ≤ at + length self.new.letters) }
+        ensures tokens { OnOk result (span_tokens true at at self.new.letters (spans_by self.new.starts self.new.ends)
+            ≡ first_tokens (runs_joined (rules_of rules.now) (cells_of (rules_of rules.now) (placed at text.now)))) }
+    {
+        let bytes = text.as_bytes();
+        self.columns.read(bytes)?;
+        clear_lines(alloc, rules, bytes, &mut self.columns, &mut self.characters)?;
+        put_spans(
+            rules.separators(),
+            at,
+            bytes,
+            &self.columns,
+            &mut self.marks,
+            &mut self.starts,
+            &mut self.ends,
+        )?;
+        put_letters(&mut self.letters, self.columns.letters())?;
+        Ok(())
+    }
+}
