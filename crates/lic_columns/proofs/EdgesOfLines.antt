@@ -176,7 +176,8 @@ lines_tokens_are rules at text ascii =
     (subst (λ l. IsOfCells at text l (known_of text)) (ap₂ (λ n l. map cell_of (placed n l)) here (sym whole)) (ascii_is at text ascii)) in
     let all : IsOfCells at text cells known =
     subst (λ l. IsOfCells at text l known)
-    (ap (λ n. flat_map (standing_line rules) (placed_lines n lines)) (sym here) ∙ ap (flat_map (standing_line rules)) (sym (lines_placed at text ascii))) each in
+    (ap (λ n. flat_map (standing_line rules) (placed_lines n lines)) (sym here)
+    ∙ ap (flat_map (standing_line rules)) (sym (lines_placed at text ascii))) each in
     ap (λ l. span_tokens true at at l (text_spans rules.separators at text known)) (sym all.letters)
     ∙ tokens_of_cells at text cells known all rules true
     ∙ lines_found rules (lines_of (placed at text))

@@ -193,7 +193,8 @@ no_separator way n le apart = ⊎_elim (λ h. absurd (never h)) (λ none. none) 
         let long : 3 ≤ length (take n way) = parts.0 in
         let each = λ (i : ℕ) (lt : i < 3). sym (get_or-take n way i 0 (omega (arith, long, size))) ∙ parts.3 i (omega (arith, long, size)) in
         ⊎_elim
-        (λ light. false≢true (ap is_mark_kind (sym (kind_of-white (get_or way 0 0) light)) ∙ ap (λ d. is_mark_kind (kind_of d)) (each 0 (omega arith)) ∙ parts.2))
+        (λ light. false≢true (ap is_mark_kind (sym (kind_of-white (get_or way 0 0) light))
+        ∙ ap (λ d. is_mark_kind (kind_of d)) (each 0 (omega arith)) ∙ parts.2))
         (λ other. other (omega (arith, long, size)) (each 1 (omega arith) ∙ sym (each 0 (omega arith))) (each 2 (omega arith) ∙ sym (each 0 (omega arith))))
         apart
 
@@ -293,14 +294,16 @@ not_opened_spaced n (d ∷ way) (c ∷ t) long none h =
     let other : (c == d) ≡ false = (or_none (is_whitespace c) (c == d) none).1 in
     absurd (false≢true (sym other ∙ eq-eqb c d (sym (eqb-true d c stands.0))))
 
-any_not_opened : (n : ℕ) (way : List ℕ) (f : List ℕ → List ℕ) (ts : List (List ℕ)) → 0 < n → 0 < length way → list_any (λ t. opens_in (get_or way 0 0) (f t)) ts ≡ false
+any_not_opened : (n : ℕ) (way : List ℕ) (f : List ℕ → List ℕ) (ts : List (List ℕ)) → 0 < n → 0 < length way
+    → list_any (λ t. opens_in (get_or way 0 0) (f t)) ts ≡ false
     → list_any (λ t. stands_with n way (f t)) ts ≡ false
 any_not_opened n way f [] some long none = refl
 any_not_opened n way f (t ∷ ts) some long none =
     let parts = or_none (opens_in (get_or way 0 0) (f t)) (list_any (λ u. opens_in (get_or way 0 0) (f u)) ts) none in
     ap₂ (λ a b. a || b) (not_opened n way (f t) some long parts.0) (any_not_opened n way f ts some long parts.1)
 
-any_not_opened_spaced : (n : ℕ) (way : List ℕ) (f : List ℕ → List ℕ) (ts : List (List ℕ)) → 0 < length way → list_any (λ t. opens_in (get_or way 0 0) (f t)) ts ≡ false
+any_not_opened_spaced : (n : ℕ) (way : List ℕ) (f : List ℕ → List ℕ) (ts : List (List ℕ)) → 0 < length way
+    → list_any (λ t. opens_in (get_or way 0 0) (f t)) ts ≡ false
     → list_any (λ t. stands_spaced n way (f t)) ts ≡ true → (is_whitespace (get_or way 0 0) && (n == 1)) ≡ true
 any_not_opened_spaced n way f [] long none h = absurd (false≢true h)
 any_not_opened_spaced n way f (t ∷ ts) long none h =
@@ -322,7 +325,8 @@ goes_off way (c ∷ rest) long none =
     (λ no. no)
     (cases_Bool (goes_on way t))
 
-any_goes_off : (way : List ℕ) (ts : List (List ℕ)) → 0 < length way → list_any (λ t. opens_in (get_or way 0 0) (reverse t)) ts ≡ false → list_any (goes_on way) ts ≡ false
+any_goes_off : (way : List ℕ) (ts : List (List ℕ)) → 0 < length way → list_any (λ t. opens_in (get_or way 0 0) (reverse t)) ts ≡ false
+    → list_any (goes_on way) ts ≡ false
 any_goes_off way [] long none = refl
 any_goes_off way (t ∷ ts) long none =
     let parts = or_none (opens_in (get_or way 0 0) (reverse t)) (list_any (λ u. opens_in (get_or way 0 0) (reverse u)) ts) none in
@@ -354,7 +358,8 @@ space_lengths rules side way mask long apart closed is =
           (cases_lt (length way) n);
     }
   where
-    none_goes_on : (s : Side) → list_any (λ t. opens_in (get_or way 0 0) (walked s t)) (side_repeated rules s) ≡ false → list_any (goes_on way) (side_repeated rules s) ≡ false
+    none_goes_on : (s : Side) → list_any (λ t. opens_in (get_or way 0 0) (walked s t)) (side_repeated rules s) ≡ false
+        → list_any (goes_on way) (side_repeated rules s) ≡ false
     none_goes_on Front none = refl
     none_goes_on End none = any_goes_off way rules.tail_repeat long none
 

@@ -1,5 +1,6 @@
 //! The longest row of pieces at a side of a line of ASCII, from one place where a row ends to the next.
-ghost use Rattle.std.specs.Prelude.{◌≡◌, ◌≢◌, ◌+◌, ◌<◌, ◌≤◌, ◌&&◌, ◌||◌, ◌==◌, ◌⊎◌, ℕ, suc, true, false, if◌then◌else◌, nat_le, length, take, drop, reverse, slice_index, IfSome};
+ghost use Rattle.std.specs.Prelude.{◌≡◌, ◌≢◌, ◌+◌, ◌<◌, ◌≤◌, ◌&&◌, ◌||◌, ◌==◌, ◌⊎◌, ℕ, suc, true, false, if◌then◌else◌, IfSome};
+ghost use Rattle.std.specs.Prelude.{nat_le, length, take, drop, reverse, slice_index};
 ghost use Rattle.std.specs.Char.{is_whitespace};
 ghost use Rattle.std.specs.List.{list_any};
 ghost use Rattle.lic_lines.specs.LineRules.{texts_of, rules_of};
