@@ -5,7 +5,7 @@ from dataclasses import dataclass, field
 # templates that name no licence of the file: words that give none, notices that point elsewhere, permissions beside a licence
 NONE = re.compile(r"no-grant-|same-as-|other-file-|[A-Za-z]+-exception-([\d.]+-)?notice")
 # tags of which not all is known
-UNKNOWN = re.compile(r"unknown-identifier|cut-|(OR|AND|WITH)-expression|OR-field(-b)?$")
+UNKNOWN = re.compile(r"unknown-identifier|cut-|(OR|AND|WITH)-expression|OR-field(-[b-z])?$")
 EXPRESSION = re.compile(r"expression-(OR|AND|WITH)-(.*?)(-b)?$")
 SUFFIX = re.compile(r"(-(identifier|field|notice|mention))?(-[b-z])?$")
 # names of Debian and older ones, of tags and fields

@@ -17,7 +17,7 @@ import lines
 import notices
 
 # names of the starter set that are no identifiers of SPDX
-UNLISTED = {"AGPL", "Apache", "Artistic", "BSD", "BSD-style", "GFDL-or-later", "GPL", "LGPL", "LGPL-2.0", "MIT-style", "PSF-contributor", "Python-terms",
+UNLISTED = {"AGPL", "Apache", "Artistic", "BSD", "BSD-style", "GFDL", "GPL", "LGPL", "LGPL-2.0", "MIT-style", "PSF-contributor", "Python-terms",
             "Ruby-terms", "Unicode", "public-domain"}
 
 

@@ -4,6 +4,7 @@
 Each line that the profile has not is tried alone, added to the profile, on the files below the folders that say licence, copyright, warranty,
 redistribute or public domain. A row counts, for each kind of template, the licences of files that are then found better, and those that are found
 worse: by a text, or by a notice, tag or field, or by a mention, or not at all. `--show` lists them. The last row is that of all lines together.
+A line whose text no template has is tried on those files alone in which it occurs: it changes no other.
 """
 import argparse
 import os
@@ -27,6 +28,20 @@ def rules_of(path):
     """The lines of a file of rules that are no remarks."""
     with open(path, encoding="utf-8") as file:
         return [line.strip() for line in file if line.strip() and not line.startswith("#")]
+
+
+def occurs(line, path):
+    """Whether the text of a rule is in the file."""
+    with open(path, "rb") as file:
+        return line.split(maxsplit=1)[1].encode() in file.read()
+
+
+def changed_by(line, files):
+    """The files of which a line may change something: all, where it changes a template."""
+    with starter.both() as templates:
+        if any(occurs(line, os.path.join(templates, name)) for name in os.listdir(templates)):
+            return files
+    return [file for file in files if occurs(line, file)]
 
 
 def files_below(folders):
@@ -79,10 +94,13 @@ def main():
     profile = rules_of(f"{TOP}/examples/rules/profile.rules")
     added = [line for line in rules_of(asked.rules) if line not in profile]
     files = sorted(files_below(asked.folders))
-    before = found(asked.program, profile, files)
+    of_line = {line: changed_by(line, files) for line in added}
+    every = sorted(set().union(*of_line.values()))
+    before = found(asked.program, profile, every)
     print(f"{len(files)} files; licences found better and worse than by the profile, as texts / notices, tags, fields / mentions")
     for name, lines in [(line, [line]) for line in added] + [("all of these", added)]:
-        gained, lost = compared(before, found(asked.program, profile + lines, files))
+        tried = set(of_line.get(name, every))
+        gained, lost = compared({key: it for key, it in before.items() if key[0] in tried}, found(asked.program, profile + lines, sorted(tried)))
         print(f"{name:24}  better {' / '.join(map(str, counts(gained))):18}  worse {' / '.join(map(str, counts(lost)))}", flush=True)
         if asked.show:
             for sign, changed in (("+", gained), ("-", lost)):

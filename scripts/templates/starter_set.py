@@ -43,8 +43,8 @@ STYLES = {
 SHORTEST_TEXT = 7
 SUFFIX = re.compile("-(identifier|field|notice)(-[b-z])?$|(?<=-mention)-[b-z]$")
 
-# licences of the META files of CPAN, whose fields are no identifiers
-CPAN = re.compile("perl|[a-z]_[0-9]")
+# fields that tags.py does not make: in words, of CPAN, classifiers of Python packages, choices
+BY_HAND = re.compile(r"^License|perl|[a-z]_[0-9]|=>|OSI Approved| OR\b|\w/|>>/")
 
 # sentences, what is said of them by the templates of grants, and by those of mentions where that is nothing
 SENTENCES = [
@@ -55,6 +55,21 @@ SENTENCES = [
     ("MIT Licensed", ["MIT"], []),
     ("\"license\" : [ \"perl_5\" ],", ["Artistic-1.0-Perl-OR-GPL-1.0-or-later"], []),
     ("license: lgpl_2_1", ["LGPL-2.1"], []),
+    ("\"LICENSE\" => \"perl\",", ["Artistic-1.0-Perl-OR-GPL-1.0-or-later"], []),
+    ("License: GPLv2+", ["GPLv2+"], []),
+    ("License: GPLv2 or later", ["GPL-2.0-or-later"], []),
+    ("License :: OSI Approved :: MIT License", ["MIT"], []),
+    ("license = \"MIT OR Apache-2.0\"", ["MIT-OR-Apache-2.0"], []),
+    ("license = \"MIT OR Unlicense\"", ["OR"], []),
+    ("<project_license>GPL-3.0+</project_license>", ["GPL-3.0+"], []),
+    ("## License\n[MIT](LICENSE)", ["MIT"], []),
+    ("Copyright: GPL", ["GPL"], []),
+    ("This file may be distributed under the terms of the GNU Public License.", ["GPL"], []),
+    ("it under the terms of the GNU General Public License version 2 as published by the Free Software Foundation.", ["GPL-2.0-only"], []),
+    ("it under the terms of the GNU GPL version 2 as published", [], ["GPL-2.0-mention", "GPL-mention"]),
+    ("the empty string stands for the public domain; in this case", ["no-grant-mention"], []),
+    ("provided to the public domain", ["public-domain"], []),
+    ("GNU GENERAL PUBLIC LICENSE\nVersion 2, June 1991", ["GPL-2.0"], []),
     ("some MIT-licensed code", [], ["MIT-mention"]),
     ("available under the terms of the GNU Lesser General Public License, version 2.1", ["LGPL-2.1"], []),
     ("This code is in the public domain.", ["public-domain"], []),
@@ -139,7 +154,7 @@ def not_made():
         subprocess.run([sys.executable, f"{HERE}/expressions.py", folder], check=True)
         made = read_templates(folder)
     kept = {id: text for id, text in read_templates(starter.GRANTS).items() if re.search("-(identifier|field)(-[b-z])?$|expression|^cut-", id)}
-    kept = {id: text for id, text in kept.items() if not id.startswith("OR-field") and not CPAN.search(text)}
+    kept = {id: text for id, text in kept.items() if re.search("-identifier|expression|^cut-", id) or not BY_HAND.search(text)}
     return [f"{id}: not as tags.py makes it" for id in sorted(made.keys() | kept.keys()) if made.get(id) != kept.get(id)]
 
 

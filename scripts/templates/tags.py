@@ -32,8 +32,8 @@ def optional(text):
     return f"<<beginOptional>>{text}<<endOptional>>"
 
 
-# a quote, underscores, a colon or an equals sign, a bracket, a quote
-FIELD = "license " + "".join(map(optional, ['"', "__", ":", "=", "[", '"'])) + "{}\n"
+# a quote, underscores, a colon or an equals sign, the end of a tag of XML, a bracket, a quote
+FIELD = "license " + "".join(map(optional, ['"', "__", ":", "=", ">", "[", '"'])) + "{}\n"
 # the same in forms that have a text of their own
 SHORT_FIELDS = [
     f"license: {optional('[')}{optional(chr(34))}{{}}\n",

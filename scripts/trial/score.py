@@ -71,7 +71,7 @@ def said_by_licscan(program, rules, folder, names):
     for fields in lines_of_licscan(program, rules, folder, names):
         if fields[0]:
             name, id = fields[0], fields[1]
-            if not re.match("(unknown-identifier|LicenseRef|expression-|cut-|(OR|AND|WITH)-expression|no-grant|same-as-|other-file)|[A-Za-z]+-exception-", id):
+            if not re.match("(unknown-identifier|LicenseRef|expression-|cut-|(OR|AND|WITH)-expression|OR-field|no-grant|same-as-|other-file)|[A-Za-z]+-exception-", id):
                 kept = mentions if re.search("-mention(-[b-z])?$", id) else grants
                 kept.setdefault(name, set()).update(licences.names_of(licences.SUFFIX.sub("", id)))
         elif fields[1] in ("first", "beginning") and fields[2] != "-":
@@ -130,10 +130,15 @@ def main():
         print(row("the same with mentions", stated, said), flush=True)
     if asked.licensecheck:
         words = ["licensecheck", "--machine", "--lines=0", "--shortname-scheme=debian,spdx", "--"]
-        print(row("licensecheck", stated, said_in_lines(lines_of(words, asked.folder, names))), flush=True)
+        beside = said_in_lines(lines_of(words, asked.folder, names))
+        print(row("licensecheck", stated, beside), flush=True)
     for name, path in (it.split("=", 1) for it in asked.lines):
         with open(path, encoding="utf-8", errors="replace") as file:
             print(row(name, stated, said_in_lines(line.rstrip("\n").split("\t") for line in file)), flush=True)
+    if asked.licscan and asked.licensecheck:
+        others = [name for name in names if licences.verdict(stated[name], said[name]) == "other"]
+        same = sum(licences.verdict(beside.get(name, set()), said[name]) in ("agree", "less exact") for name in others)
+        print(f"\nOf {len(others)} files of which licscan says another one licensecheck says the same of {same}.")
     if asked.show and asked.licscan:
         for name in names:
             verdict = licences.verdict(stated[name], said[name])
