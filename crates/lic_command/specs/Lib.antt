@@ -1,2 +1,4 @@
+pub mod Lines
 pub mod Outcomes
 pub mod Statuses
+pub mod Usage

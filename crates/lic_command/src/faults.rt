@@ -1,6 +1,7 @@
 //! Why the program ends before its work is done, and how it reports that.
 
-ghost use Rattle.std.specs.Prelude.{◌≡◌};
+ghost use Rattle.std.specs.Prelude.{◌≡◌, ℕ, List};
+ghost use Rattle.lic_load.specs.Telling.{IsTold};
 ghost use Rattle.lic_command.specs.declared.faults.Stop.TheVariants.{Arguments, Load, Memory};
 
 use lic_arguments::fault::ArgumentFault;
@@ -58,7 +59,10 @@ impl From<AllocError> for Stop {
 }
 
 /// Reports why the program ends.
-pub fn tell_stop<E: Sink>(alloc: Global, err: &mut E, stop: &Stop) {
+pub fn tell_stop<E: Sink>(alloc: Global, err: &mut E, stop: &Stop)
+    ensures { (text : List ℕ)
+        × IsTold (E.taken err.old) (E.taken err.new) (E.failed err.old) (E.failed err.new) text }
+{
     match format!(in alloc; "licscan: {stop}\n") {
         Ok(line) => tell(err, line.as_str()),
         Err(_) => tell(err, "licscan: out of memory\n"),

@@ -1,5 +1,11 @@
 //! The files that lines are written about.
 
+ghost use Rattle.std.specs.Prelude.{◌≡◌, ◌≢◌, ◌⊎◌, ℕ, List, codes, length, map, IfOk, OnErr, IsErrOf, nat_lt};
+ghost use Rattle.std.specs.Io.KnownBytes.{Appends};
+ghost use Rattle.lic_engine.specs.Failures.{CountsReads, CountsWrites, Keeps};
+ghost use Rattle.lic_engine.specs.Inputs.{IsAccepted, IsRefused, IsUnrefused};
+ghost use Rattle.lic_engine.specs.Stream.{BeginsWith};
+ghost use Rattle.lic_command.specs.Lines.{AreLinesOf, AreWritten, HasWritten};
 ghost use Rattle.lic_command.specs.Outcomes.{IsWithOneMore};
 
 use crate::faults::Stop;
@@ -10,6 +16,7 @@ use lic_fields::Escaped;
 use lic_find::ask::Ask;
 use lic_kind::Rules;
 use lic_load::fault::{tell, wants_memory};
+use lic_norm::fault::TextFault;
 use lic_norm::words::Words;
 use lic_set::set::Set;
 use lic_stream::stream::{Counted, Sink, Source};
@@ -66,7 +73,27 @@ fn write_lines<R: Source, W: Sink>(
     input: &mut R,
     out: &mut W,
     work: Work<'_>,
-) -> Result<bool, RunFault> {
+) -> Result<bool, RunFault>
+    // The lines about what was read to the end.
+    ensures report { IfOk result (λ some. (bytes lines : List ℕ)
+        × IsAccepted (R.left input.old) (R.left input.new) bytes
+        × AreLinesOf work.entry name.now bytes lines
+        × Appends (W.taken out.old) (W.taken out.new) lines
+        × (some ≡ nat_lt 0 (length lines))) }
+    // A beginning of the lines about what was read.
+    ensures part { (fault : _) → IsErrOf result fault
+        → ((fault ≡ RunFault.Write) ⊎ (fault ≡ RunFault.Memory)) → (bytes : List ℕ)
+        × IsAccepted (R.left input.old) (R.left input.new) bytes
+        × ((lines : List ℕ) → AreLinesOf work.entry name.now bytes lines
+        → BeginsWith (W.taken out.old) (W.taken out.new) lines) }
+    ensures refused { (fault : _) → IsErrOf result (RunFault.Text fault) → fault ≢ TextFault.Memory
+        → IsRefused (R.left input.old) (R.left input.new) fault }
+    ensures memory { IsErrOf result (RunFault.Text TextFault.Memory)
+        → IsUnrefused (R.left input.old) (R.left input.new) }
+    ensures keeps { Keeps result out.old out.new }
+    ensures reads { CountsReads result (R.failed input.old) (R.failed input.new) }
+    ensures writes { CountsWrites result (W.failed out.old) (W.failed out.new) }
+{
     match work {
         Work::Scan(search) => run(
             alloc,
@@ -90,7 +117,11 @@ fn write_file<Rt: Files, R: Source, W: Sink>(
     input: &mut R,
     out: &mut W,
     work: Work<'_>,
-) -> Result<Result<bool, RunFault>, Stop> {
+) -> Result<Result<bool, RunFault>, Stop>
+    ensures written { IfOk result (HasWritten work.entry name.now (W.taken out.old) (W.taken out.new)) }
+    ensures other { name.now ≢ codes "-" → input.new ≡ input.old }
+    ensures stopped { OnErr result (out.new ≡ out.old) }
+{
     if name == "-" {
         return Ok(write_lines(alloc, name, input, out, work));
     }
@@ -113,13 +144,17 @@ fn write_each<Rt: Files, R: Source, W: Sink, E: Sink>(
     out: &mut W,
     err: &mut E,
     work: Work<'_>,
-) -> Result<Written, Stop> {
+) -> Result<Written, Stop>
+    ensures { IfOk result
+        (AreWritten work.entry (W.taken out.old) (map (λ name. name.now) files.entry.names.now) (W.taken out.new)) }
+{
     let mut written = Written {
         has_line: false,
         is_refused: false,
     };
     let all = files.names.len();
-    for (done, name) in files.names.iter().enumerate() {
+    for done in 0..all {
+        let name = files.names[done];
         files.progress.show(alloc, err, done, all);
         let answer = write_file(rt, alloc, name, input, out, work)?;
         written = with_one_more(written, answer);
@@ -146,7 +181,10 @@ pub fn write_files<Rt: Files, R: Source, W: Sink, E: Sink>(
     out: &mut W,
     err: &mut E,
     work: Work<'_>,
-) -> Result<Written, Stop> {
+) -> Result<Written, Stop>
+    ensures { IfOk result
+        (AreWritten work.entry (W.taken out.old) (map (λ name. name.now) files.entry.names.now) (W.taken out.new)) }
+{
     let written = write_each(rt, alloc, files, input, out, err, work);
     files.progress.clear(err, files.names.len());
     written

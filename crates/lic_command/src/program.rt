@@ -1,5 +1,10 @@
 //! The whole program.
 
+ghost use Rattle.std.specs.Prelude.{◌≡◌, ◌≢◌, ◌≤◌, ℕ, List, Ok, Err, IfOk};
+ghost use Rattle.clap.specs.Values.{kind_of};
+ghost use Rattle.lic_load.specs.Telling.{IsTold};
+ghost use Rattle.lic_command.specs.Usage.{IsFault, IsShown};
+
 use crate::faults::Stop;
 use crate::files::{FileList, Search, Work, write_files};
 use crate::progress::Progress;
@@ -27,7 +32,9 @@ fn scan<Rt: Files + AllocGlobal + Clone + Drop, R: Source, W: Sink, E: Sink>(
     out: &mut W,
     err: &mut E,
     progress: Progress,
-) -> Result<u8, Stop> {
+) -> Result<u8, Stop>
+    ensures { IfOk result (λ status. status ≤ 2) }
+{
     let arguments = ScanArguments::read(alloc, found)?;
     let rules = load_rules(rt, alloc, arguments.rules)?;
     let words = load_words(rt, alloc, arguments.words)?;
@@ -54,7 +61,9 @@ fn check_templates<Rt: Files + AllocGlobal + Clone + Drop, W: Sink, E: Sink>(
     found: &ArgMatches<'_>,
     out: &mut W,
     err: &mut E,
-) -> Result<u8, Stop> {
+) -> Result<u8, Stop>
+    ensures { IfOk result (λ status. status ≤ 2) }
+{
     let arguments = CheckArguments::read(found);
     let rules = load_rules(rt, alloc, arguments.rules)?;
     let words = load_words(rt, alloc, arguments.words)?;
@@ -72,7 +81,9 @@ fn tokens<Rt: Files + AllocGlobal, R: Source, W: Sink, E: Sink>(
     out: &mut W,
     err: &mut E,
     progress: Progress,
-) -> Result<u8, Stop> {
+) -> Result<u8, Stop>
+    ensures { IfOk result (λ status. status ≤ 2) }
+{
     let arguments = TokensArguments::read(alloc, found)?;
     let rules = load_rules(rt, alloc, arguments.rules)?;
     let words = load_words(rt, alloc, arguments.words)?;
@@ -88,13 +99,35 @@ fn tokens<Rt: Files + AllocGlobal, R: Source, W: Sink, E: Sink>(
     Ok(status_of(written, false))
 }
 
+/// Writes help to standard output, and says that it was asked for.
+fn show_help<W: Sink>(text: &str, out: &mut W) -> Result<u8, Stop>
+    ensures { IsShown (W.taken out.old) (W.taken out.new) (W.failed out.old) (W.failed out.new) text.now result }
+{
+    match put_all(out, text.as_bytes()) {
+        Ok(()) => Ok(DONE),
+        Err(_) => Err(Stop::Write),
+    }
+}
+
 /// Writes what the parser of the arguments says: help to standard output, a fault to standard error.
 fn show_usage<W: Sink, E: Sink>(
     alloc: Global,
     error: &Error,
     out: &mut W,
     err: &mut E,
-) -> Result<u8, Stop> {
+) -> Result<u8, Stop>
+    // Help is one text on standard output alone.
+    ensures help { ¬ (IsFault (kind_of error.now)) → result ≢ Err Stop.Memory → (text : List ℕ)
+        × IsShown (W.taken out.old) (W.taken out.new) (W.failed out.old) (W.failed out.new) text result
+        × (err.new ≡ err.old) }
+    // A fault is one text on standard error alone, and the status is 2.
+    ensures fault { IsFault (kind_of error.now) → result ≢ Err Stop.Memory → (text : List ℕ)
+        × IsTold (E.taken err.old) (E.taken err.new) (E.failed err.old) (E.failed err.new) text
+        × (out.new ≡ out.old) × (result ≡ Ok 2) }
+    // Where memory ran out nothing is written.
+    ensures memory { kind_of error.now ≡ ErrorKind.OutOfMemory → result ≡ Err Stop.Memory }
+    ensures nothing { result ≡ Err Stop.Memory → (out.new ≡ out.old) × (err.new ≡ err.old) }
+{
     if error.kind() == ErrorKind::OutOfMemory {
         return Err(Stop::Memory);
     }
@@ -103,10 +136,7 @@ fn show_usage<W: Sink, E: Sink>(
         tell(err, text.as_str());
         return Ok(REFUSED);
     }
-    if put_all(out, text.as_bytes()).is_err() {
-        return Err(Stop::Write);
-    }
-    Ok(DONE)
+    show_help(text.as_str(), out)
 }
 
 /// The program, up to where it ends before its work is done.
@@ -118,7 +148,9 @@ fn try_command<Rt: Files + AllocGlobal + Clone + Drop, R: Source, W: Sink, E: Si
     out: &mut W,
     err: &mut E,
     progress: Progress,
-) -> Result<u8, Stop> {
+) -> Result<u8, Stop>
+    ensures { IfOk result (λ status. status ≤ 2) }
+{
     let mut words = Vec::new(alloc);
     words.push("licscan")?;
     words.extend_from_slice(args)?;
@@ -149,7 +181,9 @@ pub fn command<Rt: Files + AllocGlobal + Clone + Drop, R: Source, W: Sink, E: Si
     input: &mut R,
     out: &mut W,
     err: &mut E,
-) -> u8 {
+) -> u8
+    ensures { result ≤ 2 }
+{
     command_with(rt, alloc, args, input, out, err, Progress::Hidden)
 }
 
@@ -162,7 +196,9 @@ pub fn command_with<Rt: Files + AllocGlobal + Clone + Drop, R: Source, W: Sink, 
     out: &mut W,
     err: &mut E,
     progress: Progress,
-) -> u8 {
+) -> u8
+    ensures { result ≤ 2 }
+{
     let outcome = try_command(rt, alloc, args, input, out, err, progress);
     status_at_end(alloc, err, outcome)
 }

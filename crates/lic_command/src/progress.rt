@@ -1,5 +1,8 @@
 //! How far the work on many files has come, for whoever waits at a terminal.
 
+ghost use Rattle.std.specs.Prelude.{◌≡◌, ◌<◌, ◌≤◌, ◌∷◌, []};
+ghost use Rattle.lic_load.specs.Telling.{IsTold};
+
 use lic_load::fault::tell;
 use lic_stream::stream::Sink;
 use std::alloc::Global;
@@ -22,7 +25,10 @@ pub enum Progress {
 
 impl Progress {
     /// Says how many files are done of how many, in place of what was said before. Where memory is lacking, nothing is said.
-    pub fn show<E: Sink>(self, alloc: Global, err: &mut E, done: usize, all: usize) {
+    pub fn show<E: Sink>(self, alloc: Global, err: &mut E, done: usize, all: usize)
+        ensures hidden { self ≡ Progress.Hidden → err.new ≡ err.old }
+        ensures few { all < 20 → err.new ≡ err.old }
+    {
         if self == Progress::Hidden || all < MANY || done % (all / TIMES + 1) != 0 {
             return;
         }
@@ -32,7 +38,14 @@ impl Progress {
     }
 
     /// Takes away what was said.
-    pub fn clear<E: Sink>(self, err: &mut E, all: usize) {
+    pub fn clear<E: Sink>(self, err: &mut E, all: usize)
+        ensures hidden { self ≡ Progress.Hidden → err.new ≡ err.old }
+        ensures few { all < 20 → err.new ≡ err.old }
+        // A carriage return, and what clears the line from there on.
+        ensures shown { self ≡ Progress.Shown → 20 ≤ all
+            → IsTold (E.taken err.old) (E.taken err.new) (E.failed err.old) (E.failed err.new)
+            (0x0D ∷ 0x1B ∷ 0x5B ∷ 0x4B ∷ []) }
+    {
         if self == Progress::Shown && all >= MANY {
             tell(err, CLEAR);
         }

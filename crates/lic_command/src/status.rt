@@ -1,6 +1,7 @@
 //! The statuses that the program ends with.
 
-ghost use Rattle.std.specs.Prelude.{◌≡◌, ◌||◌, Ok, IsErr};
+ghost use Rattle.std.specs.Prelude.{◌≡◌, ◌≤◌, ◌||◌, ℕ, List, Ok, IfOk, IsErr};
+ghost use Rattle.lic_load.specs.Telling.{IsTold};
 ghost use Rattle.lic_command.specs.Statuses.{IsStatus, IsStatusOfCheck};
 
 use crate::faults::{Stop, tell_stop};
@@ -20,7 +21,8 @@ pub const REFUSED: u8 = 2;
 
 /// The status after all files, where a template may have been left out.
 pub fn status_of(written: Written, is_left_out: bool) -> u8
-    ensures { IsStatus (written.is_refused || is_left_out) written.has_line result }
+    ensures status { IsStatus (written.is_refused || is_left_out) written.has_line result }
+    ensures few { result ≤ 2 }
 {
     if written.is_refused | is_left_out {
         REFUSED
@@ -33,7 +35,8 @@ pub fn status_of(written: Written, is_left_out: bool) -> u8
 
 /// The status after `check`, where a template may have been left out.
 pub fn status_of_check(answer: Result<bool, RunFault>, is_left_out: bool) -> Result<u8, Stop>
-    ensures { IsStatusOfCheck answer is_left_out result }
+    ensures status { IsStatusOfCheck answer is_left_out result }
+    ensures few { IfOk result (λ status. status ≤ 2) }
 {
     match answer {
         Ok(_) if is_left_out => Ok(REFUSED),
@@ -47,7 +50,11 @@ pub fn status_of_check(answer: Result<bool, RunFault>, is_left_out: bool) -> Res
 /// The status that the program ends with. Where its work was not done, it is reported why.
 pub fn status_at_end<E: Sink>(alloc: Global, err: &mut E, outcome: Result<u8, Stop>) -> u8
     ensures done { (status : _) → outcome ≡ Ok status → result ≡ status }
+    ensures quiet { (status : _) → outcome ≡ Ok status → err.new ≡ err.old }
     ensures stopped { IsErr outcome → result ≡ 2 }
+    ensures few { IfOk outcome (λ status. status ≤ 2) → result ≤ 2 }
+    ensures told { IsErr outcome → (text : List ℕ)
+        × IsTold (E.taken err.old) (E.taken err.new) (E.failed err.old) (E.failed err.new) text }
 {
     match outcome {
         Ok(status) => status,

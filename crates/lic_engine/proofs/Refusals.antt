@@ -3,6 +3,7 @@ use Rattle.std.proofs.Common.{◌≡◌, ℕ, ◌<◌, ◌≤◌, List, ◌++◌
 use Rattle.std.proofs.lemmas.Bool.Decides.{nat_tests}
 use Rattle.lic_norm.specs.Refusal.{refusal_of}
 use Rattle.lic_norm.specs.declared.fault.TextFault.{TextFault}
+use Rattle.lic_norm.specs.declared.fault.TextFault.TheVariants.{TooLong}
 use Rattle.std.specs.Io.KnownBytes.{Consumes}
 
 long_case : (b : Bool) (long : TextFault) → cond b (Some long) None ≡ None → b ≡ false
@@ -12,6 +13,15 @@ long_case false long e = refl
 short_case : (b : Bool) (long fault : TextFault) → cond b (Some long) None ≡ Some fault → b ≡ true
 short_case true long fault e = refl
 short_case false long fault e = absurd (cc)
+
+not_long_case : (b : Bool) (long : TextFault) → ¬ (cond b (Some long) None ≡ Some long) → cond b (Some long) None ≡ None
+not_long_case true long not = absurd (not refl)
+not_long_case false long not = refl
+
+-- what is not refused as too long is not refused
+pub not_too_long : (bytes : List ℕ) → ¬ (refusal_of bytes ≡ Some TooLong) → refusal_of bytes ≡ None
+unfolding refusal_of
+not_too_long bytes not = not_long_case (nat_lt 67108864 (length bytes)) TooLong not
 
 -- what is accepted is not too long
 pub accepted_short : (bytes : List ℕ) → refusal_of bytes ≡ None → length bytes < 67108865

@@ -13,3 +13,7 @@ abbrev pub IsRefused : Option (List ℕ) → Option (List ℕ) → TextFault →
 IsRefused old new fault = (bytes : List ℕ)
     × Consumes old new bytes
     × ((more : List ℕ) → refusal_of (bytes ++ more) ≡ Some fault)
+
+-- what was read is no refused input
+abbrev pub IsUnrefused : Option (List ℕ) → Option (List ℕ) → Type 0
+IsUnrefused old new = (bytes : List ℕ) × Consumes old new bytes × (refusal_of bytes ≡ None)

@@ -7,7 +7,7 @@ ghost use Rattle.lic_norm.specs.Tokens.{tokens_of};
 ghost use Rattle.lic_stream.specs.Stream.{BeginsWith, ReadsUpTo};
 ghost use Rattle.lic_report.specs.Report.{AreAllLines, IsReport, IsReportOf, token_lines};
 ghost use Rattle.lic_engine.specs.Failures.{CountsReads, CountsWrites, IsOfWriting, Keeps};
-ghost use Rattle.lic_engine.specs.Inputs.{IsAccepted, IsRefused};
+ghost use Rattle.lic_engine.specs.Inputs.{IsAccepted, IsRefused, IsUnrefused};
 
 use crate::fault::RunFault;
 use crate::input::read_text;
@@ -115,6 +115,9 @@ pub fn run<R: Source, W: Sink>(
     // An input that is too long: it stays refused however it goes on.
     ensures refused { (fault : _) → IsErrOf result (RunFault.Text fault) → fault ≢ TextFault.Memory
         → IsRefused (R.left input.old) (R.left input.new) fault }
+    // Lack of memory is answered only where what was read is not too long.
+    ensures memory { IsErrOf result (RunFault.Text TextFault.Memory)
+        → IsUnrefused (R.left input.old) (R.left input.new) }
     // After a refused text and a failed read nothing is written.
     ensures keeps { Keeps result out.old out.new }
     // Each failure comes from the one that failed, and no other call failed.
@@ -182,6 +185,9 @@ pub fn run_tokens<R: Source, W: Sink>(
     // An input that is too long: it stays refused however it goes on.
     ensures refused { (fault : _) → IsErrOf result (RunFault.Text fault) → fault ≢ TextFault.Memory
         → IsRefused (R.left input.old) (R.left input.new) fault }
+    // Lack of memory is answered only where what was read is not too long.
+    ensures memory { IsErrOf result (RunFault.Text TextFault.Memory)
+        → IsUnrefused (R.left input.old) (R.left input.new) }
     // After a refused text and a failed read nothing is written.
     ensures keeps { Keeps result out.old out.new }
     // Each failure comes from the one that failed, and no other call failed.

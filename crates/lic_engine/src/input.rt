@@ -6,7 +6,7 @@ ghost use Rattle.lic_kind.specs.LineRules.{rules_of};
 ghost use Rattle.lic_norm.specs.Tokens.{tokens_of};
 ghost use Rattle.lic_stream.specs.Stream.{ReadsUpTo};
 ghost use Rattle.lic_engine.specs.Failures.{CountsReads, IsOfReading};
-ghost use Rattle.lic_engine.specs.Inputs.{IsAccepted, IsRefused};
+ghost use Rattle.lic_engine.specs.Inputs.{IsAccepted, IsRefused, IsUnrefused};
 
 use crate::fault::RunFault;
 use lic_kind::Rules;
@@ -35,6 +35,8 @@ fn feed_all<R: Source>(input: &mut R, feeder: &mut Feeder<'_>) -> Result<(), Run
     ensures rules { feeder.new.rules ≡ feeder.old.rules }
     ensures refused { (fault : _) → IsErrOf result (RunFault.Text fault) → fault ≢ TextFault.Memory
         → IsRefused (R.left input.old) (R.left input.new) fault }
+    ensures memory { IsErrOf result (RunFault.Text TextFault.Memory)
+        → IsUnrefused (R.left input.old) (R.left input.new) }
     ensures reads { CountsReads result (R.failed input.old) (R.failed input.new) }
     ensures faults { IsOfReading result }
     ensures most { ReadsUpTo (R.left input.old) (R.left input.new) 67108865 }
@@ -71,6 +73,8 @@ pub fn read_text<R: Source>(
         × (text.tokens ≡ tokens_of (rules_of rules.now) words.now bytes)) }
     ensures refused { (fault : _) → IsErrOf result (RunFault.Text fault) → fault ≢ TextFault.Memory
         → IsRefused (R.left input.old) (R.left input.new) fault }
+    ensures memory { IsErrOf result (RunFault.Text TextFault.Memory)
+        → IsUnrefused (R.left input.old) (R.left input.new) }
     ensures reads { CountsReads result (R.failed input.old) (R.failed input.new) }
     ensures faults { IsOfReading result }
     ensures most { ReadsUpTo (R.left input.old) (R.left input.new) 67108865 }

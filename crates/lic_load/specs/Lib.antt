@@ -1,2 +1,4 @@
 pub mod Causes
 pub mod Listings
+pub mod Telling
+pub use Rattle.lic_stream.specs.Stream

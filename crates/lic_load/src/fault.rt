@@ -2,6 +2,7 @@
 
 ghost use Rattle.std.specs.Prelude.{◌≡◌, ◌↔◌, IsTrue};
 ghost use Rattle.std.specs.IoError.{error_kind};
+ghost use Rattle.lic_load.specs.Telling.{IsTold};
 ghost use Rattle.lic_load.specs.declared.fault.LoadFault.TheVariants.{Memory};
 
 use lic_kind::RulesFault;
@@ -68,6 +69,8 @@ pub fn wants_memory(error: &io::Error) -> bool
 }
 
 /// Writes to standard error. A failure there can be reported nowhere.
-pub fn tell<E: Sink>(err: &mut E, text: &str) {
+pub fn tell<E: Sink>(err: &mut E, text: &str)
+    ensures { IsTold (E.taken err.old) (E.taken err.new) (E.failed err.old) (E.failed err.new) text.now }
+{
     let _ = put_all(err, text.as_bytes());
 }

@@ -1,5 +1,7 @@
 //! A file that an option names.
 
+ghost use Rattle.std.specs.Prelude.{◌≤◌, length, IfOk, IfSome};
+
 use crate::fault::wants_memory;
 use lic_stream::stream::Counted;
 use lic_stream::transfer::{ReadFault, read_up_to};
@@ -19,7 +21,9 @@ pub fn read_bytes<Rt: Files>(
     rt: &Rt,
     alloc: Global,
     path: &str,
-) -> Result<Option<Vec<u8>>, AllocError> {
+) -> Result<Option<Vec<u8>>, AllocError>
+    ensures { IfOk result (λ bytes. IfSome bytes (λ bytes. length bytes.items ≤ 67108864)) }
+{
     let file = match File::open(rt, path) {
         Ok(file) => file,
         Err(e) if wants_memory(&e) => return Err(AllocError),

@@ -1,0 +1,54 @@
+-- From the clauses of a scan to what was written about a file.
+use Rattle.std.proofs.Common.{◌≡◌, ◌⊎◌, ℕ, ◌+◌, ◌<◌, Bool, List, length, map, take, get_or, Option, Result, Ok, Err, IfOk, IsErrOf, nat_lt, inl, inr, refl, sym, ap, subst}
+use Rattle.std.specs.Borrow.{Bor}
+use Rattle.std.specs.Io.KnownBytes.{Appends}
+use Rattle.std.proofs.lemmas.List.{map_more}
+use Rattle.lic_engine.specs.Failures.{Keeps}
+use Rattle.lic_engine.specs.Inputs.{IsAccepted}
+use Rattle.lic_engine.specs.Stream.{BeginsWith}
+use Rattle.lic_engine.specs.declared.fault.RunFault.{RunFault}
+use Rattle.lic_engine.specs.declared.fault.RunFault.TheVariants.{Text, Read, Write, Memory}
+use Rattle.lic_command.specs.Lines.{AreLinesOf, AreWritten, HasWritten}
+use Rattle.lic_command.specs.Lines.AreWritten.{one_more}
+use Rattle.lic_command.specs.Outcomes.{IsWithOneMore}
+use Rattle.lic_command.specs.declared.files.Work.{Work}
+use Rattle.lic_command.specs.declared.files.Written.{Written}
+
+-- what the clauses of `write_lines` say of the writer
+pub has_written : {W : Type 0} (work : Work) (name : List ℕ) (taken : W → Option (List ℕ)) (old new : W) (a b : Option (List ℕ))
+    (r : Result Bool RunFault)
+    → IfOk r (λ some. (bytes lines : List ℕ) × IsAccepted a b bytes × AreLinesOf work name bytes lines
+    × Appends (taken old) (taken new) lines × (some ≡ nat_lt 0 (length lines)))
+    → ((fault : RunFault) → IsErrOf r fault → ((fault ≡ Write) ⊎ (fault ≡ Memory)) → (bytes : List ℕ) × IsAccepted a b bytes
+    × ((lines : List ℕ) → AreLinesOf work name bytes lines → BeginsWith (taken old) (taken new) lines))
+    → Keeps r old new → HasWritten work name (taken old) (taken new) r
+has_written work name taken old new a b (Ok some) report part keeps =
+    (report.0, report.1, report.2.2, report.3, report.4, report.5)
+has_written work name taken old new a b (Err (Text fault)) report part keeps = ap taken (keeps.1 fault refl)
+has_written work name taken old new a b (Err Read) report part keeps = ap taken (keeps.0 refl)
+has_written work name taken old new a b (Err Write) report part keeps =
+    let begun = part Write refl (inl refl) in (begun.0, begun.1.2, begun.2)
+has_written work name taken old new a b (Err Memory) report part keeps =
+    let begun = part Memory refl (inr refl) in (begun.0, begun.1.2, begun.2)
+
+module _ (a b u v : Option (List ℕ)) (lines_of : List ℕ → List ℕ) where
+  -- the lines of all tokens of what was read, as lines of their own
+  pub whole_lines : {E : Type 0} (r : Result Bool E)
+      → IfOk r (λ some. (bytes : List ℕ) × IsAccepted a b bytes × Appends u v (lines_of bytes) × (some ≡ nat_lt 0 (length (lines_of bytes))))
+      → IfOk r (λ some. (bytes lines : List ℕ) × IsAccepted a b bytes × (lines ≡ lines_of bytes) × Appends u v lines × (some ≡ nat_lt 0 (length lines)))
+  whole_lines (Ok x) w = (w.0, lines_of w.0, w.1, refl, w.2, w.3)
+  whole_lines (Err x) w = tt
+
+  pub part_lines : ((bytes : List ℕ) × IsAccepted a b bytes × BeginsWith u v (lines_of bytes))
+      → (bytes : List ℕ) × IsAccepted a b bytes × ((lines : List ℕ) → lines ≡ lines_of bytes → BeginsWith u v lines)
+  part_lines w = (w.0, w.1, λ lines e. subst (BeginsWith u v) (sym e) w.2)
+
+-- one file more
+pub written_more : {old mid new : Option (List ℕ)} {before after : Written} {answer : Result Bool RunFault} (work : Work)
+    (names : List (Bor (List ℕ))) (k : ℕ) (d : Bor (List ℕ)) → k < length names
+    → AreWritten work old (map (λ name. name.now) (take k names)) mid before
+    → HasWritten work (get_or names k d).now mid new answer → IsWithOneMore before answer after
+    → AreWritten work old (map (λ name. name.now) (take (k + 1) names)) new after
+written_more {old} {mid} {new} {before} {after} work names k d within written more one =
+    subst (λ ns. AreWritten work old ns new after) (sym (map_more (λ name. name.now) names k d within))
+    (one_more (get_or names k d).now written more one)
