@@ -278,6 +278,9 @@ fn piece_ends(
 {
     let space = space_ends(flags, line, side, end);
     let separator = rules.separators() && separator_ends(flags, line, side, end, first);
+    if space | separator {
+        return true;
+    }
     let text = any_text_ends(side_texts(rules, side), flags, line, side, end);
     let spaced = any_spaced_text_ends(side_spaced(rules, side), flags, line, side, end);
     space | separator | text | (spaced | repeated)
