@@ -1,9 +1,8 @@
 -- The values of the least record are those of a least derivation.
-use Rattle.std.proofs.Common.{◌≡◌, ℕ, zero, suc, ◌+◌, ◌-◌, ◌<◌, ◌≤◌, inl, inr, ◌↔◌, List, [], ◌∷◌, ◌++◌, length, get_or, ◌==◌, Option, if◌then◌else◌, map, take, drop, chars, Some, None, Ok, Err, Result, slice_get, refl, sym, ap, ◌∙◌, subst, arith, append_assoc}
+use Rattle.std.proofs.Common.{◌≡◌, ℕ, zero, suc, ◌+◌, ◌-◌, ◌<◌, ◌≤◌, inl, inr, ◌↔◌, List, [], ◌∷◌, ◌++◌, length, get_or, ◌==◌, Option, if◌then◌else◌, map, take, drop, chars, Some, None, slice_get, refl, sym, ap, ◌∙◌, subst, arith, append_assoc}
 use Rattle.std.proofs.lemmas.List.{drop_more, map-append, take_all, length-take, length-drop}
 use Rattle.std.proofs.lemmas.Option.{get_or_from_slice_get}
 use Rattle.std.specs.List.{slice_range}
-use Rattle.std.specs.Result.{IfOk}
 use Rattle.lic_words.specs.Words.{Word}
 use Rattle.lic_words.specs.Expressions.{Expression}
 use Rattle.lic_words.specs.Spelling.{Spells}
@@ -159,7 +158,3 @@ pub value-pushed : (a b : List Value) (x : Value) (rest : List Assigned) → b �
 value-pushed a b x rest e =
     ap (λ (s : List Value). map value_of s ++ rest) e ∙ ap (λ (s : List Assigned). s ++ rest) (map-append value_of a (x ∷ []))
     ∙ append_assoc (map value_of a) (value_of x ∷ []) rest
-
-pub ok-then : {T E : Type 0} (r : Result T E) (P Q : T → Type 0) → IfOk r P → ((x : T) → P x → Q x) → IfOk r Q
-ok-then (Ok x) P Q h f = f x h
-ok-then (Err e) P Q h f = h

@@ -3,7 +3,7 @@ use Rattle.std.proofs.Common.{◌≡◌, ℕ, ◌+◌, ◌<◌, ◌≤◌, inl, 
 use Rattle.std.specs.Prelude.{Contains}
 use Rattle.std.proofs.lemmas.Bool.{cases_lt}
 use Rattle.std.proofs.lemmas.List.{take_all, take_more}
-use Rattle.std.proofs.lemmas.List.Elements.{All-nil, All-push, Contains-push_cases, Contains-append_left, Contains-append_right, Contains-get_or}
+use Rattle.std.proofs.lemmas.List.Elements.{All-nil, All-push, Contains-append_left, Contains-append_right, Contains-get_or}
 use Rattle.lic_words.specs.Expressions.{Expression, Language, tidy}
 use Rattle.lic_norm.specs.Tokens.{TokenValue}
 use Rattle.lic_norm.specs.Places.{place_end}
@@ -15,6 +15,7 @@ use Rattle.lic_spans.specs.declared.span.Kind.TheVariants.{End}
 use Rattle.lic_spans.specs.declared.span.PlaceSpan.{PlaceSpan}
 use Rattle.lic_search.specs.Reverse.{LeadBack}
 use Rattle.lic_search.specs.PlaceSets.{ArePlaced, IsPlaceOf, LiesInFront, Reaches}
+use Rattle.lic_search.proofs.BlankLemmas.{held}
 use Rattle.lic_search.proofs.Placed.{Holds-among, Holds-append, Holds-nil}
 use Rattle.lic_vars.specs.Cuts.{ReadsFrom, lead}
 use Rattle.lic_vars.specs.Shortest.{AreWithin, HaveNone, IsBetween, IsLeastNumber, LeadsWithin}
@@ -30,22 +31,6 @@ pub record IsPart (low high : ℕ) (span part : PlaceSpan) : Type 0 where
   pub high_is : part.high ≡ min span.high high
   pub last_is : part.last ≡ span.last
   pub kind_is : part.kind ≡ span.kind
-
-one_of : (span s : PlaceSpan) → Contains (span ∷ []) s → span ≡ s
-one_of span s among =
-    elim (Contains-push_cases [] span s among) [
-      | inl none ↦ absurd (omega (arith, none.1))
-      | inr same ↦ same
-    ]
-
-Holds-one : (span : PlaceSpan) (kind : Kind) (n l : ℕ) → Holds (span ∷ []) kind n l → (span.kind ≡ kind) × (span.low ≤ n) × (n ≤ span.high) × (span.last ≡ l)
-Holds-one span kind n l holds =
-    let same = one_of span holds.span holds.among in (
-      ap (λ s. s.kind) same ∙ holds.kind_is,
-      omega (arith, ap (λ s. s.low) same, holds.from),
-      omega (arith, ap (λ s. s.high) same, holds.to),
-      ap (λ s. s.last) same ∙ holds.last_is,
-    )
 
 one-holds : (span : PlaceSpan) (kind : Kind) (n l : ℕ) → span.kind ≡ kind → span.low ≤ n → n ≤ span.high → span.last ≡ l → Holds (span ∷ []) kind n l
 one-holds span kind n l k from to last = record { span = span; among = (0, omega arith, refl); kind_is = k; from = from; to = to; last_is = last }
@@ -81,7 +66,7 @@ module _ (low high : ℕ) where
       sound = λ kind n l holds. elim (Holds-append found (part ∷ []) kind n l holds) [
         | inl old ↦ let h = within.sound kind n l old in (left kind n l h.0, h.1)
         | inr new ↦
-            let h = Holds-one part kind n l new in (
+            let h = held part kind n l new in (
               right kind n l (one-holds span kind n l (sym is.kind_is ∙ h.0) (omega (arith, h.1, is.low_is)) (omega (arith, h.2, is.high_is)) (sym is.last_is ∙ h.3)),
               omega (arith, h.2, is.high_is),
             )
@@ -89,7 +74,7 @@ module _ (low high : ℕ) where
       all = λ kind n l holds from to. elim (Holds-append (take i spans) (span ∷ []) kind n l holds) [
         | inl old ↦ Holds-among found (found ++ part ∷ []) kind n l (λ s among. Contains-append_left found (part ∷ []) s among) (within.all kind n l old from to)
         | inr new ↦
-            let h = Holds-one span kind n l new in
+            let h = held span kind n l new in
             Holds-among (part ∷ []) (found ++ part ∷ []) kind n l (λ s among. Contains-append_right found (part ∷ []) s among)
             (one-holds part kind n l (is.kind_is ∙ h.0) (omega (arith, h.1, from, is.low_is)) (omega (arith, h.2, to, is.high_is)) (is.last_is ∙ h.3))
       ];
@@ -101,7 +86,7 @@ module _ (low high : ℕ) where
       sound = λ kind n l holds. let h = within.sound kind n l holds in (left kind n l h.0, h.1);
       all = λ kind n l holds from to. elim (Holds-append (take i spans) (span ∷ []) kind n l holds) [
         | inl old ↦ within.all kind n l old from to
-        | inr new ↦ let h = Holds-one span kind n l new in absurd (omega (arith, h.1, h.2, from, to, is.low_is, is.high_is, none))
+        | inr new ↦ let h = held span kind n l new in absurd (omega (arith, h.1, h.2, from, to, is.low_is, is.high_is, none))
       ];
     })
 
@@ -117,7 +102,7 @@ none-more spans i d low first next below before less here =
       none = λ kind n l holds from to. elim (Holds-append (take i spans) (get_or spans i d ∷ []) kind n l holds) [
         | inl old ↦ before.none kind n l old from (omega arith)
         | inr new ↦
-            let h = Holds-one (get_or spans i d) kind n l new in
+            let h = held (get_or spans i d) kind n l new in
             let bound = here (omega (arith, h.2, from)) in
             absurd (omega (arith, h.1, bound, from, to))
       ];
@@ -150,7 +135,7 @@ one-end tokens last place within at =
       ordered = All-push (λ (s : PlaceSpan). s.low ≤ s.high) [] span (All-nil (λ (s : PlaceSpan). s.low ≤ s.high)) (omega arith);
       last = All-push (λ (s : PlaceSpan). s.last < length tokens) [] span (All-nil (λ (s : PlaceSpan). s.last < length tokens)) within;
       front = λ kind n l holds.
-          let h = Holds-one span kind n l holds in
+          let h = held span kind n l holds in
           let same : n ≡ place_end tokens l = (let here : n ≡ place = omega (arith, h.1, h.2) in here ∙ at ∙ ap (place_end tokens) h.3) in
           subst (λ k. LiesInFront tokens k n l) h.0 same;
     }
@@ -158,7 +143,7 @@ one-end tokens last place within at =
 pub end-reached : (tokens : List TokenValue) (last place p l : ℕ) → Reaches tokens (record { low = place; high = place; last = last; kind = End } ∷ []) p l → p ≡ place
 end-reached tokens last place p l r =
     let span : PlaceSpan = record { low = place; high = place; last = last; kind = End } in
-    let h = Holds-one span r.kind r.number l r.holds in
+    let h = held span r.kind r.number l r.holds in
     let here : r.number ≡ place = omega (arith, h.1, h.2) in
     let same : p ≡ r.number = subst (λ k. IsPlaceOf tokens k r.number p) (sym h.0) r.place in
     same ∙ here

@@ -1,6 +1,7 @@
 //! Which sets are kept until the walk is done, and which are made again.
 
-ghost use Rattle.std.specs.Prelude.{◌≡◌, ◌+◌, ◌<◌, ◌≤◌, All, IfOk, OnOk, length};
+ghost use Rattle.std.specs.Prelude.{◌≡◌, ◌<◌, ◌≤◌, ◌+◌, All, IfOk, List, length};
+ghost use Rattle.lic_norm.specs.Tokens.{TokenValue};
 ghost use Rattle.lic_vars.specs.Cuts.{IsPiece};
 ghost use Rattle.lic_vars.specs.Sets.{AreSuffixSets};
 
@@ -10,26 +11,20 @@ use lic_search::view::View;
 use lic_spans::span::PlaceSpan;
 use std::alloc::{AllocError, Global};
 
-// While all sets have no more spans, none is let go.
-const LEAST_KEPT: usize = 1 << 20;
+// Of all spans so many are kept, and half of those beyond them.
+const ALL_KEPT: usize = 1 << 20;
 
-// The sets that were made last, of which none is let go, have no more spans.
+// No more spans are kept.
 const MOST_KEPT: usize = 1 << 21;
 
-// How many spans a block of the sets before them has at least.
-const LEAST_BLOCK: usize = 1 << 17;
-
-// How far sets were let go.
+// The sets that were made last, of which none was let go.
 #[derive(Drop)]
-struct Progress {
-    // the spans of all sets so far
-    made: usize,
-    // the spans of those of which none was let go
+struct Window {
+    // the number of the set before them
+    before: usize,
+    // their spans, and those of all sets so far
     kept: usize,
-    // the number of the set before these
-    border: usize,
-    // the spans of the last block up to that set
-    block: usize,
+    made: usize,
 }
 
 /// For each number of steps but all, the places from which the last so many steps lead to the end of the last token: those of the
@@ -42,69 +37,65 @@ pub fn suffix_sets(
     requires some { 0 < length view.now }
     requires pieces { All IsPiece steps.now }
     ensures sets { IfOk result (λ sets. AreSuffixSets view.now steps.now sets.items) }
-    ensures count { IfOk result (λ sets. length sets.items ≡ length steps.now + 1) }
+    ensures count { IfOk result (λ sets. length steps.now ≤ length sets.items) }
 {
     let mut sets = end_alone(alloc, view, steps)?;
     let uses = last_uses(alloc, steps)?;
-    let mut progress = Progress {
-        made: 0,
+    let mut window = Window {
+        before: 0,
         kept: 0,
-        border: 0,
-        block: 0,
+        made: 0,
     };
     for number in 1..steps.len() {
+        sets.push(None)?;
         fill(alloc, view, steps, &mut sets, number)?;
         let count = set_of(&sets, number).len();
-        progress.made = progress.made.saturating_add(count);
-        progress.kept = progress.kept.saturating_add(count);
-        release(view, steps, &mut sets, &uses, number, &mut progress);
+        window.made = window.made.saturating_add(count);
+        window.kept = window.kept.saturating_add(count);
+        release(steps, &mut sets, &uses, number, &mut window);
     }
     Ok(sets)
 }
 
-// Lets go the first of the last sets while they have too many spans, but the last set of a block and what a step in front of
-// `number` leads to.
+// Lets go the first of the last sets while they have too many spans, but one of each block, of as many sets as there are blocks, and
+// what a step in front of `number` leads to.
 fn release(
-    view: &View<'_>,
     steps: &[Step],
     sets: &mut Vec<Option<Vec<PlaceSpan>>>,
     uses: &[usize],
     number: usize,
-    progress: &mut Progress,
+    window: &mut Window,
 )
-    requires sets { AreSuffixSets view.now steps.now sets.old.items }
     requires uses { number < length uses.now }
     requires within { number < length sets.old.items }
-    ensures sets { AreSuffixSets view.now steps.now sets.new.items }
+    ensures sets { (tokens : List TokenValue) → AreSuffixSets tokens steps.now sets.old.items → AreSuffixSets tokens steps.now sets.new.items }
     ensures count { length sets.new.items ≡ length sets.old.items }
 {
-    let most = block_size(view, steps);
-    for first in progress.border.saturating_add(1)..number {
-        if !is_full(progress) {
+    let block = steps.len().isqrt().max(1);
+    for first in window.before.saturating_add(1)..number {
+        if !is_full(window) {
             break;
         }
-        let count = span_count(sets, first);
-        progress.border = first;
-        progress.kept = progress.kept.saturating_sub(count);
-        progress.block = progress.block.saturating_add(count);
-        if progress.block > most {
-            progress.block = 0;
-        } else if uses[first] <= number {
+        window.before = first;
+        window.kept = window.kept.saturating_sub(span_count(sets, first));
+        if can_go(uses, first, block, number) {
             sets[first] = None;
         }
     }
 }
 
-// How many spans a block has: for each byte so many as the root of the number of steps.
-fn block_size(view: &View<'_>, steps: &[Step]) -> usize {
-    let root = steps.len().isqrt();
-    root.saturating_mul(view.bytes().len()).max(LEAST_BLOCK)
+// Whether a set is not the last one of its block, and no step in front of `number` leads to it.
+fn can_go(uses: &[usize], set: usize, block: usize, number: usize) -> bool
+    requires block { 0 < block }
+    requires uses { set < length uses.now }
+{
+    set % block > 0 && uses[set] <= number
 }
 
-// Whether the last sets have too many spans: more than the geometric mean of the least number and of all spans so far.
-fn is_full(progress: &Progress) -> bool {
-    let square = progress.kept.saturating_mul(progress.kept);
-    progress.kept > MOST_KEPT || square > LEAST_KEPT.saturating_mul(progress.made)
+// Whether the last sets have too many spans.
+fn is_full(window: &Window) -> bool {
+    let most = ALL_KEPT.saturating_add(window.made) / 2;
+    window.kept > most.min(MOST_KEPT)
 }
 
 // How many spans a set has, or none where it was let go.

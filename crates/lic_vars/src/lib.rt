@@ -7,7 +7,6 @@ pub mod filters;
 mod keep;
 pub mod laws;
 mod letters;
-mod pattern;
 mod search;
 mod sets;
 mod steps;

@@ -1,6 +1,6 @@
 //! The least record: each choice from the first step on is the least from which the steps that are left can finish.
 
-ghost use Rattle.std.specs.Prelude.{◌≡◌, ◌+◌, ◌-◌, ◌<◌, ◌≤◌, [], All, IfOk, OnOk, length};
+ghost use Rattle.std.specs.Prelude.{◌≡◌, ◌+◌, ◌-◌, ◌<◌, ◌≤◌, All, IfOk, OnOk, length};
 ghost use Rattle.lic_places.specs.Places.{spelling_of};
 ghost use Rattle.lic_vars.specs.Making.{CanMake, LeastOf};
 ghost use Rattle.lic_vars.specs.Cuts.{AreFinishing, IsPiece, IsWalk, ReadsOn, last_moves, moves_of, start};
@@ -35,7 +35,14 @@ pub fn least_record(
     ensures { IfOk result (λ found. LeastOf (moves_of steps.now) (ReadsOn view.now start) found.items) }
 {
     let mut sets = suffix_sets(alloc, view, steps)?;
-    let mut walk = begin(alloc, steps);
+    let mut walk = Walk {
+        record: Vec::new(alloc),
+        cut: Cut {
+            place: 0,
+            is_apart: false,
+        },
+        left: steps.len(),
+    };
     while walk.left > 0 {
         let rest = walk.left - 1;
         sets.truncate(walk.left);
@@ -44,22 +51,6 @@ pub fn least_record(
     }
     let Walk { record, .. } = walk;
     Ok(record)
-}
-
-// All steps are left.
-fn begin(alloc: Global, steps: &[Step]) -> Walk
-    ensures left { result.left ≡ length steps.now }
-    ensures record { result.record.items ≡ [] }
-    ensures cut { result.cut ≡ start }
-{
-    Walk {
-        record: Vec::new(alloc),
-        cut: Cut {
-            place: 0,
-            is_apart: false,
-        },
-        left: steps.len(),
-    }
 }
 
 // Takes one step more, with the least choice from which the others can finish: from the places of `rest`.

@@ -1,19 +1,19 @@
 //! The places from which the last steps of a template can finish.
 
-ghost use Rattle.std.specs.Prelude.{◌≡◌, ◌↔◌, ◌+◌, ◌-◌, ◌<◌, ◌≤◌, [], All, IfOk, IsTrue, OnOk, Vec, length, ℕ};
+ghost use Rattle.std.specs.Prelude.{◌≡◌, ◌↔◌, ◌+◌, ◌-◌, ◌<◌, ◌≤◌, All, IfOk, IsTrue, OnOk, Vec, length, ℕ};
 ghost use Rattle.std.specs.Global.{Global};
 ghost use Rattle.lic_spans.specs.declared.span.PlaceSpan.{PlaceSpan};
 ghost use Rattle.lic_vars.specs.Cuts.{AreFinishing, IsPiece, last_moves};
 ghost use Rattle.lic_vars.specs.Sets.{AreSuffixSets, HasOther, IsOther, IsSet, IsStart, IsThere};
 
-use crate::pattern::over_pattern;
 use crate::steps::Step;
+use crate::variable::over_pattern;
 use lic_search::reverse::{either, over_text};
 use lic_search::view::{View, tokens_have_texts};
 use lic_spans::span::{Kind, PlaceSpan};
 use std::alloc::{AllocError, Global};
 
-/// The set of no step alone, and room for those of all others.
+/// The set of no step: the end of the last token.
 pub fn end_alone(
     alloc: Global,
     view: &View<'_>,
@@ -21,20 +21,7 @@ pub fn end_alone(
 ) -> Result<Vec<Option<Vec<PlaceSpan>>>, AllocError>
     requires { 0 < length view.now }
     ensures sets { IfOk result (λ sets. AreSuffixSets view.now steps.now sets.items) }
-    ensures count { IfOk result (λ sets. length sets.items ≡ length steps.now + 1) }
-{
-    let mut sets = Vec::new(alloc);
-    sets.push(Some(end_of_text(alloc, view)?))?;
-    while sets.len() <= steps.len() {
-        sets.push(None)?;
-    }
-    Ok(sets)
-}
-
-// The end of the last token.
-fn end_of_text(alloc: Global, view: &View<'_>) -> Result<Vec<PlaceSpan>, AllocError>
-    requires { 0 < length view.now }
-    ensures { IfOk result (λ spans. AreFinishing view.now [] spans.items) }
+    ensures count { IfOk result (λ sets. length sets.items ≡ 1) }
 {
     tokens_have_texts(view);
     let last = view.len() - 1;
@@ -46,7 +33,9 @@ fn end_of_text(alloc: Global, view: &View<'_>) -> Result<Vec<PlaceSpan>, AllocEr
         last,
         kind: Kind::End,
     })?;
-    Ok(spans)
+    let mut sets = Vec::new(alloc);
+    sets.push(Some(spans))?;
+    Ok(sets)
 }
 
 /// A set that is there.
@@ -89,7 +78,9 @@ pub fn fill(
 {
     let start = start_of(view, steps, sets, number);
     for before in start..number {
-        let set = set_before(alloc, view, steps, sets, before + 1)?;
+        let mut set = set_before(alloc, view, steps, sets, before + 1)?;
+        // the room of spans that came together is not kept
+        set.shrink_to_fit();
         sets[before + 1] = Some(set);
     }
     Ok(())

@@ -1,20 +1,40 @@
-//! The shortest word that a variable can stand for.
+//! The tidy words of a variable's pattern: going back over them, and the shortest one that a variable can stand for.
 
 ghost use Rattle.std.specs.Prelude.{◌≡◌, ◌+◌, ◌-◌, ◌<◌, ◌&&◌, IfOk, IsTrue, ◌↔◌, if◌then◌else◌, nat_lt, ◌≤◌, length, max};
 ghost use Rattle.lic_ere.specs.Trees.{tree_of};
+ghost use Rattle.lic_words.specs.Expressions.{Language, tidy};
 ghost use Rattle.lic_markup.specs.Meaning.{tree_words};
 ghost use Rattle.lic_places.specs.Places.{is_blank_at, spelling_of};
 ghost use Rattle.lic_search.specs.EmptyWord.{HasEmptyWordAlone};
 ghost use Rattle.lic_search.specs.PlaceSets.{ArePlaced};
+ghost use Rattle.lic_search.specs.Reverse.{LeadBack};
 ghost use Rattle.lic_vars.specs.Cuts.{IsOpen};
 ghost use Rattle.lic_vars.specs.Shortest.{AreWithin, HaveNone, IsLeastNumber, IsShortest, LeadsWithin};
 
 use crate::cut::{Cut, have_cut, letter_place};
-use crate::pattern::over_pattern;
 use lic_ere::Ere;
+use lic_search::reverse::over_variable;
 use lic_search::view::{View, tokens_have_texts};
 use lic_spans::span::PlaceSpan;
 use std::alloc::{AllocError, Global};
+
+/// The places from which a tidy word of a pattern leads to those of the spans. The pattern is not read where it has the empty word alone.
+pub fn over_pattern(
+    alloc: Global,
+    view: &View<'_>,
+    ere: &Ere,
+    is_empty: bool,
+    spans: Vec<PlaceSpan>,
+) -> Result<Vec<PlaceSpan>, AllocError>
+    requires placed { ArePlaced view.now spans.items }
+    requires alone { IsTrue is_empty → HasEmptyWordAlone (tree_words (tree_of ere.now)) }
+    ensures { IfOk result (λ found. LeadBack view.now (Language (tidy (tree_words (tree_of ere.now)))) spans.items found.items) }
+{
+    if is_empty {
+        return Ok(spans);
+    }
+    over_variable(alloc, view, ere, spans)
+}
 
 /// The cut behind the shortest tidy word of a pattern that leads to a place of the spans.
 pub fn behind_shortest(
@@ -95,23 +115,11 @@ fn first_number(spans: &[PlaceSpan], low: usize, high: usize) -> usize
 {
     let mut first = high;
     for span in spans {
-        first = number_from(span, low, first);
+        if low <= span.high {
+            first = first.min(span.low.max(low));
+        }
     }
     first
-}
-
-// The least number of a span from `low` on, at most `high`.
-fn number_from(span: &PlaceSpan, low: usize, high: usize) -> usize
-    requires { low ≤ high }
-    ensures order { low ≤ result }
-    ensures within { result ≤ high }
-    ensures first { low ≤ span.now.high → result ≤ max span.now.low low }
-{
-    if low <= span.high {
-        span.low.max(low).min(high)
-    } else {
-        high
-    }
 }
 
 // Whether a tidy word leads from a cut to a place of the spans with a number up to `high`.

@@ -1,6 +1,7 @@
 -- One set more.
 use Rattle.std.proofs.Common.{◌≡◌, ◌<◌, ◌+◌, ◌-◌, inl, inr, length, length-set, set, Some, refl, sym, ◌∙◌, subst, arith}
 use Rattle.std.proofs.lemmas.Bool.{cases_lt}
+use Rattle.lic_vars.specs.Cuts.{AreFinishing, last_moves}
 use Rattle.lic_vars.specs.Sets.{IsThere}
 use Rattle.lic_vars.proofs.KeptLemmas.{IsThere-put, IsThere-stays, sets-put}
 use Rattle.lic_vars.proofs.sets.fill.Goals as goal
@@ -39,11 +40,12 @@ loop-before-preserved c =
     let steps = c.args.steps.now in
     let items = c.loop-before.sets.items in
     let next = c.loop-before.before + 1 in
-    let spans = c.in_ok-set.set in
+    let spans = c.shrink_to_fit.new.self in
+    let finish = subst (AreFinishing tokens (last_moves steps next)) (sym c.shrink_to_fit.ensures.items) c.in_ok-set.ensures in
     let inv = c.loop-before.invariant in
     let within : next < length items = omega (arith, inv.count, c.loop-before-test.true, c.requires.room) in
     record {
-      sets = sets-put tokens steps items next spans inv.sets within c.in_ok-set.ensures;
+      sets = sets-put tokens steps items next spans inv.sets within finish;
       count = length-set items next (Some spans) ∙ inv.count;
       stay = λ k there. IsThere-stays items k next spans within (inv.stay k there);
       made = λ k from to. elim (cases_lt k next) [

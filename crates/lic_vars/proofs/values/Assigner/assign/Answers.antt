@@ -6,8 +6,9 @@ use Rattle.lic_vars.specs.Moves.{moves}
 use Rattle.lic_vars.specs.Values.{AreValues, nodes_of}
 use Rattle.lic_vars.specs.Views.{value_of}
 use Rattle.lic_vars.specs.declared.values.Value.{Value}
-use Rattle.lic_vars.proofs.AssignLemmas.{assigned, match-can, moves-of, ok-then, some-tokens, tokens-of}
+use Rattle.lic_vars.proofs.AssignLemmas.{assigned, match-can, moves-of, some-tokens, tokens-of}
 use Rattle.lic_vars.proofs.NoValueLemmas.{no-values}
+use Rattle.lic_vars.proofs.SetLemmas.{ok-then}
 use Rattle.lic_vars.proofs.values.Assigner.assign.Goals as goal
 
 pub least_record-requires-clause-can : goal.least_record-requires-clause-can

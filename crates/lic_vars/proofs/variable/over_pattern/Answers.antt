@@ -2,7 +2,7 @@
 use Rattle.lic_ere.specs.Trees.{tree_of}
 use Rattle.lic_markup.specs.Meaning.{tree_words}
 use Rattle.lic_search.proofs.EmptyWords.{alone-back}
-use Rattle.lic_vars.proofs.pattern.over_pattern.Goals as goal
+use Rattle.lic_vars.proofs.variable.over_pattern.Goals as goal
 
 pub returns-then-is_empty : goal.returns-then-is_empty
 returns-then-is_empty c =

@@ -1,0 +1,16 @@
+-- One set more.
+use Rattle.std.proofs.Common.{length, length-append, ap, ◌∙◌, arith}
+use Rattle.lic_vars.proofs.KeptLemmas.{sets-room}
+use Rattle.lic_vars.proofs.keep.suffix_sets.Goals as goal
+
+pub fill-requires-clause-sets : goal.fill-requires-clause-sets
+fill-requires-clause-sets c =
+    sets-room c.args.view.now c.args.steps.now c.loop-number.sets.items _ c.in_ok-push.ensures.items c.loop-number.invariant.sets
+
+pub loop-number-preserved : goal.loop-number-preserved
+loop-number-preserved c =
+    let more = ap length c.in_ok-push.ensures.items ∙ length-append c.loop-number.sets.items _ in
+    record {
+      sets = c.release.ensures.sets c.args.view.now c.in_ok-fill.ensures.sets;
+      count = omega (arith, c.release.ensures.count, c.in_ok-fill.ensures.count, more, c.loop-number.invariant.count);
+    }
