@@ -154,7 +154,7 @@ pub(crate) fn same_places(bytes: &[u8], at: usize) -> u64
     load(bytes, at).simd_eq(load(bytes, at + 1)).to_bitmask()
 }
 
-/// At which of 64 places from this one on stands the letter of quotes or of dashes.
+/// At which of the 64 places from this one on the letter of quotes or of dashes is.
 #[inline(always)]
 pub(crate) fn joining_places(letters: &[u8], at: usize) -> u64
     requires { at ≤ length letters.now }

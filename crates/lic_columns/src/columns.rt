@@ -58,7 +58,7 @@ impl Columns {
         &self.letters
     }
 
-    /// At which bytes a word goes on, or begins.
+    /// Which bytes are of words.
     #[inline(always)]
     pub fn word(&self) -> &Flags
         ensures { result.now ≡ self.now.word }
@@ -66,7 +66,7 @@ impl Columns {
         &self.word
     }
 
-    /// At which bytes a mark stands.
+    /// Which bytes are marks.
     #[inline(always)]
     pub fn mark(&self) -> &Flags
         ensures { result.now ≡ self.now.mark }

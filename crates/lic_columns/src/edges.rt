@@ -9,7 +9,7 @@ use lic_lines::cut::LineCut;
 use lic_lines::{Rules, SourceChar, cut_of_ascii};
 use std::alloc::{AllocError, Global};
 
-/// Takes lead, item and tail of a line away, which stands from this place to that.
+/// Takes lead, item and tail of a line away, which is from `at` to `end`.
 #[inline]
 pub fn clear_edges(cut: LineCut, at: usize, end: usize, columns: &mut Columns)
     requires within { at + cut.lead + cut.item + cut.tail ≤ end }

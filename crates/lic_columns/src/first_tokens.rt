@@ -18,7 +18,7 @@ fn token_text(alloc: Global, letters: &str) -> Result<SmallString, AllocError>
     }
 }
 
-/// Adds the tokens of spans of a text that begins at this place and has these letters, where a blank stands before it.
+/// Adds the tokens of spans of a text that begins at this place and has these letters, and that a blank precedes.
 ///
 /// # Errors
 /// Memory ran out. What `out` then holds is not said.

@@ -80,7 +80,7 @@ impl Flags {
         self.columns.len()
     }
 
-    /// Adds the next 64 of so many flags, or those that are left of them.
+    /// Adds the next 64 of `len` flags, or as many as are left of them.
     ///
     /// # Errors
     /// Memory ran out.

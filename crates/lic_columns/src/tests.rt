@@ -38,7 +38,7 @@ fn spans_of(alloc: Global, separators: bool, text: &[u8]) -> Result<String, Fail
     Ok(shown)
 }
 
-/// So many blanks, and then the text.
+/// A number of blanks, and then the text.
 fn indented(alloc: Global, blanks: usize, text: &str) -> Result<String, Fail> {
     let mut whole = String::new(alloc);
     for _ in 0..blanks {

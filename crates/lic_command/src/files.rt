@@ -172,7 +172,7 @@ fn write_each<Rt: Files, R: Source, W: Sink, E: Sink>(
     Ok(written)
 }
 
-/// Writes the lines about files in order. One that is refused or cannot be read is reported, and the rest go on.
+/// Writes the lines about files in order. One that is refused or cannot be read is reported, and the others are read.
 pub fn write_files<Rt: Files, R: Source, W: Sink, E: Sink>(
     rt: &Rt,
     alloc: Global,

@@ -86,7 +86,7 @@ fn report<W: Sink>(
 /// Reads an input to its end, and writes the report of it: a line for each match that is asked for; or, where not all are
 /// asked for, for each outer match and its variables. The answer says whether a match was reported.
 ///
-/// At most 67,108,865 bytes are read, whatever they are. `name` stands first in each line. An input that is too long, and one
+/// At most 67,108,865 bytes are read, whatever they are. `name` is the first field of each line. An input that is too long, and one
 /// that cannot be read, gives no line; after a write that failed, and where memory ran out, what was written is a
 /// beginning of the report. A failed call is not tried again.
 pub fn run<R: Source, W: Sink>(
@@ -112,7 +112,7 @@ pub fn run<R: Source, W: Sink>(
         × ((lines : List ℕ) → IsReport
         (rules_of rules.now) name.now set.now words.now ask.now bytes lines
         → BeginsWith (W.taken out.old) (W.taken out.new) lines) }
-    // An input that is too long: it stays refused however it goes on.
+    // An input that is too long: it stays refused, whatever follows.
     ensures refused { (fault : _) → IsErrOf result (RunFault.Text fault) → fault ≢ TextFault.Memory
         → IsRefused (R.left input.old) (R.left input.new) fault }
     // Lack of memory is answered only where what was read is not too long.
@@ -158,7 +158,7 @@ fn report_tokens<W: Sink>(
 /// Reads an input to its end, and writes a line for each of its tokens. The answer says whether a line was
 /// written.
 ///
-/// At most 67,108,865 bytes are read, whatever they are. `name` stands first in each line. An input that is too long, and one
+/// At most 67,108,865 bytes are read, whatever they are. `name` is the first field of each line. An input that is too long, and one
 /// that cannot be read, gives no line; after a write that failed, and where memory ran out, what was written is a
 /// beginning of the lines. A failed call is not tried again.
 pub fn run_tokens<R: Source, W: Sink>(
@@ -182,7 +182,7 @@ pub fn run_tokens<R: Source, W: Sink>(
         × IsAccepted (R.left input.old) (R.left input.new) bytes
         × BeginsWith (W.taken out.old) (W.taken out.new)
         (token_lines name.now (tokens_of (rules_of rules.now) words.now bytes)) }
-    // An input that is too long: it stays refused however it goes on.
+    // An input that is too long: it stays refused, whatever follows.
     ensures refused { (fault : _) → IsErrOf result (RunFault.Text fault) → fault ≢ TextFault.Memory
         → IsRefused (R.left input.old) (R.left input.new) fault }
     // Lack of memory is answered only where what was read is not too long.

@@ -1,4 +1,4 @@
-//! The engine: from a reader to a writer, the report of what was read, the lines of its tokens, and what is said of templates.
+//! The engine: from a reader to a writer, the report of what was read, the lines of its tokens, and the check of templates.
 #![tactic(auto)]
 
 pub mod check;

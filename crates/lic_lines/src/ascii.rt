@@ -1,4 +1,4 @@
-//! What is left of a line of ASCII, and the first tokens of its rest, straight from its bytes.
+//! What is left of a line of ASCII, and the first tokens of that, straight from its bytes.
 ghost use Rattle.std.specs.Prelude.{◌≡◌, ◌+◌, ◌++◌, ◌<◌, ◌≤◌, ◌^◌, true, length, map, drop, slice_index, IfOk, OnOk, IsAscii};
 ghost use Rattle.std.specs.Char.{to_ascii_lowercase};
 ghost use Rattle.lic_kind.specs.Kinds.{kind_of};
@@ -206,9 +206,9 @@ pub fn left_of_ascii<'a>(
     Ok((at + lead as u32, &line[lead..line.len() - cut.tail]))
 }
 
-/// Puts the tokens of a part in front of a text of ASCII, which begins at this byte and of which nothing is taken, in the
-/// place of those that are there, where a blank stands before the text or does not; its small letters are given too. The
-/// room may hold anything.
+/// Lists the tokens of a part at the beginning of a text of ASCII, in place of those in `out`. The text begins at the byte
+/// `at`, after a blank or not; nothing is taken from it. `lowered` is the text in small letters, and the buffers of `room`
+/// may hold anything.
 ///
 /// The error is that memory ran out; what `out` then holds is of no use.
 pub fn front_part_of_ascii(

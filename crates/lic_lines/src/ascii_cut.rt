@@ -1,4 +1,4 @@
-//! What is taken from a line of ASCII, each part mostly by a quick look at its bytes.
+//! What is taken from a line of ASCII: each part is mostly decided by a few of its bytes.
 ghost use Rattle.std.specs.Prelude.{◌≡◌, ◌≢◌, ◌==◌, ◌||◌, ◌+◌, ◌<◌, ◌≤◌, ◌^◌, ℕ, true, false, length, slice_index, IfOk, IfSome, IsAscii, IsTrue};
 ghost use Rattle.std.specs.List.{position_or_len};
 ghost use Rattle.std.specs.Char.{is_whitespace, is_ascii_digit};
@@ -126,7 +126,7 @@ fn may_be_item(word: &[u8]) -> bool
     begins_item(word[0])
 }
 
-/// Whether no list item stands in front of a line, whose lead is taken already, as far as its first word shows.
+/// Whether a line, whose lead is taken already, begins with no list item, as far as its first word shows.
 #[inline(always)]
 fn has_no_item(line: &[u8]) -> bool
     ensures { IsTrue result → (rules : LineRules) → item_length rules line.now ≡ 0 }

@@ -1,16 +1,16 @@
-//! What stands in front of a text of ASCII: mostly a blank, or a token whose letters are its bytes in small letters.
+//! What a text of ASCII begins with: mostly a blank, or a token whose letters are its bytes in small letters.
 ghost use Rattle.std.specs.Prelude.{◌≡◌, ◌≢◌, ◌∷◌, [], ◌<◌, ◌≤◌, ℕ, false, length, slice_index, IsAscii, IsTrue};
 ghost use Rattle.lic_kind.specs.Kinds.{kind_of, spell};
 ghost use Rattle.lic_lines.specs.AsciiFronts.{IsFront};
 
 use lic_kind::{Kind, is_dash, is_quote, kind_of};
 
-/// What stands in front of a text of ASCII.
+/// What a text of ASCII begins with.
 #[derive(Clone, Copy)]
 pub enum AsciiFront {
     /// A byte that is a blank.
     Blank,
-    /// A token of so many bytes, which has these in small letters.
+    /// A token of this many bytes, which has these in small letters.
     Token(usize),
     /// Marks of which this look says nothing.
     Marks,
@@ -30,7 +30,7 @@ pub(crate) fn kind_count(kind: Kind, text: &[u8]) -> usize
     count
 }
 
-/// Whether a mark stands for itself, and begins no copyright sign.
+/// Whether a mark has itself as its letter, and begins no copyright sign.
 #[inline(always)]
 pub(crate) fn is_itself(mark: u8) -> bool
     requires { kind_of mark ≡ Kind.Mark }
@@ -44,7 +44,7 @@ pub(crate) fn is_itself(mark: u8) -> bool
     }
 }
 
-/// Whether a mark that stands for itself stands in front, and no other behind it.
+/// Whether the text begins with a mark that has itself as its letter, and no mark follows.
 #[inline(always)]
 fn is_plain_mark(text: &[u8]) -> bool
     requires some { 0 < length text.now }
@@ -60,7 +60,7 @@ fn is_plain_mark(text: &[u8]) -> bool
     is_itself(text[0])
 }
 
-/// What stands in front of a text of ASCII of which nothing is taken.
+/// What a text of ASCII begins with, of which nothing is taken.
 #[inline(always)]
 pub fn front_of_ascii(text: &[u8]) -> AsciiFront
     requires some { 0 < length text.now }

@@ -17,7 +17,7 @@ fn text_at(text: &[char], side: Side, place: usize) -> char
     }
 }
 
-/// Whether a text stands behind this place of the way.
+/// Whether the line has a text from this place on, seen from this side.
 pub(crate) fn stands(side: Side, text: &[char], line: &[u8], place: usize) -> bool
     requires { place ≤ length line.now }
     ensures { result ≡ stands_in (drop place (walked side line.now)) (walked side text.now) }

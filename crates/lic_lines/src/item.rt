@@ -166,7 +166,7 @@ fn first_space(text: &[SourceChar]) -> usize
     text.len()
 }
 
-/// The first character that is not white space, of these and what counts as standing behind them.
+/// The first character that is not white space, of these and what counts as following them.
 fn next_dark(text: &[SourceChar], behind: Option<char>) -> Option<char>
     ensures { result ≡ find (λ c. not (is_whitespace c))
         (chars_of text.now ++ option_to_list behind) }
@@ -182,7 +182,7 @@ fn next_dark(text: &[SourceChar], behind: Option<char>) -> Option<char>
     }
 }
 
-/// Whether what stands behind an item form and a white space character lets it be an item.
+/// Whether what follows an item form and a white space character lets it be an item.
 fn lets_item(form: &[SourceChar], text: &[SourceChar], behind: Option<char>) -> bool
     ensures { result ≡ option_map_or (λ d.
         not (is_copyright_sign (chars_of form.now) && is_ascii_digit d))

@@ -38,7 +38,7 @@ pub(crate) fn push_cells(cells: &mut Vec<Cell>, text: &[SourceChar]) -> Result<(
     Ok(())
 }
 
-/// Adds a blank for a part of so many characters that is taken from a line, if it is not empty.
+/// Adds a blank for a part of `length` characters that is taken from a line, if it is not empty.
 fn push_blank_for(cells: &mut Vec<Cell>, length: usize) -> Result<(), AllocError>
     ensures { OnOk result (cells.new.items ≡ cells.old.items ++ blank_for length) }
 {
@@ -93,7 +93,7 @@ pub fn left_of_line<'a>(
 /// Adds the tokens of one line, by this project's profile of the matching guidelines of SPDX 2.3, Annex B: without
 /// its lead, item and tail, its separators taken as blanks, each run of quotes and of dashes as one, and each
 /// copyright sign by itself as the token `copyright`. Dropped characters are taken out of the line already; spans
-/// are in bytes. What a line before or behind this one holds has no effect, nor what the room holds.
+/// are in bytes. What a line before or after this one holds has no effect, nor what the buffers hold.
 ///
 /// The error is that memory ran out; `out` then holds some of the line's tokens, and is of no use.
 pub fn push_tokens_of_line(

@@ -7,6 +7,6 @@ pub struct LinePart {
     pub has_front: bool,
     /// Whether the part has the line's end, so that it can lose a tail.
     pub has_end: bool,
-    /// What counts as standing behind the part, for the item rule alone.
+    /// What counts as following the part, for the item rule alone.
     pub behind: Option<char>,
 }

@@ -14,7 +14,7 @@ fn may_join(a: char, b: char) -> bool
     (a == b) | ((is_quote(a) & is_quote(b)) | (is_dash(a) & is_dash(b)))
 }
 
-/// Whether a character behind a mark is a mark that may be joined to it.
+/// Whether a character after a mark is a mark that may be joined to it.
 #[inline(always)]
 fn goes_on(mark: char, next: char) -> bool
     ensures mark { IsTrue result → kind_of next ≡ Kind.Mark }

@@ -19,7 +19,7 @@ fn is_mark(c: char) -> bool
     kind_of(c) == Kind::Mark
 }
 
-/// Whether this text ends here, behind a row.
+/// Whether this text ends here, after a row.
 fn text_ends(text: &[char], flags: &[bool], line: &[SourceChar], side: Side, end: usize) -> bool
     requires flagged { end ≤ length flags.now }
     requires within { end ≤ length line.now }
@@ -33,7 +33,7 @@ fn text_ends(text: &[char], flags: &[bool], line: &[SourceChar], side: Side, end
     flags[end - len] && is_text(text, part(line, side, end - len, end))
 }
 
-/// Whether one of these texts ends here, behind a row.
+/// Whether one of these texts ends here, after a row.
 fn any_text_ends(texts: &Texts, flags: &[bool], line: &[SourceChar], side: Side, end: usize) -> bool
     requires flagged { end ≤ length flags.now }
     requires within { end ≤ length line.now }
@@ -49,7 +49,7 @@ fn any_text_ends(texts: &Texts, flags: &[bool], line: &[SourceChar], side: Side,
     false
 }
 
-/// Whether this text and a white space character end here, behind a row.
+/// Whether this text and a white space character end here, after a row.
 fn spaced_text_ends(
     text: &[char],
     flags: &[bool],
@@ -77,7 +77,7 @@ fn spaced_text_ends(
     is_text(text, part(line, side, before - len, before))
 }
 
-/// Whether one of these texts and a white space character end here, behind a row.
+/// Whether one of these texts and a white space character end here, after a row.
 fn any_spaced_text_ends(
     texts: &Texts,
     flags: &[bool],
@@ -100,7 +100,7 @@ fn any_spaced_text_ends(
     false
 }
 
-/// Whether a white space character ends here, behind a row.
+/// Whether a white space character ends here, after a row.
 fn space_ends(flags: &[bool], line: &[SourceChar], side: Side, end: usize) -> bool
     requires flagged { end ≤ length flags.now }
     requires within { end ≤ length line.now }
@@ -110,7 +110,7 @@ fn space_ends(flags: &[bool], line: &[SourceChar], side: Side, end: usize) -> bo
     flags[end - 1] && char_at(line, side, end - 1).is_whitespace()
 }
 
-/// Whether three or more of one same mark end here, behind a row.
+/// Whether three or more of one same mark end here, after a row.
 fn separator_ends(flags: &[bool], line: &[SourceChar], side: Side, end: usize, first: usize) -> bool
     requires flagged { end ≤ length flags.now }
     requires within { end ≤ length line.now }
@@ -121,7 +121,7 @@ fn separator_ends(flags: &[bool], line: &[SourceChar], side: Side, end: usize, f
     end - first >= 3 && is_mark(char_at(line, side, end - 1))
 }
 
-/// Where the longest run that reaches the place behind k, of the character there, begins at a row.
+/// Where the longest run that reaches the place after k, of the character there, begins at a row.
 fn run_front(flags: &[bool], line: &[SourceChar], side: Side, k: usize, first: usize) -> usize
     requires flagged { k + 1 ≤ length flags.now }
     requires within { k < length line.now }
@@ -158,8 +158,8 @@ pub(crate) fn side_spaced(rules: &Rules, side: Side) -> &Texts
     }
 }
 
-/// Whether this text, its first character standing once or more, ends behind place k on the way from a
-/// line's end; given whether it did before that place.
+/// Whether this text, its first character once or more, ends after place k, seen from a line's end; given whether it did
+/// before that place.
 fn repeat_ends(text: &[char], before: bool, flags: &[bool], line: &[SourceChar], k: usize) -> bool
     requires flagged { k < length flags.now }
     requires within { k < length line.now }
@@ -256,7 +256,7 @@ fn reach(rules: &Rules, side: Side) -> usize
     }
 }
 
-/// Whether a piece ends here, behind a row; given whether a text that repeats does.
+/// Whether a piece ends here, after a row; given whether a text that repeats does.
 fn piece_ends(
     rules: &Rules,
     side: Side,
@@ -286,7 +286,7 @@ fn piece_ends(
     space | separator | text | (spaced | repeated)
 }
 
-/// How long the longest row of pieces is that stands at this side of a line.
+/// How long the longest row of pieces is at this side of a line.
 pub fn longest_row(
     alloc: Global,
     rules: &Rules,

@@ -86,7 +86,7 @@ fn first_sign(tokens: &[FirstToken], from: usize) -> usize
     at
 }
 
-/// Whether no sign that begins in these tokens can go on behind them, where a blank stands there or does not.
+/// Whether no sign that begins in these tokens can continue after them, with a blank there or not.
 #[inline(always)]
 pub(crate) fn signs_end(tokens: &[FirstToken], blank_behind: bool) -> bool
     ensures { IsTrue result → (gs : List (List Cell))

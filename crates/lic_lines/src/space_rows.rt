@@ -39,7 +39,7 @@ fn any_opens_in(c: char, side: Side, texts: &Texts) -> bool
     false
 }
 
-/// A quick look: false where no text of a side begins in white space or in this character.
+/// A prefilter: false only if no text of a side begins in white space or in this character.
 #[inline(always)]
 pub(crate) fn quick_look(rules: &Rules, side: Side, c: char) -> bool
     ensures { result ≡ false → may_open (rules_of rules.now) side c ≡ false }
@@ -96,7 +96,7 @@ fn three_alike(side: Side, line: &[SourceChar], place: usize) -> bool
         && char_at(line, side, place + 2) == c
 }
 
-/// How long the longest row of pieces is where it is white space alone, as far as the character behind
+/// How long the longest row of pieces is if it is white space alone, as far as the character after
 /// that shows, if there is one.
 fn space_row(rules: &Rules, side: Side, line: &[SourceChar]) -> Option<usize>
     ensures row { IfSome result (λ n. n
@@ -117,7 +117,7 @@ fn space_row(rules: &Rules, side: Side, line: &[SourceChar]) -> Option<usize>
     Some(count)
 }
 
-/// How long the longest row of pieces is that stands at this side of a line.
+/// How long the longest row of pieces is at this side of a line.
 pub fn row_length(
     alloc: Global,
     rules: &Rules,

@@ -13,7 +13,7 @@ use lic_kind::laws::words_are_folded;
 use lic_kind::{Kind, kind_of, spell};
 use std::alloc::{AllocError, Global};
 
-/// A token: its text, its span in bytes of the input, and whether a blank stands before it.
+/// A token: its text, its span in bytes of the input, and whether a blank precedes it.
 #[derive(Drop)]
 pub struct FirstToken {
     pub text: SmallString,
@@ -24,7 +24,7 @@ pub struct FirstToken {
     pub after_blank: bool,
 }
 
-/// Adds the letters that a character stands for.
+/// Adds the letters of a character.
 fn push_spelled(alloc: Global, text: &mut String, c: char) -> Result<(), AllocError>
     ensures { OnOk result (string_bytes text.new
         ≡ string_bytes text.old ++ encode_utf8_all (spell c)) }
@@ -36,7 +36,7 @@ fn push_spelled(alloc: Global, text: &mut String, c: char) -> Result<(), AllocEr
     Ok(())
 }
 
-/// Adds the letters that a word character stands for.
+/// Adds the letters of a word character.
 fn push_word_letters(alloc: Global, text: &mut String, c: char) -> Result<(), AllocError>
     requires { kind_of c ≡ Kind.Word }
     ensures { OnOk result (string_bytes text.new
@@ -50,7 +50,7 @@ fn push_word_letters(alloc: Global, text: &mut String, c: char) -> Result<(), Al
     }
 }
 
-/// Adds the letters that a cell stands for.
+/// Adds the letters of a cell.
 fn push_letters(alloc: Global, text: &mut String, cell: &Cell) -> Result<(), AllocError>
     ensures { OnOk result (string_bytes text.new
         ≡ string_bytes text.old ++ encode_utf8_all (cell_letters cell.now)) }
@@ -154,8 +154,8 @@ pub(crate) fn mark_token(
     })
 }
 
-/// Adds the tokens of these cells, where a blank stands before them or does not, and says whether one
-/// stands behind them. The room may hold anything.
+/// Adds the tokens of these cells, which a blank precedes or not, and says whether a blank
+/// follows them. The buffers may hold anything.
 pub(crate) fn push_first_tokens(
     alloc: Global,
     mut after_blank: bool,

@@ -64,7 +64,7 @@ fn valid_front(bytes: &[u8]) -> &str
 }
 
 /// Adds the source characters at the front of these bytes, which begin at this byte of the input: those of the longest
-/// text, and U+FFFD for the byte behind it. The answer is how many bytes were read.
+/// text, and U+FFFD for the byte after it. The answer is how many bytes were read.
 fn push_front(characters: &mut Vec<SourceChar>, at: u32, bytes: &[u8]) -> Result<usize, AllocError>
     requires some { 0 < length bytes.now }
     requires fits { at + length bytes.now < 2 ^ 32 }

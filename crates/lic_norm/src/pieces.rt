@@ -28,7 +28,7 @@ pub enum Next {
     LineEnd,
     /// A variable.
     Var,
-    /// The begin or the end of an optional part, and something behind it.
+    /// The begin or the end of an optional part, and something after it.
     Optional,
 }
 
@@ -124,7 +124,7 @@ impl Edges {
         !self.begins_in_blank & !self.has_text
     }
 
-    /// Adds cells behind the others.
+    /// Adds cells after the others.
     fn push(&mut self, cells: &[Cell])
         ensures { (before : List Cell) → HasEdges self.old before
             → HasEdges self.new (before ++ cells.now) }
@@ -169,7 +169,7 @@ impl Left {
     }
 }
 
-/// So many bytes of a text are read for each token at least, mostly.
+/// A token mostly takes at least this many bytes of a text.
 const BYTES_A_TOKEN: usize = 5;
 
 /// What the lines of a piece leave, one line after another.

@@ -51,7 +51,7 @@ impl<'w> Rewriting<'w> {
         }
     }
 
-    /// Nothing is taken yet; there is room for so many tokens, whose texts have so many bytes.
+    /// Nothing is taken yet; there is memory for a number of tokens, and for the bytes of their texts.
     pub(crate) fn with_room(
         alloc: Global,
         phrases: &'w Phrases,
@@ -219,7 +219,7 @@ impl<'w> Rewriting<'w> {
         Ok(part)
     }
 
-    /// Takes a text, of which nothing is taken and before which a blank stands, and lists the tokens that are settled then.
+    /// Takes a text, of which nothing is taken and which a blank precedes, and lists the tokens that are settled then.
     /// The rooms may hold anything.
     pub(crate) fn take_characters(
         &mut self,

@@ -116,7 +116,7 @@ impl Text {
         self.tokens.spelled()
     }
 
-    /// Where the text of the token number `i` stands in the canonical spelling (bytes).
+    /// Where the text of the token number `i` is in the canonical spelling (bytes).
     #[inline(always)]
     pub fn place(&self, i: usize) -> Span
         requires { i < length self.now.tokens }
@@ -143,7 +143,7 @@ impl Text {
     }
 }
 
-/// The spans of a text's tokens lie one behind another within its source, and cut no source character.
+/// The spans of a text's tokens follow one another within its source, and cut no source character.
 pub fn tokens_have_spans(text: &Text)
     ensures { AreSpans text.now.source text.now.tokens }
 {
@@ -157,7 +157,7 @@ pub fn tokens_are_utf8(text: &Text)
     text.tokens.texts_are_utf8();
 }
 
-/// The text of each token has a letter, and each blank in it stands between two letters of kind Word.
+/// The text of each token has a letter, and each blank in it is between two letters of kind Word.
 pub fn tokens_are_token_texts(text: &Text)
     ensures { AreTokenTexts text.now.tokens }
 {

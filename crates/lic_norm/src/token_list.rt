@@ -11,7 +11,7 @@ use std::alloc::{AllocError, Global};
 use std::marker::Model;
 
 /// A token as it is kept: where its text ends in the canonical spelling, and its bytes of the source. Its text begins where
-/// the one before it ends, or after the blank that stands there, since no text begins with a blank.
+/// the one before it ends, or after the blank that is there, since no text begins with a blank.
 #[derive(Clone, Copy, Debug)]
 struct Entry {
     text_end: usize,
@@ -40,7 +40,7 @@ impl Model for TokenList {
         (entry_values (string_bytes t.spelling) 0 t.entries.items) };
 }
 
-/// Whether a blank stands in canonical spelling between these texts and the text of the next token.
+/// Whether canonical spelling has a blank between these texts and the text of the next token.
 #[inline(never)]
 fn is_parted_beyond_ascii(spelling: &str, text: &str) -> bool
     ensures { result ≡ is_parted spelling.now text.now }
@@ -48,7 +48,7 @@ fn is_parted_beyond_ascii(spelling: &str, text: &str) -> bool
     ends_in_word(spelling) & begins_in_word(text)
 }
 
-/// Whether a blank stands in canonical spelling between these texts and the text of the next token. Mostly the letters that
+/// Whether canonical spelling has a blank between these texts and the text of the next token. Mostly the letters that
 /// meet there are of ASCII.
 #[inline(always)]
 fn is_parted(spelling: &str, text: &str) -> bool
@@ -81,7 +81,7 @@ impl TokenList {
         }
     }
 
-    /// No tokens yet, with room for so many, whose texts have so many bytes.
+    /// No tokens yet, with memory for a number of them, and for the bytes of their texts.
     pub(crate) fn with_room(
         alloc: Global,
         tokens: usize,
@@ -179,7 +179,7 @@ impl TokenList {
         }
     }
 
-    /// Where the text of the token number `i` stands in the canonical spelling (bytes).
+    /// Where the text of the token number `i` is in the canonical spelling (bytes).
     #[inline(always)]
     pub(crate) fn place(&self, i: usize) -> Span
         requires { i < length self.now }

@@ -16,7 +16,7 @@ fn is_text(text: &str, token: &FirstToken) -> bool
     text == token.text.as_str()
 }
 
-/// Whether the token is `https`, so that it has to wait for the three behind it.
+/// Whether the token is `https`, so that it has to wait for the three after it.
 pub(crate) fn is_https(token: &FirstToken) -> bool
     ensures { result ≡ is_text (codes "https") (token_in token.now) }
 {
@@ -33,7 +33,7 @@ fn begins_authority(tokens: &VecDeque<FirstToken>) -> bool
         && is_text("/", &tokens[2])
 }
 
-/// Makes `http` of `https` where the tokens behind it begin with `:`, `/` and `/`.
+/// Makes `http` of `https` if the tokens after it begin with `:`, `/` and `/`.
 fn drop_secure(token: &mut FirstToken, behind: &VecDeque<FirstToken>)
     ensures { token_in token.new
         ≡ without_secure (token_in token.old) (tokens_in behind.now.items) }
@@ -43,7 +43,7 @@ fn drop_secure(token: &mut FirstToken, behind: &VecDeque<FirstToken>)
     }
 }
 
-/// Takes out the first token where it is settled: it is no `https`, or three stand behind it.
+/// Takes out the first token if it is settled: it is no `https`, or three follow it.
 pub(crate) fn pop_settled(address: &mut VecDeque<FirstToken>) -> Option<FirstToken>
     ensures given { (rest : List Token) → https_as_http (tokens_in address.old.items ++ rest)
         ≡ held result ++ https_as_http (tokens_in address.new.items ++ rest) }

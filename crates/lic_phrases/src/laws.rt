@@ -5,7 +5,7 @@ ghost use Rattle.lic_phrases.specs.Classes.{Equivalent, OnOneLine};
 
 pub use crate::words::spellings_are_token_texts;
 
-/// A chain of lines, each sharing a phrase with the next, joins each phrase to itself, both ways, and one chain behind another; it
+/// To be joined by a chain of lines, each sharing a phrase with the next, is an equivalence: it is reflexive, symmetric and transitive. It
 /// joins the phrases of one line, and no others than it must: what is alike on each line is alike along a chain.
 pub fn chains_join_phrases()
     ensures itself { (lines : List (List (List (List ℕ)))) (p : List (List ℕ))

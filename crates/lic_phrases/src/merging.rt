@@ -21,7 +21,7 @@ pub(crate) struct Found {
     class: usize,
 }
 
-/// The longest phrase, of at most so many tokens, in front of these. The key is a buffer for its
+/// The longest phrase, of at most `most` tokens, that these begin with. The key is a buffer for its
 /// own use.
 fn front_phrase(
     phrases: &Phrases,
@@ -58,7 +58,7 @@ fn end_of(token: FirstToken) -> u32
     token.end
 }
 
-/// Drops so many tokens from the front, and gives where the last of them ends: where there is
+/// Drops `count` tokens from the front, and gives where the last of them ends: if there is
 /// none, the given place.
 fn drop_front(waiting: &mut VecDeque<FirstToken>, count: usize, mut end: u32) -> u32
     requires { count ≤ deque_len waiting.old }

@@ -18,7 +18,7 @@ use std::alloc::{AllocError, Global};
 /// The most bytes of a phrase in canonical spelling.
 const MAX_BYTES: usize = 256;
 
-/// A phrase as it stands in a list.
+/// A phrase as a list has it.
 #[derive(Drop)]
 pub(crate) struct ListedPhrase {
     /// The texts of its tokens.
@@ -70,7 +70,7 @@ pub(crate) fn is_skipped(line: &str) -> bool
     }
 }
 
-/// Whether a blank stands before the text at this place.
+/// Whether a blank precedes the text at this place.
 fn is_parted_at(texts: &[String], place: usize) -> bool
     requires { place < length texts.now }
     ensures { result ≡ is_parted_at (texts_in texts.now) place }
@@ -96,7 +96,7 @@ fn spelling(alloc: Global, texts: &[String]) -> Result<String, AllocError>
     Ok(spelling)
 }
 
-/// A phrase as one text, by which it is looked up: each token's text, and a blank behind it.
+/// A phrase as one text, by which it is looked up: each token's text, and a blank after it.
 pub(crate) fn key(alloc: Global, texts: &[String]) -> Result<String, AllocError>
     ensures { IfOk result (λ key. string_bytes key ≡ key_of (texts_in texts.now)) }
 {

@@ -12,7 +12,7 @@ use indexmap::IndexMap;
 use std::alloc::{AllocError, Global};
 use std::marker::Model;
 
-/// What stands behind each text of a key: a byte that UTF-8 never has.
+/// What follows each text of a key: a byte that UTF-8 never has.
 pub(crate) const SEPARATOR: u8 = 0xFF;
 
 /// How many tokens a phrase has at most.

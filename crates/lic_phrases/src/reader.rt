@@ -29,7 +29,7 @@ const MAX_PHRASES: usize = 4096;
 pub(crate) struct Reader {
     /// The keys of the phrases.
     pub(crate) keys: IndexSet<String>,
-    /// The phrases, each but once, where it first stands.
+    /// The phrases, each once, where it occurs first.
     pub(crate) phrases: Vec<ListedPhrase>,
     /// For each phrase the number of the first of its class.
     pub(crate) heads: Vec<usize>,

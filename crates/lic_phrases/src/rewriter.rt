@@ -18,7 +18,7 @@ use std::marker::Model;
 /// Rewrites the tokens of a text as they come (SPDX 2.3, Annex B; this project's profile). Each
 /// longest row of copyright signs becomes one sign, `https` before `:`, `/` and `/` becomes `http`,
 /// and then, from the left, the longest phrase becomes one token. A token is kept back only where it
-/// is a sign, stands from an `https` on, or may begin a phrase; these are 11 at most. After an error
+/// is a sign, an `https` or what follows one, or may begin a phrase; these are 11 at most. After an error
 /// it is of no use.
 #[derive(Drop)]
 pub struct Rewriter {
@@ -119,7 +119,7 @@ impl Rewriter {
     }
 
     /// Ends the text: puts the tokens that were kept back at the end of the output. It is then
-    /// complete, behind the tokens that were given `before`.
+    /// complete, after the tokens that were given `before`.
     pub fn finish(self, phrases: &Phrases, output: &mut Vec<FinalToken>) -> Result<(), AllocError>
         ensures whole { OnOk result ((before : List SpannedText) (taken : List Token)
             → Settles phrases.now.phrases taken
@@ -141,7 +141,7 @@ impl Rewriter {
         )
     }
 
-    /// The sign that is kept, if there is one, goes on to the next step.
+    /// Hands the sign that is kept, if there is one, to the next step.
     #[inline(always)]
     fn take_sign(
         &mut self,

@@ -1,4 +1,4 @@
-//! Where a blank stands in canonical spelling: one between two letters of kind Word that belong to
+//! Where canonical spelling has a blank: one between two letters of kind Word that belong to
 //! different tokens, and none elsewhere.
 ghost use Rattle.std.specs.Prelude.{◌≡◌, ◌∷◌, [], reverse};
 ghost use Rattle.std.specs.Option.{IfNone, IfSome};
@@ -19,7 +19,7 @@ pub fn begins_in_word(text: &str) -> bool
     }
 }
 
-/// What stands before the last character of a text, and this character.
+/// What is before the last character of a text, and this character.
 fn split_last(text: &str) -> Option<(&str, char)>
     ensures some { IfSome result (λ parts. reverse (chars text.now)
         ≡ parts.1 ∷ reverse (chars parts.0.now)) }
@@ -30,7 +30,7 @@ fn split_last(text: &str) -> Option<(&str, char)>
     Some((chars.as_str(), last))
 }
 
-/// Whether a token's text ends in a letter of kind Word. Canonical spelling puts one blank behind
+/// Whether a token's text ends in a letter of kind Word. Canonical spelling puts one blank after
 /// such a token where the next token begins with one (see [`begins_in_word`]), and none elsewhere.
 pub fn ends_in_word(text: &str) -> bool
     ensures { result ≡ ends_in_word text.now }

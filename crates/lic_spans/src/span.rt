@@ -28,7 +28,7 @@ impl Kind {
     }
 }
 
-/// Places from `low` to `high`, both included, in bytes of the text, from which the rest of a template goes on to the end
+/// Places from `low` to `high`, both included, in bytes of the text, from which what is left of a template leads to the end
 /// of the token number `last`.
 #[derive(Clone, Copy, Debug, PartialEq, Eq)]
 pub struct PlaceSpan {

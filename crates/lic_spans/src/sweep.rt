@@ -71,7 +71,7 @@ impl Sweep {
         Ok(self.least)
     }
 
-    // Goes on to a kind, from its first place. What the active spans have is done.
+    // Moves to a kind, to its first place, after what the active spans have is done.
     fn reach(&mut self, kind: Kind) -> Result<(), AllocError>
         requires { rank self.old.kind ≤ rank kind }
         ensures sweep { OnOk result ((taken : List PlaceSpan) → HasTaken taken self.old → HasTaken taken self.new) }
@@ -90,7 +90,7 @@ impl Sweep {
         Ok(())
     }
 
-    // Goes on to a place of the kind. What the active spans have before it is done, and those that end before it leave.
+    // Moves to a place of the kind, after what the active spans have before it is done; those that end before it leave.
     fn settle(&mut self, to: usize) -> Result<(), AllocError>
         requires { self.old.at ≤ to }
         ensures advances { OnOk result (GoesOn self.old to self.new) }

@@ -98,7 +98,7 @@ fn keeps_the_least_last_token_of_each_place(rt: HostRuntime) -> Result<(), Fail>
     Ok(())
 }
 
-/// So many spans, each within the one before and of a lesser last token.
+/// `count` spans, each within the one before and of a lesser last token.
 fn nested(alloc: Global, count: u32) -> Result<Vec<PlaceSpan>, AllocError>
     ensures ordered { IfOk result (λ all. All (λ s. s.low ≤ s.high) all.items) }
     ensures bounded { IfOk result (λ all. All (λ s. s.high < usize.MAX) all.items) }
@@ -117,7 +117,7 @@ fn nested(alloc: Global, count: u32) -> Result<Vec<PlaceSpan>, AllocError>
     Ok(all)
 }
 
-/// So many spans of one length, each a place after the one before and of a greater last token.
+/// `count` spans of one length, each a place after the one before and of a greater last token.
 fn shifted(alloc: Global, count: u32) -> Result<Vec<PlaceSpan>, AllocError>
     ensures ordered { IfOk result (λ all. All (λ s. s.low ≤ s.high) all.items) }
     ensures bounded { IfOk result (λ all. All (λ s. s.high < usize.MAX) all.items) }

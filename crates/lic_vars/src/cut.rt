@@ -10,7 +10,7 @@ use lic_search::reverse::have_place;
 use lic_search::view::{View, tokens_have_texts};
 use lic_spans::span::PlaceSpan;
 
-/// A place, and whether blanks of the gap that stands there are written already.
+/// A place, and whether blanks of the gap there are written already.
 #[derive(Clone, Copy, Debug, PartialEq, Eq)]
 pub struct Cut {
     pub place: usize,
@@ -39,7 +39,7 @@ pub fn have_cut(view: &View<'_>, spans: &[PlaceSpan], cut: Cut) -> bool
     have_place(view, spans, cut.place) || have_place(view, spans, letter_place(view, cut))
 }
 
-/// The cut behind a text that can be read.
+/// The cut after a text that can be read.
 pub fn behind_text(view: &View<'_>, text: &str, cut: Cut) -> Cut
     requires { (w : Word) × ReadsOn view.now cut (chars text.now ++ w) }
     ensures { LeadsTo view.now cut (chars text.now) result }
@@ -52,7 +52,7 @@ pub fn behind_text(view: &View<'_>, text: &str, cut: Cut) -> Cut
     cut
 }
 
-// The cut behind a letter or a blank that can be read.
+// The cut after a letter or a blank that can be read.
 fn behind_letter(view: &View<'_>, letter: char, cut: Cut) -> Cut
     requires { (w : Word) × ReadsOn view.now cut (letter ∷ w) }
     ensures { LeadsTo view.now cut (letter ∷ []) result }

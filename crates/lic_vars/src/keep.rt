@@ -27,8 +27,8 @@ struct Window {
     made: usize,
 }
 
-/// For each number of steps but all, the places from which the last so many steps lead to the end of the last token: those of the
-/// first steps, and of the others as many as are needed to make the rest of them again in blocks.
+/// For each number of steps but all, the places from which that many of the last steps lead to the end of the last token: those of the
+/// first steps, and of the others as many as are needed to make all others again in blocks.
 pub fn suffix_sets(
     alloc: Global,
     view: &View<'_>,

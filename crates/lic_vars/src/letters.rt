@@ -31,7 +31,7 @@ pub fn letter_spans(
     Ok(spans)
 }
 
-// Adds a span so many times.
+// Adds a span `count` times.
 fn push_times(spans: &mut Vec<Span>, span: Span, count: usize) -> Result<(), AllocError>
     ensures { OnOk result (spans.new.items ≡ spans.old.items ++ replicate count span) }
 {

@@ -15,7 +15,7 @@ use lic_search::view::{View, tokens_have_texts};
 use lic_spans::span::PlaceSpan;
 use std::alloc::{AllocError, Global};
 
-// The record so far, the cut behind what was read, and how many steps are left.
+// The record so far, the cut after what was read, and how many steps are left.
 #[derive(Drop)]
 struct Walk {
     record: Vec<usize>,
@@ -53,7 +53,7 @@ pub fn least_record(
     Ok(record)
 }
 
-// Takes one step more, with the least choice from which the others can finish: from the places of `rest`.
+// Takes one step more, with the least choice from which the others can finish: from the places of the set that is handed in.
 fn take_step(
     alloc: Global,
     view: &View<'_>,

@@ -60,7 +60,7 @@ fn is_there(sets: &[Option<Vec<PlaceSpan>>], number: usize) -> bool
     }
 }
 
-/// Makes the set of the last so many steps, and those on the way to it from the last one that is there, unless it is there.
+/// Makes the set of a number of last steps, and those between it and the last one that is there, unless it is there.
 pub fn fill(
     alloc: Global,
     view: &View<'_>,
@@ -123,7 +123,7 @@ fn missing_for(steps: &[Step], sets: &[Option<Vec<PlaceSpan>>], number: usize) -
     }
 }
 
-// The places from which the last so many steps lead to the end.
+// The places from which a number of last steps lead to the end.
 fn set_before(
     alloc: Global,
     view: &View<'_>,

@@ -23,7 +23,7 @@ pub enum Step<'s> {
         ere: &'s Ere,
         is_empty: bool,
     },
-    /// The next so many steps, or none of them.
+    /// This many next steps, or none of them.
     Optional(usize),
 }
 

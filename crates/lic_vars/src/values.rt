@@ -19,13 +19,13 @@ use lic_set::triple::Triple;
 use std::alloc::{AllocError, Global};
 use std::marker::Model;
 
-/// What a variable stands for.
+/// The value of a variable.
 #[derive(Clone, Copy, Debug)]
 pub struct Value<'s> {
     /// The variable's name, as the template has it.
     pub name: &'s str,
     /// The bytes of the source from the start of the first token of which it has a letter to the end of the last such token.
-    /// `None` where it has no letter, or stands in an optional part that was left out.
+    /// `None` if it has no letter, or is in an optional part that was left out.
     pub span: Option<Span>,
 }
 
@@ -178,7 +178,7 @@ fn first_number(numbers: &[usize]) -> usize
     if numbers.is_empty() { 0 } else { numbers[0] }
 }
 
-// The numbers behind the first.
+// The numbers after the first.
 fn other_numbers(numbers: &[usize]) -> &[usize]
     ensures { result.now ≡ drop 1 numbers.now }
 {
@@ -192,14 +192,14 @@ fn left_out_by(choice: usize, size: usize) -> usize
     if choice == 0 { 0 } else { size }
 }
 
-// The first so many letters.
+// The first `count` letters.
 fn front(letters: &[Span], count: usize) -> &[Span]
     ensures { result.now ≡ take count letters.now }
 {
     &letters[..count.min(letters.len())]
 }
 
-// The letters behind the first so many.
+// The letters after the first `count`.
 fn behind(letters: &[Span], count: usize) -> &[Span]
     ensures { result.now ≡ drop count letters.now }
 {

@@ -36,7 +36,7 @@ pub fn over_pattern(
     over_variable(alloc, view, ere, spans)
 }
 
-/// The cut behind the shortest tidy word of a pattern that leads to a place of the spans.
+/// The cut after the shortest tidy word of a pattern that leads to a place of the spans.
 pub fn behind_shortest(
     alloc: Global,
     view: &View<'_>,
@@ -64,7 +64,7 @@ pub fn behind_shortest(
     })
 }
 
-// The place that a number gives behind a letter: none ends behind a blank.
+// The place that a number gives after a letter: no word ends after a blank.
 fn end_of(view: &View<'_>, begin: usize, number: usize) -> usize
     ensures { result ≡ (if nat_lt begin number && is_blank_at (spelling_of view.now) (number - 1) then number - 1 else number) }
 {
