@@ -31,9 +31,12 @@ def rules_of(path):
 
 
 def occurs(line, path):
-    """Whether the text of a rule is in the file."""
+    """Whether the text of a rule is in the file, with its white space."""
+    word, text = line.split(maxsplit=1)
+    pattern = re.escape(text.encode())
+    pattern = {"lead-space": pattern + rb"[\s\x80-\xff]", "tail-space": rb"[\s\x80-\xff]" + pattern}.get(word, pattern)
     with open(path, "rb") as file:
-        return line.split(maxsplit=1)[1].encode() in file.read()
+        return bool(re.search(pattern, file.read()))
 
 
 def changed_by(line, files):
