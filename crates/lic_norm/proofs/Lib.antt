@@ -14,7 +14,7 @@ pub mod WholeLines
 pub mod ReaderLemmas
 pub mod ReadingLemmas
 pub mod AsciiLines
-pub mod AsciiTexts
+pub mod StretchTokens
 pub mod TextLemmas
 pub mod PieceLines
 pub mod EdgeLemmas

@@ -1,5 +1,5 @@
 -- The first line of an input, and of a text in UTF-8.
-use Rattle.std.proofs.Common.{◌≡◌, ◌≢◌, ℕ, ◌+◌, ◌<◌, ◌≤◌, List, [], ◌∷◌, ◌++◌, length, take, drop, get_or, sym, ap, subst, ◌∙◌, arith, All, inl, inr, length-append, length-drop, eqb-true, eq-eqb, Option, Some, None, lit<, take-append-drop, append_assoc, take_at, refl}
+use Rattle.std.proofs.Common.{◌≡◌, ◌≢◌, ℕ, ◌+◌, ◌<◌, ◌≤◌, List, [], ◌∷◌, ◌++◌, length, take, drop, get_or, sym, ap, subst, ◌∙◌, arith, All, inl, inr, length-append, length-drop, length-take, append-nil, get_or-drop, take-take, eqb-true, eq-eqb, Option, Some, None, lit<, take-append-drop, append_assoc, take_at, refl, ◌⊎◌}
 use Rattle.std.specs.Str.{IsUtf8, IsCharBoundary, chars, encode_utf8_all}
 use Rattle.std.specs.Char.{encode_utf8}
 use Rattle.std.proofs.Math.Seq.{get_or-append_seam}
@@ -7,7 +7,8 @@ use Rattle.std.proofs.lemmas.List.{get_or-append-add, take_all, drop_all, take_m
 use Rattle.std.proofs.lemmas.List.Elements.{All-nil, All-cons, All-get_or, All-from_get_or}
 use Rattle.std.proofs.lemmas.Str.{IsCharBoundary-end, IsCharBoundary-before_ascii, IsCharBoundary-after_ascii, IsUtf8-take, encodes-chars, chars-append, encode_ascii, length-encode, len_utf8_bounds, chars-IsAscii}
 use Rattle.std.proofs.lemmas.Str.Ascii.{IsAscii-cons, IsAscii-nil}
-use Rattle.memchr.specs.Find.{IsFirstByte, is_byte}
+use Rattle.memchr.specs.Find.{IsFirstByte, IsLastByte, is_byte}
+use Rattle.lic_norm.specs.Feeding.{AreLines}
 use Rattle.lic_norm.specs.LineEnds.{IsFirstLine}
 
 -- none of these bytes is U+000A
@@ -39,6 +40,33 @@ pub found_none : (bytes : List ℕ) → IsFirstByte (is_byte 0x0A) bytes None �
 found_none bytes h =
     let none : HasNoEnd bytes = λ k lt at. h k (omega arith) lt (eq-eqb _ _ at) in
     All-from_get_or (λ c. c ≢ 0x0A) bytes 0 none
+
+-- the last U+000A that was found, and what stands before it and after it
+pub found_last : (bytes : List ℕ) (place : ℕ) → IsLastByte (is_byte 0x0A) bytes (Some place)
+    → (take (place + 1) bytes ≡ take place bytes ++ 0x0A ∷ []) × All (λ c. c ≢ 0x0A) (drop (place + 1) bytes)
+    × (place < length bytes) × (get_or bytes place 0 ≡ 0x0A)
+found_last bytes place h =
+    let lt : place < length bytes = h.0.high in
+    let at : get_or bytes place 0 ≡ 0x0A = eqb-true (get_or bytes place 0) 0x0A h.1 in
+    let none : HasNoEnd (drop (place + 1) bytes) = λ k less is.
+    h.0.after (place + 1 + k) (omega arith) (omega (arith, length-drop (place + 1) bytes)) (eq-eqb _ _ (sym (get_or-drop (place + 1) bytes k 0) ∙ is)) in
+    (take_more bytes place 0 lt ∙ ap (λ b. take place bytes ++ b ∷ []) at, All-from_get_or (λ c. c ≢ 0x0A) (drop (place + 1) bytes) 0 none, lt, at)
+
+-- a first line ends in U+000A, or there is none
+pub first_line-ends : (bytes : List ℕ) (n : ℕ) → IsFirstLine (take n bytes) (drop n bytes) → AreLines (take n bytes) ⊎ All (λ c. c ≢ 0x0A) bytes
+first_line-ends bytes n first =
+    elim first.ends [
+      | inl feed ↦ inl (inr (first.front, feed))
+      | inr all ↦ inr (subst (All (λ c. c ≢ 0x0A))
+          (sym (sym (take-append-drop n bytes) ∙ ap (λ l. take n bytes ++ l) all.1 ∙ append-nil (take n bytes) ∙ all.0)) first.no_end)
+    ]
+
+-- what is read together ends in U+000A
+pub lines_end-found : (bytes : List ℕ) (front place : ℕ) → IsLastByte (is_byte 0x0A) (take front bytes) (Some place) → AreLines (take (place + 1) bytes)
+lines_end-found bytes front place h =
+    let found = found_last (take front bytes) place h in
+    let within : place + 1 ≤ front = omega (arith, found.2, length-take front bytes) in
+    inr (take place (take front bytes), sym (take-take (place + 1) front bytes within) ∙ found.0)
 
 pub line_end-is : (bytes : List ℕ) (found : Option ℕ) → IsFirstByte (is_byte 0x0A) bytes found
     → IsFirstLine (take (line_end bytes found) bytes) (drop (line_end bytes found) bytes)

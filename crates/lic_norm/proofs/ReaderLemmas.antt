@@ -1,9 +1,9 @@
 -- Lines that a reader takes as they end.
-use Rattle.std.proofs.Common.{◌≡◌, ◌≢◌, ℕ, ◌+◌, ◌-◌, ◌≤◌, List, [], ◌∷◌, ◌++◌, map, length, take, drop, sym, ap, ap₂, subst, ◌∙◌, append_assoc, arith, All, inl, inr, Option, Some, None, length-drop, take-append-drop, take-add, take_all, drop-drop}
+use Rattle.std.proofs.Common.{◌≡◌, ◌≢◌, ℕ, ◌+◌, ◌-◌, ◌≤◌, List, [], ◌∷◌, ◌++◌, map, length, take, drop, sym, ap, ap₂, subst, ◌∙◌, append_assoc, append-nil, arith, All, get_or, get_or-drop, ◌<◌, ◌⊎◌, inl, inr, Option, Some, None, length-drop, take-append-drop, take-add, take_all, drop-drop}
 use Rattle.std.specs.List.{slice_range}
 use Rattle.std.proofs.lemmas.List.{map-append, take-append-le, drop-append-le, drop_all, length-map}
-use Rattle.std.proofs.lemmas.List.Elements.{All-append, All-nil}
-use Rattle.memchr.specs.Find.{IsFirstByte, is_byte}
+use Rattle.std.proofs.lemmas.List.Elements.{All-append, All-drop, All-get_or, All-nil}
+use Rattle.memchr.specs.Find.{IsLastByte, is_byte}
 use Rattle.lic_lines.specs.LineRules.{LineRules, rules_of}
 use Rattle.lic_phrases.specs.Rewriting.{rewritten}
 use Rattle.lic_phrases.specs.Settling.{left_of}
@@ -14,19 +14,11 @@ use Rattle.lic_norm.specs.Tokens.{reported, first_tokens_of, tokens_of}
 use Rattle.lic_norm.specs.declared.fault.TextFault.{TextFault}
 use Rattle.lic_norm.specs.declared.reader.Reader.{Reader}
 use Rattle.lic_norm.specs.declared.rewriting.Rewriting.{Rewriting}
-use Rattle.lic_norm.proofs.LineCuts.{found_end, found_none}
+use Rattle.lic_norm.proofs.LineCuts.{found_last, found_none}
 use Rattle.lic_norm.proofs.WholeLines.{first_tokens_of-lines, lines_read-is}
 
 abbrev NoEnd : ℕ → Type 0
 NoEnd b = b ≢ 0x0A
-
--- a slice is its two parts
-range_parts : (source : List ℕ) (at mid n : ℕ) → at ≤ mid → slice_range source at (mid + n) ≡ slice_range source at mid ++ take n (drop mid source)
-range_parts source at mid n le =
-    ap (λ k. take k (drop at source)) (let e : mid + n - at ≡ (mid - at) + n = omega arith in e)
-    ∙ take-add (mid - at) n (drop at source)
-    ∙ ap (λ l. slice_range source at mid ++ take n l)
-    (drop-drop (mid - at) at source ∙ ap (λ k. drop k source) (let e : at + (mid - at) ≡ mid = omega arith in e))
 
 -- the rest is a slice and the rest behind it
 rest_parts : (source : List ℕ) (at mid : ℕ) → at ≤ mid → drop at source ≡ slice_range source at mid ++ drop mid source
@@ -34,36 +26,57 @@ rest_parts source at mid le =
     sym (take-append-drop (mid - at) (drop at source))
     ∙ ap (λ l. slice_range source at mid ++ l) (drop-drop (mid - at) at source ∙ ap (λ k. drop k source) (let e : at + (mid - at) ≡ mid = omega arith in e))
 
--- A line that begins at `at` ends behind the first U+000A from `searched` on, where there is none between.
-module _ (source : List ℕ) (at searched place : ℕ) (order : at ≤ searched)
-    (clear : All NoEnd (slice_range source at searched))
-    (found : IsFirstByte (is_byte 0x0A) (drop searched source) (Some place)) where
-  pub line_found : IsFirstLine (slice_range source at (searched + (place + 1))) (drop (searched + (place + 1)) source)
-  line_found =
-      let end = found_end (drop searched source) place found in
-      let front = slice_range source at searched ++ take place (drop searched source) in
-      record {
-        front = front;
-        no_end = All-append NoEnd (slice_range source at searched) (take place (drop searched source)) clear end.1;
-        ends = inl (range_parts source at searched (place + 1) order ∙ ap (λ l. slice_range source at searched ++ l) end.0
-            ∙ sym (append_assoc (slice_range source at searched) (take place (drop searched source)) (0x0A ∷ [])));
-      }
+-- ---- lines that are taken
 
-  pub lines_found : AreLines (take (searched + (place + 1)) source)
-  lines_found =
-      let end = found_end (drop searched source) place found in
-      inr (
-        take searched source ++ take place (drop searched source),
-        take-add searched (place + 1) source ∙ ap (λ l. take searched source ++ l) end.0
-            ∙ sym (append_assoc (take searched source) (take place (drop searched source)) (0x0A ∷ [])),
-      )
+-- a line of the rest is a line of the source
+pub rest_line : (source : List ℕ) (at n : ℕ) → IsFirstLine (take n (drop at source)) (drop n (drop at source))
+    → IsFirstLine (slice_range source at (at + n)) (drop (at + n) source)
+rest_line source at n first =
+    subst (λ l. IsFirstLine l (drop (at + n) source)) (ap (λ k. take k (drop at source)) (let e : n ≡ at + n - at = omega arith in e))
+    (subst (λ l. IsFirstLine (take n (drop at source)) l) (drop-drop n at source) first)
 
-  pub end_within : searched + (place + 1) ≤ length source
-  end_within = let end = found_end (drop searched source) place found in omega (arith, end.2, length-drop searched source)
+-- lines behind lines
+pub more_lines : (source : List ℕ) (at n : ℕ) → AreLines (take at source) → AreLines (take n (drop at source)) → AreLines (take (at + n) source)
+more_lines source at n before (inl none) =
+    subst AreLines (sym (take-add at n source ∙ ap (λ l. take at source ++ l) none ∙ append-nil (take at source))) before
+more_lines source at n before (inr (front, is)) =
+    inr (take at source ++ front, take-add at n source ∙ ap (λ l. take at source ++ l) is ∙ sym (append_assoc (take at source) front (0x0A ∷ [])))
+
+-- what has a U+000A has a line that ends
+pub ended_lines : (rest : List ℕ) (n : ℕ) → ¬ All NoEnd rest → AreLines (take n rest) ⊎ All NoEnd rest → AreLines (take n rest)
+ended_lines rest n ended (inl lines) = lines
+ended_lines rest n ended (inr none) = absurd (ended none)
+
+-- and is not empty
+pub some_rest : (rest : List ℕ) → ¬ All NoEnd rest → 0 < length rest
+some_rest [] ended = absurd (ended (All-nil NoEnd))
+some_rest (b ∷ rest) ended = omega arith
+
+-- the last U+000A, from a place on
+module _ (source : List ℕ) (from place : ℕ) (found : IsLastByte (is_byte 0x0A) (drop from source) (Some place)) where
+  pub last_within : from + place < length source
+  last_within = omega (arith, (found_last (drop from source) place found).2, length-drop from source)
+
+  -- it is in the rest from each place before it
+  pub has_ended : (at : ℕ) → at ≤ from + place → ¬ All NoEnd (drop at source)
+  has_ended at before none =
+      let there : at + (from + place - at) ≡ from + place = omega arith in
+      All-get_or NoEnd (drop at source) (from + place - at) 0 (omega (arith, last_within, length-drop at source)) none
+      (get_or-drop at source (from + place - at) 0 ∙ ap (λ k. get_or source k 0) there
+      ∙ sym (get_or-drop from source place 0) ∙ (found_last (drop from source) place found).3)
+
+  -- and there is none from each place behind it
+  pub none_later : (at : ℕ) → from + place < at → All NoEnd (drop at source)
+  none_later at behind =
+      let there : from + (place + 1) + (at - (from + place + 1)) ≡ at = omega arith in
+      subst (All NoEnd)
+      (ap (drop (at - (from + place + 1))) (drop-drop (place + 1) from source)
+      ∙ drop-drop (at - (from + place + 1)) (from + (place + 1)) source ∙ ap (λ k. drop k source) there)
+      (All-drop NoEnd (at - (from + place + 1)) (drop (place + 1) (drop from source)) (found_last (drop from source) place found).1)
 
 -- behind the last line that has ended there is no U+000A
 pub no_more_ends : (source : List ℕ) (at searched : ℕ) → at ≤ searched → All NoEnd (slice_range source at searched)
-    → IsFirstByte (is_byte 0x0A) (drop searched source) None → All NoEnd (drop at source)
+    → IsLastByte (is_byte 0x0A) (drop searched source) None → All NoEnd (drop at source)
 no_more_ends source at searched order clear none =
     subst (All NoEnd) (sym (rest_parts source at searched order))
     (All-append NoEnd (slice_range source at searched) (drop searched source) clear
@@ -83,12 +96,7 @@ searched_rest here source searched same =
     take_all (length here - searched) (drop searched here) (omega (arith, length-drop searched here))
     ∙ ap (drop searched) same
 
--- between a place and itself there is nothing
-pub none_between : (source : List ℕ) (at end : ℕ) → at ≡ end → All NoEnd (slice_range source at end)
-none_between source at end same =
-    subst (All NoEnd) (sym (ap (λ n. take n (drop at source)) (let e : end - at ≡ 0 = omega (arith, same) in e))) (All-nil NoEnd)
-
--- a reader that took the line that ends here has read up to there
+-- a reader that took the lines that end here has read up to there
 pub read_on : (old new : Reader) (end : ℕ) → new.rules.now ≡ old.rules.now → new.line_start ≡ end → new.source.items ≡ old.source.items
     → end ≤ length old.source.items → AreLines (take end old.source.items)
     → HasTaken new.rewriting (first_tokens_of (rules_of old.rules.now) 0 (take end old.source.items)) → HasRead new

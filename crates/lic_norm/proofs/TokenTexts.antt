@@ -24,7 +24,7 @@ use Rattle.lic_lines.specs.declared.line_part.LinePart.{LinePart}
 use Rattle.lic_lines.specs.LineRules.{LineRules}
 use Rattle.lic_lines.specs.Lines.{whole_line, blank_for, cell_of, cut_of, cells_of, line_cells}
 use Rattle.lic_lines.specs.Runs.{same_mark, same_family, without_separator, without_separators, joined, runs_joined}
-use Rattle.lic_lines.specs.Tokens.{Token, both_words, letters_of, tokens_from, is_text, is_sign_in_parentheses, sign_from, as_sign, single_signs, text_tokens_after}
+use Rattle.lic_lines.specs.Tokens.{Token, both_words, letters_of, tokens_from, first_tokens, is_text, is_sign_in_parentheses, sign_from, as_sign, single_signs, text_tokens_after}
 use Rattle.lic_phrases.specs.Rewriting.{Phrase, both_signs, sign_of_row, sign_rows, begins_authority, https_as_http, stands, longer, longest_phrase, count_behind, first_as, phrases_behind, phrases_joined, spanned, rewritten, SpannedText}
 use Rattle.lic_phrases.specs.Settling.{Kept, Settles, left_of}
 use Rattle.lic_phrases.specs.TokenTexts.{IsTokenText, HaveTokenTexts}
@@ -51,7 +51,7 @@ no_blank_at text front rest none parts = at front (ap (list_all (λ b. not (is_s
 plain_text : (text : List ℕ) → 0 < length text → list_all (λ b. not (is_space b)) text ≡ true → IsTokenText text
 plain_text text some none = record { not_empty = some; blanks = λ front rest parts. absurd (no_blank_at text front rest none parts) }
 
-copyright_text : IsTokenText (codes "copyright")
+pub copyright_text : IsTokenText (codes "copyright")
 copyright_text = plain_text (codes "copyright") (omega arith) refl
 
 http_text : IsTokenText (codes "http")
@@ -331,13 +331,22 @@ reported-texts (t ∷ ts) h = All-cons (λ u. IsTokenText u.text) (reported (spa
 -- ---- of a text
 
 -- the texts of the tokens that cells give, where a blank stands before them or does not
+joined-texts : (rules : LineRules) (after_blank : Bool) (cells : List Cell) → KindsFit cells
+    → HaveTexts (tokens_from after_blank (groups both_words (runs_joined rules cells)))
+joined-texts rules after_blank cells fit =
+    let joined = runs_joined rules cells in
+    tokens_from-texts after_blank (groups both_words joined)
+    (subst KindsFit (sym (parts_of_groups both_words joined)) (fit-runs_joined rules cells fit))
+
+-- and with each copyright sign as one
 pub cells-texts : (rules : LineRules) (after_blank : Bool) (cells : List Cell) → KindsFit cells
     → HaveTexts (single_signs (tokens_from after_blank (groups both_words (runs_joined rules cells))))
 cells-texts rules after_blank cells fit =
-    let joined = runs_joined rules cells in
-    single_signs-texts (tokens_from after_blank (groups both_words joined))
-    (tokens_from-texts after_blank (groups both_words joined)
-    (subst KindsFit (sym (parts_of_groups both_words joined)) (fit-runs_joined rules cells fit)))
+    single_signs-texts (tokens_from after_blank (groups both_words (runs_joined rules cells))) (joined-texts rules after_blank cells fit)
+
+-- of lines
+pub lines-texts : (rules : LineRules) (text : List SourceChar) → HaveTexts (first_tokens (runs_joined rules (cells_of rules text)))
+lines-texts rules text = joined-texts rules true (cells_of rules text) (fit-lines rules (lines_of (without_dropped text)))
 
 -- of characters of which nothing is taken
 pub after-texts : (rules : LineRules) (after_blank : Bool) (text : List SourceChar) → HaveTexts (text_tokens_after rules after_blank text)

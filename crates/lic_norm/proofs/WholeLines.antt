@@ -90,17 +90,24 @@ first_tokens_of-line rules at line rest first =
 take_more_range : (source : List ℕ) (at end : ℕ) → at ≤ end → take end source ≡ take at source ++ slice_range source at end
 take_more_range source at end le = ap (λ n. take n source) (let e : end ≡ at + (end - at) = omega arith in e) ∙ take-add at (end - at) source
 
+-- more bytes are taken behind whole lines
+pub more_bytes : (rules : LineRules) (source : List ℕ) (at end : ℕ) → AreLines (take at source) → at ≤ end → end ≤ length source
+    → first_tokens_of rules 0 (take at source) ++ first_tokens_of rules at (slice_range source at end) ≡ first_tokens_of rules 0 (take end source)
+more_bytes rules source at end lines order within =
+    let more = slice_range source at end in
+    let long : 0 + length (take at source) ≡ at = omega (arith, length-take-le at source (omega arith)) in
+    sym (ap (first_tokens_of rules 0) (take_more_range source at end order)
+    ∙ first_tokens_of-lines rules 0 (take at source) more lines
+    ∙ ap (λ n. first_tokens_of rules 0 (take at source) ++ first_tokens_of rules n more) long)
+
 -- one more line is taken behind whole lines
 pub one_more_line : (rules : LineRules) (source : List ℕ) (at end : ℕ) → AreLines (take at source) → at ≤ end
     → end ≤ length source → IsFirstLine (slice_range source at end) (drop end source)
     → first_tokens_of rules 0 (take at source) ++ line_tokens_of rules at (slice_range source at end) ≡ first_tokens_of rules 0 (take end source)
 one_more_line rules source at end lines order within first =
     let line = slice_range source at end in
-    let long : 0 + length (take at source) ≡ at = omega (arith, length-take-le at source (omega arith)) in
-    sym (ap (first_tokens_of rules 0) (take_more_range source at end order)
-    ∙ first_tokens_of-lines rules 0 (take at source) line lines
-    ∙ ap (λ n. first_tokens_of rules 0 (take at source) ++ first_tokens_of rules n line) long
-    ∙ ap (λ l. first_tokens_of rules 0 (take at source) ++ l) (first_tokens_of-line rules at line (drop end source) first))
+    ap (λ l. first_tokens_of rules 0 (take at source) ++ l) (sym (first_tokens_of-line rules at line (drop end source) first))
+    ∙ more_bytes rules source at end lines order within
 
 -- ---- the front up to the last U+000A
 

@@ -10,3 +10,4 @@ pub mod Pieces
 pub mod PieceTexts
 pub mod Places
 pub mod Edges
+pub mod Stretches

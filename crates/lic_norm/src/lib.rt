@@ -11,6 +11,7 @@ pub mod pieces;
 mod reader;
 pub mod refusal;
 mod rewriting;
+mod stretch;
 pub mod text;
 pub mod token;
 mod token_list;

@@ -1,13 +1,15 @@
-//! The first tokens of a line of an input.
+//! The first tokens of lines of an input.
 
 ghost use Rattle.std.specs.Prelude.{◌≡◌, ◌+◌, ◌++◌, ◌<◌, ◌≤◌, ◌^◌, List, length, IfSome, OnOk, IsAscii, IsUtf8};
 ghost use Rattle.lic_lines.specs.LineRules.{rules_of};
 ghost use Rattle.lic_lines.specs.Tokens.{Token};
 ghost use Rattle.lic_norm.specs.Reading.{HasTaken, HasTakenSome};
-ghost use Rattle.lic_norm.specs.Tokens.{line_tokens_of};
+ghost use Rattle.lic_norm.specs.Tokens.{first_tokens_of, line_tokens_of};
 
 use crate::characters::read_characters;
 use crate::rewriting::{PartRoom, Rewriting};
+use crate::stretch::Stretch;
+use lic_columns::Lines;
 use lic_lines::{LinePart, Room, Rules, SourceChar, left_of_line};
 use simdutf8::compat::from_utf8;
 use std::alloc::{AllocError, Global};
@@ -20,7 +22,7 @@ const WHOLE_LINE: LinePart = LinePart {
 };
 
 /// These bytes as a text, where all of them are ASCII.
-fn ascii_text(bytes: &[u8]) -> Option<&str>
+pub(crate) fn ascii_text(bytes: &[u8]) -> Option<&str>
     ensures utf8 { IfSome result (λ text. IsUtf8 text.now) }
     ensures same { IfSome result (λ text. text.now ≡ bytes.now) }
     ensures ascii { IfSome result (λ text. IsAscii text.now) }
@@ -31,17 +33,19 @@ fn ascii_text(bytes: &[u8]) -> Option<&str>
     from_utf8(bytes).ok()
 }
 
-/// So many characters a list may keep room for from one line to the next.
+/// So many characters there may be room for from one line to the next.
 const MAX_KEPT: usize = 65_536;
 
-/// Room for the work on a line, kept from one line to the next. What it holds has no effect.
+/// Room for the work on lines, kept from one to the next. What it holds has no effect.
 #[derive(Drop)]
 pub(crate) struct LineRoom {
     /// The characters of a line that is not ASCII.
     characters: Vec<SourceChar>,
-    /// A line of ASCII in small letters, or the letters of a token of another line.
+    /// The letters of a token of such a line.
     letters: String,
     room: PartRoom,
+    /// Lines of ASCII.
+    lines: Lines,
 }
 
 impl LineRoom {
@@ -54,6 +58,7 @@ impl LineRoom {
                 room: Room::new(alloc),
                 tokens: Vec::new(alloc),
             },
+            lines: Lines::new(alloc),
         }
     }
 }
@@ -69,7 +74,7 @@ fn give_back(alloc: Global, characters: &mut Vec<SourceChar>)
 
 /// Takes the first tokens, by these line rules, of a line of any bytes that begins at this byte of the input. What the room
 /// holds has no effect.
-fn take_any_line(
+pub(crate) fn take_any_line(
     alloc: Global,
     rules: &Rules,
     at: u32,
@@ -87,6 +92,7 @@ fn take_any_line(
         characters,
         letters,
         room,
+        ..
     } = room;
     read_characters(characters, at, line)?;
     let left = left_of_line(alloc, rules, WHOLE_LINE, characters)?;
@@ -95,24 +101,28 @@ fn take_any_line(
     Ok(())
 }
 
-/// Takes the first tokens, by these line rules, of a line that begins at this byte of the input. A line of ASCII is read
-/// straight from its bytes.
-pub(crate) fn take_line(
+/// Takes the first tokens, by these line rules, of a text of ASCII that begins at this byte of the input: whole lines, or a part of the
+/// last. What the room holds has no effect.
+pub(crate) fn take_ascii(
     alloc: Global,
     rules: &Rules,
     at: u32,
-    line: &[u8],
+    text: &str,
     room: &mut LineRoom,
     rewriting: &mut Rewriting<'_>,
 ) -> Result<(), AllocError>
-    requires fits { at + length line.now < 2 ^ 32 }
+    requires ascii { IsAscii text.now }
+    requires fits { at + length text.now + 65 ≤ 2 ^ 32 }
     requires before { HasTakenSome rewriting.old }
     ensures taken { OnOk result ((taken : List Token) → HasTaken rewriting.old taken
-        → HasTaken rewriting.new (taken ++ line_tokens_of (rules_of rules.now) at line.now)) }
+        → HasTaken rewriting.new (taken ++ first_tokens_of (rules_of rules.now) at text.now)) }
     ensures phrases { rewriting.new.phrases.now ≡ rewriting.old.phrases.now }
 {
-    if let Some(text) = ascii_text(line) {
-        return rewriting.take_line(alloc, rules, at, text, &mut room.room, &mut room.letters);
+    let lines = &mut room.lines;
+    lines.read(alloc, rules, at, text)?;
+    rewriting.take_stretch(alloc, &Stretch::of(at, lines))?;
+    if text.len() > MAX_KEPT {
+        *lines = Lines::new(alloc);
     }
-    take_any_line(alloc, rules, at, line, room, rewriting)
+    Ok(())
 }

@@ -1,9 +1,16 @@
 //! Lines of a text.
-ghost use Rattle.std.specs.Prelude.{◌<◌, ◌≤◌, length, take, drop};
+ghost use Rattle.std.specs.Prelude.{◌≢◌, ◌⊎◌, ◌<◌, ◌≤◌, All, length, take, drop};
 ghost use Rattle.std.specs.Str.{IsCharBoundary, chars};
+ghost use Rattle.lic_norm.specs.Feeding.{AreLines};
 ghost use Rattle.lic_norm.specs.LineEnds.{IsFirstLine};
 
-use memchr::memchr;
+use memchr::{memchr, memrchr};
+
+/// So many bytes are read together at most, unless a line has more.
+const MAX_TOGETHER: usize = 65_536;
+
+/// So many bytes are tested together for bytes beyond ASCII.
+const BLOCK: usize = 64;
 
 /// Where the first line of these bytes ends: behind its U+000A, or at their end.
 pub(crate) fn line_end(bytes: &[u8]) -> usize
@@ -24,4 +31,33 @@ pub(crate) fn text_line_end(text: &str) -> usize
     ensures some { 0 < length text.now → 0 < result }
 {
     line_end(text.as_bytes())
+}
+
+/// How long the front of these bytes is up to the first block that is not ASCII.
+fn ascii_front(bytes: &[u8]) -> usize
+    ensures { result ≤ length bytes.now }
+{
+    let mut front = 0;
+    while front < bytes.len() {
+        let end = front + BLOCK.min(bytes.len() - front);
+        if !bytes[front..end].is_ascii() {
+            break;
+        }
+        front = end;
+    }
+    front
+}
+
+/// Where the lines in front of these bytes end that are read together: those that end before the first block that is not ASCII,
+/// and otherwise the first line.
+pub(crate) fn lines_end(bytes: &[u8]) -> usize
+    ensures within { result ≤ length bytes.now }
+    ensures lines { AreLines (take result bytes.now) ⊎ All (λ b. b ≢ 0x0A) bytes.now }
+    ensures some { 0 < length bytes.now → 0 < result }
+{
+    let front = ascii_front(&bytes[..MAX_TOGETHER.min(bytes.len())]);
+    match memrchr(b'\n', &bytes[..front]) {
+        Some(place) => place + 1,
+        None => line_end(bytes),
+    }
 }

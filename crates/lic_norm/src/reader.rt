@@ -1,5 +1,5 @@
-//! Reads an input line by line, as its bytes come.
-ghost use Rattle.std.specs.Prelude.{◌≡◌, ◌≢◌, ◌++◌, ◌<◌, ◌≤◌, ◌^◌, [], All, IfOk, IfErr, OnOk, Some, length, take, drop, slice_range};
+//! Reads an input by lines, as its bytes come.
+ghost use Rattle.std.specs.Prelude.{◌≡◌, ◌≢◌, ◌++◌, ◌<◌, ◌≤◌, ◌^◌, [], false, All, IfOk, IfErr, IsTrue, OnOk, Some, length, take, drop, slice_range};
 ghost use Rattle.lic_lines.specs.LineRules.{rules_of};
 ghost use Rattle.lic_norm.specs.LineEnds.{IsFirstLine};
 ghost use Rattle.lic_norm.specs.Reading.{HasTaken, HasRead, HasReadLines};
@@ -7,14 +7,15 @@ ghost use Rattle.lic_norm.specs.Refusal.{max_bytes, refusal_of};
 ghost use Rattle.lic_norm.specs.Tokens.{first_tokens_of, tokens_of};
 
 use crate::fault::TextFault;
-use crate::line_tokens::{LineRoom, take_line};
+use crate::line_tokens::{LineRoom, ascii_text, take_any_line, take_ascii};
+use crate::lines::{line_end, lines_end};
 use crate::refusal::MAX_BYTES;
 use crate::rewriting::Rewriting;
 use crate::token_list::TokenList;
 use crate::words::Words;
 use lic_lines::Rules;
 use lic_phrases::laws::spellings_are_token_texts;
-use memchr::memchr;
+use memchr::memrchr;
 use std::alloc::{AllocError, Global};
 
 /// The bytes that were read, and the tokens of their lines up to the last U+000A. Of the line that has not ended
@@ -56,6 +57,68 @@ impl<'w> Reader<'w> {
         }
     }
 
+    /// Takes the tokens of the bytes up to `end`, which may be several lines, if they are ASCII. Otherwise takes nothing.
+    fn take_ascii(&mut self, end: usize) -> Result<bool, AllocError>
+        requires read { HasRead self.old }
+        requires order { self.old.line_start ≤ end }
+        requires within { end ≤ length self.old.source.items }
+        ensures taken { IfOk result (λ all. IsTrue all → HasTaken self.new.rewriting
+            (first_tokens_of (rules_of self.old.rules.now) 0 (take end self.old.source.items))) }
+        ensures start { IfOk result (λ all. IsTrue all → self.new.line_start ≡ end) }
+        ensures other { IfOk result (λ all. all ≡ false → self.new ≡ self.old) }
+        ensures source { self.new.source.items ≡ self.old.source.items }
+        ensures words { self.new.rewriting.phrases.now ≡ self.old.rewriting.phrases.now }
+        ensures rules { self.new.rules.now ≡ self.old.rules.now }
+    {
+        if end > MAX_BYTES {
+            return Ok(false);
+        }
+        let at = self.line_start as u32;
+        let Some(text) = ascii_text(&self.source[self.line_start..end]) else {
+            return Ok(false);
+        };
+        take_ascii(
+            self.alloc,
+            self.rules,
+            at,
+            text,
+            &mut self.room,
+            &mut self.rewriting,
+        )?;
+        self.line_start = end;
+        Ok(true)
+    }
+
+    /// Takes the tokens of the line that ends here, whatever its bytes are.
+    fn take_any_line(&mut self, end: usize) -> Result<(), AllocError>
+        requires read { HasRead self.old }
+        requires order { self.old.line_start ≤ end }
+        requires within { end ≤ length self.old.source.items }
+        requires fits { length self.old.source.items < 2 ^ 32 }
+        requires line { IsFirstLine (slice_range self.old.source.items self.old.line_start end)
+            (drop end self.old.source.items) }
+        ensures taken { OnOk result
+            (HasTaken self.new.rewriting
+            (first_tokens_of (rules_of self.old.rules.now) 0
+            (take end self.old.source.items))) }
+        ensures start { OnOk result (self.new.line_start ≡ end) }
+        ensures source { self.new.source.items ≡ self.old.source.items }
+        ensures words { self.new.rewriting.phrases.now ≡ self.old.rewriting.phrases.now }
+        ensures rules { self.new.rules.now ≡ self.old.rules.now }
+    {
+        let line = &self.source[self.line_start..end];
+        take_any_line(
+            self.alloc,
+            self.rules,
+            self.line_start as u32,
+            line,
+            &mut self.room,
+            &mut self.rewriting,
+        )?;
+        self.line_start = end;
+        Ok(())
+    }
+
     /// Takes the tokens of the line that ends here.
     fn take_line(&mut self, end: usize) -> Result<(), AllocError>
         requires read { HasRead self.old }
@@ -73,16 +136,30 @@ impl<'w> Reader<'w> {
         ensures words { self.new.rewriting.phrases.now ≡ self.old.rewriting.phrases.now }
         ensures rules { self.new.rules.now ≡ self.old.rules.now }
     {
-        let line = &self.source[self.line_start..end];
-        take_line(
-            self.alloc,
-            self.rules,
-            self.line_start as u32,
-            line,
-            &mut self.room,
-            &mut self.rewriting,
-        )?;
-        self.line_start = end;
+        if !self.take_ascii(end)? {
+            self.take_any_line(end)?;
+        }
+        Ok(())
+    }
+
+    /// Takes the next line, which has ended, and with it lines of ASCII that follow one of ASCII.
+    fn take_next(&mut self) -> Result<(), AllocError>
+        requires read { HasRead self.old }
+        requires fits { length self.old.source.items < 2 ^ 32 }
+        requires ended { ¬ All (λ b. b ≢ 0x0A) (drop self.old.line_start self.old.source.items) }
+        ensures read { OnOk result (HasRead self.new) }
+        ensures some { OnOk result (self.old.line_start < self.new.line_start) }
+        ensures source { self.new.source.items ≡ self.old.source.items }
+        ensures words { self.new.rewriting.phrases.now ≡ self.old.rewriting.phrases.now }
+        ensures rules { self.new.rules.now ≡ self.old.rules.now }
+    {
+        let start = self.line_start;
+        let rest = &self.source[start..];
+        let lines = start + lines_end(rest);
+        let line = start + line_end(rest);
+        if !self.take_ascii(lines)? {
+            self.take_any_line(line)?;
+        }
         Ok(())
     }
 
@@ -99,10 +176,12 @@ impl<'w> Reader<'w> {
         ensures words { self.new.rewriting.phrases.now ≡ self.old.rewriting.phrases.now }
         ensures rules { self.new.rules.now ≡ self.old.rules.now }
     {
-        let mut searched = from;
-        while let Some(place) = memchr(b'\n', &self.source[searched..]) {
-            searched += place + 1;
-            self.take_line(searched)?;
+        let Some(place) = memrchr(b'\n', &self.source[from..]) else {
+            return Ok(());
+        };
+        let last = from + place;
+        while self.line_start <= last {
+            self.take_next()?;
         }
         Ok(())
     }

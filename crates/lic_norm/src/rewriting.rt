@@ -1,21 +1,18 @@
 //! From first tokens to the tokens of the rewriting, as they are kept.
-ghost use Rattle.std.specs.Prelude.{◌≡◌, ◌++◌, ◌∷◌, ◌+◌, ◌<◌, ◌≤◌, ◌^◌, [], true, List, length, drop, map, IfOk, OnOk, IsAscii};
-ghost use Rattle.std.specs.Char.{to_ascii_lowercase};
-ghost use Rattle.lic_lines.specs.AsciiFronts.{ascii_tokens};
+ghost use Rattle.std.specs.Prelude.{◌≡◌, ◌++◌, ◌∷◌, ◌<◌, ◌≤◌, [], true, List, length, drop, map, IfOk, OnOk};
 ghost use Rattle.lic_lines.specs.LineRules.{rules_of};
-ghost use Rattle.lic_lines.specs.Lines.{whole_line};
-ghost use Rattle.lic_lines.specs.Sources.{placed};
-ghost use Rattle.lic_lines.specs.Tokens.{Token, line_tokens, text_tokens_after, token_in, tokens_in};
+ghost use Rattle.lic_lines.specs.Tokens.{Token, single_signs, text_tokens_after, token_in, tokens_in};
 ghost use Rattle.lic_phrases.specs.Rewriting.{rewritten};
 ghost use Rattle.lic_phrases.specs.TokenTexts.{HaveTokenTexts, IsTokenText};
 ghost use Rattle.lic_norm.specs.Reading.{HasTaken, HasTakenSome};
 ghost use Rattle.lic_norm.specs.Spans.{HaveTexts};
 ghost use Rattle.lic_norm.specs.Tokens.{reported};
 
+use crate::stretch::Stretch;
 use crate::token_list::TokenList;
 use lic_lines::{
-    AsciiFront, FirstToken, FrontPart, Room, Rules, SmallString, SourceChar, TextFront,
-    front_of_ascii, front_of_text, front_part, front_part_of_ascii, left_of_ascii,
+    FirstToken, FrontPart, Room, Rules, SmallString, SourceChar, TextFront, front_of_text,
+    front_part,
 };
 use lic_phrases::{FinalToken, Phrases, Rewriter};
 use std::alloc::{AllocError, Global};
@@ -164,121 +161,33 @@ impl<'w> Rewriting<'w> {
         Ok(())
     }
 
-    /// Takes a part in front of a text of ASCII, of which nothing is taken, and lists the tokens that are settled then.
-    #[inline(never)]
-    fn take_part(
+    /// Takes the tokens of lines of ASCII, each copyright sign as one, and lists the tokens that are settled then.
+    pub(crate) fn take_stretch(
         &mut self,
         alloc: Global,
-        rules: &Rules,
-        after_blank: bool,
-        at: u32,
-        text: &str,
-        lowered: &str,
-        room: &mut PartRoom,
-    ) -> Result<FrontPart, AllocError>
-        requires emptied { self.old.settled.items ≡ [] }
-        requires before { HasTakenSome self.old }
-        requires some { 0 < length text.now }
-        requires ascii { IsAscii text.now }
-        requires fits { at + length text.now < 2 ^ 32 }
-        requires lowered { lowered.now ≡ map to_ascii_lowercase text.now }
-        ensures some { IfOk result (λ part. 0 < part.length) }
-        ensures within { IfOk result (λ part. part.length ≤ length text.now) }
-        ensures taken { IfOk result (λ part. (taken : List Token) → HasTaken self.old taken
-            → (front : List Token) × HasTaken self.new (taken ++ front)
-            × (front ++ ascii_tokens (rules_of rules.now) part.blank_behind (at + part.length)
-            (drop part.length text.now)
-            ≡ ascii_tokens (rules_of rules.now) after_blank at text.now)) }
-        ensures phrases { self.new.phrases.now ≡ self.old.phrases.now }
-        ensures emptied { OnOk result (self.new.settled.items ≡ []) }
-    {
-        let PartRoom { room, tokens } = room;
-        let part = front_part_of_ascii(alloc, rules, after_blank, at, text, lowered, room, tokens)?;
-        self.take_all(alloc, tokens)?;
-        Ok(part)
-    }
-
-    /// Takes a text of ASCII, of which nothing is taken and before which a blank stands, and lists the tokens that are
-    /// settled then.
-    fn take_ascii(
-        &mut self,
-        alloc: Global,
-        rules: &Rules,
-        at: u32,
-        text: &str,
-        lowered: &str,
-        room: &mut PartRoom,
+        stretch: &Stretch<'_>,
     ) -> Result<(), AllocError>
-        requires emptied { self.old.settled.items ≡ [] }
         requires before { HasTakenSome self.old }
-        requires ascii { IsAscii text.now }
-        requires fits { at + length text.now < 2 ^ 32 }
-        requires lowered { lowered.now ≡ map to_ascii_lowercase text.now }
+        requires texts { HaveTexts stretch.now }
         ensures taken { OnOk result ((taken : List Token) → HasTaken self.old taken
-            → HasTaken self.new (taken ++ ascii_tokens (rules_of rules.now) true at text.now)) }
+            → HasTaken self.new (taken ++ single_signs stretch.now)) }
         ensures phrases { self.new.phrases.now ≡ self.old.phrases.now }
     {
-        let bytes = text.as_bytes();
-        let mut after_blank = true;
-        let mut place = 0;
-        while place < bytes.len() {
-            let start = at + place as u32;
-            match front_of_ascii(&bytes[place..]) {
-                AsciiFront::Blank => {
-                    after_blank = true;
-                    place += 1;
-                }
-                AsciiFront::Token(length) => {
-                    let letters = &lowered[place..place + length];
-                    self.take_text(alloc, letters, start, start + length as u32, after_blank)?;
-                    after_blank = false;
-                    place += length;
-                }
-                AsciiFront::Marks => {
-                    let rest = &text[place..];
-                    let letters = &lowered[place..];
-                    let part = self.take_part(
-                        alloc,
-                        rules,
-                        after_blank,
-                        start,
-                        rest,
-                        letters,
-                        room,
-                    )?;
-                    after_blank = part.blank_behind;
-                    place += part.length;
-                }
+        self.settled.clear();
+        self.tokens.reserve(stretch.len(), stretch.bytes())?;
+        let mut i = 0;
+        while i < stretch.len() {
+            let text = stretch.text(i);
+            let (start, blank) = (stretch.start(i), stretch.after_blank(i));
+            if stretch.is_sign(i, text) {
+                self.take_text(alloc, "copyright", start, stretch.end(i + 2), blank)?;
+                i += 3;
+            } else {
+                self.take_text(alloc, text, start, stretch.end(i), blank)?;
+                i += 1;
             }
         }
         Ok(())
-    }
-
-    /// Takes a whole line of ASCII that begins at this byte, and lists the tokens that are settled then. The rooms may hold
-    /// anything.
-    pub(crate) fn take_line(
-        &mut self,
-        alloc: Global,
-        rules: &Rules,
-        at: u32,
-        line: &str,
-        room: &mut PartRoom,
-        lowered: &mut String,
-    ) -> Result<(), AllocError>
-        requires before { HasTakenSome self.old }
-        requires ascii { IsAscii line.now }
-        requires fits { at + length line.now < 2 ^ 32 }
-        ensures taken { OnOk result ((taken : List Token) → HasTaken self.old taken
-            → HasTaken self.new (taken
-            ++ line_tokens (rules_of rules.now) whole_line (placed at line.now))) }
-        ensures phrases { self.new.phrases.now ≡ self.old.phrases.now }
-    {
-        let (start, text) = left_of_ascii(alloc, rules, at, line, &mut room.room)?;
-        lowered.clear();
-        lowered.push_str(text)?;
-        lowered.make_ascii_lowercase();
-        self.settled.clear();
-        self.take_ascii(alloc, rules, start, text, lowered.as_str(), room)
     }
 
     /// Takes a part in front of a text, of which nothing is taken, and lists the tokens that are settled then.

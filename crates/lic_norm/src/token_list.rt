@@ -95,6 +95,15 @@ impl TokenList {
         })
     }
 
+    /// Makes room for so many tokens more, whose texts have so many bytes.
+    pub(crate) fn reserve(&mut self, tokens: usize, bytes: usize) -> Result<(), AllocError>
+        ensures { self.new ≡ self.old }
+    {
+        self.entries.reserve(tokens)?;
+        self.spelling.reserve(bytes)?;
+        Ok(())
+    }
+
     /// How many tokens there are.
     pub(crate) fn len(&self) -> usize
         ensures { result ≡ length self.now }

@@ -1,0 +1,121 @@
+use Rattle.std.proofs.Common.{◌≢◌, ◌⊎◌, ◌+◌, ◌≤◌, All, length, take, drop, length-drop, ap, ap₂, sym, subst, ◌∙◌, arith}
+use Rattle.std.specs.List.{slice_range}
+use Rattle.lic_lines.specs.LineRules.{rules_of}
+use Rattle.lic_norm.specs.Feeding.{AreLines}
+use Rattle.lic_norm.specs.LineEnds.{IsFirstLine}
+use Rattle.lic_norm.specs.Reading.{HasRead, HasTaken}
+use Rattle.lic_norm.specs.Tokens.{first_tokens_of}
+use Rattle.lic_norm.specs.declared.reader.Reader.{Reader}
+use Rattle.lic_norm.proofs.LineCuts.{first_line-ends}
+use Rattle.lic_norm.proofs.ReaderLemmas.{ended_lines, more_lines, read_on, rest_line, searched_rest, some_rest}
+use Rattle.lic_norm.proofs.reader.Reader.take_next.Goals as goal
+
+pub overflow_add-lines : goal.overflow_add-lines
+overflow_add-lines c =
+    let at = c.args.self.now.line_start in
+    let here = c.deref.result.now in
+    let rest = searched_rest here c.args.self.now.source.items at c.deref.ensures.value in
+    omega (arith, c.lines_end.ensures.within, ap length rest, length-drop at c.args.self.now.source.items, c.requires.fits, c.requires.read.within)
+
+pub overflow_add-line : goal.overflow_add-line
+overflow_add-line c =
+    let at = c.args.self.now.line_start in
+    let here = c.deref.result.now in
+    let rest = searched_rest here c.args.self.now.source.items at c.deref.ensures.value in
+    omega (arith, c.line_end.ensures.within, ap length rest, length-drop at c.args.self.now.source.items, c.requires.fits, c.requires.read.within)
+
+pub take_ascii-requires-clause-within : goal.take_ascii-requires-clause-within
+take_ascii-requires-clause-within c =
+    let at = c.args.self.now.line_start in
+    let here = c.deref.result.now in
+    let rest = searched_rest here c.args.self.now.source.items at c.deref.ensures.value in
+    omega (arith, c.lines_end.ensures.within, ap length rest, length-drop at c.args.self.now.source.items, c.requires.read.within)
+
+pub take_any_line-requires-clause-read : goal.take_any_line-requires-clause-read
+take_any_line-requires-clause-read c = subst HasRead (sym (c.in_ok-take_ascii.ensures.other c.if-not-branch.true)) c.requires.read
+
+pub take_any_line-requires-clause-order : goal.take_any_line-requires-clause-order
+take_any_line-requires-clause-order c =
+    let same = c.in_ok-take_ascii.ensures.other c.if-not-branch.true in
+    omega (arith, ap (λ (r : Reader). r.line_start) same)
+
+pub take_any_line-requires-clause-within : goal.take_any_line-requires-clause-within
+take_any_line-requires-clause-within c =
+    let at = c.args.self.now.line_start in
+    let here = c.deref.result.now in
+    let rest = searched_rest here c.args.self.now.source.items at c.deref.ensures.value in
+    omega (
+      arith,
+      c.line_end.ensures.within,
+      ap length rest,
+      length-drop at c.args.self.now.source.items,
+      c.requires.read.within,
+      ap length c.take_ascii.ensures.source,
+    )
+
+pub take_any_line-requires-clause-fits : goal.take_any_line-requires-clause-fits
+take_any_line-requires-clause-fits c = omega (arith, c.requires.fits, ap length c.take_ascii.ensures.source)
+
+pub take_any_line-requires-clause-line : goal.take_any_line-requires-clause-line
+take_any_line-requires-clause-line c =
+    let self = c.args.self.now in
+    let at = self.line_start in
+    let source = self.source.items in
+    let n = c.line_end.result in
+    let same = c.in_ok-take_ascii.ensures.other c.if-not-branch.true in
+    let rest = searched_rest c.deref.result.now source at c.deref.ensures.value in
+    subst (λ (r : Reader). IsFirstLine (slice_range r.source.items r.line_start (at + n)) (drop (at + n) r.source.items)) (sym same)
+    (rest_line source at n (subst (λ l. IsFirstLine (take n l) (drop n l)) rest c.line_end.ensures.line))
+
+pub returns-in_ok-take_any_line-clause-read : goal.returns-in_ok-take_any_line-clause-read
+returns-in_ok-take_any_line-clause-read c =
+    let self = c.args.self.now in
+    let at = self.line_start in
+    let source = self.source.items in
+    let n = c.line_end.result in
+    let new = c.take_any_line.new.self in
+    let rest = searched_rest c.deref.result.now source at c.deref.ensures.value in
+    let first = subst (λ l. IsFirstLine (take n l) (drop n l)) rest c.line_end.ensures.line in
+    let within : at + n ≤ length source = omega (arith, c.line_end.ensures.within, ap length rest, length-drop at source, c.requires.read.within) in
+    read_on self new (at + n) (c.take_any_line.ensures.rules ∙ c.take_ascii.ensures.rules) c.in_ok-take_any_line.ensures.start
+    (c.take_any_line.ensures.source ∙ c.take_ascii.ensures.source) within
+    (more_lines source at n c.requires.read.lines (ended_lines (drop at source) n c.requires.ended (first_line-ends (drop at source) n first)))
+    (subst (HasTaken new.rewriting)
+    (ap₂ (λ r bytes. first_tokens_of (rules_of r) 0 (take (at + n) bytes)) c.take_ascii.ensures.rules c.take_ascii.ensures.source)
+    c.in_ok-take_any_line.ensures.taken)
+
+pub returns-in_ok-take_any_line-clause-some : goal.returns-in_ok-take_any_line-clause-some
+returns-in_ok-take_any_line-clause-some c =
+    let self = c.args.self.now in
+    let at = self.line_start in
+    let rest = searched_rest c.deref.result.now self.source.items at c.deref.ensures.value in
+    omega (
+      arith,
+      c.line_end.ensures.some (omega (arith, ap length rest, some_rest (drop at self.source.items) c.requires.ended)),
+      c.in_ok-take_any_line.ensures.start,
+    )
+
+pub returns-else-not-branch-clause-read : goal.returns-else-not-branch-clause-read
+returns-else-not-branch-clause-read c =
+    let self = c.args.self.now in
+    let at = self.line_start in
+    let source = self.source.items in
+    let n = c.lines_end.result in
+    let new = c.take_ascii.new.self in
+    let rest = searched_rest c.deref.result.now source at c.deref.ensures.value in
+    let ends = subst (λ l. AreLines (take n l) ⊎ All (λ b. b ≢ 0x0A) l) rest c.lines_end.ensures.lines in
+    let within : at + n ≤ length source = omega (arith, c.lines_end.ensures.within, ap length rest, length-drop at source, c.requires.read.within) in
+    read_on self new (at + n) c.take_ascii.ensures.rules (c.in_ok-take_ascii.ensures.start c.if-not-branch.false) c.take_ascii.ensures.source within
+    (more_lines source at n c.requires.read.lines (ended_lines (drop at source) n c.requires.ended ends))
+    (c.in_ok-take_ascii.ensures.taken c.if-not-branch.false)
+
+pub returns-else-not-branch-clause-some : goal.returns-else-not-branch-clause-some
+returns-else-not-branch-clause-some c =
+    let self = c.args.self.now in
+    let at = self.line_start in
+    let rest = searched_rest c.deref.result.now self.source.items at c.deref.ensures.value in
+    omega (
+      arith,
+      c.lines_end.ensures.some (omega (arith, ap length rest, some_rest (drop at self.source.items) c.requires.ended)),
+      c.in_ok-take_ascii.ensures.start c.if-not-branch.false,
+    )
