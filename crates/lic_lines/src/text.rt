@@ -20,7 +20,7 @@ use std::alloc::{AllocError, Global};
 /// A part in front of a text across whose end nothing is joined.
 #[derive(Clone, Copy)]
 pub struct FrontPart {
-    /// How many characters it has; of a text of ASCII these are bytes.
+    /// How many characters it has.
     pub length: usize,
     /// Whether a blank stands between its last token and what follows.
     pub blank_behind: bool,
@@ -28,7 +28,7 @@ pub struct FrontPart {
 
 /// Adds the tokens of a row of marks, where a blank stands before it or does not, and says whether one
 /// stands behind its last token. The room may hold anything.
-pub(crate) fn push_marks(
+fn push_marks(
     alloc: Global,
     rules: &Rules,
     after_blank: bool,

@@ -3,10 +3,9 @@ ghost use Rattle.std.specs.Prelude.{◌≡◌, ◌≢◌, ◌∷◌, [], ◌<◌
 ghost use Rattle.lic_kind.specs.Kinds.{kind_of, spell};
 ghost use Rattle.lic_lines.specs.TextFronts.{IsTextFront};
 
-use crate::ascii_front::is_itself;
 use crate::source::SourceChar;
 use crate::tokens::spell_word;
-use lic_kind::{Kind, kind_of};
+use lic_kind::{Kind, is_dash, is_quote, kind_of};
 use std::alloc::{AllocError, Global};
 
 /// What stands in front of a text.
@@ -45,6 +44,20 @@ fn front_word(
         return Ok(TextFront::Other);
     }
     Ok(TextFront::Token(length))
+}
+
+/// Whether a mark stands for itself, and begins no copyright sign.
+#[inline(always)]
+fn is_itself(mark: u8) -> bool
+    requires { kind_of mark ≡ Kind.Mark }
+    ensures letter { IsTrue result → spell mark ≡ mark ∷ [] }
+    ensures sign { IsTrue result → mark ≢ 0x28 }
+{
+    match mark {
+        b'(' => false,
+        b'-' | b'\'' => true,
+        _ => !is_dash(mark as char) && !is_quote(mark as char),
+    }
 }
 
 /// Whether a mark of ASCII that stands for itself stands in front, and no other behind it.
