@@ -23,7 +23,6 @@ pub mod CutLemmas
 pub mod TokenLemmas
 pub mod AsciiLemmas
 pub mod PlainSigns
-pub mod AsciiFronts
 pub mod TextFronts
 pub mod LineByLine
 mod examples

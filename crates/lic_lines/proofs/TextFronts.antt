@@ -1,5 +1,5 @@
 -- The tokens of a text from its front on: a blank, a word that begins no sign, and a mark by itself.
-use Rattle.std.proofs.Common.{◌≡◌, ◌≢◌, ℕ, ◌-◌, ◌<◌, ◌≤◌, Bool, true, false, List, [], ◌∷◌, ◌++◌, length, take, drop, map, get_or, sym, ap, ap₂, ◌∙◌, arith}
+use Rattle.std.proofs.Common.{◌≡◌, ◌≢◌, ℕ, ◌-◌, ◌<◌, ◌≤◌, Bool, true, false, cond, List, [], ◌∷◌, ◌++◌, length, take, drop, map, get_or, refl, sym, ap, ap₂, ◌∙◌, arith}
 use Rattle.std.specs.Prelude.{bytes_eq, codes, encode_utf8_all}
 use Rattle.std.specs.Char.{encode_utf8}
 use Rattle.std.proofs.lemmas.Str.{encode_ascii}
@@ -11,12 +11,12 @@ use Rattle.lic_lines.specs.Texts.{groups}
 use Rattle.lic_lines.specs.Sources.{SourceChar}
 use Rattle.lic_lines.specs.LineRules.{LineRules}
 use Rattle.lic_lines.specs.Lines.{Mark, Word, cell_of}
-use Rattle.lic_lines.specs.Runs.{runs_joined}
+use Rattle.lic_lines.specs.Runs.{runs_joined, without_separators, with_joined}
 use Rattle.lic_lines.specs.TextFronts.{text_token}
-use Rattle.lic_lines.specs.Tokens.{Token, both_words, blank_behind, letters_of, is_text, single_signs, text_tokens_after, tokens_after, tokens_from}
-use Rattle.lic_lines.proofs.AsciiFronts.{one_mark, plain_token}
+use Rattle.lic_lines.specs.Tokens.{Token, both_words, blank_behind, letters_of, is_text, as_sign, single_signs, text_tokens_after, tokens_after, tokens_from}
 use Rattle.lic_lines.proofs.KindRows.{cell_of-Mark, words_row, marks_row, blank_front}
 use Rattle.lic_lines.proofs.PlainSigns.{plain_first}
+use Rattle.lic_lines.proofs.TextLemmas.{bytes_eq-other}
 use Rattle.lic_lines.proofs.TokenLemmas.{word_is_token}
 
 -- a character that is neither a mark nor of a word
@@ -46,6 +46,27 @@ front_word rules after_blank text n letters d some within words stop is no_paren
     (ap₂ (λ (a b : SourceChar). let u : Token = record { text = letters; start = a.start; end = b.end; after_blank = after_blank } in u ∷ rest) (sym first) (sym last)
     ∙ ap (λ l. l ++ rest) (word_is_token after_blank word d letters (omega arith) is)
     ∙ words_row rules after_blank text n within some words stop)
+
+-- what begins with another character of ASCII than `(` is no sign and begins none
+module _ (t : Token) (b : ℕ) (text : List ℕ) (is : t.text ≡ b ∷ text) (small : b < 128) (other : b ≢ 0x28) where
+  no_parenthesis : is_text (codes "(") t ≡ false
+  no_parenthesis = sym (bytes_eq-other (codes "(") t.text (λ same. other (sym (ap (λ l. get_or l 0 0) (same ∙ is)))))
+
+  no_single_sign : as_sign t ≡ t
+  unfolding encode_utf8
+  no_single_sign =
+      cond-false (is_text (0xC2 ∷ 0xA9 ∷ []) t) (record t { text = codes "copyright" }) t
+      (sym (bytes_eq-other (0xC2 ∷ 0xA9 ∷ []) t.text (λ same. let first : 0xC2 ≡ b = ap (λ l. get_or l 0 0) (same ∙ is) in absurd (omega arith))))
+
+  plain_token : (ts : List Token) → single_signs (t ∷ ts) ≡ t ∷ single_signs ts
+  plain_token ts = plain_first t ts no_parenthesis no_single_sign
+
+one_mark : (rules : LineRules) (s : SourceChar) → runs_joined rules (Mark s ∷ []) ≡ Mark s ∷ []
+one_mark rules s = at rules.separators
+  where
+    at : (b : Bool) → with_joined (cond b (without_separators (Mark s ∷ [])) (Mark s ∷ [])) ≡ Mark s ∷ []
+    at true = refl
+    at false = refl
 
 -- a mark of ASCII that stands for itself and begins no sign, with no other behind it
 pub front_mark : (rules : LineRules) (after_blank : Bool) (text : List SourceChar) (letters : List ℕ) (d : SourceChar) → 0 < length text

@@ -8,5 +8,4 @@ pub mod Tokens
 pub mod Groupings
 pub mod Walks
 pub mod PieceLengths
-pub mod AsciiFronts
 pub mod TextFronts

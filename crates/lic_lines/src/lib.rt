@@ -2,9 +2,7 @@
 //! with their letters, and single copyright signs.
 #![tactic(auto)]
 
-mod ascii;
 mod ascii_cut;
-mod ascii_front;
 mod ascii_rows;
 mod ascii_texts;
 pub mod cell;
@@ -26,9 +24,7 @@ mod text_front;
 pub mod tokens;
 mod walk;
 
-pub use ascii::{front_part_of_ascii, left_of_ascii};
 pub use ascii_cut::cut_of_ascii;
-pub use ascii_front::{AsciiFront, front_of_ascii};
 pub use cell::Cell;
 pub use lic_kind::Rules;
 pub use line::{cells_of_line, left_of_line, push_tokens_of_line};

@@ -1,5 +1,5 @@
 //! Rows of marks in front of a text, of which each may be joined to the next.
-ghost use Rattle.std.specs.Prelude.{◌≡◌, ◌<◌, ◌≤◌, ◌-◌, ℕ, false, length, slice_index, slice_index_or, IsTrue};
+ghost use Rattle.std.specs.Prelude.{◌≡◌, ◌<◌, ◌≤◌, ◌-◌, ℕ, false, length, slice_index_or, IsTrue};
 ghost use Rattle.lic_kind.specs.Kinds.{kind_of};
 ghost use Rattle.lic_lines.specs.Runs.{may_join};
 
@@ -21,24 +21,6 @@ fn goes_on(mark: char, next: char) -> bool
     ensures stop { result ≡ false → kind_of next ≡ Kind.Mark → may_join mark next ≡ false }
 {
     kind_of(next) == Kind::Mark && may_join(mark, next)
-}
-
-/// How many bytes in front of a text are a row of marks across whose end nothing is joined.
-#[inline(always)]
-pub(crate) fn ascii_mark_count(text: &[u8]) -> usize
-    requires some { 0 < length text.now }
-    requires mark { kind_of (slice_index text.now 0) ≡ Kind.Mark }
-    ensures some { 0 < result }
-    ensures within { result ≤ length text.now }
-    ensures all { (i : ℕ) → i < result → kind_of (slice_index text.now i) ≡ Kind.Mark }
-    ensures stop { result < length text.now → kind_of (slice_index text.now result) ≡ Kind.Mark
-        → may_join (slice_index text.now (result - 1)) (slice_index text.now result) ≡ false }
-{
-    let mut count = 1;
-    while count < text.len() && goes_on(text[count - 1] as char, text[count] as char) {
-        count += 1;
-    }
-    count
 }
 
 /// How many characters in front of a text are a row of marks across whose end nothing is joined.

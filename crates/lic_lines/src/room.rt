@@ -2,7 +2,6 @@
 
 use crate::cell::Cell;
 use crate::runs::Runs;
-use crate::source::SourceChar;
 use std::alloc::Global;
 
 /// Room for the work on a line, kept from one line to the next. What it holds has no effect.
@@ -13,10 +12,6 @@ pub struct Room {
     pub(crate) runs: Runs,
     /// The letters of a token.
     pub(crate) letters: String,
-    /// A line in small letters.
-    pub(crate) lowered: String,
-    /// The characters of a row of marks.
-    pub(crate) marks: Vec<SourceChar>,
 }
 
 impl Room {
@@ -26,8 +21,6 @@ impl Room {
             cells: Vec::new(alloc),
             runs: Runs::new(alloc),
             letters: String::new(alloc),
-            lowered: String::new(alloc),
-            marks: Vec::new(alloc),
         }
     }
 }

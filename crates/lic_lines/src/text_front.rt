@@ -1,20 +1,19 @@
-//! What a text begins with: mostly a blank, a word, or a mark of ASCII by itself.
+//! What stands in front of a text: mostly a blank, a word, or a mark of ASCII by itself.
 ghost use Rattle.std.specs.Prelude.{◌≡◌, ◌≢◌, ◌∷◌, [], ◌<◌, ℕ, false, length, map, take, slice_index_or, IfOk, IsTrue, bytes_eq, codes, encode_utf8_all, string_bytes};
 ghost use Rattle.lic_kind.specs.Kinds.{kind_of, spell};
 ghost use Rattle.lic_lines.specs.TextFronts.{IsTextFront};
 
-use crate::ascii_front::is_itself;
 use crate::source::SourceChar;
 use crate::tokens::spell_word;
-use lic_kind::{Kind, kind_of};
+use lic_kind::{Kind, is_dash, is_quote, kind_of};
 use std::alloc::{AllocError, Global};
 
-/// What a text begins with.
+/// What stands in front of a text.
 #[derive(Clone, Copy)]
 pub enum TextFront {
     /// A character that is a blank.
     Blank,
-    /// A token of this many characters.
+    /// A token of so many characters.
     Token(usize),
     /// Characters of which this look says nothing.
     Other,
@@ -47,7 +46,21 @@ fn front_word(
     Ok(TextFront::Token(length))
 }
 
-/// Whether the text begins with a mark of ASCII that has itself as its letter, and no mark follows.
+/// Whether a mark stands for itself, and begins no copyright sign.
+#[inline(always)]
+fn is_itself(mark: u8) -> bool
+    requires { kind_of mark ≡ Kind.Mark }
+    ensures letter { IsTrue result → spell mark ≡ mark ∷ [] }
+    ensures sign { IsTrue result → mark ≢ 0x28 }
+{
+    match mark {
+        b'(' => false,
+        b'-' | b'\'' => true,
+        _ => !is_dash(mark as char) && !is_quote(mark as char),
+    }
+}
+
+/// Whether a mark of ASCII that stands for itself stands in front, and no other behind it.
 #[inline(always)]
 fn is_plain_mark(text: &[SourceChar]) -> bool
     requires some { 0 < length text.now }
@@ -82,7 +95,8 @@ fn front_mark(text: &[SourceChar], letters: &mut String) -> Result<TextFront, Al
     Ok(TextFront::Token(1))
 }
 
-/// What a text begins with, of which nothing is taken. The letters of a token are put in place of those that are there.
+/// What stands in front of a text of which nothing is taken. The letters of a token are put in the place of those that are
+/// there.
 ///
 /// The error is that memory ran out.
 #[inline(always)]

@@ -2,7 +2,7 @@ use Rattle.std.proofs.Common.{◌≡◌, ◌∷◌, [], ◌∙◌, true, false, 
 use Rattle.std.specs.Prelude.{not}
 use Rattle.lic_kind.specs.Kinds.{is_dash, is_quote, spell}
 use Rattle.lic_kind.proofs.LetterLemmas.{spell-dash, spell-quote, spell-other_mark}
-use Rattle.lic_lines.proofs.ascii_front.is_itself.Goals as goal
+use Rattle.lic_lines.proofs.text_front.is_itself.Goals as goal
 
 dash : spell 0x2D ≡ 0x2D ∷ []
 unfolding is_dash
