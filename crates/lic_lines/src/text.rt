@@ -22,12 +22,12 @@ use std::alloc::{AllocError, Global};
 pub struct FrontPart {
     /// How many characters it has.
     pub length: usize,
-    /// Whether a blank stands between its last token and what follows.
+    /// Whether a blank is between its last token and what follows.
     pub blank_behind: bool,
 }
 
-/// Adds the tokens of a row of marks, where a blank stands before it or does not, and says whether one
-/// stands behind its last token. The room may hold anything.
+/// Adds the tokens of a row of marks, which a blank precedes or not, and says whether a blank
+/// follows its last token. The buffers may hold anything.
 fn push_marks(
     alloc: Global,
     rules: &Rules,
@@ -156,8 +156,8 @@ fn push_rows(
     })
 }
 
-/// Puts the tokens of a part in front of a text, of which nothing is taken, in the place of those that are there, where
-/// a blank stands before the text or does not. The room may hold anything.
+/// Lists the tokens of a part at the beginning of a text, in place of those in `out`. The text is after a blank or not;
+/// nothing is taken from it. The buffers of `room` may hold anything.
 ///
 /// The error is that memory ran out; what `out` then holds is of no use.
 pub fn front_part(

@@ -1,4 +1,4 @@
-//! What stands in front of a text: mostly a blank, a word, or a mark of ASCII by itself.
+//! What a text begins with: mostly a blank, a word, or a mark of ASCII by itself.
 ghost use Rattle.std.specs.Prelude.{◌≡◌, ◌≢◌, ◌∷◌, [], ◌<◌, ℕ, false, length, map, take, slice_index_or, IfOk, IsTrue, bytes_eq, codes, encode_utf8_all, string_bytes};
 ghost use Rattle.lic_kind.specs.Kinds.{kind_of, spell};
 ghost use Rattle.lic_lines.specs.TextFronts.{IsTextFront};
@@ -8,12 +8,12 @@ use crate::tokens::spell_word;
 use lic_kind::{Kind, is_dash, is_quote, kind_of};
 use std::alloc::{AllocError, Global};
 
-/// What stands in front of a text.
+/// What a text begins with.
 #[derive(Clone, Copy)]
 pub enum TextFront {
     /// A character that is a blank.
     Blank,
-    /// A token of so many characters.
+    /// A token of this many characters.
     Token(usize),
     /// Characters of which this look says nothing.
     Other,
@@ -60,7 +60,7 @@ fn is_itself(mark: u8) -> bool
     }
 }
 
-/// Whether a mark of ASCII that stands for itself stands in front, and no other behind it.
+/// Whether the text begins with a mark of ASCII that has itself as its letter, and no mark follows.
 #[inline(always)]
 fn is_plain_mark(text: &[SourceChar]) -> bool
     requires some { 0 < length text.now }
@@ -95,8 +95,7 @@ fn front_mark(text: &[SourceChar], letters: &mut String) -> Result<TextFront, Al
     Ok(TextFront::Token(1))
 }
 
-/// What stands in front of a text of which nothing is taken. The letters of a token are put in the place of those that are
-/// there.
+/// What a text begins with, of which nothing is taken. The letters of a token are put in place of those that are there.
 ///
 /// The error is that memory ran out.
 #[inline(always)]

@@ -12,7 +12,7 @@ const MAX_TOGETHER: usize = 65_536;
 /// So many bytes are tested together for bytes beyond ASCII.
 const BLOCK: usize = 64;
 
-/// Where the first line of these bytes ends: behind its U+000A, or at their end.
+/// Where the first line of these bytes ends: after its U+000A, or at their end.
 pub(crate) fn line_end(bytes: &[u8]) -> usize
     ensures within { result ≤ length bytes.now }
     ensures line { IsFirstLine (take result bytes.now) (drop result bytes.now) }
