@@ -12,7 +12,7 @@ use lic_norm::text::Text;
 use lic_norm::token::Span;
 use lic_norm::words::Words;
 use lic_report::all_matches::AllMatches;
-use lic_search::tight::tight_matches;
+use lic_search::tight_matches;
 use lic_set::set::Set;
 use lic_set::triple::Triple;
 use lic_vars::values::assign;

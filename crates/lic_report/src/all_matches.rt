@@ -12,7 +12,7 @@ use lic_bundles::triples::Triples;
 use lic_find::finder::Finder;
 use lic_find::laws::matches_are_one_list;
 use lic_norm::text::Text;
-use lic_search::all::all_matches;
+use lic_search::all_matches;
 use lic_set::set::Set;
 use lic_set::triple::Triple;
 use std::alloc::{AllocError, Global};

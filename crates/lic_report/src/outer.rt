@@ -8,7 +8,7 @@ use lic_filters::filters::outermost;
 use lic_filters::laws::{outer_ones_are_tight, tight_ones_are_tight};
 use lic_find::laws::matches_exist;
 use lic_norm::text::Text;
-use lic_search::tight::tight_matches;
+use lic_search::tight_matches;
 use lic_set::set::Set;
 use lic_set::triple::Triple;
 use std::alloc::{AllocError, Global};

@@ -14,7 +14,7 @@ use Rattle.lic_markup.specs.Meaning.{node_words, part_words, parts_words}
 use Rattle.lic_markup.specs.Parts as nodes
 use Rattle.lic_markup.specs.Parts.{Node, part_node, part_of, row}
 use Rattle.lic_search.specs.Copies.{AreCopies, words_from}
-use Rattle.lic_search.specs.Tidily.{UpTo}
+use Rattle.lic_reverse.specs.Tidily.{UpTo}
 use Rattle.lic_search.proofs.CopyWords.{copies-joined, copies-none, copies-within}
 
 -- the words of a text

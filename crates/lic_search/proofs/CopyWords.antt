@@ -2,8 +2,8 @@
 use Rattle.std.proofs.Common.{◌≡◌, ◌⊎◌, ◌↔◌, inl, inr, ℕ, zero, suc, ◌+◌, ◌-◌, ◌<◌, ◌≤◌, List, [], ◌∷◌, ◌++◌, refl, sym, ap, subst, ◌∙◌, arith, append_assoc}
 use Rattle.std.proofs.lemmas.Bool.{cases_lt}
 use Rattle.lic_words.specs.Words.{Word, Cat, Power}
-use Rattle.lic_search.specs.Tidily.{UpTo}
-use Rattle.lic_search.proofs.TidyPowers.{power-joined, power-parted}
+use Rattle.lic_reverse.specs.Tidily.{UpTo}
+use Rattle.lic_reverse.proofs.TidyPowers.{power-joined, power-parted}
 
 module _ (P : Word → Type 0) where
   -- before other words no copy

@@ -13,13 +13,13 @@ use Rattle.lic_spans.specs.declared.span.Kind.{Kind}
 use Rattle.lic_spans.specs.declared.span.Kind.TheVariants.{End, Place, Letters, Blanks}
 use Rattle.lic_spans.specs.declared.span.PlaceSpan.{PlaceSpan}
 use Rattle.lic_search.specs.declared.range.Range.{Range}
-use Rattle.lic_search.specs.PlaceSets.{ArePlaced, IsPlaceOf, LiesInFront, Reaches}
-use Rattle.lic_search.specs.Backward.{Beats, IsBackFrom, IsEach}
+use Rattle.lic_view.specs.PlaceSets.{ArePlaced, IsPlaceOf, LiesInFront, Reaches}
+use Rattle.lic_view.specs.Backward.{Beats, IsBackFrom, IsEach}
 use Rattle.lic_search.specs.Beginnings.{BeginsIn}
 use Rattle.lic_search.specs.Matches.{DescribesRange, HasLeastRanges}
-use Rattle.lic_search.proofs.Laws.{a_blank_leads_one_way-order, a_spelling_is_read_from_token_to_token, no_blank-end}
-use Rattle.lic_search.proofs.ViewPlaces.{ends-order, start-after, starts-after}
-use Rattle.lic_search.specs.declared.keep.Keep.{Keep}
+use Rattle.lic_view.proofs.Laws.{a_blank_leads_one_way-order, a_spelling_is_read_from_token_to_token, no_blank-end}
+use Rattle.lic_view.proofs.ViewPlaces.{ends-order, start-after, starts-after}
+use Rattle.lic_view.specs.declared.sets.keep.Keep.{Keep}
 
 -- a place in front of the end of its last token, or at it where nothing was taken
 placed-in-front : (tokens : List TokenValue) (kind : Kind) (number p last : ℕ) → LiesInFront tokens kind number last → IsPlaceOf tokens kind number p

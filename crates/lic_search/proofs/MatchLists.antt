@@ -10,7 +10,7 @@ use Rattle.lic_spans.specs.declared.span.Kind.{Kind}
 use Rattle.lic_spans.specs.declared.span.Kind.TheVariants.{End}
 use Rattle.lic_spans.specs.declared.span.PlaceSpan.{PlaceSpan}
 use Rattle.lic_search.specs.declared.range.Range.{Range}
-use Rattle.lic_search.specs.PlaceSets.{ArePlaced, IsPlaceOf, LiesInFront, Reaches}
+use Rattle.lic_view.specs.PlaceSets.{ArePlaced, IsPlaceOf, LiesInFront, Reaches}
 use Rattle.lic_search.specs.Beginnings.{BeginsIn, IsEndOf, IsLastBeginning}
 use Rattle.lic_search.proofs.MatchSpans.{GivesPlace-from, one-only}
 

@@ -10,13 +10,13 @@ use Rattle.lic_places.specs.Reads.{BeginsAt}
 use Rattle.lic_spans.specs.declared.span.Kind.{Kind}
 use Rattle.lic_spans.specs.declared.span.Kind.TheVariants.{End, Place, Letters, Blanks}
 use Rattle.lic_spans.specs.declared.span.PlaceSpan.{PlaceSpan}
-use Rattle.lic_search.specs.PlaceSets.{ArePlaced, IsLetterPlace, IsPlaceOf, LiesInFront, Reaches}
+use Rattle.lic_view.specs.PlaceSets.{ArePlaced, IsLetterPlace, IsPlaceOf, LiesInFront, Reaches}
 use Rattle.lic_search.specs.Beginnings.{BeginsIn, LiesWithin}
-use Rattle.lic_search.specs.Views.{IsFirstFrom}
-use Rattle.lic_search.proofs.Laws.{no_blank-end, no_blank-start, tokens_stand-first, tokens_stand-order}
-use Rattle.lic_search.proofs.ViewBlanks.{over_blank-cases}
-use Rattle.lic_search.proofs.ViewPlaces.{ends-order, starts-order}
-use Rattle.lic_search.proofs.ViewSpans.{Holds-one, last-one}
+use Rattle.lic_view.specs.Views.{IsFirstFrom}
+use Rattle.lic_view.proofs.Laws.{no_blank-end, no_blank-start, tokens_stand-first, tokens_stand-order}
+use Rattle.lic_view.proofs.ViewBlanks.{over_blank-cases}
+use Rattle.lic_view.proofs.ViewPlaces.{ends-order, starts-order}
+use Rattle.lic_view.proofs.ViewSpans.{Holds-one, last-one}
 use Rattle.lic_search.proofs.MatchStarts.{behind-blank, blank-before, letter-no_blank, start-letter, start-order}
 
 -- ---- one span

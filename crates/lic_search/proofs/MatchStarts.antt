@@ -10,9 +10,9 @@ use Rattle.lic_norm.specs.Places.{place_end, place_start, texts_of}
 use Rattle.lic_places.specs.Places.{AreTexts, HasGap, IsBehindBlank, OverBlank, Stands, is_blank_at, spelling_of}
 use Rattle.lic_places.specs.Places.OverBlank.{over, stays}
 use Rattle.lic_places.specs.Reads.{BeginsAt}
-use Rattle.lic_search.specs.PlaceSets.{IsLetterPlace}
-use Rattle.lic_search.proofs.Laws.{no_blank-end, no_blank-start, tokens_stand-first, tokens_stand-next, tokens_stand-order, tokens_stand-text}
-use Rattle.lic_search.proofs.ViewPlaces.{end-within, starts-after}
+use Rattle.lic_view.specs.PlaceSets.{IsLetterPlace}
+use Rattle.lic_view.proofs.Laws.{no_blank-end, no_blank-start, tokens_stand-first, tokens_stand-next, tokens_stand-order, tokens_stand-text}
+use Rattle.lic_view.proofs.ViewPlaces.{end-within, starts-after}
 
 -- the first byte of a text that stands somewhere begins a letter
 text-boundary : (bytes text : List ℕ) (p q : ℕ) → IsUtf8 text → Stands bytes p text q → p < q → q ≤ length bytes → IsCharBoundary bytes p

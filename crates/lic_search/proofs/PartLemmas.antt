@@ -11,14 +11,14 @@ use Rattle.lic_markup.specs.Parts.{part_of}
 use Rattle.lic_norm.specs.Tokens.{TokenValue}
 use Rattle.lic_places.specs.Places.{AreTexts}
 use Rattle.lic_spans.specs.declared.span.PlaceSpan.{PlaceSpan}
-use Rattle.lic_search.specs.PlaceSets.{ArePlaced, Reaches}
-use Rattle.lic_search.specs.Backward.{IsBack, Keeps}
+use Rattle.lic_view.specs.PlaceSets.{ArePlaced, Reaches}
+use Rattle.lic_view.specs.Backward.{IsBack, Keeps}
 use Rattle.lic_search.specs.Copies.{AreCopies, words_from}
-use Rattle.lic_search.specs.Merged.{AreMerged}
-use Rattle.lic_search.specs.Tidily.{UpTo}
-use Rattle.lic_search.proofs.MergeLemmas.{merged-back}
-use Rattle.lic_search.proofs.Back.{back-after, back-either, back-keeps, back-same, back-stay}
-use Rattle.lic_search.specs.declared.keep.Keep.{Keep}
+use Rattle.lic_view.specs.Merged.{AreMerged}
+use Rattle.lic_reverse.specs.Tidily.{UpTo}
+use Rattle.lic_view.proofs.MergeLemmas.{merged-back}
+use Rattle.lic_view.proofs.Back.{back-after, back-either, back-keeps, back-same, back-stay}
+use Rattle.lic_view.specs.declared.sets.keep.Keep.{Keep}
 
 -- behind all parts
 pub parts-last : (keep : Keep) (tokens : List TokenValue) (parts : List Part) (spans : List PlaceSpan) → ArePlaced tokens spans →

@@ -11,7 +11,7 @@ use Rattle.lic_spans.specs.Spans.{Holds}
 use Rattle.lic_spans.specs.declared.span.Kind.{Kind}
 use Rattle.lic_spans.specs.declared.span.Kind.TheVariants.{End}
 use Rattle.lic_spans.specs.declared.span.PlaceSpan.{PlaceSpan}
-use Rattle.lic_search.specs.PlaceSets.{ArePlaced, IsPlaceOf, LiesInFront, Reaches}
+use Rattle.lic_view.specs.PlaceSets.{ArePlaced, IsPlaceOf, LiesInFront, Reaches}
 use Rattle.lic_search.specs.Beginnings.{IsEndOf}
 use Rattle.lic_search.specs.Windows.{AddsEnds, AreTokenEnds, ListsEnd}
 

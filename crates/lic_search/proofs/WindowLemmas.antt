@@ -11,12 +11,12 @@ use Rattle.lic_norm.specs.Places.{place_end}
 use Rattle.lic_places.specs.Reads.{Reads}
 use Rattle.lic_places.proofs.Reading.{Reads-order}
 use Rattle.lic_spans.specs.declared.span.PlaceSpan.{PlaceSpan}
-use Rattle.lic_search.specs.PlaceSets.{Reaches}
-use Rattle.lic_search.specs.Backward.{IsBackFrom}
+use Rattle.lic_view.specs.PlaceSets.{Reaches}
+use Rattle.lic_view.specs.Backward.{IsBackFrom}
 use Rattle.lic_search.specs.Windows.{TakesAtMost}
 use Rattle.lic_keys.proofs.RequiredEnds.{EndsText}
 use Rattle.lic_search.proofs.WindowBounds.{IsBound, most_number}
-use Rattle.lic_search.specs.declared.keep.Keep.{Keep}
+use Rattle.lic_view.specs.declared.sets.keep.Keep.{Keep}
 
 -- ---- where words end
 

@@ -6,7 +6,7 @@ use Rattle.lic_places.specs.Reads.{BeginsAt}
 use Rattle.lic_spans.specs.declared.span.Kind.TheVariants.{End, Letters}
 use Rattle.lic_spans.specs.declared.span.PlaceSpan.{PlaceSpan}
 use Rattle.lic_search.specs.declared.range.Range.{Range}
-use Rattle.lic_search.specs.PlaceSets.{Reaches}
+use Rattle.lic_view.specs.PlaceSets.{Reaches}
 
 -- a word that begins with this token may begin at a place of the spans that has this last token
 pub record BeginsIn (tokens : List TokenValue) (spans : List PlaceSpan) (first last : ℕ) : Type 0 where

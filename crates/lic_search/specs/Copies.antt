@@ -6,7 +6,7 @@ use Rattle.lic_words.specs.Expressions.{Language, letters}
 use Rattle.lic_markup.specs.declared.part.Part.{Part}
 use Rattle.lic_markup.specs.Meaning.{parts_words}
 use Rattle.lic_markup.specs.Parts.{part_of}
-use Rattle.lic_search.specs.Tidily.{UpTo}
+use Rattle.lic_reverse.specs.Tidily.{UpTo}
 
 -- the words of the parts from one on
 abbrev pub words_from : List Part → ℕ → Word → Type 0

@@ -1,28 +1,19 @@
 //! Going back over the parts of a template, from the last part to the first.
 
 ghost use Rattle.std.specs.Prelude.{IfOk, map};
-ghost use Rattle.lic_ere.specs.Trees.{tree_of};
-ghost use Rattle.lic_words.specs.Expressions.{Language, alt, empty, tidy};
-ghost use Rattle.lic_markup.specs.Meaning.{parts_words, part_words, tree_words};
+ghost use Rattle.lic_words.specs.Expressions.{Language, alt, empty};
+ghost use Rattle.lic_markup.specs.Meaning.{parts_words, part_words};
 ghost use Rattle.lic_markup.specs.Parts.{part_of, row};
 ghost use Rattle.lic_markup.specs.PartTexts.{HasPieceTexts, HavePieceTexts};
-ghost use Rattle.lic_search.specs.Backward.{IsBack};
-ghost use Rattle.lic_search.specs.PlaceSets.{ArePlaced};
+ghost use Rattle.lic_view.specs.Backward.{IsBack};
+ghost use Rattle.lic_view.specs.PlaceSets.{ArePlaced};
 
 use crate::copies::last_copies;
-use crate::counts::over_any;
-use crate::keep::Keep;
-use crate::kept::kept;
-use crate::merged::merged;
-use crate::passing::is_any;
-use crate::patterns::over_pattern;
-use crate::stop::Stop;
-use crate::text_copies::over_copies;
-use crate::texts::over_text;
-use crate::view::{View, tokens_have_texts};
-use lic_ere::Ere;
 use lic_markup::Part;
+use lic_reverse::over_copies;
+use lic_reverse::variable::over_variable;
 use lic_spans::span::PlaceSpan;
+use lic_view::{Keep, Stop, View, kept, merged, over_text, tokens_have_texts};
 use std::alloc::Global;
 
 /// The places from which a word of the parts leads to those of the spans.
@@ -95,24 +86,4 @@ fn over_optional(
     }
     let all = merged(alloc, keep, &spans, &more)?;
     Ok(kept(alloc, view, keep, all)?)
-}
-
-/// The places from which a tidy word of a pattern leads to those of the spans.
-pub(crate) fn over_variable(
-    alloc: Global,
-    view: &View<'_>,
-    keep: Keep,
-    ere: &Ere,
-    spans: Vec<PlaceSpan>,
-) -> Result<Vec<PlaceSpan>, Stop>
-    requires { ArePlaced view.now spans.items }
-    ensures { IfOk result (λ found. IsBack keep view.now (Language (tidy (tree_words (tree_of ere.now)))) spans.items found.items) }
-{
-    match ere {
-        // mostly letters of any kind are counted
-        Ere::Repeat { body, min, max } if *min <= 1 && is_any(body) => {
-            Ok(over_any(alloc, view, keep, *min, *max, spans)?)
-        }
-        _ => over_pattern(alloc, view, keep, ere, spans),
-    }
 }

@@ -7,13 +7,13 @@ ghost use Rattle.lic_set.specs.declared.triple.Triple.{Triple};
 ghost use Rattle.lic_bundles.specs.Bundles.{AreApart};
 ghost use Rattle.lic_search.specs.AllMatches.{BundlesHold, IsOrdered};
 ghost use Rattle.lic_search.specs.Beginnings.{AreFirsts, BeginsIn};
-ghost use Rattle.lic_search.specs.PlaceSets.{ArePlaced};
+ghost use Rattle.lic_view.specs.PlaceSets.{ArePlaced};
 
 use crate::matches::last_beginning;
-use crate::view::{View, tokens_have_texts};
 use lic_bundles::bundle::Bundle;
 use lic_spans::each::with_each_last;
 use lic_spans::span::{Kind, PlaceSpan};
+use lic_view::{View, tokens_have_texts};
 use std::alloc::{AllocError, Global};
 
 /// The bundles of a template whose words begin at the places of spans, each up to the last token of its span.

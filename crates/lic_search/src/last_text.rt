@@ -8,11 +8,11 @@ ghost use Rattle.lic_places.specs.Places.{spelling_of};
 ghost use Rattle.lic_search.specs.Windows.{AreRequiredEnds};
 
 use crate::reach::most_bytes;
-use crate::view::View;
 use lic_keys::candidate::RequiredEnds;
 use lic_keys::edges::edges_of;
 use lic_literals::ends::ends_within;
 use lic_markup::Part;
+use lic_view::View;
 use std::alloc::{AllocError, Global};
 
 /// Where the last text of a template ends, if words may end far after the required one.

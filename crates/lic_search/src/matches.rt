@@ -5,12 +5,12 @@ ghost use Rattle.lic_norm.specs.Places.{place_end, place_start};
 ghost use Rattle.lic_places.specs.Reads.{BeginsAt};
 ghost use Rattle.lic_spans.specs.declared.span.Kind.TheVariants.{End};
 ghost use Rattle.lic_search.specs.declared.range.Range.{Range};
-ghost use Rattle.lic_search.specs.PlaceSets.{ArePlaced, Reaches};
+ghost use Rattle.lic_view.specs.PlaceSets.{ArePlaced, Reaches};
 ghost use Rattle.lic_search.specs.Beginnings.{BeginsIn, IsEndOf, IsLastBeginning, LiesWithin};
 
 use crate::range::Range;
-use crate::view::{View, tokens_have_texts};
 use lic_spans::span::{Kind, PlaceSpan};
+use lic_view::{View, tokens_have_texts};
 use std::alloc::{AllocError, Global};
 
 /// The ends of all tokens, where nothing was taken yet.

@@ -10,24 +10,22 @@ ghost use Rattle.lic_norm.specs.Places.{place_end};
 ghost use Rattle.lic_places.specs.Places.{spelling_of};
 ghost use Rattle.lic_places.specs.Reads.{Reads};
 ghost use Rattle.lic_search.specs.AllMatches.{AreBundlesOf};
-ghost use Rattle.lic_search.specs.Backward.{IsBackFrom};
+ghost use Rattle.lic_view.specs.Backward.{IsBackFrom};
 ghost use Rattle.lic_search.specs.Matches.{HasLeastRanges};
-ghost use Rattle.lic_search.specs.PlaceSets.{ArePlaced, Reaches};
+ghost use Rattle.lic_view.specs.PlaceSets.{ArePlaced, Reaches};
 ghost use Rattle.lic_search.specs.Windows.{AreRequiredEnds};
 
 use crate::backward::over_parts;
 use crate::bundles::bundles_of;
-use crate::keep::Keep;
 use crate::last_text::last_ends;
 use crate::matches::{ranges_of, token_ends};
 use crate::range::Range;
-use crate::stop::Stop;
-use crate::view::{View, tokens_have_texts};
 use crate::windows::candidate_ends;
 use lic_bundles::bundle::Bundle;
 use lic_keys::candidate::RequiredEnds;
 use lic_markup::Part;
 use lic_spans::span::PlaceSpan;
+use lic_view::{Keep, Stop, View, tokens_have_texts};
 use std::alloc::{AllocError, Global};
 
 /// Ranges of tokens that the parts of a template describe: within each range that they describe lies one of these.

@@ -8,13 +8,13 @@ ghost use Rattle.lic_set.specs.declared.triple.Triple.{Triple};
 ghost use Rattle.lic_search.specs.LeastMatches.{AddsLeast, HasLeastMatches};
 
 use crate::search::least_ranges;
-use crate::view::View;
 use lic_filters::filters::tight;
 use lic_keys::candidate::Candidate;
 use lic_markup::laws::texts_are_those_of_pieces;
 use lic_norm::text::Text;
 use lic_set::set::Set;
 use lic_set::triple::Triple;
+use lic_view::View;
 use std::alloc::{AllocError, Global};
 
 /// The tight matches of a set's templates in a text, in the order of triples: the matches in whose range no other match of the same

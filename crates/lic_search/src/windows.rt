@@ -9,15 +9,15 @@ ghost use Rattle.lic_markup.specs.Parts.{part_of};
 ghost use Rattle.lic_norm.specs.Places.{place_end};
 ghost use Rattle.lic_places.specs.Places.{spelling_of};
 ghost use Rattle.lic_places.specs.Reads.{Reads};
-ghost use Rattle.lic_search.specs.PlaceSets.{ArePlaced, Reaches};
+ghost use Rattle.lic_view.specs.PlaceSets.{ArePlaced, Reaches};
 ghost use Rattle.lic_keys.specs.Required.{HoldEnds};
 ghost use Rattle.lic_search.specs.Windows.{AddsEnds, AreTokenEnds, ListsEnd};
 
 use crate::matches::token_end;
 use crate::reach::most_bytes;
-use crate::view::{View, tokens_have_texts};
 use lic_markup::Part;
 use lic_spans::span::PlaceSpan;
+use lic_view::{View, tokens_have_texts};
 use std::alloc::{AllocError, Global};
 
 /// The ends of tokens at which a word of the parts may end, where the text of this number ends at the places alone: those

@@ -5,7 +5,7 @@ use crate::chosen::chosen_numbers;
 use lic_find::finder::Finder;
 use lic_norm::text::Text;
 use lic_report::all_matches::AllMatches;
-use lic_search::tight::tight_matches;
+use lic_search::tight_matches;
 use lic_set::set::Set;
 use lic_set::triple::Triple;
 use std::alloc::{AllocError, Global};

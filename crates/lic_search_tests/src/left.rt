@@ -5,7 +5,7 @@ use crate::forms::found;
 use crate::profile::Profile;
 use crate::wanted::differing_form;
 use lic_norm::text::Text;
-use lic_search::all::all_matches;
+use lic_search::all_matches;
 use lic_set::set::Set;
 use std::alloc::{AllocError, Global};
 use std::test::Fail;

@@ -9,8 +9,8 @@ use Rattle.lic_norm.specs.Tokens.{TokenValue}
 use Rattle.lic_places.specs.Places.{AreTexts, OverBlank, is_blank_at, spelling_of}
 use Rattle.lic_places.specs.Places.OverBlank.{over, stays}
 use Rattle.lic_places.proofs.TokenPlaces.{OverBlank-order}
-use Rattle.lic_search.specs.Counts.{begins_character}
-use Rattle.lic_search.proofs.CountBytes.{as_count, count-encode, slice-split}
+use Rattle.lic_vars.specs.Counts.{begins_character}
+use Rattle.lic_vars.proofs.CountBytes.{as_count, count-encode, slice-split}
 use Rattle.lic_vars.specs.Cuts.{letter_place}
 use Rattle.lic_vars.specs.Shortest.{begins_letter, letters_between}
 use Rattle.lic_vars.proofs.HopLemmas.{Hops, LetterAt, behind, cut_at, hop-forward, hops-forward}

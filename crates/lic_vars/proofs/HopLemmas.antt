@@ -13,7 +13,7 @@ use Rattle.lic_places.specs.Reads.{Reads, Takes}
 use Rattle.lic_places.proofs.TokenPlaces.{blank-alone, OverBlank-twice, OverBlank-order}
 use Rattle.lic_places.proofs.TiePlaces.{length-letter, not_at, not_behind}
 use Rattle.lic_places.proofs.Reading.{Reads-order}
-use Rattle.lic_search.proofs.CountReads.{stands-follows}
+use Rattle.lic_view.proofs.CountReads.{stands-follows}
 use Rattle.lic_vars.specs.Cuts.{IsOpen, LeadsTo, ReadsFrom, ReadsOn, lead, letter_place}
 use Rattle.lic_vars.specs.declared.cut.Cut.{Cut}
 

@@ -4,7 +4,7 @@ use Rattle.std.proofs.lemmas.Bool.{cases_eq, cases_lt}
 use Rattle.std.proofs.lemmas.List.{get_or_append_left, get_or_default, get_or-append_right, get_or-set_other, get_or-set_same, get_or-take, length-append, length-set, length-take}
 use Rattle.lic_norm.specs.Tokens.{TokenValue}
 use Rattle.lic_spans.specs.declared.span.PlaceSpan.{PlaceSpan}
-use Rattle.lic_search.specs.PlaceSets.{ArePlaced}
+use Rattle.lic_view.specs.PlaceSets.{ArePlaced}
 use Rattle.lic_vars.specs.Moves.{Move, optional}
 use Rattle.lic_vars.specs.Cuts.{AreFinishing, last_moves, move_of}
 use Rattle.lic_vars.specs.Sets.{AreSuffixSets, HasOther, IsOther, IsSet, IsThere}

@@ -1,3 +1,4 @@
+pub mod CountBytes
 pub mod Ways
 pub mod ReadLemmas
 pub mod SpellLemmas

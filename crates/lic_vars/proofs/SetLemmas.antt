@@ -15,8 +15,8 @@ use Rattle.lic_places.proofs.Reading.{Reads-cut, Reads-joined}
 use Rattle.lic_places.proofs.TokenPlaces.{place_end-last}
 use Rattle.lic_spans.specs.declared.span.Kind.TheVariants.{End}
 use Rattle.lic_spans.specs.declared.span.PlaceSpan.{PlaceSpan}
-use Rattle.lic_search.specs.Reverse.{LeadBack}
-use Rattle.lic_search.proofs.Placed.{Reaches-append, Reaches-append_left, Reaches-append_right}
+use Rattle.lic_reverse.specs.Reverse.{LeadBack}
+use Rattle.lic_view.proofs.Placed.{Reaches-append, Reaches-append_left, Reaches-append_right}
 use Rattle.lic_vars.specs.Moves.{Move, text, variable, optional}
 use Rattle.lic_vars.specs.Making.{CanMake, Makes, ends, writes, picks, enters, skips}
 use Rattle.lic_vars.specs.Cuts.{AreFinishing, last_moves, move_of, moves_of}

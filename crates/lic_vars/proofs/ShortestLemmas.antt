@@ -14,7 +14,7 @@ use Rattle.lic_spans.specs.Spans.{Holds}
 use Rattle.lic_spans.specs.declared.span.Kind.{Kind}
 use Rattle.lic_spans.specs.declared.span.Kind.TheVariants.{End, Place, Letters, Blanks}
 use Rattle.lic_spans.specs.declared.span.PlaceSpan.{PlaceSpan}
-use Rattle.lic_search.specs.PlaceSets.{IsPlaceOf, Reaches}
+use Rattle.lic_view.specs.PlaceSets.{IsPlaceOf, Reaches}
 use Rattle.lic_vars.specs.Cuts.{LeadsTo, ReadsFrom, lead, letter_place}
 use Rattle.lic_vars.specs.Shortest.{IsLeastNumber, IsShortest, LeadsWithin, letters_between}
 use Rattle.lic_vars.specs.declared.cut.Cut.{Cut}

@@ -10,9 +10,9 @@ use Rattle.lic_places.specs.Places.{AreTexts, OverBlank, spelling_of}
 use Rattle.lic_places.specs.Reads.{Reads}
 use Rattle.lic_places.proofs.Reading.{Reads-cut, Reads-order}
 use Rattle.lic_spans.specs.declared.span.PlaceSpan.{PlaceSpan}
-use Rattle.lic_search.specs.PlaceSets.{Reaches}
-use Rattle.lic_search.proofs.ViewPlaces.{end-within}
-use Rattle.lic_search.proofs.ViewSpans.{front-to}
+use Rattle.lic_view.specs.PlaceSets.{Reaches}
+use Rattle.lic_view.proofs.ViewPlaces.{end-within}
+use Rattle.lic_view.proofs.ViewSpans.{front-to}
 use Rattle.lic_vars.specs.Moves.{Move, text, variable, optional}
 use Rattle.lic_vars.specs.Making.{CanMake, LeastOf}
 use Rattle.lic_vars.specs.Cuts.{AreFinishing, IsOpen, IsWalk, LeadsTo, ReadsFrom, ReadsOn, lead, start}

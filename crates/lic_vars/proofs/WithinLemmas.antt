@@ -13,10 +13,10 @@ use Rattle.lic_spans.specs.Spans.{Holds}
 use Rattle.lic_spans.specs.declared.span.Kind.{Kind}
 use Rattle.lic_spans.specs.declared.span.Kind.TheVariants.{End}
 use Rattle.lic_spans.specs.declared.span.PlaceSpan.{PlaceSpan}
-use Rattle.lic_search.specs.Reverse.{LeadBack}
-use Rattle.lic_search.specs.PlaceSets.{ArePlaced, IsPlaceOf, LiesInFront, Reaches}
-use Rattle.lic_search.proofs.BlankLemmas.{held}
-use Rattle.lic_search.proofs.Placed.{Holds-among, Holds-append, Holds-nil}
+use Rattle.lic_reverse.specs.Reverse.{LeadBack}
+use Rattle.lic_view.specs.PlaceSets.{ArePlaced, IsPlaceOf, LiesInFront, Reaches}
+use Rattle.lic_view.proofs.BlankLemmas.{held}
+use Rattle.lic_view.proofs.Placed.{Holds-among, Holds-append, Holds-nil}
 use Rattle.lic_vars.specs.Cuts.{ReadsFrom, lead}
 use Rattle.lic_vars.specs.Shortest.{AreWithin, HaveNone, IsBetween, IsLeastNumber, LeadsWithin}
 use Rattle.lic_vars.specs.declared.cut.Cut.{Cut}

@@ -8,8 +8,8 @@ use Rattle.lic_markup.specs.Meaning.{tree_words}
 use Rattle.lic_places.specs.Places.{OverBlank, is_blank_at, spelling_of}
 use Rattle.lic_places.specs.Reads.{Reads}
 use Rattle.lic_spans.specs.declared.span.PlaceSpan.{PlaceSpan}
-use Rattle.lic_search.specs.EmptyWord.{HasEmptyWordAlone}
-use Rattle.lic_search.specs.PlaceSets.{ArePlaced, Reaches}
+use Rattle.lic_reverse.specs.EmptyWord.{HasEmptyWordAlone}
+use Rattle.lic_view.specs.PlaceSets.{ArePlaced, Reaches}
 use Rattle.lic_vars.specs.Moves.{Move, text, variable, optional}
 use Rattle.lic_vars.specs.Making.{CanMake, LeastOf}
 use Rattle.lic_vars.specs.declared.cut.Cut.{Cut}

@@ -1,3 +1,4 @@
+pub mod Counts
 pub mod Assigners
 pub mod Cuts
 pub mod Derivations

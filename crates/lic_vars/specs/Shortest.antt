@@ -8,7 +8,7 @@ use Rattle.lic_places.specs.Places.{spelling_of}
 use Rattle.lic_spans.specs.Spans.{Holds}
 use Rattle.lic_spans.specs.declared.span.Kind.{Kind}
 use Rattle.lic_spans.specs.declared.span.PlaceSpan.{PlaceSpan}
-use Rattle.lic_search.specs.PlaceSets.{IsPlaceOf, Reaches}
+use Rattle.lic_view.specs.PlaceSets.{IsPlaceOf, Reaches}
 use Rattle.lic_vars.specs.Cuts.{LeadsTo, ReadsFrom}
 use Rattle.lic_vars.specs.declared.cut.Cut.{Cut}
 

@@ -3,12 +3,12 @@
 ghost use Rattle.std.specs.Prelude.{◌≡◌, ◌↔◌, ◌++◌, ◌∷◌, [], ℕ, IsTrue};
 ghost use Rattle.std.specs.Str.{chars};
 ghost use Rattle.lic_words.specs.Words.{Word};
-ghost use Rattle.lic_search.specs.PlaceSets.{ArePlaced, Reaches};
+ghost use Rattle.lic_view.specs.PlaceSets.{ArePlaced, Reaches};
 ghost use Rattle.lic_vars.specs.Cuts.{IsOpen, LeadsTo, ReadsFrom, ReadsOn, letter_place};
 
-use lic_search::reverse::have_place;
-use lic_search::view::{View, tokens_have_texts};
+use lic_reverse::have_place;
 use lic_spans::span::PlaceSpan;
+use lic_view::{View, tokens_have_texts};
 
 /// A place, and whether blanks of the gap there are written already.
 #[derive(Clone, Copy, Debug, PartialEq, Eq)]

@@ -7,8 +7,8 @@ ghost use Rattle.lic_vars.specs.Sets.{AreSuffixSets};
 
 use crate::sets::{end_alone, fill, set_of};
 use crate::steps::Step;
-use lic_search::view::View;
 use lic_spans::span::PlaceSpan;
+use lic_view::View;
 use std::alloc::{AllocError, Global};
 
 // Of all spans so many are kept, and half of those beyond them.

@@ -11,8 +11,8 @@ use crate::keep::suffix_sets;
 use crate::sets::{fill, set_of};
 use crate::steps::Step;
 use crate::variable::behind_shortest;
-use lic_search::view::{View, tokens_have_texts};
 use lic_spans::span::PlaceSpan;
+use lic_view::{View, tokens_have_texts};
 use std::alloc::{AllocError, Global};
 
 // The record so far, the cut after what was read, and how many steps are left.

@@ -8,9 +8,9 @@ ghost use Rattle.lic_vars.specs.Sets.{AreSuffixSets, HasOther, IsOther, IsSet, I
 
 use crate::steps::Step;
 use crate::variable::over_pattern;
-use lic_search::reverse::{either, over_text};
-use lic_search::view::{View, tokens_have_texts};
+use lic_reverse::{either, over_text};
 use lic_spans::span::{Kind, PlaceSpan};
+use lic_view::{View, tokens_have_texts};
 use std::alloc::{AllocError, Global};
 
 /// The set of no step: the end of the last token.

@@ -9,7 +9,7 @@ ghost use Rattle.lic_vars.specs.Cuts.{moves_of, IsPiece};
 
 use lic_ere::Ere;
 use lic_markup::Part;
-use lic_search::empty::has_empty_word_alone;
+use lic_reverse::has_empty_word_alone;
 use std::alloc::{AllocError, Global};
 
 /// A step over the letters.

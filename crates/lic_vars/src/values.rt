@@ -13,9 +13,9 @@ use crate::steps::{Step, steps_of};
 use lic_markup::laws::texts_are_those_of_pieces;
 use lic_norm::text::Text;
 use lic_norm::token::Span;
-use lic_search::view::{View, tokens_have_texts};
 use lic_set::set::Set;
 use lic_set::triple::Triple;
+use lic_view::{View, tokens_have_texts};
 use std::alloc::{AllocError, Global};
 use std::marker::Model;
 

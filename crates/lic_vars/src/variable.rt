@@ -5,17 +5,17 @@ ghost use Rattle.lic_ere.specs.Trees.{tree_of};
 ghost use Rattle.lic_words.specs.Expressions.{Language, tidy};
 ghost use Rattle.lic_markup.specs.Meaning.{tree_words};
 ghost use Rattle.lic_places.specs.Places.{is_blank_at, spelling_of};
-ghost use Rattle.lic_search.specs.EmptyWord.{HasEmptyWordAlone};
-ghost use Rattle.lic_search.specs.PlaceSets.{ArePlaced};
-ghost use Rattle.lic_search.specs.Reverse.{LeadBack};
+ghost use Rattle.lic_reverse.specs.EmptyWord.{HasEmptyWordAlone};
+ghost use Rattle.lic_view.specs.PlaceSets.{ArePlaced};
+ghost use Rattle.lic_reverse.specs.Reverse.{LeadBack};
 ghost use Rattle.lic_vars.specs.Cuts.{IsOpen};
 ghost use Rattle.lic_vars.specs.Shortest.{AreWithin, HaveNone, IsLeastNumber, IsShortest, LeadsWithin};
 
 use crate::cut::{Cut, have_cut, letter_place};
 use lic_ere::Ere;
-use lic_search::reverse::over_variable;
-use lic_search::view::{View, tokens_have_texts};
+use lic_reverse::over_variable;
 use lic_spans::span::PlaceSpan;
+use lic_view::{View, tokens_have_texts};
 use std::alloc::{AllocError, Global};
 
 /// The places from which a tidy word of a pattern leads to those of the spans. The pattern is not read where it has the empty word alone.

@@ -12,7 +12,7 @@ use Rattle.lic_search.specs.AllMatches.{AreMatchBundles, AreBundlesOf}
 use Rattle.lic_search.specs.Matches.{HasLeastRanges}
 use Rattle.lic_bundles.specs.declared.bundle.Bundle.{Bundle}
 use Rattle.lic_search.proofs.AllMatchLemmas.{few-are, match-none, match-bundles}
-use Rattle.lic_search.proofs.EreLemmas.{ok-changed}
+use Rattle.lic_reverse.proofs.EreLemmas.{ok-changed}
 use Rattle.lic_search.proofs.TemplateMatches.{known_for, required_of}
 use Rattle.lic_search.proofs.all.bundles_if_few.Goals as goal
 

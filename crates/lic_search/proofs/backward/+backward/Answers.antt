@@ -6,9 +6,9 @@ use Rattle.lic_markup.specs.Meaning.{part_words}
 use Rattle.lic_markup.specs.declared.part.Part.{the_lemmas}
 use Rattle.lic_markup.specs.Parts.{part_of}
 use Rattle.lic_markup.specs.PartTexts.{HasPieceTexts}
-use Rattle.lic_search.specs.PlaceSets.{ArePlaced}
-use Rattle.lic_search.specs.Backward.{IsBack}
-use Rattle.lic_search.proofs.MergeLemmas.{merged-placed, merged-same}
+use Rattle.lic_view.specs.PlaceSets.{ArePlaced}
+use Rattle.lic_view.specs.Backward.{IsBack}
+use Rattle.lic_view.proofs.MergeLemmas.{merged-placed, merged-same}
 use Rattle.lic_search.proofs.PartLemmas.{parts-absent, parts-all, parts-copies, parts-last, parts-more, parts-optional}
 use Rattle.lic_keys.proofs.LongestLemmas.{texts-at}
 use Rattle.lic_search.proofs.backward.+backward.Goals as goal

@@ -1,5 +1,5 @@
 use Rattle.std.proofs.Common.{◌≤◌, length}
-use Rattle.lic_search.specs.Backward.{IsBack}
+use Rattle.lic_view.specs.Backward.{IsBack}
 use Rattle.lic_search.specs.Copies.{words_from}
 use Rattle.lic_search.proofs.backward.+backward.Given as goal
 

@@ -3,7 +3,7 @@ use Rattle.std.proofs.Common.{◌<◌, ◌≤◌, ℕ, [], ◌∷◌, length, re
 use Rattle.std.proofs.lemmas.Bool.{cases_lt}
 use Rattle.std.proofs.Math.Logic.{⊎_elim}
 use Rattle.lic_search.specs.Beginnings.{BeginsIn}
-use Rattle.lic_search.proofs.ViewSpans.{last-one}
+use Rattle.lic_view.proofs.ViewSpans.{last-one}
 use Rattle.lic_search.proofs.bundles.firsts_in.Goals as goal
 
 pub returns : goal.returns

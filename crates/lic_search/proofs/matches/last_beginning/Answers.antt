@@ -3,8 +3,8 @@ use Rattle.std.proofs.Common.{◌≡◌, ◌-◌, ◌<◌, ◌≤◌, length, re
 use Rattle.lic_norm.specs.Places.{place_start}
 use Rattle.lic_spans.specs.declared.span.Kind.TheVariants.{End}
 use Rattle.lic_search.proofs.MatchSpans.{end-begins, greatest-first, some-first}
-use Rattle.lic_search.proofs.ViewPlaces.{starts-order}
-use Rattle.lic_search.proofs.ViewSpans.{last-one}
+use Rattle.lic_view.proofs.ViewPlaces.{starts-order}
+use Rattle.lic_view.proofs.ViewSpans.{last-one}
 use Rattle.lic_search.proofs.matches.last_beginning.Goals as goal
 
 pub returns-then-eq : goal.returns-then-eq

@@ -4,7 +4,7 @@ use Rattle.lic_markup.specs.Meaning.{parts_words}
 use Rattle.lic_markup.specs.Parts.{part_of}
 use Rattle.lic_search.specs.Beginnings.{BeginsIn}
 use Rattle.lic_search.specs.Matches.{range_of}
-use Rattle.lic_search.specs.declared.keep.Keep.TheVariants.{Each}
+use Rattle.lic_view.specs.declared.sets.keep.Keep.TheVariants.{Each}
 use Rattle.lic_search.proofs.MatchLemmas.{described-begins}
 use Rattle.lic_search.proofs.search.bundles_within.Goals as goal
 

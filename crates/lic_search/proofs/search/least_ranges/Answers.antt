@@ -2,8 +2,8 @@ use Rattle.std.proofs.Common.{◌≤◌, ℕ, map, subst, sym}
 use Rattle.lic_markup.specs.Meaning.{parts_words}
 use Rattle.lic_markup.specs.Parts.{part_of}
 use Rattle.lic_places.specs.Reads.{BeginsAt}
-use Rattle.lic_search.specs.PlaceSets.{Reaches}
-use Rattle.lic_search.specs.declared.keep.Keep.TheVariants.{Least}
+use Rattle.lic_view.specs.PlaceSets.{Reaches}
+use Rattle.lic_view.specs.declared.sets.keep.Keep.TheVariants.{Least}
 use Rattle.lic_search.proofs.MatchLemmas.{least-ranges}
 use Rattle.lic_search.proofs.search.least_ranges.Goals as goal
 

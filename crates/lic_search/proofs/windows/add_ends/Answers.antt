@@ -3,7 +3,7 @@ use Rattle.std.proofs.Common.{◌≡◌, ◌+◌, ◌<◌, List, [], ◌∷◌, 
 use Rattle.lic_norm.specs.Places.{place_end}
 use Rattle.lic_spans.specs.declared.span.PlaceSpan.{PlaceSpan}
 use Rattle.lic_search.specs.Windows.{AddsEnds}
-use Rattle.lic_search.proofs.ViewPlaces.{ends-order}
+use Rattle.lic_view.proofs.ViewPlaces.{ends-order}
 use Rattle.lic_search.proofs.WindowEnds.{adds-push}
 use Rattle.lic_search.proofs.windows.add_ends.Goals as goal
 

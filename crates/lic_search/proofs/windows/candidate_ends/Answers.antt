@@ -6,7 +6,7 @@ use Rattle.lic_markup.specs.Parts.{part_of}
 use Rattle.lic_norm.specs.Places.{place_end}
 use Rattle.lic_places.specs.Places.{spelling_of}
 use Rattle.lic_search.specs.Windows.{TakesAtMost}
-use Rattle.lic_search.proofs.ViewPlaces.{end-within}
+use Rattle.lic_view.proofs.ViewPlaces.{end-within}
 use Rattle.lic_search.proofs.WindowBounds.{IsBound, most_number}
 use Rattle.lic_search.proofs.WindowEnds.{end-reached, ends-placed, ends-sound}
 use Rattle.lic_keys.proofs.RequiredEnds.{ends-text}

@@ -1,7 +1,7 @@
 -- One window more, and then all.
 use Rattle.std.proofs.Common.{◌≤◌, length, ap, arith, subst, sym}
 use Rattle.lic_places.specs.Places.{spelling_of}
-use Rattle.lic_search.proofs.ViewPlaces.{end-within}
+use Rattle.lic_view.proofs.ViewPlaces.{end-within}
 use Rattle.lic_search.proofs.WindowBounds.{most_number}
 use Rattle.lic_search.proofs.WindowEnds.{ListsWindows, windows-all, windows-more, windows-none}
 use Rattle.lic_search.proofs.windows.ends_within.Goals as goal

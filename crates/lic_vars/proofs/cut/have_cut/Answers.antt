@@ -1,7 +1,7 @@
 -- Whether spans have one of the places of a cut.
 use Rattle.std.proofs.Common.{inl, inr, [], ◌∙◌, sym, subst}
 use Rattle.std.proofs.lemmas.Bool.{false≢true}
-use Rattle.lic_search.specs.PlaceSets.{Reaches}
+use Rattle.lic_view.specs.PlaceSets.{Reaches}
 use Rattle.lic_vars.specs.Cuts.{ReadsFrom}
 use Rattle.lic_vars.proofs.HopLemmas.{cut-places, letter-here}
 use Rattle.lic_vars.proofs.cut.have_cut.Goals as goal

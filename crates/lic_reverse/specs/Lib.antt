@@ -1,0 +1,10 @@
+pub mod EmptyWord
+pub mod LetterGroups
+pub mod Grouped
+pub mod Passing
+pub mod PassingPlaces
+pub mod Reached
+pub mod Reverse
+pub mod Runs
+pub mod RunsKnown
+pub mod Tidily

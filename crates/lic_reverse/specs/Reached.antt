@@ -1,0 +1,19 @@
+-- Ways that were reached by going back over words again and again, and those that one word more leads to.
+use Rattle.std.specs.Prelude.{◌≡◌, ◌⊎◌, ◌++◌, ℕ, List, []}
+use Rattle.lic_norm.specs.Tokens.{TokenValue}
+use Rattle.lic_spans.specs.declared.span.PlaceSpan.{PlaceSpan}
+use Rattle.lic_reverse.specs.declared.ways.reached.Reached.{Reached}
+use Rattle.lic_view.specs.PlaceSets.{ArePlaced, Reaches}
+use Rattle.lic_reverse.specs.Tidily.{IsTidyBack, Taken, spans_of}
+use Rattle.lic_view.specs.declared.sets.keep.Keep.{Keep}
+
+-- all spans that were reached, by what was taken last
+abbrev pub reached_of : Reached → Taken → List PlaceSpan
+reached_of reached s = spans_of reached.settled s ++ spans_of reached.recent s
+
+-- All spans stand for all, and the front has those of their places that are not known.
+pub record IsFrontOf (keep : Keep) (tokens : List TokenValue) (known all new front : Taken → List PlaceSpan) : Type 0 where
+  pub back : IsTidyBack keep tokens (λ w. w ≡ []) all new
+  pub placed : (s : Taken) → ArePlaced tokens (front s)
+  pub among : (s : Taken) (p last : ℕ) → Reaches tokens (front s) p last → Reaches tokens (new s) p last
+  pub parted : (s : Taken) (p last : ℕ) → Reaches tokens (new s) p last → Reaches tokens (front s) p last ⊎ Reaches tokens (known s) p last

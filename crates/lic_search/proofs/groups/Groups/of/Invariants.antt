@@ -1,6 +1,0 @@
--- The places of the spans so far are in their groups.
-use Rattle.lic_search.proofs.LetterGroupLemmas.{AreGroupsTo}
-use Rattle.lic_search.proofs.groups.Groups.of.Given as goal
-
-abbrev pub invariant-loop-span : goal.invariant-loop-span
-invariant-loop-span l = AreGroupsTo l.view l.spans l.span-index l.lists.items

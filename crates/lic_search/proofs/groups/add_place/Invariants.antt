@@ -1,6 +1,0 @@
--- The place was added for each row of so many letters.
-use Rattle.lic_search.proofs.LetterGroupLemmas.{AddsRows}
-use Rattle.lic_search.proofs.groups.add_place.Given as goal
-
-abbrev pub invariant-loop : goal.invariant-loop
-invariant-loop l = AddsRows l.view l.one l.place l.first l.hash l.counter l.fn.lists.items l.lists.items

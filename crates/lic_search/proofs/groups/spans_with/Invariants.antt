@@ -1,6 +1,0 @@
--- Those of the entries so far that have the hash.
-use Rattle.lic_search.proofs.LetterGroupLemmas.{AreWith}
-use Rattle.lic_search.proofs.groups.spans_with.Given as goal
-
-abbrev pub invariant-loop-entry : goal.invariant-loop-entry
-invariant-loop-entry l = AreWith l.hash l.entries l.entry-index l.found.items

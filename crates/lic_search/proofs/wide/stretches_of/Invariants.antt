@@ -1,7 +1,0 @@
--- The stretches of the spans so far.
-use Rattle.std.proofs.Common.{take}
-use Rattle.lic_search.proofs.StretchLemmas.{AreStretched}
-use Rattle.lic_search.proofs.wide.stretches_of.Given as goal
-
-abbrev pub invariant-loop-span : goal.invariant-loop-span
-invariant-loop-span l = AreStretched (take l.span-index l.spans) l.stretches.items

@@ -1,0 +1,112 @@
+-- Where the tokens of a text begin and end, and the first token from a place on.
+use Rattle.std.proofs.Common.{◌≡◌, inl, inr, ℕ, zero, suc, ◌+◌, ◌<◌, ◌≤◌, true, false, List, length, sym, ap, ◌∙◌, arith}
+use Rattle.std.proofs.Math.Nat.{eq-or-lt_of_le}
+use Rattle.std.proofs.lemmas.Bool.{cases_lt, true≢false}
+use Rattle.lic_norm.specs.Tokens.{TokenValue}
+use Rattle.lic_norm.specs.Places.{IsTokenEnd, place_end, place_start}
+use Rattle.lic_places.specs.Places.{AreTexts, is_blank_at, spelling_of}
+use Rattle.lic_view.specs.Views.{IsFirstFrom}
+pub use Rattle.lic_keys.proofs.RequiredEnds.{end-within}
+use Rattle.lic_view.proofs.Laws.{no_blank-start, tokens_stand-next, tokens_stand-order}
+
+-- a token begins no earlier than the one before it ends
+pub start-after : (tokens : List TokenValue) (i : ℕ) → AreTexts tokens → suc i < length tokens → place_end tokens i ≤ place_start tokens (suc i)
+start-after tokens i texts within =
+    elim (tokens_stand-next tokens i texts within) [ inl same ↦ omega (arith, same) | inr next ↦ omega (arith, next.0) ]
+
+-- tokens end one after another
+pub ends-rise : (tokens : List TokenValue) (i j : ℕ) → AreTexts tokens → i < j → j < length tokens → place_end tokens i < place_end tokens j
+ends-rise tokens i zero texts below within = absurd (omega arith)
+ends-rise tokens i (suc k) texts below within =
+    let order : place_start tokens (suc k) < place_end tokens (suc k) = tokens_stand-order tokens (suc k) texts within in
+    let after : place_end tokens k ≤ place_start tokens (suc k) = start-after tokens k texts within in
+    let le : i ≤ k = omega arith in
+    elim (eq-or-lt_of_le le) [
+      | inl same ↦ omega (arith, ap (λ n. place_end tokens n) same)
+      | inr before ↦ omega (arith, ends-rise tokens i k texts before (omega arith))
+    ]
+
+pub ends-order : (tokens : List TokenValue) (i j : ℕ) → AreTexts tokens → i ≤ j → j < length tokens → place_end tokens i ≤ place_end tokens j
+ends-order tokens i j texts le within =
+    elim (eq-or-lt_of_le le) [
+      | inl same ↦ omega (arith, ap (λ n. place_end tokens n) same)
+      | inr before ↦ omega (arith, ends-rise tokens i j texts before within)
+    ]
+
+-- a token begins no earlier than each one before it ends
+pub starts-after : (tokens : List TokenValue) (i j : ℕ) → AreTexts tokens → i < j → j < length tokens → place_end tokens i ≤ place_start tokens j
+starts-after tokens i zero texts below within = absurd (omega arith)
+starts-after tokens i (suc k) texts below within =
+    omega (arith, ends-order tokens i k texts (omega arith) (omega arith), start-after tokens k texts within)
+
+pub starts-order : (tokens : List TokenValue) (i j : ℕ) → AreTexts tokens → i ≤ j → j < length tokens → place_start tokens i ≤ place_start tokens j
+starts-order tokens i j texts le within =
+    elim (eq-or-lt_of_le le) [
+      | inl same ↦ omega (arith, ap (λ n. place_start tokens n) same)
+      | inr before ↦ omega (arith, tokens_stand-order tokens i texts (omega arith), starts-after tokens i j texts before within)
+    ]
+
+-- a token begins after the blank where the one before it ends
+pub start-over : (tokens : List TokenValue) (before i : ℕ) → AreTexts tokens → i ≡ suc before → i < length tokens
+    → is_blank_at (spelling_of tokens) (place_end tokens before) ≡ true → place_end tokens before + 1 ≡ place_start tokens i
+start-over tokens before i texts next within blank =
+    let inside : suc before < length tokens = omega arith in
+    let here = ap (λ n. place_start tokens n) next in
+    elim (tokens_stand-next tokens before texts inside) [
+      | inl same ↦
+          let bytes = spelling_of tokens in
+          let none = no_blank-start tokens (suc before) texts inside in
+          absurd (true≢false (sym blank ∙ ap (λ p. is_blank_at bytes p) (sym same) ∙ none))
+      | inr after ↦ omega (arith, after.0, here)
+    ]
+
+-- or, where no blank stands, right there
+pub start-same : (tokens : List TokenValue) (before i : ℕ) → AreTexts tokens → i ≡ suc before → i < length tokens
+    → is_blank_at (spelling_of tokens) (place_end tokens before) ≡ false → place_end tokens before ≡ place_start tokens i
+start-same tokens before i texts next within blank =
+    let here = ap (λ n. place_start tokens n) next in
+    elim (tokens_stand-next tokens before texts (omega arith)) [
+      | inl same ↦ omega (arith, same, here)
+      | inr after ↦ absurd (true≢false (sym after.1 ∙ blank))
+    ]
+
+-- ---- the first token from a place on
+
+-- a token in the middle ends before the place
+pub before-middle : (tokens : List TokenValue) (place middle : ℕ) → AreTexts tokens → middle < length tokens → place_end tokens middle < place
+    → (i : ℕ) → i < suc middle → place_end tokens i < place
+before-middle tokens place middle texts within ends i below = omega (arith, ends-order tokens i middle texts (omega arith) within)
+
+-- it ends at the place or after it
+pub from-middle : (tokens : List TokenValue) (place middle : ℕ) → AreTexts tokens → place ≤ place_end tokens middle
+    → (i : ℕ) → middle ≤ i → i < length tokens → place ≤ place_end tokens i
+from-middle tokens place middle texts ends i le within = omega (arith, ends-order tokens middle i texts le within)
+
+-- the first token that ends there also begins there
+pub begins-same : (tokens : List TokenValue) (place token : ℕ) → AreTexts tokens → IsFirstFrom (place_end tokens) (length tokens) place token
+    → (token < length tokens → place ≤ place_start tokens token) → IsFirstFrom (place_start tokens) (length tokens) place token
+begins-same tokens place token texts first begins = record {
+  within = first.within;
+  before = λ i below. omega (arith, first.before i below, tokens_stand-order tokens i texts (omega (arith, first.within)));
+  reached = λ i le within. omega (arith, begins (omega arith), starts-order tokens token i texts le within);
+}
+
+-- it begins before, and the next one begins there
+pub begins-next : (tokens : List TokenValue) (place token : ℕ) → AreTexts tokens → IsFirstFrom (place_end tokens) (length tokens) place token
+    → token < length tokens → place_start tokens token < place → IsFirstFrom (place_start tokens) (length tokens) place (token + 1)
+begins-next tokens place token texts first within begins = record {
+  within = omega arith;
+  before = λ i below. omega (arith, starts-order tokens i token texts (omega arith) within);
+  reached = λ i le inside. omega (arith, first.reached token (omega arith) within, starts-after tokens token i texts (omega arith) inside);
+}
+
+-- where a token ends, the first one from there on ends
+pub token_end-first : (tokens : List TokenValue) (place token : ℕ) → AreTexts tokens → IsFirstFrom (place_end tokens) (length tokens) place token
+    → IsTokenEnd tokens place → (token < length tokens) × (place_end tokens token ≡ place)
+token_end-first tokens place token texts first ends =
+    elim (cases_lt ends.number token) [
+      | inl below ↦ absurd (omega (arith, first.before ends.number below, ends.ends))
+      | inr le ↦
+          let within : token < length tokens = omega (arith, ends.within) in
+          (within, omega (arith, ends-order tokens token ends.number texts le ends.within, first.reached token (omega arith) within, ends.ends))
+    ]

@@ -1,0 +1,80 @@
+//! Going back over a blank.
+
+ghost use Rattle.std.specs.Prelude.{◌≡◌, ◌∷◌, [], ◌≤◌, OnOk, IfOk};
+ghost use Rattle.lic_words.specs.Words.{blank};
+ghost use Rattle.lic_view.specs.Backward.{AddsBack, IsBack};
+ghost use Rattle.lic_view.specs.PlaceSets.{ArePlaced};
+
+use crate::sets::keep::Keep;
+use crate::sets::singles::{end_of, single};
+use crate::sets::stop::Stop;
+use crate::view::{View, tokens_have_texts};
+use lic_spans::span::{Kind, PlaceSpan};
+use std::alloc::Global;
+
+/// The places to which a blank leads from those of the spans.
+pub fn over_blanks(
+    alloc: Global,
+    view: &View<'_>,
+    keep: Keep,
+    spans: &[PlaceSpan],
+) -> Result<Vec<PlaceSpan>, Stop>
+    requires { ArePlaced view.now spans.now }
+    ensures { IfOk result (λ found. IsBack keep view.now (λ w. w ≡ blank ∷ []) spans.now found.items) }
+{
+    let mut found = Vec::with_capacity(alloc, spans.len())?;
+    for span in spans {
+        add_over_blank(view, keep, *span, &mut found)?;
+    }
+    Ok(found)
+}
+
+// Adds the places to which a blank leads from those of a span.
+fn add_over_blank(
+    view: &View<'_>,
+    keep: Keep,
+    span: PlaceSpan,
+    found: &mut Vec<PlaceSpan>,
+) -> Result<(), Stop>
+    requires { ArePlaced view.now (span ∷ []) }
+    ensures { OnOk result (AddsBack keep view.now (λ w. w ≡ blank ∷ []) span found.old.items found.new.items) }
+{
+    tokens_have_texts(view);
+    match span.kind {
+        Kind::End | Kind::Blanks => keep.push(found, span)?,
+        Kind::Letters => keep.push(found, with_blank(span))?,
+        Kind::Place => add_moved(view, keep, span, found)?,
+    }
+    Ok(())
+}
+
+// The places to which a blank leads from those at which letters begin.
+fn with_blank(span: PlaceSpan) -> PlaceSpan
+    ensures { result ≡ record span { kind = Kind.Blanks } }
+{
+    PlaceSpan {
+        low: span.low,
+        high: span.high,
+        last: span.last,
+        kind: Kind::Blanks,
+    }
+}
+
+// Adds the places to which a blank leads from single places.
+fn add_moved(
+    view: &View<'_>,
+    keep: Keep,
+    span: PlaceSpan,
+    found: &mut Vec<PlaceSpan>,
+) -> Result<(), Stop>
+    requires kind { span.kind ≡ Kind.Place }
+    requires placed { ArePlaced view.now (span ∷ []) }
+    ensures { OnOk result (AddsBack keep view.now (λ w. w ≡ blank ∷ []) span found.old.items found.new.items) }
+{
+    for number in span.low..end_of(view, span) {
+        if let Some(place) = view.over_blank(number) {
+            keep.push(found, single(place, span.last))?;
+        }
+    }
+    Ok(())
+}
