@@ -8,7 +8,8 @@ It reads the code of lic_find (crates/lic_find/src: no tests, proofs, clauses or
   line serve definitions), and a re-export of lic_marks by lic_auto;
 - a call of `id`, `template` or `parts`;
 - a call of `is_match`;
-- a `Run` that is made anywhere but once in one constructor, which the others call, and once in `is_match`; a second `Back`;
+- a `Run` that is made anywhere but once in one constructor, which the others call, and once in `is_match`; a second `Back`, and a second call of
+  the function that makes it;
 - a `Finder::steps` that is not the sum of the counts of the two machines.
 
 So that it is known to refuse, the same is asked of copies in which a patch of scripts/gate/wrong_finders is applied, and those faults must be
@@ -99,6 +100,8 @@ def claims(code, machines, line):
     yield "constructors that do not call that one", [name for name in ("new", "resume") if name not in callers], []
     backs = calling(code, r"\bBack\s*::\s*(?:new|over)\b")
     yield "functions that make a Back", backs, backs[:1] or ["one"]
+    scans = calling(code, rf"\b{backs[0]}\s*\(") if backs else []
+    yield "functions that call that one", scans, [constructor]
     bodies = ["".join(body.split()).strip("{}") for name, body in functions(code) if name == "steps"]
     yield "bodies of Finder::steps", bodies, [STEPS]
     yield "functions that take a machine's count", calling(code, r"\.\s*steps\s*\(\)"), sorted([*backs[:1], "steps"])

@@ -200,6 +200,7 @@ impl<'a> TokensArguments<'a> {
         ensures words { IfOk result (λ read. IsText (found_of found.now) (codes "words") read.words) }
         ensures rules { IfOk result (λ read. IsText (found_of found.now) (codes "rules") read.rules) }
         ensures files { IfOk result (λ read. map (λ f. f.now) read.files.items ≡ files_in (found_of found.now)) }
+        ensures fault { IfErr result (λ fault. fault ≡ ArgumentFault.Memory) }
     {
         Ok(TokensArguments {
             words: found.get_str("words"),
