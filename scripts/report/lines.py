@@ -5,12 +5,13 @@ from dataclasses import dataclass, field
 # templates that name no licence of the file: words that give none, notices that point elsewhere, permissions beside a licence
 NONE = re.compile(r"no-grant-|same-as-|other-file-|[A-Za-z]+-exception-([\d.]+-)?notice")
 # tags of which not all is known
-UNKNOWN = re.compile(r"unknown-identifier|cut-|(OR|AND|WITH)-expression|OR-field(-[b-z])?$")
+UNKNOWN = re.compile(r"unknown-identifier|cut-|(OR|AND|WITH)-expression|(OR|AND)-field(-[b-z])?$")
 EXPRESSION = re.compile(r"expression-(OR|AND|WITH)-(.*?)(-b)?$")
 SUFFIX = re.compile(r"(-(identifier|field|notice|mention))?(-[b-z])?$")
 # names of Debian and older ones, of tags and fields
 OLDER = re.compile(r"([AL]?GPL|GFDL)-?v?(\d)(\.\d)?(\+?)$", re.IGNORECASE)
-SAME = {"Expat": "MIT", "Apache-2": "Apache-2.0", "Apache2": "Apache-2.0", "BSD3": "BSD-3-Clause"}
+SAME = {"Expat": "MIT", "Apache-2": "Apache-2.0", "Apache2": "Apache-2.0", "BSD3": "BSD-3-Clause",
+        "BSD-2": "BSD-2-Clause", "BSD-3": "BSD-3-Clause", "BSD_2_clause": "BSD-2-Clause", "BSD_3_clause": "BSD-3-Clause"}
 FAMILIES = ("AGPL", "Apache", "Artistic", "BSD", "GFDL", "GPL", "LGPL")
 
 

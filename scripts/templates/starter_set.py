@@ -44,7 +44,7 @@ SHORTEST_TEXT = 7
 SUFFIX = re.compile("-(identifier|field|notice)(-[b-z])?$|(?<=-mention)-[b-z]$")
 
 # fields that tags.py does not make: in words, of CPAN, classifiers of Python packages, choices
-BY_HAND = re.compile(r"^License|perl|[a-z]_[0-9]|=>|OSI Approved| OR\b|\w/|>>/")
+BY_HAND = re.compile(r"^License|perl|[a-z]_[0-9]|=>|OSI Approved| (OR|AND)\b|\w/|>>/|, ['\"]$", re.M)
 
 # sentences, what is said of them by the templates of grants, and by those of mentions where that is nothing
 SENTENCES = [
@@ -58,6 +58,23 @@ SENTENCES = [
     ("\"LICENSE\" => \"perl\",", ["Artistic-1.0-Perl-OR-GPL-1.0-or-later"], []),
     ("License: GPLv2+", ["GPLv2+"], []),
     ("License: GPLv2 or later", ["GPL-2.0-or-later"], []),
+    ("License: GPL version 3 or newer", ["GPL-3.0-or-later"], []),
+    ("License: GPL (>= 2)", ["GPL-2.0-or-later"], []),
+    ("License: GPL-2 | GPL-3", ["GPL-2-OR-GPL-3"], []),
+    ("License: BSD_3_clause + file LICENSE", ["BSD_3_clause"], []),
+    ("license: ISC and Zlib", ["AND"], []),
+    ("as published by the Free Software Foundation; version 2 dated June, 1991, or (at your option) version 3", [], []),
+    ("General Public License v.2.", [], []),
+    ("subject to the terms and conditions of the GNU General Public License v.2.", ["GPL-2.0"], []),
+    ("licensed under: The MIT License", ["MIT"], []),
+    ("Licensed under MIT (https://example.org/LICENSE)", ["MIT"], []),
+    ("Dual licensed under the MIT or GPL Version 2 licenses.", ["MIT-OR-GPL-2.0"], []),
+    ("This source file is subject to version 3.01 of the PHP license", ["PHP-3.01"], []),
+    ("This man page is in the public domain.", ["public-domain"], []),
+    ("This script is public domain", ["public-domain"], []),
+    ("are permitted only as authorized by the OpenLDAP Public License.", [], []),
+    ("U_LOGPALETTE lgpl;", [], []),
+    ("under the terms of the LGPL", [], ["LGPL-mention"]),
     ("License :: OSI Approved :: MIT License", ["MIT"], []),
     ("license = \"MIT OR Apache-2.0\"", ["MIT-OR-Apache-2.0"], []),
     ("license = \"MIT OR Unlicense\"", ["OR"], []),

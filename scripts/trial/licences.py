@@ -4,7 +4,7 @@ import re
 # names that say the same
 SAME = {
     "expat": "mit", "mit/expat": "mit", "expat/mit": "mit", "mit-license": "mit", "pd": "public-domain", "publicdomain": "public-domain",
-    "artistic-1.0-perl": "artistic", "artistic-1": "artistic", "artistic-1.0": "artistic", "bsd-2": "bsd-2-clause", "bsd-3": "bsd-3-clause", "bsd3": "bsd-3-clause", "apache2": "apache-2",
+    "artistic-1.0-perl": "artistic", "artistic-1": "artistic", "artistic-1.0": "artistic", "bsd-2": "bsd-2-clause", "bsd-3": "bsd-3-clause", "bsd3": "bsd-3-clause", "bsd_2_clause": "bsd-2-clause", "bsd_3_clause": "bsd-3-clause", "apache2": "apache-2",
     "bsd-4": "bsd-4-clause", "boost-1.0": "bsl-1", "boost": "bsl-1", "bsl": "bsl-1", "asl-2.0": "apache-2", "asl2": "apache-2", "python": "psf-2", "python-2.0": "psf-2", "psf": "psf-2", "libpng-2": "libpng", "zlib/libpng": "zlib",
     "bsd2": "bsd-2-clause", "perl": "artistic", "ntp": "hpnd", "lgpl-2.0": "lgpl-2", "cc0": "cc0-1", "wtfpl-2": "wtfpl", "fsf-unlimited": "fsfullr", "fsful": "fsfullr",
 }
@@ -14,7 +14,7 @@ SUFFIX = re.compile(r"-(identifier|field|notice|mention)(-[b-z])?$")
 
 def name_of(written):
     """One licence in small letters; `+` for 'or later', no `.0` at the end, no exception."""
-    name = re.split(r"[ -]with[ -]|-exception$", written.strip().strip("()").lower())[0].strip(" ,()")
+    name = re.split(r"[ -]with[ -]|-exception$|~", written.strip().strip("()").lower())[0].strip(" ,()")
     name = re.sub(r"^(bsd|mit)-(style|like)$", r"\1", name)
     name = re.sub(r"-or-later$", "+", re.sub(r"-only$", "", name))
     name = re.sub(r"^([al]?gpl)v?(\d)", r"\1-\2", name)

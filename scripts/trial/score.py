@@ -71,7 +71,7 @@ def said_by_licscan(program, rules, folder, names):
     for fields in lines_of_licscan(program, rules, folder, names):
         if fields[0]:
             name, id = fields[0], fields[1]
-            if not re.match("(unknown-identifier|LicenseRef|expression-|cut-|(OR|AND|WITH)-expression|OR-field|no-grant|same-as-|other-file)|[A-Za-z]+-exception-", id):
+            if not re.match("(unknown-identifier|LicenseRef|expression-|cut-|(OR|AND|WITH)-expression|(OR|AND)-field|no-grant|same-as-|other-file)|[A-Za-z]+-exception-", id):
                 kept = mentions if re.search("-mention(-[b-z])?$", id) else grants
                 kept.setdefault(name, set()).update(licences.names_of(licences.SUFFIX.sub("", id)))
         elif fields[1] in ("first", "beginning") and fields[2] != "-":
