@@ -1,5 +1,9 @@
-//! Tests of inputs that come in pieces, by the public calls: what a feeder gives however an input is cut, what is ready meanwhile, and a refusal that stays.
+//! Tests of inputs that come in pieces, by the public calls: what a feeder gives however an input is cut, what is ready meanwhile, and a refusal that stays; and of random texts, which a plain reader reads as well.
 #![tactic(auto)]
 
 #[cfg(test)]
 mod feeders;
+#[cfg(test)]
+mod plain;
+#[cfg(test)]
+mod random;
