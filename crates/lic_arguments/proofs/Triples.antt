@@ -9,7 +9,7 @@ use Rattle.lic_arguments.specs.declared.after.After.{After}
 pub digits_model : IsNumeralModel (AllDigits 10) (digits_value 10)
 digits_model = numerals_by_value (AllDigits 10) tells_digits
 
--- what is no digit stands in no number
+-- what is no digit is in no number
 pub not_in_number : (text : List ℕ) (n c : ℕ) → IsNumber text n → (c < 48) ⊎ (57 < c) → (i : ℕ) → i < length text → get_or text i 0 ≢ c
 not_in_number text n c is other i within =
     not_in_digits digits_model text c is.digits.1 (λ range. ⊎_elim (λ low. omega arith) (λ high. omega arith) other) i within

@@ -9,7 +9,7 @@ ghost use Rattle.lic_arguments.specs.Options.{IsFlag, IsText, IsLimit, IsGiven, 
 use crate::after::{After, Given};
 use crate::fault::ArgumentFault;
 use clap::{Arg, ArgAction, ArgMatches, Command, Error, value_parser};
-use lic_find::ask::Ask;
+use lic_find::Ask;
 use lic_set::set::Set;
 use lic_set::triple::Triple;
 use std::alloc::{AllocError, Global};

@@ -15,8 +15,8 @@ use Rattle.lic_set.specs.Sets.{Known, words_of}
 use Rattle.lic_set.specs.Rising.{IsRising}
 use Rattle.lic_set.proofs.RisingLemmas.{rises}
 use Rattle.lic_auto.specs.Picked.{IsLeastOf}
-use Rattle.lic_auto.specs.Walks.{AreFollowing, Follows, run_numbers}
-use Rattle.lic_auto.specs.declared.walk.TemplateRun.{TemplateRun}
+use Rattle.lic_auto.specs.TemplateRuns.{AreFollowing, Follows, run_numbers}
+use Rattle.lic_auto.specs.declared.template_runs.TemplateRun.{TemplateRun}
 use Rattle.lic_auto.proofs.Changing.{at_number, number_there, some_at}
 use Rattle.lic_auto.proofs.PickedLemmas.{contains_or_not}
 
@@ -61,7 +61,7 @@ FailBefore-more runs from end run here before fails = λ place one low there.
 
 module _ (set : List Known) (runs : List TemplateRun) (numbers : List ℕ) (ts : List (List ℕ)) (inner : (k : ℕ) → Contains numbers k → Contains (run_numbers runs) k)
     (following : AreFollowing set runs numbers ts) where
-  -- a dead run describes nothing that goes on
+  -- a dead run describes nothing that continues
   pub dead_described : list_all (λ (one : TemplateRun). not one.is_live) runs ≡ true → (more : List (List ℕ)) (k : ℕ) (known : Known)
       → Contains numbers k → slice_get set k ≡ Some known → ¬ (IsDescribed (words_of known) (ts ++ more))
   dead_described dead more k known among is described =

@@ -9,7 +9,7 @@ use Rattle.std.proofs.lemmas.List.{length-set, get_or-set_same}
 use Rattle.std.proofs.lemmas.List.Elements.{Contains-get_or}
 use Rattle.lic_auto.specs.Changes.{AreChanged, AreChangedBefore}
 
--- an element that stands there
+-- an element that is there
 pub slice_get-some : {X Y : Type 0} → (xs : List X) (ys : List Y) (k : ℕ) (y : Y) → length ys ≡ length xs → slice_get ys k ≡ Some y
     → (x : X) × (slice_get xs k ≡ Some x)
 slice_get-some [] ys k y same h = absurd (omega (arith, slice_get_within ys k y h))

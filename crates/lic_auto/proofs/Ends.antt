@@ -7,48 +7,48 @@ use Rattle.std.proofs.Math.Seq.{drop-append_seam}
 use mathlib.Core.HLevel.{⊥_prop}
 use Rattle.lic_words.specs.Expressions.{Expression}
 use Rattle.lic_words.specs.Describing.{IsDescribed}
-use Rattle.lic_words.specs.Mirrors.{mirrored, turned}
-use Rattle.lic_words.proofs.Turned.{IsDescribed-turned, turned-IsDescribed}
+use Rattle.lic_words.specs.Reversal.{reversed_expression, reversed_tokens}
+use Rattle.lic_words.proofs.Turned.{IsDescribed-reversed_tokens, reversed_tokens-IsDescribed}
 use Rattle.lic_marks.specs.Deciding.{is_described}
 use Rattle.lic_marks.proofs.Deciding.{is_described_sound, is_described_complete}
-use Rattle.lic_marks.specs.Seeks.{DescribesEnd}
+use Rattle.lic_marks.specs.Unanchored.{DescribesEnd}
 
-turned-append : (xs ys : List (List ℕ)) → turned (xs ++ ys) ≡ turned ys ++ turned xs
-turned-append xs ys = ap reverse (map-append reverse xs ys) ∙ reverse-append (map reverse xs) (map reverse ys)
+reversed_tokens-append : (xs ys : List (List ℕ)) → reversed_tokens (xs ++ ys) ≡ reversed_tokens ys ++ reversed_tokens xs
+reversed_tokens-append xs ys = ap reverse (map-append reverse xs ys) ∙ reverse-append (map reverse xs) (map reverse ys)
 
-length-turned : (ts : List (List ℕ)) → length (turned ts) ≡ length ts
-length-turned ts = length-reverse (map reverse ts) ∙ length-map ts reverse
+length-reversed_tokens : (ts : List (List ℕ)) → length (reversed_tokens ts) ≡ length ts
+length-reversed_tokens ts = length-reverse (map reverse ts) ∙ length-map ts reverse
 
 -- one token more in front is one more at the end of what is read
-pub turned-cons : (t : List ℕ) (ts : List (List ℕ)) → turned (t ∷ ts) ≡ turned ts ++ reverse t ∷ []
-turned-cons t ts = turned-append (t ∷ []) ts
+pub reversed_tokens-cons : (t : List ℕ) (ts : List (List ℕ)) → reversed_tokens (t ∷ ts) ≡ reversed_tokens ts ++ reverse t ∷ []
+reversed_tokens-cons t ts = reversed_tokens-append (t ∷ []) ts
 
-turned-take : (n : ℕ) (ts : List (List ℕ)) → n ≤ length ts → turned (take n ts) ≡ drop (length ts - n) (turned ts)
-turned-take n ts within =
-    let parts : turned ts ≡ turned (drop n ts) ++ turned (take n ts) = ap turned (sym (take-append-drop n ts)) ∙ turned-append (take n ts) (drop n ts) in
-    let size : length (turned (drop n ts)) ≡ length ts - n = length-turned (drop n ts) ∙ length-drop n ts in
-    sym (drop-append_seam (turned (drop n ts)) (turned (take n ts)))
-    ∙ ap (λ k. drop k (turned (drop n ts) ++ turned (take n ts))) size ∙ ap (drop (length ts - n)) (sym parts)
+reversed_tokens-take : (n : ℕ) (ts : List (List ℕ)) → n ≤ length ts → reversed_tokens (take n ts) ≡ drop (length ts - n) (reversed_tokens ts)
+reversed_tokens-take n ts within =
+    let parts : reversed_tokens ts ≡ reversed_tokens (drop n ts) ++ reversed_tokens (take n ts) = ap reversed_tokens (sym (take-append-drop n ts)) ∙ reversed_tokens-append (take n ts) (drop n ts) in
+    let size : length (reversed_tokens (drop n ts)) ≡ length ts - n = length-reversed_tokens (drop n ts) ∙ length-drop n ts in
+    sym (drop-append_seam (reversed_tokens (drop n ts)) (reversed_tokens (take n ts)))
+    ∙ ap (λ k. drop k (reversed_tokens (drop n ts) ++ reversed_tokens (take n ts))) size ∙ ap (drop (length ts - n)) (sym parts)
 
 module _ (e : Expression) (ts : List (List ℕ)) where
   -- some beginning is described
-  pub beginning-from_end : DescribesEnd (mirrored e) (turned ts) → (n : ℕ) × IsDescribed e (take n ts)
+  pub beginning-from_end : DescribesEnd (reversed_expression e) (reversed_tokens ts) → (n : ℕ) × IsDescribed e (take n ts)
   beginning-from_end (m, described) =
       ⊎_elim
       (λ (inside : m < length ts).
       let back : length ts - (length ts - m) ≡ m = omega arith in
-      let same : drop m (turned ts) ≡ turned (take (length ts - m) ts) =
-      ap (λ k. drop k (turned ts)) (sym back) ∙ sym (turned-take (length ts - m) ts (omega arith)) in
-      (length ts - m, turned-IsDescribed e (take (length ts - m) ts) (subst (IsDescribed (mirrored e)) same described)))
-      (λ (outside : length ts ≤ m). absurd (described.0 (drop_all m (turned ts) (omega (arith, length-turned ts)))))
+      let same : drop m (reversed_tokens ts) ≡ reversed_tokens (take (length ts - m) ts) =
+      ap (λ k. drop k (reversed_tokens ts)) (sym back) ∙ sym (reversed_tokens-take (length ts - m) ts (omega arith)) in
+      (length ts - m, reversed_tokens-IsDescribed e (take (length ts - m) ts) (subst (IsDescribed (reversed_expression e)) same described)))
+      (λ (outside : length ts ≤ m). absurd (described.0 (drop_all m (reversed_tokens ts) (omega (arith, length-reversed_tokens ts)))))
       (cases_lt m (length ts))
 
-  pub end-from_beginning : (n : ℕ) → IsDescribed e (take n ts) → DescribesEnd (mirrored e) (turned ts)
+  pub end-from_beginning : (n : ℕ) → IsDescribed e (take n ts) → DescribesEnd (reversed_expression e) (reversed_tokens ts)
   end-from_beginning n described =
       ⊎_elim
       (λ (inside : n < length ts).
-      (length ts - n, subst (IsDescribed (mirrored e)) (turned-take n ts (omega arith)) (IsDescribed-turned e (take n ts) described)))
-      (λ (outside : length ts ≤ n). (zero, IsDescribed-turned e ts (subst (IsDescribed e) (take_all n ts outside) described)))
+      (length ts - n, subst (IsDescribed (reversed_expression e)) (reversed_tokens-take n ts (omega arith)) (IsDescribed-reversed_tokens e (take n ts) described)))
+      (λ (outside : length ts ≤ n). (zero, IsDescribed-reversed_tokens e ts (subst (IsDescribed e) (take_all n ts outside) described)))
       (cases_lt n (length ts))
 
 -- whether some end is described

@@ -4,11 +4,11 @@ use Rattle.std.specs.List.{slice_get, Contains}
 use Rattle.std.proofs.Math.Logic.{∥∥₁_map, ⊎_elim}
 use Rattle.lic_marks.specs.Cores.{HasWordsOf}
 use Rattle.lic_marks.specs.Nodes.{core_of}
-use Rattle.lic_marks.specs.Runs.{tree_of}
+use Rattle.lic_marks.specs.Anchored.{tree_of}
 use Rattle.lic_set.specs.Sets.{Known, words_of}
 use Rattle.lic_auto.specs.Changes.{AreChanged}
-use Rattle.lic_auto.specs.Walks.{AreFollowing, AreOver, BeginsAmong, Follows, IsOver, Takes, run_numbers}
-use Rattle.lic_auto.specs.declared.walk.TemplateRun.{TemplateRun}
+use Rattle.lic_auto.specs.TemplateRuns.{AreFollowing, AreOver, BeginsAmong, Follows, IsOver, Takes, run_numbers}
+use Rattle.lic_auto.specs.declared.template_runs.TemplateRun.{TemplateRun}
 use Rattle.lic_auto.proofs.Changing.{Changed-was, Changed-numbers, has_number, slice_get-push}
 
 module _ (set : List Known) (runs : List TemplateRun) (run : TemplateRun) where

@@ -7,63 +7,63 @@ use Rattle.std.proofs.lemmas.Bool.{false≢true, cases_lt}
 use Rattle.std.proofs.lemmas.Option.{same_Some}
 use Rattle.std.proofs.lemmas.List.Elements.{Contains-push, Contains-push_cases, Contains-append_left}
 use Rattle.lic_words.specs.Expressions.{Expression}
-use Rattle.lic_words.specs.Mirrors.{mirrored}
-use Rattle.lic_marks.specs.Seeks.{DescribesEnd, Seeks}
+use Rattle.lic_words.specs.Reversal.{reversed_expression}
+use Rattle.lic_marks.specs.Unanchored.{DescribesEnd, HasReadEnds}
 use Rattle.lic_set.specs.Rising.{IsRising}
 use Rattle.lic_set.proofs.RisingLemmas.{rises, IsRising-push}
 use Rattle.lic_set.specs.Sets.{Known, words_of}
-use Rattle.lic_auto.specs.Seeking.{HaveSought, IsFoundBefore, seeker_numbers}
-use Rattle.lic_auto.specs.declared.seeking.TemplateSeeker.{TemplateSeeker}
+use Rattle.lic_auto.specs.TemplateBacks.{HaveTakenBackward, IsFoundBefore, back_numbers}
+use Rattle.lic_auto.specs.declared.template_backs.TemplateBack.{TemplateBack}
 use Rattle.lic_auto.proofs.Changing.{number_there, some_at}
 use Rattle.lic_auto.proofs.Ends.{untruncated_end}
 
--- the list has the numbers of the seekers before a place that are found, in rising order
-pub record AreGathered (seekers : List TemplateSeeker) (found : List ℕ) (end : ℕ) : Type 0 where
-  pub rising : (bound : ℕ) → IsRising (seeker_numbers seekers) bound → IsRising found bound
-  pub known : (n : ℕ) → Contains found n → (place : ℕ) × (place < end) × (get_or (seeker_numbers seekers) place 0 ≡ n)
-  pub exactly : (set : List Known) (ts : List (List ℕ)) → IsRising (seeker_numbers seekers) (length set) → HaveSought set seekers ts → (n : ℕ) → Contains found n ↔ IsFoundBefore set seekers end ts n
+-- the list has the numbers of the matchers before a place that are found, in rising order
+pub record AreGathered (backs : List TemplateBack) (found : List ℕ) (end : ℕ) : Type 0 where
+  pub rising : (bound : ℕ) → IsRising (back_numbers backs) bound → IsRising found bound
+  pub known : (n : ℕ) → Contains found n → (place : ℕ) × (place < end) × (get_or (back_numbers backs) place 0 ≡ n)
+  pub exactly : (set : List Known) (ts : List (List ℕ)) → IsRising (back_numbers backs) (length set) → HaveTakenBackward set backs ts → (n : ℕ) → Contains found n ↔ IsFoundBefore set backs end ts n
 
-module _ (set : List Known) (seekers : List TemplateSeeker) (ts : List (List ℕ)) (end n : ℕ) where
-  Found-more : IsFoundBefore set seekers end ts n → IsFoundBefore set seekers (end + 1) ts n
+module _ (set : List Known) (backs : List TemplateBack) (ts : List (List ℕ)) (end n : ℕ) where
+  Found-more : IsFoundBefore set backs end ts n → IsFoundBefore set backs (end + 1) ts n
   Found-more (place, low, one, known) = (place, omega (arith, low), one, known)
 
   -- what is found before the next place is found before this one, or at it
-  Found-cases : (s : TemplateSeeker) → slice_get seekers end ≡ Some s → IsFoundBefore set seekers (end + 1) ts n → IsFoundBefore set seekers end ts n
-      ⊎ ((s.number ≡ n) × ((known : Known) × (slice_get set n ≡ Some known) × DescribesEnd (mirrored (words_of known)) ts))
+  Found-cases : (s : TemplateBack) → slice_get backs end ≡ Some s → IsFoundBefore set backs (end + 1) ts n → IsFoundBefore set backs end ts n
+      ⊎ ((s.number ≡ n) × ((known : Known) × (slice_get set n ≡ Some known) × DescribesEnd (reversed_expression (words_of known)) ts))
   Found-cases s here (place, low, (one, there, number), known) =
       ⊎_elim
       (λ (before : place < end). inl (place, before, (one, there, number), known))
       (λ (late : end ≤ place).
       let same : place ≡ end = omega (arith, low, late) in
-      let is : s ≡ one = same_Some s one (sym here ∙ ap (slice_get seekers) (sym same) ∙ there) in
-      inr (ap (λ (x : TemplateSeeker). x.number) is ∙ number, known))
+      let is : s ≡ one = same_Some s one (sym here ∙ ap (slice_get backs) (sym same) ∙ there) in
+      inr (ap (λ (x : TemplateBack). x.number) is ∙ number, known))
       (cases_lt place end)
 
-module _ (seekers : List TemplateSeeker) (found : List ℕ) (end : ℕ) (s : TemplateSeeker) (here : slice_get seekers end ≡ Some s) (b : Bool)
-    (answers : (e : Expression) (ts : List (List ℕ)) → Seeks s.seeker e ts → IsTrue b ↔ DescribesEnd e ts) (g : AreGathered seekers found end) where
-  -- the seeker at the place accepts nothing
-  pub Gathered-skip : b ≡ false → AreGathered seekers found (end + 1)
+module _ (backs : List TemplateBack) (found : List ℕ) (end : ℕ) (s : TemplateBack) (here : slice_get backs end ≡ Some s) (b : Bool)
+    (answers : (e : Expression) (ts : List (List ℕ)) → HasReadEnds s.matcher e ts → IsTrue b ↔ DescribesEnd e ts) (g : AreGathered backs found end) where
+  -- the matcher at the place accepts nothing
+  pub Gathered-skip : b ≡ false → AreGathered backs found (end + 1)
   Gathered-skip rejects = record {
     rising = g.rising;
     known = λ n h. let (place, low, is) = g.known n h in (place, omega (arith, low), is);
     exactly = λ set ts up sought n. (
-      λ h. Found-more set seekers ts end n ((g.exactly set ts up sought n).0 h),
+      λ h. Found-more set backs ts end n ((g.exactly set ts up sought n).0 h),
       λ f. ⊎_elim
           (λ before. (g.exactly set ts up sought n).1 before)
           (λ (number, (known, there, described)). absurd (∥∥₁_elim (sought end s known here (ap (slice_get set) number ∙ there)) ⊥_prop
-          (λ seeks. false≢true (sym rejects ∙ (answers (mirrored (words_of known)) ts seeks).1 described))))
-          (Found-cases set seekers ts end n s here f),
+          (λ seeks. false≢true (sym rejects ∙ (answers (reversed_expression (words_of known)) ts seeks).1 described))))
+          (Found-cases set backs ts end n s here f),
     );
   }
 
   -- it accepts, and its number is put to the end
-  pub Gathered-add : b ≡ true → AreGathered seekers (found ++ s.number ∷ []) (end + 1)
+  pub Gathered-add : b ≡ true → AreGathered backs (found ++ s.number ∷ []) (end + 1)
   Gathered-add accepts =
-      let (inside, at) = number_there (λ (x : TemplateSeeker). x.number) seekers end s here in
+      let (inside, at) = number_there (λ (x : TemplateBack). x.number) backs end s here in
       record {
         rising = λ bound up.
             let less : (x : ℕ) → Contains found x → x < s.number = λ x h.
-            let (place, low, is) = g.known x h in omega (arith, rises (seeker_numbers seekers) bound up place end low inside, is, at) in
+            let (place, low, is) = g.known x h in omega (arith, rises (back_numbers backs) bound up place end low inside, is, at) in
             IsRising-push found bound s.number bound (g.rising bound up) (omega arith) less (omega (arith, at, up.below end inside));
         known = λ n h. ⊎_elim
             (λ before. let (place, low, is) = g.known n before in (place, omega (arith, low), is))
@@ -71,7 +71,7 @@ module _ (seekers : List TemplateSeeker) (found : List ℕ) (end : ℕ) (s : Tem
             (Contains-push_cases found s.number n h);
         exactly = λ set ts up sought n. (
           λ h. ⊎_elim
-              (λ before. Found-more set seekers ts end n ((g.exactly set ts up sought n).0 before))
+              (λ before. Found-more set backs ts end n ((g.exactly set ts up sought n).0 before))
               (λ (same : s.number ≡ n).
               let (known, there) = some_at set s.number (omega (arith, at, up.below end inside)) in (
                 end,
@@ -80,14 +80,14 @@ module _ (seekers : List TemplateSeeker) (found : List ℕ) (end : ℕ) (s : Tem
                 (
                   known,
                   ap (slice_get set) (sym same) ∙ there,
-                  untruncated_end (mirrored (words_of known)) ts
-                      (∥∥₁_map (sought end s known here there) (λ seeks. (answers (mirrored (words_of known)) ts seeks).0 accepts)),
+                  untruncated_end (reversed_expression (words_of known)) ts
+                      (∥∥₁_map (sought end s known here there) (λ seeks. (answers (reversed_expression (words_of known)) ts seeks).0 accepts)),
                 ),
               ))
               (Contains-push_cases found s.number n h),
           λ f. ⊎_elim
               (λ before. Contains-append_left found (s.number ∷ []) n ((g.exactly set ts up sought n).1 before))
               (λ (is, rest). subst (Contains (found ++ s.number ∷ [])) is (Contains-push found s.number))
-              (Found-cases set seekers ts end n s here f),
+              (Found-cases set backs ts end n s here f),
         );
       }

@@ -2,7 +2,7 @@
 use Rattle.std.proofs.Common.{◌≡◌, ℕ, zero, suc, ◌+◌, ◌-◌, ◌≤◌, [], ◌∷◌, ◌++◌, replicate, inl, inr, Option, Some, None, refl, sym, ap, ◌∙◌, arith, append_assoc}
 use Rattle.lic_words.specs.Words.{Word, Cat, Power}
 use Rattle.lic_words.specs.Expressions.{IsAtMost}
-use Rattle.lic_marks.specs.Cores.{Core, empty, cat, alt, WordsOf, cat_all, any_front, copies, up_to, plus}
+use Rattle.lic_marks.specs.Cores.{Core, empty, cat, alt, WordsOf, cat_all, any_prefix, copies, up_to, plus}
 use Rattle.lic_marks.proofs.Repetitions.{Power-map, Power-append}
 use Rattle.lic_auto.specs.Compiling.{AreSame, Repeats}
 use Rattle.lic_auto.proofs.WordSets.{AreSame-refl, AreSame-sym, AreSame-trans, IsEmpty, IsNone, Either, Cat-same, Cat-empty_left, Cat-empty_right}
@@ -48,7 +48,7 @@ module _ (a : Core) where
   up_to_from (suc n) zero w h p = inl p
   up_to_from (suc n) (suc k) w h (u, v, p, q, e) = inr (u, v, p, up_to_from n k v (omega arith) q, e)
 
-  -- m copies, and then up to so many more
+  -- m copies, and then up to that many more
   pub bounded_words : (min max : ℕ) → min ≤ max →
       AreSame (Cat (WordsOf (copies min a)) (WordsOf (up_to (max - min) a))) (Repeats (WordsOf a) min (Some max))
   bounded_words min max l = record {
@@ -97,7 +97,7 @@ module _ (P : Word → Type 0) (min : ℕ) (max : Option ℕ) (some : IsAtMost m
   powers_of_empty p zero = refl
   powers_of_empty p (suc k) = ([], [], p, powers_of_empty p k, refl)
 
-  -- the empty word alone so many times
+  -- the empty word alone that many times
   pub Repeats-empty : AreSame P IsEmpty → AreSame IsEmpty (Repeats P min max)
   Repeats-empty s = record {
     to = λ w e. (min, omega arith, some, rw e (powers_of_empty (s.from [] refl) min));
@@ -127,7 +127,7 @@ pub copies-list : (n : ℕ) (a : Core) → cat_all (replicate n a) ≡ copies n 
 copies-list zero a = refl
 copies-list (suc n) a = ap (cat a) (copies-list n a)
 
-pub up_to-list : (n : ℕ) (a : Core) → any_front (replicate n a) ≡ up_to n a
+pub up_to-list : (n : ℕ) (a : Core) → any_prefix (replicate n a) ≡ up_to n a
 up_to-list zero a = refl
 up_to-list (suc n) a = ap (λ r. alt empty (cat a r)) (up_to-list n a)
 

@@ -15,7 +15,7 @@ use Rattle.lic_marks.specs.Nodes.{core_of, is_measured, IsBuilt}
 use Rattle.lic_marks.specs.declared.node.Node.{Node}
 use Rattle.lic_marks.proofs.Cuts.{and_both}
 use Rattle.lic_auto.specs.Compiling.{AreSame, HasWords}
-use Rattle.lic_auto.proofs.WordSets.{AreSame-refl, AreSame-sym, AreSame-trans, Either, EmptyIf, IsEmpty, Either-same, Either-turned, Either-none, Either-none_left, Either-assoc, EmptyIf-or}
+use Rattle.lic_auto.proofs.WordSets.{AreSame-refl, AreSame-sym, AreSame-trans, Either, EmptyIf, IsEmpty, Either-same, Either-reversed_tokens, Either-none, Either-none_left, Either-assoc, EmptyIf-or}
 use Rattle.lic_auto.proofs.Rows.{cat_all-keep, alt_all-push}
 use Rattle.lic_auto.proofs.Weightless.{cat_all-leave_out, cat_all-none, weightless, weightless_none, weightless_words}
 use Rattle.lic_auto.proofs.Trees.{more}
@@ -65,7 +65,7 @@ choice_with_empty ns new n b Q e has is same =
     rw (cores-push ns new n e)
     (AreSame-trans (alt_all-push (map core_of ns) (core_of n))
     (AreSame-trans (Either-same (AreSame-refl (WordsOf (alt_all (map core_of ns)))) has.words)
-    (AreSame-trans (Either-turned (WordsOf (alt_all (map core_of ns))) IsEmpty) (rw is at same))))
+    (AreSame-trans (Either-reversed_tokens (WordsOf (alt_all (map core_of ns))) IsEmpty) (rw is at same))))
 
 -- it is not, or by the others
 pub choice_without : (P Q : Word → Type 0) (b : Bool) → b ≡ false → AreSame (Either (EmptyIf b) P) Q → AreSame P Q
@@ -112,6 +112,6 @@ pub node_told : {E : Type 0} (r : Option Node) (e : E) (core : Core) (Q : Word �
     IfSome r (IsBuilt core) → IfOk (ok_or r e) (HasWords Q)
 node_told None e core Q same built = tt
 node_told (Some node) e core Q same built = record {
-  words = subst (λ r. AreSame (WordsOf r) Q) (sym built.stands) same;
+  words = subst (λ r. AreSame (WordsOf r) Q) (sym built.core) same;
   measured = built.measured;
 }

@@ -27,7 +27,7 @@ module _ (ns : List Node) where
       rw (is, e) (same_end (map core_of ns) (cat_all (one (λ c. c == letter) ∷ [])) (one (λ c. c == letter))
       (Cat-empty_right (WordsOf (one (λ c. c == letter)))))
 
-  -- it is put behind the others, and the text is empty
+  -- it is put after the others, and the text is empty
   pub nothing_taken : (new : List Node) (last : Node) (text : List ℕ) → new ≡ ns ++ last ∷ [] → text ≡ [] →
       AreSame (WordsOf (cat_all (map core_of new ++ cat_all (letter_cores text) ∷ []))) (WordsOf (cat_all (map core_of (ns ++ last ∷ []))))
   nothing_taken new last text e none =
@@ -55,7 +55,7 @@ letter_more rs qs text letter same =
     (AreSame-trans (Cat-same (AreSame-sym (cat_all-push rs (cat_all (letter_cores text)))) (AreSame-refl (WordsOf last)))
     (AreSame-trans (Cat-same same (AreSame-refl (WordsOf last))) (AreSame-sym (cat_all-push qs last)))))))
 
--- the text with the letter stands behind the others
+-- the text with the letter comes after the others
 pub letter_joined : (ns old new : List Node) (node child : Node) (text : List ℕ) (letter : ℕ) → new ≡ ns ++ node ∷ [] →
     core_of node ≡ cat_all (letter_cores (text ++ letter ∷ [])) → core_of child ≡ one (λ c. c == letter) →
     AreSame (WordsOf (cat_all (map core_of ns ++ cat_all (letter_cores text) ∷ []))) (WordsOf (cat_all (map core_of old))) →

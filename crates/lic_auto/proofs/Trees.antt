@@ -22,7 +22,7 @@ use Rattle.lic_auto.proofs.WordSets.{AreSame-refl, AreSame-trans, Cat-same}
 use Rattle.lic_auto.specs.declared.direction.Direction.{Direction}
 use Rattle.lic_auto.specs.declared.direction.Direction.TheVariants.{Forward, Backward}
 use Rattle.lic_auto.specs.Directions.{ordered, read}
-use Rattle.lic_words.specs.Mirrors.{mirrored}
+use Rattle.lic_words.specs.Reversal.{reversed_expression}
 use Rattle.lic_auto.proofs.Ordered.{reverse-cons}
 use Rattle.lic_auto.proofs.Rows.{cat_all-push}
 use Rattle.lic_auto.proofs.Repetitions.{Repeats-same}
@@ -79,7 +79,7 @@ pub read-alt_all : (d : Direction) (es : List Expression) → words.alt_all (map
 read-alt_all Forward [] = refl
 read-alt_all Forward (e ∷ es) = ap (words.alt e) (read-alt_all Forward es)
 read-alt_all Backward [] = refl
-read-alt_all Backward (e ∷ es) = ap (words.alt (mirrored e)) (read-alt_all Backward es)
+read-alt_all Backward (e ∷ es) = ap (words.alt (reversed_expression e)) (read-alt_all Backward es)
 
 read-repeat : (d : Direction) (min : ℕ) (max : Option ℕ) (a : Expression) → words.repeat min max (read d a) ≡ read d (words.repeat min max a)
 read-repeat Forward min max a = refl
@@ -96,7 +96,7 @@ row_read Backward [] [] all = AreSame-refl (Language words.empty)
 row_read Backward [] (e ∷ es) all = absurd all
 row_read Backward (n ∷ ns) [] all = absurd all
 row_read Backward (n ∷ ns) (e ∷ es) all =
-    subst (λ rs. AreSame (WordsOf (cat_all rs)) (Language (words.cat (mirrored (words.cat_all es)) (mirrored e))))
+    subst (λ rs. AreSame (WordsOf (cat_all rs)) (Language (words.cat (reversed_expression (words.cat_all es)) (reversed_expression e))))
     (sym (reverse-cons (core_of n) (map core_of ns)))
     (AreSame-trans (cat_all-push (reverse (map core_of ns)) (core_of n)) (Cat-same (row_read Backward ns es all.1) all.0.words))
 
@@ -137,7 +137,7 @@ text_read : (d : Direction) (cs : List ℕ) → AreSame (WordsOf (cat_all (lette
 text_read Forward cs = text_words cs
 text_read Backward [] = AreSame-refl (Language words.empty)
 text_read Backward (c ∷ cs) =
-    subst (λ rs. AreSame (WordsOf (cat_all rs)) (Language (words.cat (mirrored (words.letters cs)) (words.letter c))))
+    subst (λ rs. AreSame (WordsOf (cat_all rs)) (Language (words.cat (reversed_expression (words.letters cs)) (words.letter c))))
     (sym (ap letter_cores (reverse-cons c cs) ∙ map-append (λ d. one (λ c. c == d)) (reverse cs) (c ∷ [])))
     (AreSame-trans (cat_all-push (letter_cores (reverse cs)) (one (λ d. d == c))) (Cat-same (text_read Backward cs) (AreSame-refl (Language (words.letter c)))))
 
@@ -145,6 +145,6 @@ pub letters_compiled : (d : Direction) (cs items : List ℕ) (node : Node) → i
     HasWords (Language (read d (words.letters cs))) node
 letters_compiled d cs items node same built = record {
   words = subst (λ r. AreSame (WordsOf r) (Language (read d (words.letters cs))))
-      (sym (built.stands ∙ ap (λ x. cat_all (letter_cores x)) same)) (text_read d cs);
+      (sym (built.core ∙ ap (λ x. cat_all (letter_cores x)) same)) (text_read d cs);
   measured = built.measured;
 }

@@ -96,7 +96,7 @@ cat_all-none (m ∷ ns) (suc i) n inside is empty_set =
       from = λ w h. absurd h;
     }
 
--- words of a core without a letter position, so many times
+-- words of a core without a letter position, that many times
 module _ (r : Core) (light : weight r ≡ 0) (min : ℕ) (max : Option ℕ) (some : IsAtMost max min) where
   pub weightless_repeats : ((min == 0) || is_nullable r) ≡ true → AreSame IsEmpty (Repeats (WordsOf r) min max)
   weightless_repeats h = elim (or_cases (min == 0) (is_nullable r) h) [

@@ -124,5 +124,5 @@ module _ (P Q : Word → Type 0) where
   turn A B w (inl a) = inr a
   turn A B w (inr b) = inl b
 
-  pub Either-turned : AreSame (Either P Q) (Either Q P)
-  Either-turned = record { to = turn P Q; from = turn Q P }
+  pub Either-reversed_tokens : AreSame (Either P Q) (Either Q P)
+  Either-reversed_tokens = record { to = turn P Q; from = turn Q P }

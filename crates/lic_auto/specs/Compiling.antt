@@ -1,4 +1,4 @@
--- Compiled trees that stand for a set of words.
+-- Compiled trees that denote a set of words.
 use Rattle.std.specs.Prelude.{IsTrue, ◌≤◌, ℕ, Option, List, [], ◌∷◌}
 use Rattle.lic_words.specs.Words.{Word, Power}
 use Rattle.lic_words.specs.Expressions.{Expression, Language, IsAtMost}
@@ -14,12 +14,12 @@ pub record AreSame (P Q : Word → Type 0) : Type 0 where
   pub to : (w : Word) → P w → Q w
   pub from : (w : Word) → Q w → P w
 
--- the tree stands for these words, and its cached numbers are right
+-- the tree denotes these words, and its cached numbers are right
 pub record HasWords (P : Word → Type 0) (node : Node) : Type 0 where
   pub words : AreSame (WordsOf (core_of node)) P
   pub measured : IsTrue (is_measured node)
 
--- each tree stands for the words of its expression
+-- each tree denotes the words of its expression
 abbrev pub AllHaveWords : List Node → List Expression → Type 0
 AllHaveWords [] [] = Unit {0}
 AllHaveWords [] (e ∷ es) = ⊥
@@ -30,6 +30,6 @@ AllHaveWords (node ∷ nodes) (e ∷ es) = HasWords (Language e) node × AllHave
 abbrev pub pattern_words : Ere → Expression
 pattern_words ere = tree_words (tree_of ere)
 
--- from so many to so many words of the set in a row, or more
+-- from a least to a greatest number of words of the set in a row, or more
 abbrev pub Repeats : (Word → Type 0) → ℕ → Option ℕ → Word → Type 0
 Repeats P min max w = (k : ℕ) × (min ≤ k) × IsAtMost max k × Power P k w

@@ -1,7 +1,7 @@
 -- Rows and expressions as they are read in a direction.
 use Rattle.std.specs.Prelude.{List, reverse}
 use Rattle.lic_words.specs.Expressions.{Expression}
-use Rattle.lic_words.specs.Mirrors.{mirrored}
+use Rattle.lic_words.specs.Reversal.{reversed_expression}
 use Rattle.lic_auto.specs.declared.direction.Direction.{Direction}
 use Rattle.lic_auto.specs.declared.direction.Direction.TheVariants.{Forward, Backward}
 
@@ -13,4 +13,4 @@ ordered Backward xs = reverse xs
 -- the expression whose words are read so
 abbrev pub read : Direction → Expression → Expression
 read Forward e = e
-read Backward e = mirrored e
+read Backward e = reversed_expression e

@@ -2,7 +2,7 @@ pub mod Directions
 pub mod Compiling
 pub mod Changes
 pub mod Picked
-pub mod Walks
-pub mod Seeking
+pub mod TemplateRuns
+pub mod TemplateBacks
 pub mod Backs
 pub mod Runs

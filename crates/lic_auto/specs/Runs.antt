@@ -3,7 +3,7 @@ use Rattle.std.specs.Prelude.{◌≡◌, ℕ, ◌<◌, ◌≤◌, Bool, not, Lis
 use Rattle.std.specs.List.{slice_get, list_all}
 use Rattle.lic_words.specs.Describing.{IsDescribed}
 use Rattle.lic_set.specs.Sets.{Known, words_of}
-use Rattle.lic_auto.specs.Walks.{AreFollowing, run_numbers}
+use Rattle.lic_auto.specs.TemplateRuns.{AreFollowing, run_numbers}
 use Rattle.lic_auto.specs.declared.run.Run.{Run}
 
 -- the templates
@@ -15,13 +15,13 @@ abbrev pub numbers_of : Run → List ℕ
 numbers_of run = run_numbers run.runs.items
 
 -- The run has taken these tokens with the templates of these numbers, which are some of its own; no other one is live.
-pub record StandsAmong (run : Run) (numbers : List ℕ) (ts : List (List ℕ)) : Type 0 where
+pub record RunHasTakenAmong (run : Run) (numbers : List ℕ) (ts : List (List ℕ)) : Type 0 where
   pub some : (k : ℕ) → Contains numbers k → Contains (numbers_of run) k
   pub runs : AreFollowing (set_of run) run.runs.items numbers ts
 
 -- the run has taken these tokens with all of its templates
-abbrev pub StandsFor : Run → List (List ℕ) → Type 0
-StandsFor run ts = StandsAmong run (numbers_of run) ts
+abbrev pub RunHasTaken : Run → List (List ℕ) → Type 0
+RunHasTaken run ts = RunHasTakenAmong run (numbers_of run) ts
 
 -- the steps that were counted
 abbrev pub steps_of : Run → ℕ

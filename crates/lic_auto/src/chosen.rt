@@ -10,7 +10,7 @@ ghost use Rattle.lic_auto.specs.Directions.{read};
 
 use crate::compile::compile;
 use crate::direction::Direction;
-use lic_marks::node::Node;
+use lic_marks::Node;
 use lic_set::set::Set;
 use std::alloc::{AllocError, Global};
 

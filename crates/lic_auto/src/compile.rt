@@ -14,9 +14,7 @@ ghost use Rattle.lic_auto.specs.Compiling.{AreSame, HasWords, AllHaveWords, Repe
 
 use crate::direction::Direction;
 use lic_ere::Ere;
-use lic_marks::build;
-use lic_marks::node::{Node, Times};
-use lic_marks::test::Test;
+use lic_marks::{Node, Test, Times, build};
 use lic_markup::Part;
 use std::alloc::{AllocError, Global};
 

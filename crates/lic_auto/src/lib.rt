@@ -1,14 +1,18 @@
 //! The machines over the templates of a set: which of them describe a list of tokens that comes token by token.
 #![tactic(auto)]
 
-pub mod back;
+mod back;
 mod chosen;
-pub mod compile;
+mod compile;
 mod direction;
 pub mod laws;
-pub mod run;
-mod seeking;
-pub mod set;
+mod run;
 mod steps;
-pub mod triple;
-mod walk;
+mod template_backs;
+mod template_runs;
+
+pub use back::Back;
+pub use compile::compile_pattern;
+pub use lic_set::set::Set;
+pub use lic_set::triple::Triple;
+pub use run::Run;

@@ -9,11 +9,11 @@ ghost use Rattle.lic_phrases.specs.TokenTexts.{IsTokenText};
 ghost use Rattle.lic_set.specs.Sets.{Known, words_of};
 ghost use Rattle.lic_set.specs.Rising.{IsRising};
 ghost use Rattle.lic_auto.specs.Picked.{AreAll, IsLeastOf, OthersFail};
-ghost use Rattle.lic_auto.specs.Walks.{AreOver, run_numbers};
+ghost use Rattle.lic_auto.specs.TemplateRuns.{AreOver, run_numbers};
 
 use crate::chosen::all_numbers;
 use crate::steps::count_steps;
-use crate::walk::{TemplateRun, begin_all, begin_among, none_is_live, push_to_all};
+use crate::template_runs::{TemplateRun, begin_all, begin_among, none_is_live, push_to_all};
 use lic_set::set::Set;
 use std::alloc::{AllocError, Global};
 
@@ -30,14 +30,14 @@ pub struct Run<'s> {
 }
 
 impl<'s> Run<'s> {
-    ghost use Rattle.lic_auto.specs.Runs.{StandsFor, StandsAmong, set_of, numbers_of, steps_of, is_dead, IsLeastDescribing};
+    ghost use Rattle.lic_auto.specs.Runs.{RunHasTaken, RunHasTakenAmong, set_of, numbers_of, steps_of, is_dead, IsLeastDescribing};
 
     /// A run over all templates, which has taken no token.
     ///
     /// # Errors
     /// Memory ran out.
     pub fn new(alloc: Global, set: &'s Set) -> Result<Run<'s>, AllocError>
-        ensures stands { IfOk result (λ r. StandsFor r []) }
+        ensures taken { IfOk result (λ r. RunHasTaken r []) }
         ensures set { IfOk result (λ r. set_of r ≡ set.now) }
         ensures steps { IfOk result (λ r. steps_of r ≡ 0) }
         ensures all { IfOk result (λ r. AreAll set.now (numbers_of r)) }
@@ -52,7 +52,7 @@ impl<'s> Run<'s> {
     /// Memory ran out.
     pub fn over(alloc: Global, set: &'s Set, numbers: Vec<usize>) -> Result<Run<'s>, AllocError>
         requires { IsRising numbers.items (length set.now) }
-        ensures stands { IfOk result (λ r. StandsFor r []) }
+        ensures taken { IfOk result (λ r. RunHasTaken r []) }
         ensures set { IfOk result (λ r. set_of r ≡ set.now) }
         ensures steps { IfOk result (λ r. steps_of r ≡ 0) }
         ensures numbers { IfOk result (λ r. numbers_of r ≡ numbers.items) }
@@ -71,7 +71,7 @@ impl<'s> Run<'s> {
 
     /// Begins anew with no token. The steps stay counted.
     pub fn reset(&mut self)
-        ensures stands { StandsFor self.new [] }
+        ensures taken { RunHasTaken self.new [] }
         ensures set { set_of self.new ≡ set_of self.old }
         ensures numbers { numbers_of self.new ≡ numbers_of self.old }
         ensures steps { (steps_of self.old ≤ steps_of self.new)
@@ -83,7 +83,7 @@ impl<'s> Run<'s> {
     /// Begins anew with no token, over the templates of these numbers alone, until it begins anew again. The steps stay counted.
     pub fn begin(&mut self, numbers: &[usize])
         requires { (k : ℕ) → Contains numbers.now k → Contains (numbers_of self.old) k }
-        ensures stands { StandsAmong self.new numbers.now [] }
+        ensures taken { RunHasTakenAmong self.new numbers.now [] }
         ensures set { set_of self.new ≡ set_of self.old }
         ensures numbers { numbers_of self.new ≡ numbers_of self.old }
         ensures steps { (steps_of self.old ≤ steps_of self.new)
@@ -98,10 +98,10 @@ impl<'s> Run<'s> {
     /// `u64`. A dead run takes none.
     pub fn push(&mut self, text: &str)
         requires { IsTokenText text.now }
-        ensures stands { (ts : List (List ℕ)) → StandsFor self.old ts
-            → StandsFor self.new (ts ++ chars text.now ∷ []) }
-        ensures among { (numbers : List ℕ) (ts : List (List ℕ)) → StandsAmong self.old numbers ts
-            → StandsAmong self.new numbers (ts ++ chars text.now ∷ []) }
+        ensures taken { (ts : List (List ℕ)) → RunHasTaken self.old ts
+            → RunHasTaken self.new (ts ++ chars text.now ∷ []) }
+        ensures among { (numbers : List ℕ) (ts : List (List ℕ)) → RunHasTakenAmong self.old numbers ts
+            → RunHasTakenAmong self.new numbers (ts ++ chars text.now ∷ []) }
         ensures set { set_of self.new ≡ set_of self.old }
         ensures numbers { numbers_of self.new ≡ numbers_of self.old }
         ensures least { is_dead self.old ≡ false → steps_of self.new < 2 ^ 64 - 1
@@ -117,13 +117,13 @@ impl<'s> Run<'s> {
 
     /// The least number, from this one on, of a template of this run that describes the tokens taken.
     pub fn accepted(&self, from: usize) -> Option<usize>
-        ensures among { (numbers : List ℕ) (ts : List (List ℕ)) → StandsAmong self.now numbers ts
+        ensures among { (numbers : List ℕ) (ts : List (List ℕ)) → RunHasTakenAmong self.now numbers ts
             → IsLeastOf (set_of self.now) numbers ts from result }
-        ensures least { (ts : List (List ℕ)) → StandsFor self.now ts
+        ensures least { (ts : List (List ℕ)) → RunHasTaken self.now ts
             → IsLeastOf (set_of self.now) (numbers_of self.now) ts from result }
 
         // Where no other template describes the list, it is the least of all.
-        ensures all { (ts : List (List ℕ)) → StandsFor self.now ts
+        ensures all { (ts : List (List ℕ)) → RunHasTaken self.now ts
             → OthersFail (set_of self.now) (numbers_of self.now) ts
             → IsLeastDescribing (set_of self.now) ts from result }
     {
@@ -140,11 +140,11 @@ impl<'s> Run<'s> {
         ensures value { result ≡ is_dead self.now }
         ensures among { IsTrue result
             → (numbers : List ℕ) (ts more : List (List ℕ)) (k : ℕ) (known : Known)
-            → StandsAmong self.now numbers ts → Contains numbers k
+            → RunHasTakenAmong self.now numbers ts → Contains numbers k
             → slice_get (set_of self.now) k ≡ Some known
             → ¬ (IsDescribed (words_of known) (ts ++ more)) }
         ensures none { IsTrue result → (ts more : List (List ℕ)) (k : ℕ) (known : Known)
-            → StandsFor self.now ts → Contains (numbers_of self.now) k
+            → RunHasTaken self.now ts → Contains (numbers_of self.now) k
             → slice_get (set_of self.now) k ≡ Some known
             → ¬ (IsDescribed (words_of known) (ts ++ more)) }
     {

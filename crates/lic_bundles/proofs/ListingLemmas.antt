@@ -80,7 +80,7 @@ AreAscending-put t (s ∷ ss) rise =
           (λ u h. ⊎_elim (λ (same : t ≡ u). subst (Precedes s) same below) (λ k. rise.0 u k) (Contains-put_cases t ss u h), AreAscending-put t ss rise.1)
     ]
 
--- so many triples of a bundle, from its first on
+-- that many triples of a bundle, from its first on
 record IsOfRun (n : ℕ) (b : Bundle) (t : Triple) : Type 0 where
   from : b.from ≤ t.first
   to : t.first < b.from + n

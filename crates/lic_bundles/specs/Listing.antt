@@ -9,7 +9,7 @@ abbrev pub put : Triple → List Triple → List Triple
 put t [] = t ∷ []
 put t (s ∷ ss) = if precedes t s then t ∷ (s ∷ ss) else (if precedes s t then s ∷ put t ss else s ∷ ss)
 
--- so many triples of a bundle, from its first on, put into an ascending list
+-- that many triples of a bundle, from its first on, put into an ascending list
 abbrev pub put_run : ℕ → Bundle → List Triple → List Triple
 put_run zero b ss = ss
 put_run (suc n) b ss = put (triple_at (b.from + n) b.last b.template) (put_run n b ss)

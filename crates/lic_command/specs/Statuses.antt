@@ -11,7 +11,7 @@ pub record IsStatus (is_refused is_so : Bool) (status : ℕ) : Type 0 where
   pub so : is_refused ≡ false → is_so ≡ true → status ≡ 0
   pub not_so : is_refused ≡ false → is_so ≡ false → status ≡ 1
 
--- a write that fails is said of standard output, any other fault of the check
+-- a write that fails is reported of standard output, any other fault of the check
 abbrev pub stop_of : RunFault → Stop
 stop_of Write = CannotWrite
 stop_of fault = Check fault

@@ -1,13 +1,13 @@
 //! Why the program ends before its work is done, and how it reports that.
 
 ghost use Rattle.std.specs.Prelude.{◌≡◌, ℕ, List};
-ghost use Rattle.lic_load.specs.Telling.{IsTold};
+ghost use Rattle.lic_load.specs.Reporting.{IsReported};
 ghost use Rattle.lic_command.specs.declared.faults.Stop.TheVariants.{Arguments, Load, Memory};
 
-use lic_arguments::fault::ArgumentFault;
-use lic_engine::fault::RunFault;
-use lic_load::fault::{LoadFault, tell};
-use lic_stream::stream::Sink;
+use lic_arguments::ArgumentFault;
+use lic_engine::RunFault;
+use lic_load::{LoadFault, tell};
+use lic_stream::Sink;
 use std::alloc::{AllocError, AllocFailed, Global};
 use thiserror::Error;
 
@@ -61,7 +61,7 @@ impl From<AllocError> for Stop {
 /// Reports why the program ends.
 pub fn tell_stop<E: Sink>(alloc: Global, err: &mut E, stop: &Stop)
     ensures { (text : List ℕ)
-        × IsTold (E.taken err.old) (E.taken err.new) (E.failed err.old) (E.failed err.new) text }
+        × IsReported (E.taken err.old) (E.taken err.new) (E.failed err.old) (E.failed err.new) text }
 {
     match format!(in alloc; "licscan: {stop}\n") {
         Ok(line) => tell(err, line.as_str()),

@@ -2,7 +2,7 @@
 
 ghost use Rattle.std.specs.Prelude.{◌≡◌, ◌≢◌, ◌≤◌, ℕ, List, Ok, Err, IfOk};
 ghost use Rattle.clap.specs.Values.{kind_of};
-ghost use Rattle.lic_load.specs.Telling.{IsTold};
+ghost use Rattle.lic_load.specs.Reporting.{IsReported};
 ghost use Rattle.lic_command.specs.Usage.{IsFault, IsShown};
 
 use crate::faults::Stop;
@@ -11,15 +11,10 @@ use crate::progress::Progress;
 use crate::status::{DONE, REFUSED, status_at_end, status_of, status_of_check};
 use clap::error::ErrorKind;
 use clap::{ArgMatches, Error};
-use lic_arguments::arguments::{CheckArguments, ScanArguments, TokensArguments, ask_of, parse};
-use lic_arguments::fault::ArgumentFault;
-use lic_engine::check::check;
-use lic_load::fault::tell;
-use lic_load::rules::load_rules;
-use lic_load::templates::load_all;
-use lic_load::word_list::load_words;
-use lic_stream::stream::{Sink, Source};
-use lic_stream::transfer::put_all;
+use lic_arguments::{ArgumentFault, CheckArguments, ScanArguments, TokensArguments, ask_of, parse};
+use lic_engine::check;
+use lic_load::{load_all, load_rules, load_words, tell};
+use lic_stream::{Sink, Source, put_all};
 use std::alloc::Global;
 use std::rt::Files;
 
@@ -122,7 +117,7 @@ fn show_usage<W: Sink, E: Sink>(
         × (err.new ≡ err.old) }
     // A fault is one text on standard error alone, and the status is 2.
     ensures fault { IsFault (kind_of error.now) → result ≢ Err Stop.Memory → (text : List ℕ)
-        × IsTold (E.taken err.old) (E.taken err.new) (E.failed err.old) (E.failed err.new) text
+        × IsReported (E.taken err.old) (E.taken err.new) (E.failed err.old) (E.failed err.new) text
         × (out.new ≡ out.old) × (result ≡ Ok 2) }
     // Where memory ran out nothing is written.
     ensures memory { kind_of error.now ≡ ErrorKind.OutOfMemory → result ≡ Err Stop.Memory }

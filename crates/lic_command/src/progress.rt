@@ -1,10 +1,10 @@
 //! How far the work on many files has come, for whoever waits at a terminal.
 
 ghost use Rattle.std.specs.Prelude.{◌≡◌, ◌<◌, ◌≤◌, ◌∷◌, []};
-ghost use Rattle.lic_load.specs.Telling.{IsTold};
+ghost use Rattle.lic_load.specs.Reporting.{IsReported};
 
-use lic_load::fault::tell;
-use lic_stream::stream::Sink;
+use lic_load::tell;
+use lic_stream::Sink;
 use std::alloc::Global;
 
 /// To the start of the line, and clears it.
@@ -43,7 +43,7 @@ impl Progress {
         ensures few { all < 20 → err.new ≡ err.old }
         // A carriage return, and what clears the line from there on.
         ensures shown { self ≡ Progress.Shown → 20 ≤ all
-            → IsTold (E.taken err.old) (E.taken err.new) (E.failed err.old) (E.failed err.new)
+            → IsReported (E.taken err.old) (E.taken err.new) (E.failed err.old) (E.failed err.new)
             (0x0D ∷ 0x1B ∷ 0x5B ∷ 0x4B ∷ []) }
     {
         if self == Progress::Shown && all >= MANY {

@@ -1,13 +1,13 @@
 //! The statuses that the program ends with.
 
 ghost use Rattle.std.specs.Prelude.{◌≡◌, ◌≤◌, ◌||◌, ℕ, List, Ok, IfOk, IsErr};
-ghost use Rattle.lic_load.specs.Telling.{IsTold};
+ghost use Rattle.lic_load.specs.Reporting.{IsReported};
 ghost use Rattle.lic_command.specs.Statuses.{IsStatus, IsStatusOfCheck};
 
 use crate::faults::{Stop, tell_stop};
 use crate::files::Written;
-use lic_engine::fault::RunFault;
-use lic_stream::stream::Sink;
+use lic_engine::RunFault;
+use lic_stream::Sink;
 use std::alloc::Global;
 
 /// What was asked for is so: a line was written, or no line says `no`.
@@ -50,11 +50,11 @@ pub fn status_of_check(answer: Result<bool, RunFault>, is_left_out: bool) -> Res
 /// The status that the program ends with. Where its work was not done, it is reported why.
 pub fn status_at_end<E: Sink>(alloc: Global, err: &mut E, outcome: Result<u8, Stop>) -> u8
     ensures done { (status : _) → outcome ≡ Ok status → result ≡ status }
-    ensures quiet { (status : _) → outcome ≡ Ok status → err.new ≡ err.old }
+    ensures silent { (status : _) → outcome ≡ Ok status → err.new ≡ err.old }
     ensures stopped { IsErr outcome → result ≡ 2 }
     ensures few { IfOk outcome (λ status. status ≤ 2) → result ≤ 2 }
-    ensures told { IsErr outcome → (text : List ℕ)
-        × IsTold (E.taken err.old) (E.taken err.new) (E.failed err.old) (E.failed err.new) text }
+    ensures reported { IsErr outcome → (text : List ℕ)
+        × IsReported (E.taken err.old) (E.taken err.new) (E.failed err.old) (E.failed err.new) text }
 {
     match outcome {
         Ok(status) => status,

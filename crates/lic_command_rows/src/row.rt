@@ -4,7 +4,7 @@ use crate::bytes::bytes_of;
 use crate::outcome::Outcome;
 use anyhow::Context;
 use lic_command::command;
-use lic_stream::stream::Counted;
+use lic_stream::Counted;
 use serde_json::Value;
 use std::alloc::Global;
 use std::rt::Files;

@@ -11,7 +11,7 @@ use Rattle.lic_engine.proofs.Refusals.{accepted_short, not_too_long, refused_tex
 pub piece_read : (a b c : Option (List ℕ)) (fed piece fed' : List ℕ) → Consumes a b fed → Consumes b c piece → fed' ≡ fed ++ piece → Consumes a c fed'
 piece_read a b c fed piece fed' p q e = subst (Consumes a c) (sym e) (Consumes-trans a b c fed piece p q)
 
--- a piece was refused, and so is what was read, however it goes on
+-- a piece was refused, and so is what was read, however it continues
 pub piece_refused : (a b c : Option (List ℕ)) (fed piece : List ℕ) (fault : TextFault) → Consumes a b fed
     → Consumes b c piece → refusal_of (fed ++ piece) ≡ Some fault
     → (bytes : List ℕ) × Consumes a c bytes × ((more : List ℕ) → refusal_of (bytes ++ more) ≡ Some fault)

@@ -10,7 +10,7 @@ use Rattle.lic_set.specs.declared.triple.Triple.{Triple}
 use Rattle.lic_filters.specs.Filters.{outer_of}
 use Rattle.lic_vars.specs.Values.{Assigned, AreValues}
 use Rattle.lic_stream.specs.Stream.{BeginsWith}
-use Rattle.lic_report.specs.Fronts.{Named}
+use Rattle.lic_report.specs.Prefixes.{Named}
 use Rattle.lic_report.specs.Report.{AreOuterLines, HasItsValues, Valued, match_line, triple_of, value_line, valued_lines}
 use Rattle.lic_engine.proofs.DoneLemmas.{AreDone, done_more}
 use Rattle.lic_engine.proofs.ReportLemmas.{line_long, some_lines}

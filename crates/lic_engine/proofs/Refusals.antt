@@ -43,7 +43,7 @@ long_alike : (bytes longer : List ℕ) → 67108865 ≤ length bytes → 6710886
 unfolding refusal_of
 long_alike bytes longer h l = let e = long_test (length bytes) h in let f = long_test (length longer) l in rw (e, f)
 
--- what was refused is refused alike however it goes on
+-- what was refused is refused alike however it continues
 pub refused_text : (bytes : List ℕ) (fault : TextFault) (a b : Option (List ℕ)) → Consumes a b bytes → refusal_of bytes ≡ Some fault
     → (bs : List ℕ) × Consumes a b bs × ((more : List ℕ) → refusal_of (bs ++ more) ≡ Some fault)
 refused_text bytes fault a b p r =

@@ -8,7 +8,7 @@ use Rattle.lic_norm.specs.declared.fault.TextFault.{TextFault}
 abbrev pub IsAccepted : Option (List ℕ) → Option (List ℕ) → List ℕ → Type 0
 IsAccepted old new bytes = Consumes old new bytes × IsAtEnd new × (refusal_of bytes ≡ None)
 
--- what was read is refused so, however it goes on
+-- what was read is refused so, however it continues
 abbrev pub IsRefused : Option (List ℕ) → Option (List ℕ) → TextFault → Type 0
 IsRefused old new fault = (bytes : List ℕ)
     × Consumes old new bytes

@@ -12,17 +12,14 @@ ghost use Rattle.lic_engine.specs.Inputs.{IsAccepted, IsRefused, IsUnrefused};
 use crate::fault::RunFault;
 use crate::input::read_text;
 use crate::outer::report_outer;
-use lic_find::ask::Ask;
+use lic_find::Ask;
 use lic_kind::Rules;
 use lic_norm::fault::TextFault;
 use lic_norm::text::Text;
 use lic_norm::words::Words;
-use lic_report::lines::{add_file, add_token};
-use lic_report::match_lines::MatchLines;
-use lic_report::wanted::Wanted;
+use lic_report::{MatchLines, Wanted, add_file, add_token};
 use lic_set::set::Set;
-use lic_stream::stream::{Sink, Source};
-use lic_stream::transfer::{put_all, put_gathered};
+use lic_stream::{Sink, Source, put_all, put_gathered};
 use std::alloc::Global;
 
 /// Writes the lines of all matches that are asked for, and says whether there was one.

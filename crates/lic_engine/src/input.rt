@@ -14,7 +14,7 @@ use lic_norm::fault::TextFault;
 use lic_norm::feeder::Feeder;
 use lic_norm::text::Text;
 use lic_norm::words::Words;
-use lic_stream::stream::Source;
+use lic_stream::Source;
 use std::alloc::Global;
 
 /// The most bytes that are read of an input: one more than an input may have.

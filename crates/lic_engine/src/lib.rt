@@ -1,8 +1,12 @@
 //! The engine: from a reader to a writer, the report of what was read, the lines of its tokens, and the check of templates.
 #![tactic(auto)]
 
-pub mod check;
-pub mod engine;
-pub mod fault;
+mod checking;
+mod engine;
+mod fault;
 mod input;
 mod outer;
+
+pub use checking::check;
+pub use engine::{run, run_tokens};
+pub use fault::RunFault;

@@ -1,4 +1,4 @@
-//! The report of the outer matches and of what their variables stood for.
+//! The report of the outer matches and of what their variables matched.
 
 ghost use Rattle.std.specs.Prelude.{◌≡◌, ℕ, List, All, length, map, nat_lt, IfOk, OnOk, OnErr};
 ghost use Rattle.std.specs.Io.KnownBytes.{Appends};
@@ -10,12 +10,10 @@ ghost use Rattle.lic_engine.specs.Failures.{CountsWrites, IsOfWriting};
 
 use crate::fault::RunFault;
 use lic_norm::text::Text;
-use lic_report::outer::outer_matches;
-use lic_report::valued_lines::ValuedLines;
+use lic_report::{ValuedLines, outer_matches};
 use lic_set::set::Set;
 use lic_set::triple::Triple;
-use lic_stream::stream::Sink;
-use lic_stream::transfer::{put_all, put_gathered};
+use lic_stream::{Sink, put_all, put_gathered};
 use lic_vars::laws::values_are_one_list;
 use std::alloc::Global;
 

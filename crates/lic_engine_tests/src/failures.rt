@@ -1,14 +1,12 @@
 //! Calls of the engine of whose reads one fails, or whose writer has room for a beginning of what is written.
 
-use lic_engine::check::check;
-use lic_engine::engine::{run, run_tokens};
-use lic_engine::fault::RunFault;
-use lic_find::ask::Ask;
+use lic_engine::{RunFault, check, run, run_tokens};
+use lic_find::Ask;
 use lic_kind::Rules;
 use lic_markup::read_template;
 use lic_norm::words::Words;
 use lic_set::set::Set;
-use lic_stream::stream::Sink;
+use lic_stream::Sink;
 use lic_test_streams::streams::{Awaited, Pieces};
 use std::alloc::Global;
 use std::process::Abort;

@@ -5,27 +5,27 @@ use Rattle.std.proofs.lemmas.Bool.Decides.{nat_tests}
 use Rattle.lic_ere.specs.declared.class.Member.{Member}
 use Rattle.lic_ere.specs.declared.fault.EreFault.{EreFault}
 use Rattle.lic_ere.specs.declared.fault.EreCause.TheVariants.{BracketNotClosed}
-use Rattle.lic_ere.specs.Located.{Located, further, with_rest}
+use Rattle.lic_ere.specs.Located.{Located, further, with_remaining}
 use Rattle.lic_ere.specs.Faults.{fault_at, map_ok, ◌>>=◌}
 use Rattle.lic_ere.specs.Brackets.{member_at, closes, members_at}
-use Rattle.lic_ere.proofs.FaultLemmas.{map_ok-same, map_ok-map_ok, with_rest-further}
+use Rattle.lic_ere.proofs.FaultLemmas.{map_ok-same, map_ok-map_ok, with_remaining-further}
 
--- what is read of the rest, behind what was read before
+-- what is read of the rest, after what was read before
 abbrev pub behind : {A : Type 0} → List A → Result (List A × List Located) EreFault → Result (List A × List Located) EreFault
 behind front r = map_ok (λ x. (front ++ x.0, x.1)) r
 
--- the members from here on, and what stands behind them
+-- the members from here on, and what comes after them
 abbrev pub members_of : ℕ → Bool → List Located → Result (List Member × List Located) EreFault
-members_of place first rest = map_ok (with_rest rest) (members_at place first 0 rest)
+members_of place first rest = map_ok (with_remaining rest) (members_at place first 0 rest)
 
 pub members-skipped : (place : ℕ) (first : Bool) (n : ℕ) (xs : List Located)
-    → map_ok (with_rest xs) (members_at place first n xs) ≡ members_of place first (drop n xs)
+    → map_ok (with_remaining xs) (members_at place first n xs) ≡ members_of place first (drop n xs)
 unfolding members_at
 members-skipped place first zero xs = refl
 members-skipped place first (suc n) [] = refl
 members-skipped place first (suc n) (x ∷ xs) =
-    map_ok-map_ok (with_rest (x ∷ xs)) (further 1) (members_at place first n xs)
-    ∙ map_ok-same (λ y. with_rest (x ∷ xs) (further 1 y)) (with_rest xs) (members_at place first n xs) (λ y. with_rest-further 1 (x ∷ xs) y)
+    map_ok-map_ok (with_remaining (x ∷ xs)) (further 1) (members_at place first n xs)
+    ∙ map_ok-same (λ y. with_remaining (x ∷ xs) (further 1 y)) (with_remaining xs) (members_at place first n xs) (λ y. with_remaining-further 1 (x ∷ xs) y)
     ∙ members-skipped place first n xs
 
 module _ (place : ℕ) (first : Bool) (x : Located) (after : List Located) (open_yet : closes first x.1 ≡ false) where
@@ -37,36 +37,36 @@ module _ (place : ℕ) (first : Bool) (x : Located) (after : List Located) (open
   members-next = rw open_yet refl
 
   next_turn : (r : Result (Member × ℕ) EreFault) (m : Member) (rest : List Located)
-      → map_ok (with_rest after) r ≡ Ok (m, rest)
-      → map_ok (with_rest (x ∷ after)) (next r) ≡ behind (m ∷ []) (members_of place false rest)
+      → map_ok (with_remaining after) r ≡ Ok (m, rest)
+      → map_ok (with_remaining (x ∷ after)) (next r) ≡ behind (m ∷ []) (members_of place false rest)
   next_turn (Err e) m rest is = absurd cc
   next_turn (Ok t) m rest is =
       let one : t.0 ≡ m = ap (λ (r : Result (Member × List Located) EreFault). elim r [ Ok y ↦ y.0 | Err e ↦ m ]) is in
       let two : drop t.1 after ≡ rest = ap (λ (r : Result (Member × List Located) EreFault). elim r [ Ok y ↦ y.1 | Err e ↦ rest ]) is in
-      map_ok-map_ok (with_rest (x ∷ after)) (λ ms. (t.0 ∷ ms.0, 1 + ms.1)) (members_at place false t.1 after)
-      ∙ map_ok-same (λ ms. with_rest (x ∷ after) (t.0 ∷ ms.0, 1 + ms.1)) (λ ms. (t.0 ∷ ms.0, drop ms.1 after))
+      map_ok-map_ok (with_remaining (x ∷ after)) (λ ms. (t.0 ∷ ms.0, 1 + ms.1)) (members_at place false t.1 after)
+      ∙ map_ok-same (λ ms. with_remaining (x ∷ after) (t.0 ∷ ms.0, 1 + ms.1)) (λ ms. (t.0 ∷ ms.0, drop ms.1 after))
       (members_at place false t.1 after) (λ ms.
       ap (λ (l : List Located). (t.0 ∷ ms.0, l)) (sym (drop-drop ms.1 1 (x ∷ after))))
-      ∙ sym (map_ok-map_ok (λ y. (t.0 ∷ y.0, y.1)) (with_rest after) (members_at place false t.1 after))
+      ∙ sym (map_ok-map_ok (λ y. (t.0 ∷ y.0, y.1)) (with_remaining after) (members_at place false t.1 after))
       ∙ ap (λ (r : Result (List Member × List Located) EreFault). behind (t.0 ∷ []) r) (members-skipped place false t.1 after)
       ∙ (λ i. behind (one i ∷ []) (members_of place false (two i)))
 
-  next_fails : (r : Result (Member × ℕ) EreFault) (e : EreFault) → map_ok (with_rest after) r ≡ Err e → map_ok (with_rest (x ∷ after)) (next r) ≡ Err e
+  next_fails : (r : Result (Member × ℕ) EreFault) (e : EreFault) → map_ok (with_remaining after) r ≡ Err e → map_ok (with_remaining (x ∷ after)) (next r) ≡ Err e
   next_fails (Ok t) e is = absurd cc
   next_fails (Err d) e is = ap (λ (r : Result (Member × List Located) EreFault). elim r [ Ok y ↦ Err e | Err f ↦ Err f ]) is
 
   -- one more member
   pub members_turn : (rest : List Located) (m : Member) (others : List Located) → rest ≡ x ∷ after
-      → map_ok (with_rest after) (member_at x after) ≡ Ok (m, others)
+      → map_ok (with_remaining after) (member_at x after) ≡ Ok (m, others)
       → members_of place first rest ≡ behind (m ∷ []) (members_of place false others)
   members_turn rest m others all is =
-      ap (members_of place first) all ∙ ap (map_ok (with_rest (x ∷ after))) members-next ∙ next_turn (member_at x after) m others is
+      ap (members_of place first) all ∙ ap (map_ok (with_remaining (x ∷ after))) members-next ∙ next_turn (member_at x after) m others is
 
   -- a fault in a member
   pub members_fail : (rest : List Located) (e : EreFault) → rest ≡ x ∷ after
-      → map_ok (with_rest after) (member_at x after) ≡ Err e → members_of place first rest ≡ Err e
+      → map_ok (with_remaining after) (member_at x after) ≡ Err e → members_of place first rest ≡ Err e
   members_fail rest e all is =
-      ap (members_of place first) all ∙ ap (map_ok (with_rest (x ∷ after))) members-next ∙ next_fails (member_at x after) e is
+      ap (members_of place first) all ∙ ap (map_ok (with_remaining (x ∷ after))) members-next ∙ next_fails (member_at x after) e is
 
 pub behind-behind : {A : Type 0} (front more : List A) (r : Result (List A × List Located) EreFault) → behind (front ++ more) r ≡ behind front (behind more r)
 behind-behind front more (Ok x) = ap (λ l. Ok (l, x.1)) (append_assoc front more x.0)
@@ -76,7 +76,7 @@ behind-behind front more (Err e) = refl
 pub one_more : (place count counted : ℕ) (front now : List Member) (x : Located) (after rest : List Located)
     (m : Member) (others : List Located) (total : Result (List Member × List Located) EreFault)
     → now ≡ front ++ m ∷ [] → counted ≡ count + 1 → closes (eqb count 0) x.1 ≡ false → rest ≡ x ∷ after
-    → map_ok (with_rest after) (member_at x after) ≡ Ok (m, others)
+    → map_ok (with_remaining after) (member_at x after) ≡ Ok (m, others)
     → behind front (members_of place (eqb count 0) rest) ≡ total → behind now (members_of place (eqb counted 0) others) ≡ total
 one_more place count counted front now x after rest m others total pushed more open_yet all is so_far =
     let some : eqb counted 0 ≡ false = grind (arith, nat_tests) in
@@ -97,7 +97,7 @@ closed place count front x after rest total closing all so_far =
 pub failed : (place count : ℕ) (front : List Member) (x : Located) (after rest : List Located) (e : EreFault)
     (total : Result (List Member × List Located) EreFault)
     → closes (eqb count 0) x.1 ≡ false → rest ≡ x ∷ after → behind front (members_of place (eqb count 0) rest) ≡ total
-    → map_ok (with_rest after) (member_at x after) ≡ Err e → total ≡ Err e
+    → map_ok (with_remaining after) (member_at x after) ≡ Err e → total ≡ Err e
 failed place count front x after rest e total open_yet all so_far is =
     sym so_far ∙ ap (behind front) (members_fail place (eqb count 0) x after open_yet rest e all is)
 

@@ -10,18 +10,18 @@ use Rattle.lic_ere.specs.declared.fault.EreFault.{EreFault}
 use Rattle.lic_ere.specs.declared.fault.EreCause.TheVariants.{BracketExtension}
 use Rattle.lic_ere.specs.Signs.{dash, open_bracket, close_bracket, caret}
 use Rattle.lic_ere.specs.Sets.{Brackets}
-use Rattle.lic_ere.specs.declared.rest.Rest.{Rest}
+use Rattle.lic_ere.specs.declared.remaining.Remaining.{Remaining}
 use Rattle.lic_ere.specs.Views.{left, seen}
-use Rattle.lic_ere.specs.Located.{Located, further, with_rest}
+use Rattle.lic_ere.specs.Located.{Located, further, with_remaining}
 use Rattle.lic_ere.specs.Faults.{fault_at, Gives, map_ok, ◌>>=◌}
 use Rattle.lic_ere.specs.Brackets.{begins_extension, single_at, range_at, member_at, members_at, complement_at, bracket_at}
-use Rattle.lic_ere.specs.Spelling.{IsExtension, extension, goes_on_as_range, IsMember, alone, range, IsMembers, closed, further as one_further, IsFirstMembers, members, IsBracket, plain, complement}
+use Rattle.lic_ere.specs.Spelling.{IsExtension, extension, continues_as_range, IsMember, alone, range, IsMembers, closed, further as one_further, IsFirstMembers, members, IsBracket, plain, complement}
 use Rattle.lic_ere.proofs.FaultLemmas.{Gives-same, map_ok-same, map_ok-map_ok}
 use Rattle.lic_ere.proofs.SetLemmas.{and_cases, and_true, or_cases, or_left, or_right}
 use Rattle.lic_ere.proofs.BracketLemmas.{behind, members_of, members_turn}
 
 unfoldable pub member_of : Located → List Located → Result (Member × List Located) EreFault
-member_of x after = map_ok (with_rest after) (member_at x after)
+member_of x after = map_ok (with_remaining after) (member_at x after)
 
 pub not_this : (c d : ℕ) → c ≢ d → (c == d) ≡ false
 not_this c d h = grind (arith, nat_tests)
@@ -29,7 +29,7 @@ not_this c d h = grind (arith, nat_tests)
 pub is_not_this : (c d : ℕ) → (c == d) ≡ false → c ≢ d
 is_not_this c d h = λ e. grind (arith, nat_tests)
 
--- ---- what stands for more than one character
+-- ---- what denotes more than one character
 
 three_of_one : (c a b d : ℕ) → (c == a || c == b || c == d) ≡ true → (c ≡ a) ⊎ ((c ≡ b) ⊎ (c ≡ d))
 three_of_one c a b d e =
@@ -67,7 +67,7 @@ begins_not c rest e is = absurd (false≢true (sym e ∙ IsExtension-begins is))
 
 -- ---- what is spelled is read
 
-alone_read : (x : Located) (rest : List Located) → goes_on_as_range rest ≡ false → begins_extension x.1 rest ≡ false
+alone_read : (x : Located) (rest : List Located) → continues_as_range rest ≡ false → begins_extension x.1 rest ≡ false
     → member_of x rest ≡ Ok (record { first = x.1; last = x.1 }, rest)
 unfolding member_of member_at
 alone_read x [] a b = refl
@@ -104,30 +104,30 @@ first_read : (place : ℕ) {cs rest : List Located} {ms : List Member} → IsFir
 first_read place (members {cs = cs} {more = more} {rest = rest} {m = m} {ms = ms} is others) = first_by place cs more rest m ms is (members_read place others)
 
 sign_then : (place : ℕ) (sign : Bool × ℕ) (cs : List Located)
-    → map_ok (with_rest cs) (map_ok (λ ms. (record { members = ms.0; complement = sign.0 }, sign.1 + ms.1))
+    → map_ok (with_remaining cs) (map_ok (λ ms. (record { members = ms.0; complement = sign.0 }, sign.1 + ms.1))
     (members_at place true 0 (drop sign.1 cs)))
     ≡ map_ok {A = List Member × List Located} {B =
     Brackets × List Located} (λ y. (record { members = y.0; complement = sign.0 }, y.1))
     (members_of place true (drop sign.1 cs))
 sign_then place sign cs =
-    map_ok-map_ok (with_rest cs) (λ ms. (record { members = ms.0; complement = sign.0 }, sign.1 + ms.1)) (members_at place true 0 (drop sign.1 cs))
+    map_ok-map_ok (with_remaining cs) (λ ms. (record { members = ms.0; complement = sign.0 }, sign.1 + ms.1)) (members_at place true 0 (drop sign.1 cs))
     ∙ map_ok-same _ (λ ms. (record { members = ms.0; complement = sign.0 }, drop ms.1 (drop sign.1 cs)))
     (members_at place true 0 (drop sign.1 cs)) (λ ms.
     ap (λ (l : List Located). (record { members = ms.0; complement = sign.0 }, l))
     (sym (drop-drop ms.1 sign.1 cs)))
-    ∙ sym (map_ok-map_ok (λ y. (record { members = y.0; complement = sign.0 }, y.1)) (with_rest (drop sign.1 cs)) (members_at place true 0 (drop sign.1 cs)))
+    ∙ sym (map_ok-map_ok (λ y. (record { members = y.0; complement = sign.0 }, y.1)) (with_remaining (drop sign.1 cs)) (members_at place true 0 (drop sign.1 cs)))
 
 abbrev bracket_by : ℕ → Bool × ℕ → List Located → Result (Brackets × List Located) EreFault
-bracket_by place sign cs = map_ok (with_rest cs)
+bracket_by place sign cs = map_ok (with_remaining cs)
     (map_ok (λ ms. (record { members = ms.0; complement = sign.0 }, sign.1 + ms.1))
     (members_at place true 0 (drop sign.1 cs)))
 
 abbrev with_sign : Bool → Result (List Member × List Located) EreFault → Result (Brackets × List Located) EreFault
 with_sign sign r = map_ok (λ y. (record { members = y.0; complement = sign }, y.1)) r
 
--- a bracket, and what stands behind it
+-- a bracket, and what comes after it
 abbrev pub bracket_of : ℕ → List Located → Result (Brackets × List Located) EreFault
-bracket_of place cs = map_ok (with_rest cs) (bracket_at place cs)
+bracket_of place cs = map_ok (with_remaining cs) (bracket_at place cs)
 
 bracket_of-is : (place : ℕ) (cs : List Located) → bracket_of place cs ≡ bracket_by place (complement_at cs) cs
 unfolding bracket_at
@@ -166,7 +166,7 @@ same_rest : {A B : Type 0} (a c : A) (b d : B) → found a b ≡ found c d → b
 same_rest a c b d e = ap (λ o. (held (a, b) o).1) e
 
 single_by : (x : Located) (rest more : List Located) (m : Member) (d : EreFault) (t : Bool) → begins_extension x.1 rest ≡ t
-    → goes_on_as_range rest ≡ false → map_ok (with_rest rest) (map_ok (λ m. (m, 0))
+    → continues_as_range rest ≡ false → map_ok (with_remaining rest) (map_ok (λ m. (m, 0))
     (cond t (Err d) (Ok (record { first = x.1; last = x.1 })))) ≡ Ok (m, more)
     → IsMember (x ∷ rest) more m
 single_by x rest more m d true e g is = absurd cc
@@ -177,7 +177,7 @@ single_by x rest more m d false e g is =
 
 range_by : (x h y : Located) (rest more : List Located) (m : Member) (d f : EreFault) (t u : Bool) → h.1 ≡ dash → y.1 ≢ close_bracket
     → nat_lt y.1 x.1 ≡ t → begins_extension y.1 rest ≡ u
-    → map_ok (with_rest (h ∷ y ∷ rest))
+    → map_ok (with_remaining (h ∷ y ∷ rest))
     (map_ok (λ m. (m, 2)) (cond t (Err d)
     (cond u (Err f) (Ok (record { first = x.1; last = y.1 })))))
     ≡ Ok (m, more) → IsMember (x ∷ h ∷ y ∷ rest) more m
@@ -196,7 +196,7 @@ and_split true false h = (refl, refl)
 and_split false b h = absurd (false≢true h)
 
 member_by : (x h y : Located) (rest more : List Located) (m : Member) (t : Bool) → (h.1 == dash && not (y.1 == close_bracket)) ≡ t
-    → map_ok (with_rest (h ∷ y ∷ rest))
+    → map_ok (with_remaining (h ∷ y ∷ rest))
     (cond t (map_ok (λ m. (m, 2)) (range_at x y rest)) (map_ok (λ m. (m, 0)) (single_at x (h ∷ y ∷ rest))))
     ≡ Ok (m, more) → IsMember (x ∷ h ∷ y ∷ rest) more m
 member_by x h y rest more m true e is =
@@ -227,7 +227,7 @@ skip_by : (x : Located) (xs cs : List Located) (ms : List Member) (k : ℕ) (r :
 skip_by x xs cs ms k (Ok y) all e = past_one x xs cs ms y.0 y.1 k e (all y.0 y.1 refl)
 skip_by x xs cs ms k (Err d) all e = absurd cc
 
--- a member, and the members behind it
+-- a member, and the members after it
 abbrev member_then : ℕ → List Located → Result (Member × ℕ) EreFault → Result (List Member × ℕ) EreFault
 member_then place xs r = r >>= λ m. map_ok (λ ms. (m.0 ∷ ms.0, 1 + ms.1)) (members_at place false m.1 xs)
 
@@ -251,7 +251,7 @@ then_by place x xs ms k (Ok m) is all e = others_by x xs m.0 m.1 ms k (members_a
 
 pub one_spelled : (x : Located) (xs : List Located) (m : Member) (j : ℕ) → member_at x xs ≡ Ok (m, j) → IsMember (x ∷ xs) (drop j xs) m
 unfolding member_of
-one_spelled x xs m j e = member_spelled x xs (drop j xs) m (ap (map_ok (with_rest xs)) e)
+one_spelled x xs m j e = member_spelled x xs (drop j xs) m (ap (map_ok (with_remaining xs)) e)
 
 not_first : (x : Located) (xs rest : List Located) (ms : List Member) → x.1 ≢ close_bracket → IsFirstMembers (x ∷ xs) rest ms → IsMembers (x ∷ xs) rest ms
 not_first x xs rest ms ne (members is others) = one_further ne is others
@@ -280,7 +280,7 @@ first_spelled place (x ∷ xs) ms k e = then_by place x xs ms k (member_at x xs)
 first_of_spelled : (place : ℕ) (cs rest : List Located) (ms : List Member) → members_of place true cs ≡ Ok (ms, rest) → IsFirstMembers cs rest ms
 first_of_spelled place cs rest ms e = by_result (members_at place true 0 cs) refl e
   where
-    by_result : (r : Result (List Member × ℕ) EreFault) → members_at place true 0 cs ≡ r → map_ok (with_rest cs) r ≡ Ok (ms, rest) → IsFirstMembers cs rest ms
+    by_result : (r : Result (List Member × ℕ) EreFault) → members_at place true 0 cs ≡ r → map_ok (with_remaining cs) r ≡ Ok (ms, rest) → IsFirstMembers cs rest ms
     by_result (Ok y) was e = subst (λ l. IsFirstMembers cs l ms) (same_rest y.0 ms (drop y.1 cs) rest e)
         (subst (λ l. IsFirstMembers cs (drop y.1 cs) l) (same_value y.0 ms (drop y.1 cs) rest e)
         (first_spelled place cs y.0 y.1 was))
@@ -329,12 +329,12 @@ bracket_names_none x y cs rest b e others (complement f is) = absurd (omega (ari
 
 -- ---- what the reader of the code gives
 
-pub is_spelled : (place : ℕ) (cs : List Located) (result : Result (Brackets × Rest) EreFault)
+pub is_spelled : (place : ℕ) (cs : List Located) (result : Result (Brackets × Remaining) EreFault)
     → Gives seen result (bracket_of place cs) → IfOk result (λ x. IsBracket cs (left x.1) x.0)
 is_spelled place cs (Ok x) given = bracket_at-spelled place cs (left x.1) x.0 given
 is_spelled place cs (Err e) given = tt
 
-pub is_read : (place : ℕ) (cs : List Located) (result : Result (Brackets × Rest) EreFault) (b : Brackets)
+pub is_read : (place : ℕ) (cs : List Located) (result : Result (Brackets × Remaining) EreFault) (b : Brackets)
     (rest : List Located) → IsBracket cs rest b → Gives seen result (bracket_of place cs)
     → Gives seen result (Ok (b, rest))
 is_read place cs result b rest is given = Gives-same seen result (bracket_of place cs) (Ok (b, rest)) (IsBracket-read place is) given

@@ -9,11 +9,11 @@ use Rattle.lic_ere.specs.declared.fault.EreCause.TheVariants.{BracketExtension, 
 use Rattle.lic_ere.specs.Signs.{dollar, dash, open_bracket, backslash, close_bracket, caret}
 use Rattle.lic_ere.specs.Sets.{Brackets}
 use Rattle.lic_ere.specs.Trees.{set}
-use Rattle.lic_ere.specs.Located.{Located, with_rest}
+use Rattle.lic_ere.specs.Located.{Located, with_remaining}
 use Rattle.lic_ere.specs.Faults.{fault_at, map_ok, ◌>>=◌}
 use Rattle.lic_ere.specs.Brackets.{begins_extension, closes, member_at, members_at, bracket_at}
 use Rattle.lic_ere.specs.Lexemes.{Lexeme, unit, Lexemes, lexeme_at, and_then, lexemes}
-use Rattle.lic_ere.specs.Spelling.{goes_on_as_range, IsMember, IsLexeme}
+use Rattle.lic_ere.specs.Spelling.{continues_as_range, IsMember, IsLexeme}
 use Rattle.lic_ere.specs.FirstFaults as faults
 use Rattle.lic_ere.specs.FirstFaults.{IsFaultyMember, extension, out_of_order, extension_last, AreFaultyMembers, AreFaultyFirstMembers, IsFaultyBracket, IsNoLexeme, faulty_bracket, ends_in_backslash, unknown_escape, caret_inside, dollar_inside, BeginWith}
 use Rattle.lic_ere.proofs.BracketLemmas.{behind, members_of, members_turn, members_fail}
@@ -24,7 +24,7 @@ use Rattle.lic_ere.proofs.FaultSpelled.{map_ok-failed, with_sign}
 
 -- ---- brackets
 
-alone_fails : (x : Located) (after : List Located) → goes_on_as_range after ≡ false → begins_extension x.1 after ≡ true
+alone_fails : (x : Located) (after : List Located) → continues_as_range after ≡ false → begins_extension x.1 after ≡ true
     → member_at x after ≡ Err (fault_at x.0 BracketExtension)
 unfolding member_at
 alone_fails x [] a b = absurd (false≢true b)
@@ -57,7 +57,7 @@ member_fails (extension_last {x = x} {hyphen = h} {y = y} {after = after} a b c 
 this_fails : (place : ℕ) (first : Bool) (x : Located) (after : List Located) (e : EreFault) → (not_closing : closes first x.1 ≡ false)
     → IsFaultyMember (x ∷ after) e → members_of place first (x ∷ after) ≡ Err e
 this_fails place first x after e not_closing is =
-    members_fail place first x after not_closing (x ∷ after) e refl (ap (map_ok (with_rest after)) (member_fails is))
+    members_fail place first x after not_closing (x ∷ after) e refl (ap (map_ok (with_remaining after)) (member_fails is))
 
 members_fails : (place : ℕ) {cs : List Located} {e : EreFault} → AreFaultyMembers place cs e → members_of place false cs ≡ Err e
 unfolding members_at member_of
@@ -100,7 +100,7 @@ unfolding lexeme_at
 lexeme_fails (faulty_bracket {x = x} {after = after} {e = e} s is) =
     with_sign x after open_bracket s
     ∙ ap (λ (r : Result (Brackets × ℕ) EreFault). r >>= λ b. Ok (unit (set b.0), b.1))
-    (map_ok-failed (with_rest after) (bracket_at x.0 after) e (bracket_fails x.0 is))
+    (map_ok-failed (with_remaining after) (bracket_at x.0 after) e (bracket_fails x.0 is))
 lexeme_fails (ends_in_backslash {x = x} s) = with_sign x [] backslash s
 lexeme_fails (unknown_escape {x = x} {y = y} {after = after} s not) = with_sign x (y ∷ after) backslash s ∙ rw not refl
 lexeme_fails (caret_inside {x = x} {after = after} s inside) =
@@ -124,7 +124,7 @@ abbrev pub before_these : List (ℕ × Lexeme) → Lexemes → Lexemes
 before_these ls read = record { found = ls ++ read.found; fault = read.fault }
 
 and_then_reads : (x : Located) (after more : List Located) (l : Lexeme) (r : Result (Lexeme × ℕ) EreFault)
-    → map_ok (with_rest after) r ≡ Ok (l, more)
+    → map_ok (with_remaining after) r ≡ Ok (l, more)
     → and_then x.0 r (λ taken. lexemes taken after) ≡ before_these ((x.0, l) ∷ []) (lexemes 0 more)
 and_then_reads x after more l (Err d) e = absurd cc
 and_then_reads x after more l (Ok y) e =

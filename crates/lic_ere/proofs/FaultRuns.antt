@@ -14,7 +14,7 @@ use Rattle.lic_ere.specs.Grammar.{without_anchors}
 use Rattle.lic_ere.specs.Reading as reading
 use Rattle.lic_ere.specs.Reading.{LastUnit, Level, new_level, with_unit, with_alternative, level_tree, State, max_depth, meet, finish, read_on, start, reading}
 use Rattle.lic_ere.specs.FirstFaults as faults
-use Rattle.lic_ere.specs.FirstFaults.{EndInNothing, EndInSign, EndInUnit, AreWhole, AreOpen, MayStand, MayNotStand, AllStand, IsFaultOf}
+use Rattle.lic_ere.specs.FirstFaults.{EndInNothing, EndInSign, EndInUnit, AreWhole, AreOpen, MayFollow, MayNotFollow, AllMayFollow, IsFaultOf}
 use Rattle.lic_ere.proofs.FaultRead.{before_these, none_read, one_read, begin_read}
 
 -- ---- what lexemes end in
@@ -118,7 +118,7 @@ places-same : (l m : Level) (outer : List Level) → l.place ≡ m.place → pla
 places-same l m [] same = refl
 places-same l m (o ∷ outer) same = ap (λ p. p ∷ places o outer) same
 
--- ---- reading lexemes that may stand
+-- ---- reading lexemes that are allowed
 
 record Reached (ls : List (ℕ × Lexeme)) (s : State) : Type 0 where
   last : last_kind nothing ls ≡ unit_kind s.level.last
@@ -179,7 +179,7 @@ module _ (before : List (ℕ × Lexeme)) (place : ℕ) where
       let e : ltb (length s.outer) 64 ≡ true = grind (arith, nat_tests) in
       next opening s (record { level = new_level place; outer = s.level ∷ s.outer }) r refl refl (λ more fault. rw e refl)
 
-  after_one : {l : Lexeme} (s : State) → Reached before s → MayStand before l → Next l
+  after_one : {l : Lexeme} (s : State) → Reached before s → MayFollow before l → Next l
   after_one s r (faults.a_unit {t = t}) = after_unit t s r
   after_one s r faults.a_bar = after_bar s r
   after_one s r faults.an_end = after_end s.level s.outer r
@@ -190,7 +190,7 @@ module _ (before : List (ℕ × Lexeme)) (place : ℕ) where
       let few : length s.outer < max_depth = omega (arith, same, small) in
       after_opening s r few
 
-reach : {ls : List (ℕ × Lexeme)} → AllStand ls → (s : State) × Reached ls s
+reach : {ls : List (ℕ × Lexeme)} → AllMayFollow ls → (s : State) × Reached ls s
 reach faults.no_lexeme = (start, record { last = refl; groups = refl; runs = λ more fault. refl })
 reach (faults.one_more {before = before} place stand may) =
     let r = reach stand in
@@ -219,7 +219,7 @@ runs_to : (ls : List (ℕ × Lexeme)) (s : State) → Reached (without_anchors l
     → read_on start (ls ++ more) fault ≡ read_on s more fault
 runs_to ls s r more fault = sym (anchors_run ls more fault start) ∙ r.runs more fault
 
--- ---- reading a lexeme that may not stand
+-- ---- reading a lexemes that are not allowed
 
 module _ (place : ℕ) (more : List (ℕ × Lexeme)) (fault : Option EreFault) where
   abbrev Refused : Lexeme → EreCause → State → Type 0
@@ -253,7 +253,7 @@ module _ (place : ℕ) (more : List (ℕ × Lexeme)) (fault : Option EreFault) w
   unfolding read_on meet
   depth_refused s deep = let e : ltb (length s.outer) 64 ≡ false = grind (arith, nat_tests) in rw e refl
 
-  is_refused : (ls : List (ℕ × Lexeme)) {l : Lexeme} {cause : EreCause} (s : State) → Reached ls s → MayNotStand ls l cause → Refused l cause s
+  is_refused : (ls : List (ℕ × Lexeme)) {l : Lexeme} {cause : EreCause} (s : State) → Reached ls s → MayNotFollow ls l cause → Refused l cause s
   is_refused ls s r (faults.nothing_to_repeat {b = b} is) =
       nothing_refused b s.level.place s.level.alternatives s.level.before s.level.last s.outer (sym (end_in_nothing is) ∙ r.last)
   is_refused ls s r (faults.two_signs {b = b} is) =

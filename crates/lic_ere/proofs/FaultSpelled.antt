@@ -10,11 +10,11 @@ use Rattle.lic_ere.specs.declared.fault.EreCause.TheVariants.{BracketExtension, 
 use Rattle.lic_ere.specs.Signs.{dollar, open_paren, close_paren, star, plus, dot, question_mark, dash, open_bracket, backslash, close_bracket, caret, open_brace, vertical_bar}
 use Rattle.lic_ere.specs.Sets.{Brackets}
 use Rattle.lic_ere.specs.Trees.{set, letters_tree}
-use Rattle.lic_ere.specs.Located.{Located, further, with_rest}
+use Rattle.lic_ere.specs.Located.{Located, further, with_remaining}
 use Rattle.lic_ere.specs.Faults.{fault_at, map_ok, ◌>>=◌}
 use Rattle.lic_ere.specs.Brackets.{begins_extension, single_at, range_at, member_at, members_at, complement_at, bracket_at}
 use Rattle.lic_ere.specs.Lexemes.{Lexeme, unit, anchor, escaped_at, lexeme_at, and_then, lexemes}
-use Rattle.lic_ere.specs.Spelling.{goes_on_as_range}
+use Rattle.lic_ere.specs.Spelling.{continues_as_range}
 use Rattle.lic_ere.specs.FirstFaults as faults
 use Rattle.lic_ere.specs.FirstFaults.{IsFaultyMember, extension, out_of_order, extension_last, AreFaultyMembers, AreFaultyFirstMembers, IsFaultyBracket, IsNoLexeme, faulty_bracket, ends_in_backslash, unknown_escape, caret_inside, dollar_inside, BeginWith}
 use Rattle.lic_ere.proofs.BracketSpelling.{begins-IsExtension, and_split, is_not_this, one_spelled}
@@ -38,7 +38,7 @@ map_ok-failed f (Err d) e is = ap (λ d. Err d) (same_fault d e is)
 
 -- ---- brackets
 
-single_by : (x : Located) (after : List Located) (e : EreFault) (t : Bool) → begins_extension x.1 after ≡ t → goes_on_as_range after ≡ false
+single_by : (x : Located) (after : List Located) (e : EreFault) (t : Bool) → begins_extension x.1 after ≡ t → continues_as_range after ≡ false
     → cond t (Err (fault_at x.0 BracketExtension)) (Ok (record { first = x.1; last = x.1 })) ≡ failed {A = Member} e
     → IsFaultyMember (x ∷ after) e
 single_by x after e true begins alone is = subst (IsFaultyMember (x ∷ after)) (same_fault _ e is) (extension alone (begins-IsExtension x.1 after begins))
@@ -195,6 +195,6 @@ spelled zero (x ∷ cs) = by_result (lexeme_at x cs) refl (λ taken. spelled tak
     by_result (Ok y) was later =
         let others = later y.1 in (
           others.0,
-          faults.one_lexeme (lexeme_was x cs (drop y.1 cs) y.0 (which x.1) (ap (map_ok (with_rest cs)) was)) others.1,
+          faults.one_lexeme (lexeme_was x cs (drop y.1 cs) y.0 (which x.1) (ap (map_ok (with_remaining cs)) was)) others.1,
           others.2,
         )

@@ -12,7 +12,7 @@ use Rattle.lic_ere.specs.declared.fault.EreCause.TheVariants.{UnknownEscape, Anc
 use Rattle.lic_ere.specs.Signs.{dollar, open_paren, close_paren, star, plus, dot, question_mark, open_bracket, backslash, caret, open_brace, vertical_bar}
 use Rattle.lic_ere.specs.Sets.{Brackets}
 use Rattle.lic_ere.specs.Trees.{any, set, letters_tree}
-use Rattle.lic_ere.specs.Located.{Located, with_rest}
+use Rattle.lic_ere.specs.Located.{Located, with_remaining}
 use Rattle.lic_ere.specs.Faults.{fault_at, map_ok, ◌>>=◌}
 use Rattle.lic_ere.specs.Bounds.{bounds_at}
 use Rattle.lic_ere.specs.Brackets.{bracket_at}
@@ -22,9 +22,9 @@ use Rattle.lic_ere.proofs.BoundSpelling.{IsBounds-read, bounds_at-spelled}
 use Rattle.lic_ere.proofs.BracketSpelling.{IsBracket-read, bracket_at-spelled}
 use Rattle.lic_ere.proofs.ReadingLemmas.{lexemes-skipped}
 
--- a lexeme, and the characters behind it
+-- a lexeme, and the characters after it
 abbrev pub read_of : Located → List Located → Result (Lexeme × List Located) EreFault
-read_of x after = map_ok (with_rest after) (lexeme_at x after)
+read_of x after = map_ok (with_remaining after) (lexeme_at x after)
 
 -- the same with the character that it is
 at_sign : (x : Located) (after : List Located) (s : ℕ) → x.1 ≡ s → read_of x after ≡ read_of (x.0, s) after
@@ -48,26 +48,26 @@ ordinary_is x after all =
     rw (t0, t1, t2, t3, t4, t5, t6, t7, t8, t9, t10, t11) refl
 
 ordinary_at : (x : Located) (after : List Located) → AllByRecursion (λ s. x.1 ≢ s) signs → read_of x after ≡ Ok (unit (letters_tree x.1), after)
-ordinary_at x after all = ap (map_ok (with_rest after)) (ordinary_is x after all)
+ordinary_at x after all = ap (map_ok (with_remaining after)) (ordinary_is x after all)
 
 -- ---- what is spelled is read
 
 counted_gives : (after rest : List Located) (b : Bounds) (o : Option (Bounds × ℕ))
-    → option_map (with_rest after) o ≡ Some (b, rest) → with_rest after (counted_sign o) ≡ (sign (Some b), rest)
+    → option_map (with_remaining after) o ≡ Some (b, rest) → with_remaining after (counted_sign o) ≡ (sign (Some b), rest)
 counted_gives after rest b None e = absurd cc
 counted_gives after rest b (Some y) e = ap (λ (o : Option (Bounds × List Located)). elim o [ Some p ↦ (sign (Some p.0), p.1) | None ↦ (sign (Some b), rest) ]) e
 
 uncounted_gives : (after : List Located) (o : Option (Bounds × ℕ)) → bounds_at after ≡ o
     → ((more : List Located) (b : Bounds) → IsBounds after more b → ⊥)
-    → with_rest after (counted_sign o) ≡ (sign None, after)
+    → with_remaining after (counted_sign o) ≡ (sign None, after)
 uncounted_gives after None was none = refl
 uncounted_gives after (Some y) was none =
     absurd (none (drop y.1 after) y.0
-    (bounds_at-spelled after (drop y.1 after) y.0 (ap (option_map (with_rest after)) was)))
+    (bounds_at-spelled after (drop y.1 after) y.0 (ap (option_map (with_remaining after)) was)))
 
 bracket_gives : (after rest : List Located) (b : Brackets) (r : Result (Brackets × ℕ) EreFault)
-    → map_ok (with_rest after) r ≡ Ok (b, rest)
-    → map_ok (with_rest after) (r >>= λ y. Ok (unit (set y.0), y.1)) ≡ Ok (unit (set b), rest)
+    → map_ok (with_remaining after) r ≡ Ok (b, rest)
+    → map_ok (with_remaining after) (r >>= λ y. Ok (unit (set y.0), y.1)) ≡ Ok (unit (set b), rest)
 bracket_gives after rest b (Err d) e = absurd cc
 bracket_gives after rest b (Ok y) e = ap (map_ok (λ (p : Brackets × List Located). (unit (set p.0), p.1))) e
 
@@ -92,7 +92,7 @@ lexeme_read (ends {x = x} e) = at_sign x [] dollar e
 lexeme_read (ordinary {x = x} {rest = rest} all) = ordinary_at x rest all
 
 and_then_read : (x : Located) (after rest : List Located) (l : Lexeme) (ls : List (ℕ × Lexeme))
-    (r : Result (Lexeme × ℕ) EreFault) → map_ok (with_rest after) r ≡ Ok (l, rest)
+    (r : Result (Lexeme × ℕ) EreFault) → map_ok (with_remaining after) r ≡ Ok (l, rest)
     → lexemes 0 rest ≡ record { found = ls; fault = None }
     → and_then x.0 r (λ taken. lexemes taken after) ≡ record { found = (x.0, l) ∷ ls; fault = None }
 and_then_read x after rest l ls (Err d) e others = absurd cc
@@ -220,42 +220,42 @@ module _ (x : Located) (after rest : List Located) (l : Lexeme) where
   this p is e = subst (λ (q : Lexeme × List Located). IsLexeme x after q.1 q.0) (same_pair p (l, rest) e) is
 
   by_bounds : x.1 ≡ open_brace → (o : Option (Bounds × ℕ)) → bounds_at after ≡ o
-      → ◌≡◌ {A = Result (Lexeme × List Located) EreFault} (Ok (with_rest after (counted_sign o))) (Ok (l, rest))
+      → ◌≡◌ {A = Result (Lexeme × List Located) EreFault} (Ok (with_remaining after (counted_sign o))) (Ok (l, rest))
       → IsLexeme x after rest l
   by_bounds e None was is =
-      this (sign None, after) (uncounted e (λ more b spelled. let read : option_map (with_rest after) (bounds_at after)
+      this (sign None, after) (uncounted e (λ more b spelled. let read : option_map (with_remaining after) (bounds_at after)
       ≡ Some (b, more) = IsBounds-read after more b spelled in
-      let none : option_map (with_rest after) (bounds_at after) ≡ None =
-      ap (option_map (with_rest after)) was in absurd cc)) is
+      let none : option_map (with_remaining after) (bounds_at after) ≡ None =
+      ap (option_map (with_remaining after)) was in absurd cc)) is
   by_bounds e (Some y) was is =
-      this (sign (Some y.0), drop y.1 after) (counted e (bounds_at-spelled after (drop y.1 after) y.0 (ap (option_map (with_rest after)) was))) is
+      this (sign (Some y.0), drop y.1 after) (counted e (bounds_at-spelled after (drop y.1 after) y.0 (ap (option_map (with_remaining after)) was))) is
 
   by_bracket : x.1 ≡ open_bracket → (r : Result (Brackets × ℕ) EreFault) → bracket_at x.0 after ≡ r
-      → map_ok (with_rest after) (r >>= λ y. Ok (unit (set y.0), y.1)) ≡ Ok (l, rest) → IsLexeme x after rest l
+      → map_ok (with_remaining after) (r >>= λ y. Ok (unit (set y.0), y.1)) ≡ Ok (l, rest) → IsLexeme x after rest l
   by_bracket e (Err d) was is = absurd cc
   by_bracket e (Ok y) was is =
-      this (unit (set y.0), drop y.1 after) (bracket e (bracket_at-spelled x.0 after (drop y.1 after) y.0 (ap (map_ok (with_rest after)) was))) is
+      this (unit (set y.0), drop y.1 after) (bracket e (bracket_at-spelled x.0 after (drop y.1 after) y.0 (ap (map_ok (with_remaining after)) was))) is
 
   by_first : x.1 ≡ caret → (t : Bool) → ((x.0 == 0) || false) ≡ t
-      → map_ok (with_rest after) (cond t (Ok (anchor, 0)) (Err (fault_at x.0 AnchorInside))) ≡ Ok (l, rest)
+      → map_ok (with_remaining after) (cond t (Ok (anchor, 0)) (Err (fault_at x.0 AnchorInside))) ≡ Ok (l, rest)
       → IsLexeme x after rest l
   by_first e true first is = this (anchor, after) (begins e (eqb-true _ _ (sym (or_none (x.0 == 0)) ∙ first))) is
   by_first e false first is = absurd cc
 
   by_last : x.1 ≡ dollar → (t : Bool) → (length after == 0) ≡ t
-      → map_ok (with_rest after) (cond t (Ok (anchor, 0)) (Err (fault_at x.0 AnchorInside))) ≡ Ok (l, rest)
+      → map_ok (with_remaining after) (cond t (Ok (anchor, 0)) (Err (fault_at x.0 AnchorInside))) ≡ Ok (l, rest)
       → IsLexeme x after rest l
   by_last e true last is =
       this (anchor, after) (subst (λ (cs : List Located). IsLexeme x cs cs anchor) (sym (nil_from_length after (eqb-true _ _ last))) (ends e)) is
   by_last e false last is = absurd cc
 
 escaped_was : (x : Located) (after rest : List Located) (l : Lexeme) → x.1 ≡ backslash
-    → map_ok (with_rest after) (escaped_at x.0 after) ≡ Ok (l, rest) → IsLexeme x after rest l
+    → map_ok (with_remaining after) (escaped_at x.0 after) ≡ Ok (l, rest) → IsLexeme x after rest l
 escaped_was x [] rest l e is = absurd cc
 escaped_was x (y ∷ more) rest l e is = by_test (is_ascii_punctuation y.1) refl is
   where
     by_test : (t : Bool) → is_ascii_punctuation y.1 ≡ t
-        → map_ok (with_rest (y ∷ more)) (cond t (Ok (unit (letters_tree y.1), 1)) (Err (fault_at x.0 UnknownEscape)))
+        → map_ok (with_remaining (y ∷ more)) (cond t (Ok (unit (letters_tree y.1), 1)) (Err (fault_at x.0 UnknownEscape)))
         ≡ Ok (l, rest) → IsLexeme x (y ∷ more) rest l
     by_test true mark is = this x (y ∷ more) rest l (unit (letters_tree y.1), more) (escaped e mark) is
     by_test false mark is = absurd cc
@@ -290,4 +290,4 @@ are_spelled zero (x ∷ cs) e = by_result (lexeme_at x cs) refl (λ taken f. are
         → ((taken : ℕ) → (lexemes taken cs).fault ≡ None → AreLexemes (drop taken cs) (lexemes taken cs).found)
         → (and_then x.0 r (λ taken. lexemes taken cs)).fault ≡ None → AreLexemes (x ∷ cs) (and_then x.0 r (λ taken. lexemes taken cs)).found
     by_result (Err d) was others e = absurd cc
-    by_result (Ok y) was others e = one_lexeme (lexeme_was x cs (drop y.1 cs) y.0 (which x.1) (ap (map_ok (with_rest cs)) was)) (others y.1 e)
+    by_result (Ok y) was others e = one_lexeme (lexeme_was x cs (drop y.1 cs) y.0 (which x.1) (ap (map_ok (with_remaining cs)) was)) (others y.1 e)

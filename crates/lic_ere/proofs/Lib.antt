@@ -7,7 +7,7 @@ pub mod FaultLemmas
 pub mod FaultRead
 pub mod FaultRuns
 pub mod FaultSpelled
-pub mod FaultStands
+pub mod FaultFollows
 pub mod LexemeSpelling
 pub mod LocatedLemmas
 pub mod ReadLemmas

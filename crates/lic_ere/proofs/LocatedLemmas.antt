@@ -11,7 +11,7 @@ pub none_left : (place : ℕ) (bs : List ℕ) → length bs ≡ 0 → length (lo
 none_left place [] none = ap (λ (cs : List ℕ). length (located_from place cs)) chars-nil
 none_left place (b ∷ bs) none = absurd (omega (arith, none))
 
--- a character, and those behind it
+-- a character, and those after it
 pub one_left : (place next : ℕ) (bs rest : List ℕ) (c : ℕ) → IsUtf8 bs → bs ≡ encode_utf8 c ++ rest
     → next ≡ place + len_utf8 c → located_from place (chars bs) ≡ (place, c) ∷ located_from next (chars rest)
 one_left place next bs rest c text came is =

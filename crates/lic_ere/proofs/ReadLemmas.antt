@@ -13,7 +13,7 @@ use Rattle.lic_ere.specs.Grammar.{IsPattern}
 use Rattle.lic_ere.proofs.FaultLemmas.{Gives-same}
 use Rattle.lic_ere.proofs.Complete.{IsPattern-read}
 use Rattle.lic_ere.proofs.FaultRuns.{IsFaultOf-reading}
-use Rattle.lic_ere.proofs.FaultStands.{reading-IsFaultOf}
+use Rattle.lic_ere.proofs.FaultFollows.{reading-IsFaultOf}
 use Rattle.lic_ere.proofs.Sound.{reading-IsPattern}
 
 pub is_found : (pattern : List ℕ) (result : Result Ere EreFault) → Gives tree_of result (reading pattern)

@@ -1,7 +1,7 @@
 -- Reading one lexeme after another.
 use Rattle.std.proofs.Common.{◌≡◌, ℕ, zero, suc, List, [], ◌∷◌, length, drop, Result, Ok, Err, refl, ap, sym, ◌∙◌, arith}
 use Rattle.lic_ere.specs.declared.fault.EreFault.{EreFault}
-use Rattle.lic_ere.specs.Located.{Located, with_rest}
+use Rattle.lic_ere.specs.Located.{Located, with_remaining}
 use Rattle.lic_ere.specs.Faults.{map_ok, ◌>>=◌}
 use Rattle.lic_ere.specs.Trees.{Tree}
 use Rattle.lic_ere.specs.Lexemes.{Lexeme, Lexemes, lexeme_at, and_then, lexemes}
@@ -25,7 +25,7 @@ module _ (s : State) (x : Located) (after : List Located) where
   read-next = refl
 
   next_turn : (r : Result (Lexeme × ℕ) EreFault) (l : Lexeme) (behind : List Located)
-      → map_ok (with_rest after) r ≡ Ok (l, behind) → read_these (next r) ≡ (meet x.0 l s >>= λ t. read_from t behind)
+      → map_ok (with_remaining after) r ≡ Ok (l, behind) → read_these (next r) ≡ (meet x.0 l s >>= λ t. read_from t behind)
   unfolding read_on
   next_turn (Err e) l behind is = absurd cc
   next_turn (Ok y) l behind is =
@@ -34,19 +34,19 @@ module _ (s : State) (x : Located) (after : List Located) where
       ap (λ (ls : Lexemes). meet x.0 y.0 s >>= λ t. read_on t ls.found ls.fault) (lexemes-skipped y.1 after)
       ∙ (λ i. meet x.0 (one i) s >>= λ t. read_from t (two i))
 
-  next_fails : (r : Result (Lexeme × ℕ) EreFault) (e : EreFault) → map_ok (with_rest after) r ≡ Err e → read_these (next r) ≡ Err e
+  next_fails : (r : Result (Lexeme × ℕ) EreFault) (e : EreFault) → map_ok (with_remaining after) r ≡ Err e → read_these (next r) ≡ Err e
   unfolding read_on
   next_fails (Ok y) e is = absurd cc
   next_fails (Err d) e is = ap (λ (r : Result (Lexeme × List Located) EreFault). elim r [ Ok z ↦ Err e | Err f ↦ Err f ]) is
 
   -- one lexeme, from a list that begins with it
   pub read_turn : (rest : List Located) (l : Lexeme) (behind : List Located) → rest ≡ x ∷ after
-      → map_ok (with_rest after) (lexeme_at x after) ≡ Ok (l, behind)
+      → map_ok (with_remaining after) (lexeme_at x after) ≡ Ok (l, behind)
       → read_from s rest ≡ (meet x.0 l s >>= λ t. read_from t behind)
   read_turn rest l behind all is = ap (read_from s) all ∙ read-next ∙ next_turn (lexeme_at x after) l behind is
 
   -- a place where no lexeme can be read
-  pub read_fails : (rest : List Located) (e : EreFault) → rest ≡ x ∷ after → map_ok (with_rest after) (lexeme_at x after) ≡ Err e → read_from s rest ≡ Err e
+  pub read_fails : (rest : List Located) (e : EreFault) → rest ≡ x ∷ after → map_ok (with_remaining after) (lexeme_at x after) ≡ Err e → read_from s rest ≡ Err e
   read_fails rest e all is = ap (read_from s) all ∙ read-next ∙ next_fails (lexeme_at x after) e is
 
 -- nothing is left
@@ -58,14 +58,14 @@ read_ends s (x ∷ rest) none = absurd (omega arith)
 -- a lexeme that is refused
 pub read_refused : (s : State) (x : Located) (after rest : List Located) (l : Lexeme) (behind : List Located)
     (e : EreFault) (total : Result Tree EreFault) → rest ≡ x ∷ after
-    → map_ok (with_rest after) (lexeme_at x after) ≡ Ok (l, behind) → read_from s rest ≡ total → meet x.0 l s ≡ Err e
+    → map_ok (with_remaining after) (lexeme_at x after) ≡ Ok (l, behind) → read_from s rest ≡ total → meet x.0 l s ≡ Err e
     → total ≡ Err e
 read_refused s x after rest l behind e total all is so_far met =
     sym so_far ∙ read_turn s x after rest l behind all is ∙ ap (λ r. r >>= λ t. read_from t behind) met
 
 -- a lexeme that is taken
 pub read_taken : (s t : State) (x : Located) (after rest : List Located) (l : Lexeme) (behind : List Located)
-    (total : Result Tree EreFault) → rest ≡ x ∷ after → map_ok (with_rest after) (lexeme_at x after) ≡ Ok (l, behind)
+    (total : Result Tree EreFault) → rest ≡ x ∷ after → map_ok (with_remaining after) (lexeme_at x after) ≡ Ok (l, behind)
     → read_from s rest ≡ total → meet x.0 l s ≡ Ok t → read_from t behind ≡ total
 read_taken s t x after rest l behind total all is so_far met =
     sym (ap (λ r. r >>= λ u. read_from u behind) met) ∙ sym (read_turn s x after rest l behind all is) ∙ so_far

@@ -31,7 +31,7 @@ data EndsLevel (depth : ℕ) (level : Level) (ls rest : List (ℕ × Lexeme)) : 
       → EndsRow depth level.last ls ((place, bar) ∷ more) ts → IsChoice depth more rest us
       → EndsLevel depth level ls rest (level.alternatives ++ units_tree (level.before ++ ts) ∷ us)
 
--- the rest of the pattern: of the innermost level, and behind its `)` of those round it
+-- the rest of the pattern: of the innermost level, and after its `)` of those round it
 abbrev Completes : Level → List Level → List (ℕ × Lexeme) → Tree → Type 0
 Completes level [] ls t = (us : List Tree) × EndsLevel 0 level ls [] us × (t ≡ choice_tree us)
 Completes level (o ∷ outer) ls t =
@@ -51,14 +51,14 @@ nothing_more depth reading.no_unit rest = fresh no_unit
 nothing_more depth (reading.single t) rest = kept no_unit
 nothing_more depth (reading.repeated t) rest = settled no_unit
 
--- a row behind the last unit
+-- a row after the last unit
 attach : (depth : ℕ) (last : LastUnit) (ls rest : List (ℕ × Lexeme)) (ts : List Tree) → IsRow depth ls rest ts
     → EndsRow depth last ls rest (last_units last ++ ts)
 attach depth reading.no_unit ls rest ts r = fresh r
 attach depth (reading.single t) ls rest ts r = kept r
 attach depth (reading.repeated t) ls rest ts r = settled r
 
--- one unit, and the row behind it
+-- one unit, and the row after it
 unit_row : (depth : ℕ) (last : LastUnit) (from ls rest : List (ℕ × Lexeme)) (u : Tree) (ts : List Tree)
     → IsUnit depth from ls u → EndsRow depth (reading.single u) ls rest ts
     → EndsRow depth last from rest (last_units last ++ ts)
@@ -95,7 +95,7 @@ new_choice : (depth place : ℕ) (ls rest : List (ℕ × Lexeme)) (us : List Tre
 new_choice depth place ls rest us (last_row (fresh r)) = only r
 new_choice depth place ls rest us (more_rows (fresh r) others) = or r others
 
--- a sign behind the last unit, and the rest of the level
+-- a sign after the last unit, and the rest of the level
 sign_level : (depth place from : ℕ) (b : Bounds) (u : Tree) (before alternatives : List Tree) (ls rest : List (ℕ × Lexeme)) (us : List Tree)
     → EndsLevel depth (record { place = from; alternatives = alternatives; before = before; last = reading.repeated (repeat u b.min b.max) }) ls rest us
     → EndsLevel depth (record { place = from; alternatives = alternatives; before = before; last = reading.single u }) ((place, sign (Some b)) ∷ ls) rest us

@@ -22,13 +22,13 @@ number_at rest =
     if length (digits rest) == 0 || nat_lt max_bound (digits_value 10 (digits rest)) then None
     else Some (digits_value 10 (digits rest), length (digits rest))
 
--- behind m and n
+-- after m and n
 abbrev pub closed_bounds : ℕ → ℕ → List Located → Option (Bounds × ℕ)
 closed_bounds m n [] = None
 closed_bounds m n (x ∷ rest) =
     if x.1 == close_brace && nat_le m n then Some (record { min = m; max = Some n }, 1) else None
 
--- behind m and a comma
+-- after m and a comma
 unfoldable pub upper_bound : ℕ → List Located → Option (Bounds × ℕ)
 upper_bound m [] = None
 upper_bound m (x ∷ rest) =
@@ -36,7 +36,7 @@ upper_bound m (x ∷ rest) =
     else option_and_then (λ n. option_map (further n.1) (closed_bounds m n.0 (drop n.1 (x ∷ rest))))
     (number_at (x ∷ rest))
 
--- behind m
+-- after m
 abbrev pub after_min : ℕ → List Located → Option (Bounds × ℕ)
 after_min m [] = None
 after_min m (x ∷ rest) =
@@ -44,6 +44,6 @@ after_min m (x ∷ rest) =
     else (if x.1 == comma then option_map (further 1) (upper_bound m rest)
     else None)
 
--- the bounds behind a `{`, and how many characters they take with their `}`
+-- the bounds after a `{`, and how many characters they take with their `}`
 unfoldable pub bounds_at : List Located → Option (Bounds × ℕ)
 bounds_at rest = option_and_then (λ m. option_map (further m.1) (after_min m.0 (drop m.1 rest))) (number_at rest)

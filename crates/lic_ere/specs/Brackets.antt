@@ -19,7 +19,7 @@ single_at x rest =
     if begins_extension x.1 rest then Err (fault_at x.0 BracketExtension)
     else Ok (record { first = x.1; last = x.1 })
 
--- a range from one character to another, and what stands behind it
+-- a range from one character to another, and what comes after it
 abbrev pub range_at : Located → Located → List Located → Result Member EreFault
 range_at x y rest =
     if nat_lt y.1 x.1 then Err (fault_at x.0 RangeOutOfOrder)
@@ -35,7 +35,7 @@ member_at x (hyphen ∷ y ∷ rest) =
     if hyphen.1 == dash && not (y.1 == close_bracket) then map_ok (λ m. (m, 2)) (range_at x y rest)
     else map_ok (λ m. (m, 0)) (single_at x (hyphen ∷ y ∷ rest))
 
--- a `]` closes the bracket, unless it stands first
+-- a `]` closes the bracket, unless it comes first
 abbrev pub closes : Bool → ℕ → Bool
 closes first c = not first && c == close_bracket
 
@@ -49,12 +49,12 @@ members_at place first zero (x ∷ rest) =
     if closes first x.1 then Ok ([], 1) else
     (member_at x rest >>= λ m. map_ok (λ ms. (m.0 ∷ ms.0, 1 + ms.1)) (others m.1))
 
--- whether a `^` stands first, and how many characters it takes
+-- whether a `^` comes first, and how many characters it takes
 abbrev pub complement_at : List Located → Bool × ℕ
 complement_at [] = (false, 0)
 complement_at (x ∷ rest) = if x.1 == caret then (true, 1) else (false, 0)
 
--- behind the `[` at a place: a `^` or none, and the members
+-- after the `[` at a place: a `^` or none, and the members
 unfoldable pub bracket_at : ℕ → List Located → Result (Brackets × ℕ) EreFault
 bracket_at place rest =
     let sign : Bool × ℕ = complement_at rest in

@@ -1,5 +1,5 @@
--- Which fault decides where a pattern is refused: the first from the left. The lexemes before it are spelled and may stand
--- where they stand; then no lexeme can be read, or the next one may not stand there, or the pattern ends in an open group.
+-- Which fault decides where a pattern is refused: the first from the left. The lexemes before it are spelled and allowed
+-- where they are; then no lexeme can be read, or the next one is not allowed there, or the pattern ends in an open group.
 use Rattle.std.specs.Prelude.{◌≡◌, ◌≢◌, ℕ, suc, ◌<◌, ◌≤◌, false, List, [], ◌∷◌, ◌++◌, Option, Some, None}
 use Rattle.std.specs.Char.{is_ascii_punctuation}
 use Rattle.lic_ere.specs.declared.bounds.Bounds.{Bounds}
@@ -13,7 +13,7 @@ use Rattle.lic_ere.specs.Faults.{fault_at}
 use Rattle.lic_ere.specs.Located.{Located, located}
 use Rattle.lic_ere.specs.Lexemes.{Lexeme, unit, sign, opening, closing, bar}
 use Rattle.lic_ere.specs.Reading.{max_depth}
-use Rattle.lic_ere.specs.Spelling.{goes_on_as_range, IsExtension, IsMember, IsLexeme}
+use Rattle.lic_ere.specs.Spelling.{continues_as_range, IsExtension, IsMember, IsLexeme}
 use Rattle.lic_ere.specs.Grammar.{without_anchors}
 
 -- ---- characters that begin with no lexeme
@@ -21,7 +21,7 @@ use Rattle.lic_ere.specs.Grammar.{without_anchors}
 -- the first member of these is at fault
 pub data IsFaultyMember : List Located → EreFault → Type 0 where
   -- one character, a `[` directly before `:`, `.` or `=`
-  extension : {x : Located} {after : List Located} → goes_on_as_range after ≡ false → IsExtension x.1 after
+  extension : {x : Located} {after : List Located} → continues_as_range after ≡ false → IsExtension x.1 after
       → IsFaultyMember (x ∷ after) (fault_at x.0 BracketExtension)
   -- a range that ends before it begins, whatever its end is
   out_of_order : {x hyphen y : Located} {after : List Located} → hyphen.1 ≡ dash → y.1 ≢ close_bracket → y.1 < x.1
@@ -45,7 +45,7 @@ pub data AreFaultyFirstMembers (place : ℕ) : List Located → EreFault → Typ
   later : {cs more : List Located} {m : Member} {e : EreFault} → IsMember cs more m → AreFaultyMembers place more e
       → AreFaultyFirstMembers place cs e
 
--- what stands after the `[` at a place
+-- what comes after the `[` at a place
 pub data IsFaultyBracket (place : ℕ) : List Located → EreFault → Type 0 where
   nothing : IsFaultyBracket place [] (fault_at place BracketNotClosed)
   plain : {x : Located} {cs : List Located} {e : EreFault} → x.1 ≢ caret → AreFaultyFirstMembers place (x ∷ cs) e
@@ -65,7 +65,7 @@ pub data IsNoLexeme : Located → List Located → EreFault → Type 0 where
   dollar_inside : {x y : Located} {after : List Located} → x.1 ≡ dollar
       → IsNoLexeme x (y ∷ after) (fault_at x.0 AnchorInside)
 
--- ---- lexemes where they may stand, and where they may not
+-- ---- lexemes where they are allowed, and where they are not
 
 -- the last of these is nothing that can be repeated: there is none, or it is a `(` or a `|`
 pub data EndInNothing : List (ℕ × Lexeme) → Type 0 where
@@ -91,7 +91,7 @@ pub data AreWhole : List (ℕ × Lexeme) → Type 0 where
   a_group : {inner ls : List (ℕ × Lexeme)} {place : ℕ} (end : ℕ) → AreWhole inner → AreWhole ls
       → AreWhole ((place, opening) ∷ (inner ++ (end, closing) ∷ ls))
 
--- So many groups are open after these lexemes.
+-- That many groups are open after these lexemes.
 pub data AreOpen : List (ℕ × Lexeme) → ℕ → Type 0 where
   none : {ls : List (ℕ × Lexeme)} → AreWhole ls → AreOpen ls 0
   -- a `)` outside of all groups closes nothing
@@ -100,28 +100,28 @@ pub data AreOpen : List (ℕ × Lexeme) → ℕ → Type 0 where
   one_more : {before after : List (ℕ × Lexeme)} {depth : ℕ} (place : ℕ) → AreOpen before depth → AreWhole after
       → AreOpen (before ++ (place, opening) ∷ after) (suc depth)
 
--- a lexeme that may stand after these: a repetition sign with its bounds after a unit, a `(` in less than 64 groups
-pub data MayStand (before : List (ℕ × Lexeme)) : Lexeme → Type 0 where
-  a_unit : {t : Tree} → MayStand before (unit t)
-  a_bar : MayStand before bar
-  an_end : MayStand before closing
-  a_sign : {b : Bounds} → EndInUnit before → MayStand before (sign (Some b))
-  a_group : {depth : ℕ} → AreOpen before depth → depth < max_depth → MayStand before opening
+-- a lexeme that may come after these: a repetition sign with its bounds after a unit, a `(` in less than 64 groups
+pub data MayFollow (before : List (ℕ × Lexeme)) : Lexeme → Type 0 where
+  a_unit : {t : Tree} → MayFollow before (unit t)
+  a_bar : MayFollow before bar
+  an_end : MayFollow before closing
+  a_sign : {b : Bounds} → EndInUnit before → MayFollow before (sign (Some b))
+  a_group : {depth : ℕ} → AreOpen before depth → depth < max_depth → MayFollow before opening
 
--- A lexeme that may not stand after these, and why: of a repetition sign first what stands before it decides, then its bounds.
-pub data MayNotStand (before : List (ℕ × Lexeme)) : Lexeme → EreCause → Type 0 where
-  nothing_to_repeat : {b : Option Bounds} → EndInNothing before → MayNotStand before (sign b) NothingToRepeat
-  two_signs : {b : Option Bounds} → EndInSign before → MayNotStand before (sign b) TwoSigns
-  bad_bound : EndInUnit before → MayNotStand before (sign None) BadBound
-  too_deep : {depth : ℕ} → AreOpen before depth → max_depth ≤ depth → MayNotStand before opening TooDeep
+-- A lexeme that may not come after these, and why: of a repetition sign first what comes before it decides, then its bounds.
+pub data MayNotFollow (before : List (ℕ × Lexeme)) : Lexeme → EreCause → Type 0 where
+  nothing_to_repeat : {b : Option Bounds} → EndInNothing before → MayNotFollow before (sign b) NothingToRepeat
+  two_signs : {b : Option Bounds} → EndInSign before → MayNotFollow before (sign b) TwoSigns
+  bad_bound : EndInUnit before → MayNotFollow before (sign None) BadBound
+  too_deep : {depth : ℕ} → AreOpen before depth → max_depth ≤ depth → MayNotFollow before opening TooDeep
 
--- Each of these lexemes may stand after those before it.
-pub data AllStand : List (ℕ × Lexeme) → Type 0 where
-  no_lexeme : AllStand []
-  one_more : {before : List (ℕ × Lexeme)} {l : Lexeme} (place : ℕ) → AllStand before → MayStand before l
-      → AllStand (before ++ (place, l) ∷ [])
+-- Each of these lexemes may come after those before it.
+pub data AllMayFollow : List (ℕ × Lexeme) → Type 0 where
+  no_lexeme : AllMayFollow []
+  one_more : {before : List (ℕ × Lexeme)} {l : Lexeme} (place : ℕ) → AllMayFollow before → MayFollow before l
+      → AllMayFollow (before ++ (place, l) ∷ [])
 
--- Characters begin with these lexemes, and go on with the others.
+-- Characters begin with these lexemes, and continue with the others.
 pub data BeginWith : List Located → List (ℕ × Lexeme) → List Located → Type 0 where
   no_lexeme : {cs : List Located} → BeginWith cs [] cs
   one_lexeme : {x : Located} {after more others : List Located} {l : Lexeme} {ls : List (ℕ × Lexeme)}
@@ -130,13 +130,13 @@ pub data BeginWith : List Located → List (ℕ × Lexeme) → List Located → 
 -- the fault that decides of a pattern, given as its bytes
 pub data IsFaultOf (pattern : List ℕ) : EreFault → Type 0 where
   no_lexeme : {ls : List (ℕ × Lexeme)} {x : Located} {after : List Located} {e : EreFault}
-      → BeginWith (located pattern) ls (x ∷ after) → AllStand (without_anchors ls) → IsNoLexeme x after e
+      → BeginWith (located pattern) ls (x ∷ after) → AllMayFollow (without_anchors ls) → IsNoLexeme x after e
       → IsFaultOf pattern e
   misplaced : {ls : List (ℕ × Lexeme)} {x : Located} {after more : List Located} {l : Lexeme} {cause : EreCause}
-      → BeginWith (located pattern) ls (x ∷ after) → AllStand (without_anchors ls) → IsLexeme x after more l
-      → MayNotStand (without_anchors ls) l cause → IsFaultOf pattern (fault_at x.0 cause)
+      → BeginWith (located pattern) ls (x ∷ after) → AllMayFollow (without_anchors ls) → IsLexeme x after more l
+      → MayNotFollow (without_anchors ls) l cause → IsFaultOf pattern (fault_at x.0 cause)
   -- the innermost open group: after its `(` each group that begins also ends
   group_open : {ls after : List (ℕ × Lexeme)} {place : ℕ} (before : List (ℕ × Lexeme))
-      → BeginWith (located pattern) ls [] → AllStand (without_anchors ls)
+      → BeginWith (located pattern) ls [] → AllMayFollow (without_anchors ls)
       → without_anchors ls ≡ before ++ (place, opening) ∷ after → AreWhole after
       → IsFaultOf pattern (fault_at place GroupNotClosed)

@@ -1,5 +1,5 @@
 -- The grammar of patterns, apart from how they are read: `.. ls rest ..` says that the lexemes ls begin so and go
--- on with rest. Each lexeme stands beside its place.
+-- on with rest. Each lexeme is beside its place.
 use Rattle.std.specs.Prelude.{◌≡◌, ℕ, suc, ◌<◌, List, [], ◌∷◌, Some}
 use Rattle.lic_ere.specs.declared.bounds.Bounds.{Bounds}
 use Rattle.lic_ere.specs.Signs.{close_paren}
@@ -10,7 +10,7 @@ use Rattle.lic_ere.specs.Spelling.{AreLexemes}
 use Rattle.lic_ere.specs.Reading.{max_depth}
 
 mutual
-  -- a unit inside so many groups
+  -- a unit inside that many groups
   pub data IsUnit : ℕ → List (ℕ × Lexeme) → List (ℕ × Lexeme) → Tree → Type 0 where
     -- `.`, a bracket or a character
     plain : {depth place : ℕ} {t : Tree} {rest : List (ℕ × Lexeme)} → IsUnit depth ((place, unit t) ∷ rest) rest t

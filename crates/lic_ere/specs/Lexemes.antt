@@ -30,14 +30,14 @@ abbrev pub counted_sign : Option (Bounds × ℕ) → Lexeme × ℕ
 counted_sign None = (sign None, 0)
 counted_sign (Some b) = (sign (Some b.0), b.1)
 
--- `^` stands first or `$` last
+-- `^` comes first or `$` last
 abbrev pub means_nothing : Located → List Located → Bool
 means_nothing x rest = (x.1 == caret && x.0 == 0) || (x.1 == dollar && length rest == 0)
 
 abbrev pub anchor_at : Located → List Located → Result (Lexeme × ℕ) EreFault
 anchor_at x rest = if means_nothing x rest then Ok (anchor, 0) else Err (fault_at x.0 AnchorInside)
 
--- behind a `\`
+-- after a `\`
 abbrev pub escaped_at : ℕ → List Located → Result (Lexeme × ℕ) EreFault
 escaped_at place [] = Err (fault_at place EndsInBackslash)
 escaped_at place (x ∷ rest) =
@@ -64,7 +64,7 @@ pub record Lexemes : Type 0 where
   pub found : List (ℕ × Lexeme)
   pub fault : Option EreFault
 
--- one lexeme, and those behind the characters that it takes
+-- one lexeme, and those after the characters that it takes
 abbrev pub and_then : ℕ → Result (Lexeme × ℕ) EreFault → (ℕ → Lexemes) → Lexemes
 and_then place (Ok l) others = let rest = others l.1 in record { found = (place, l.0) ∷ rest.found; fault = rest.fault }
 and_then place (Err e) others = record { found = []; fault = Some e }

@@ -15,10 +15,10 @@ located_from place (c ∷ cs) = (place, c) ∷ located_from (place + len_utf8 c)
 abbrev pub located : List ℕ → List Located
 located pattern = located_from 0 (chars pattern)
 
--- What is read stands beside the number of characters that it takes: here n more.
+-- What is read is beside the number of characters that it takes: here n more.
 abbrev pub further : {A : Type 0} → ℕ → A × ℕ → A × ℕ
 further n x = (x.0, n + x.1)
 
--- what is read, and the characters behind those that it takes
-abbrev pub with_rest : {A : Type 0} → List Located → A × ℕ → A × List Located
-with_rest rest x = (x.0, drop x.1 rest)
+-- what is read, and the characters after those that it takes
+abbrev pub with_remaining : {A : Type 0} → List Located → A × ℕ → A × List Located
+with_remaining rest x = (x.0, drop x.1 rest)

@@ -21,7 +21,7 @@ last_units (single t) = t ∷ []
 last_units (repeated t) = t ∷ []
 
 -- The whole pattern, or an open group: where it begins, its alternatives before the last `|`, and the units
--- behind that, the last one apart.
+-- after that, the last one apart.
 pub record Level : Type 0 where
   pub place : ℕ
   pub alternatives : List Tree
@@ -60,7 +60,7 @@ repeat_last place (Some b) (single t) = Ok (repeated (repeat t b.min b.max))
 abbrev pub with_sign : ℕ → Option Bounds → Level → Result Level EreFault
 with_sign place b l = repeat_last place b l.last >>= λ last. Ok (record l { last = last })
 
--- how deep groups may stand in one another
+-- how deep groups may be nested
 abbrev pub max_depth : ℕ
 max_depth = 64
 
@@ -91,12 +91,12 @@ meet place closing s = Ok (close_group s.level s.outer)
 meet place bar s = Ok (record s { level = with_alternative s.level })
 meet place anchor s = Ok s
 
--- behind the last lexeme
+-- after the last lexeme
 abbrev pub finish : Level → List Level → Result Tree EreFault
 finish level [] = Ok (level_tree level)
 finish level (o ∷ outer) = Err (fault_at level.place GroupNotClosed)
 
--- the lexemes that are left, and the fault behind them
+-- the lexemes that are left, and the fault after them
 unfoldable pub read_on : State → List (ℕ × Lexeme) → Option EreFault → Result Tree EreFault
 read_on s [] None = finish s.level s.outer
 read_on s [] (Some e) = Err e

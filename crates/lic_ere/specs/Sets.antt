@@ -1,4 +1,4 @@
--- The set of letters that a bracket stands for.
+-- The set of letters that a bracket denotes.
 use Rattle.std.specs.Prelude.{◌≡◌, ℕ, ◌+◌, ◌-◌, ◌≤◌, Bool, ◌&&◌, ◌||◌, not, ◌==◌, nat_le, max, min, List, [], ◌∷◌, if◌then◌else◌}
 use Rattle.std.specs.Bool.{MatchBool}
 use Rattle.std.specs.List.{list_any, Any}
@@ -6,12 +6,12 @@ use Rattle.std.specs.Char.{is_whitespace, is_ascii_uppercase, is_ascii_lowercase
 use Rattle.lic_kind.specs.Kinds.{is_dash, is_quote}
 use Rattle.lic_ere.specs.declared.class.Member.{Member}
 
--- what a bracket says: its members, each from a first character to a last one, and whether a `^` stands before them
+-- what a bracket says: its members, each from a first character to a last one, and whether a `^` comes before them
 pub record Brackets : Type 0 where
   pub members : List Member
   pub complement : Bool
 
--- the letter that a character stands for inside a bracket
+-- the letter that a character denotes inside a bracket
 unfoldable pub image : ℕ → ℕ
 image c =
     if is_ascii_uppercase c then c + 32
@@ -28,7 +28,7 @@ HasImage m letter = (c : ℕ) × (m.first ≤ c) × (c ≤ m.last) × (image c �
 abbrev pub SomeImage : List Member → ℕ → Type 0
 SomeImage ms letter = Any (λ m. HasImage m letter) ms
 
--- the letter is in the set: some member has it as an image, or behind a `^` none has
+-- the letter is in the set: some member has it as an image, or after a `^` none has
 abbrev pub IsIn : Brackets → ℕ → Type 0
 IsIn b letter = MatchBool b.complement (¬ (SomeImage b.members letter)) (SomeImage b.members letter)
 

@@ -1,5 +1,5 @@
 -- How bounds, brackets and lexemes are spelled, apart from how they are read: `.. cs rest ..` says that the characters cs begin so and
--- go on with rest.
+-- continue with rest.
 use Rattle.std.specs.Prelude.{◌≡◌, ◌≢◌, ℕ, ◌<◌, ◌≤◌, Bool, true, false, ◌&&◌, not, ◌==◌, List, [], ◌∷◌, ◌++◌, ◌⊎◌, length, map, Some, None}
 use Rattle.std.specs.List.{AllByRecursion}
 use Rattle.std.specs.Char.{is_ascii_digit, is_ascii_punctuation}
@@ -32,10 +32,10 @@ pub data IsBounds : List Located → List Located → Bounds → Type 0 where
       → IsNumber more (end ∷ rest) n → m ≤ n → end.1 ≡ close_brace → IsBounds cs rest (bounds m (Some n))
 
 -- `-`, and then a character that is no `]`
-abbrev pub goes_on_as_range : List Located → Bool
-goes_on_as_range [] = false
-goes_on_as_range (hyphen ∷ []) = false
-goes_on_as_range (hyphen ∷ y ∷ rest) = hyphen.1 == dash && not (y.1 == close_bracket)
+abbrev pub continues_as_range : List Located → Bool
+continues_as_range [] = false
+continues_as_range (hyphen ∷ []) = false
+continues_as_range (hyphen ∷ y ∷ rest) = hyphen.1 == dash && not (y.1 == close_bracket)
 
 -- `[` directly before `:`, `.` or `=`
 pub data IsExtension : ℕ → List Located → Type 0 where
@@ -44,12 +44,12 @@ pub data IsExtension : ℕ → List Located → Type 0 where
 
 -- a member is one character, or a range from one to another
 pub data IsMember : List Located → List Located → Member → Type 0 where
-  alone : {x : Located} {rest : List Located} → goes_on_as_range rest ≡ false → ¬ (IsExtension x.1 rest)
+  alone : {x : Located} {rest : List Located} → continues_as_range rest ≡ false → ¬ (IsExtension x.1 rest)
       → IsMember (x ∷ rest) rest (record { first = x.1; last = x.1 })
   range : {x hyphen y : Located} {rest : List Located} → hyphen.1 ≡ dash → y.1 ≢ close_bracket → x.1 ≤ y.1
       → ¬ (IsExtension y.1 rest) → IsMember (x ∷ hyphen ∷ y ∷ rest) rest (record { first = x.1; last = y.1 })
 
--- members up to the next `]`; a `]` that stands first is a member
+-- members up to the next `]`; a `]` that comes first is a member
 pub data IsMembers : List Located → List Located → List Member → Type 0 where
   closed : {x : Located} {rest : List Located} → x.1 ≡ close_bracket → IsMembers (x ∷ rest) rest []
   further : {x : Located} {after more rest : List Located} {m : Member} {ms : List Member} → x.1 ≢ close_bracket
@@ -59,7 +59,7 @@ pub data IsFirstMembers : List Located → List Located → List Member → Type
   members : {cs more rest : List Located} {m : Member} {ms : List Member} → IsMember cs more m → IsMembers more rest ms
       → IsFirstMembers cs rest (m ∷ ms)
 
--- what stands behind a `[`
+-- what comes after a `[`
 pub data IsBracket : List Located → List Located → Brackets → Type 0 where
   plain : {x : Located} {cs rest : List Located} {ms : List Member} → x.1 ≢ caret → IsFirstMembers (x ∷ cs) rest ms
       → IsBracket (x ∷ cs) rest (record { members = ms; complement = false })
@@ -71,7 +71,7 @@ abbrev pub signs : List ℕ
 signs = dot ∷ star ∷ plus ∷ question_mark ∷ open_brace ∷ open_paren ∷ close_paren ∷ vertical_bar ∷ open_bracket
     ∷ backslash ∷ caret ∷ dollar ∷ []
 
--- the lexeme that begins with a character: the characters behind that one, and those behind the lexeme
+-- the lexeme that begins with a character: the characters after that one, and those after the lexeme
 pub data IsLexeme : Located → List Located → List Located → Lexeme → Type 0 where
   any_letter : {x : Located} {rest : List Located} → x.1 ≡ dot → IsLexeme x rest rest (unit any)
   any_number : {x : Located} {rest : List Located} → x.1 ≡ star → IsLexeme x rest rest (sign (Some (bounds 0 None)))
@@ -90,9 +90,9 @@ pub data IsLexeme : Located → List Located → List Located → Lexeme → Typ
       → IsLexeme x after rest (unit (set b))
   escaped : {x y : Located} {rest : List Located} → x.1 ≡ backslash → is_ascii_punctuation y.1 ≡ true
       → IsLexeme x (y ∷ rest) rest (unit (letters_tree y.1))
-  -- a `^` that stands first
+  -- a `^` that comes first
   begins : {x : Located} {rest : List Located} → x.1 ≡ caret → x.0 ≡ 0 → IsLexeme x rest rest anchor
-  -- a `$` that stands last
+  -- a `$` that comes last
   ends : {x : Located} → x.1 ≡ dollar → IsLexeme x [] [] anchor
   ordinary : {x : Located} {rest : List Located} → AllByRecursion (λ s. x.1 ≢ s) signs
       → IsLexeme x rest rest (unit (letters_tree x.1))

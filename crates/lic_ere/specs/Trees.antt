@@ -39,13 +39,13 @@ node_tree (Ere-F.Repeat body min max) = repeat body.value min max
 abbrev pub tree_of : Ere → Tree
 tree_of = fold-Ere Tree node_tree
 
--- the units of a row: one stands by itself, and none is the empty word
+-- the units of a row: one is by itself, and none is the empty word
 abbrev pub units_tree : List Tree → Tree
 units_tree [] = empty
 units_tree (t ∷ []) = t
 units_tree (t ∷ u ∷ ts) = cat (row (t ∷ u ∷ ts))
 
--- alternatives, of which there is always one: one stands by itself
+-- alternatives, of which there is always one: one is by itself
 abbrev pub choice_tree : List Tree → Tree
 choice_tree [] = empty
 choice_tree (t ∷ []) = t

@@ -1,8 +1,8 @@
--- What the values of the code stand for.
+-- What the values of the code represent.
 use Rattle.std.specs.Prelude.{List, map, reverse, chars}
 use Rattle.lic_ere.specs.declared.lexeme.Lexeme.{Lexeme}
 use Rattle.lic_ere.specs.declared.lexeme.Lexeme.TheVariants as coded
-use Rattle.lic_ere.specs.declared.rest.Rest.{Rest}
+use Rattle.lic_ere.specs.declared.remaining.Remaining.{Remaining}
 use Rattle.lic_ere.specs.Located.{Located, located_from}
 use Rattle.lic_ere.specs.Trees.{tree_of}
 use Rattle.lic_ere.specs.Lexemes as lexemes
@@ -13,11 +13,11 @@ use Rattle.lic_ere.specs.declared.reader.Reader.{Reader}
 use Rattle.lic_ere.specs.Reading as reading
 
 -- the characters that are left
-abbrev pub left : Rest → List Located
+abbrev pub left : Remaining → List Located
 left r = located_from r.place (chars r.text.now)
 
--- what is read, and the characters behind it
-abbrev pub seen : {A : Type 0} → A × Rest → A × List Located
+-- what is read, and the characters after it
+abbrev pub seen : {A : Type 0} → A × Remaining → A × List Located
 seen x = (x.0, left x.1)
 
 abbrev pub lexeme_of : Lexeme → lexemes.Lexeme

@@ -1,6 +1,6 @@
 //! Brackets.
 ghost use Rattle.std.specs.Prelude.{◌≡◌, ◌<◌, length, List, true, IfOk, Ok};
-ghost use Rattle.lic_ere.specs.Located.{Located, with_rest};
+ghost use Rattle.lic_ere.specs.Located.{Located, with_remaining};
 ghost use Rattle.lic_ere.specs.Sets.{Brackets};
 ghost use Rattle.lic_ere.specs.Spelling.{IsBracket};
 ghost use Rattle.lic_ere.specs.Faults.{Gives, map_ok};
@@ -9,11 +9,11 @@ ghost use Rattle.lic_ere.specs.Views.{left, seen};
 
 use crate::class::{Class, Member};
 use crate::fault::{EreCause, EreFault};
-use crate::rest::Rest;
+use crate::remaining::Remaining;
 use std::alloc::Global;
 
 /// Whether a character is a `[` directly before `:`, `.` or `=`, which is no part of a set here.
-fn begins_extension(character: char, rest: Rest<'_>) -> bool
+fn begins_extension(character: char, rest: Remaining<'_>) -> bool
     ensures { result ≡ begins_extension character (left rest.entry) }
 {
     let Some(((_, next), _)) = rest.split_first() else {
@@ -23,7 +23,7 @@ fn begins_extension(character: char, rest: Rest<'_>) -> bool
 }
 
 /// A member of one character.
-fn single(place: usize, character: char, rest: Rest<'_>) -> Result<Member, EreFault>
+fn single(place: usize, character: char, rest: Remaining<'_>) -> Result<Member, EreFault>
     ensures { Gives (λ x. x) result (single_at (place, character) (left rest.entry)) }
 {
     if begins_extension(character, rest) {
@@ -39,7 +39,7 @@ fn single(place: usize, character: char, rest: Rest<'_>) -> Result<Member, EreFa
 }
 
 /// A member from one character to another, each with its place.
-fn range(first: (usize, char), last: (usize, char), rest: Rest<'_>) -> Result<Member, EreFault>
+fn range(first: (usize, char), last: (usize, char), rest: Remaining<'_>) -> Result<Member, EreFault>
     ensures { Gives (λ x. x) result (range_at first last (left rest.entry)) }
 {
     if last.1 < first.1 {
@@ -62,9 +62,9 @@ fn range(first: (usize, char), last: (usize, char), rest: Rest<'_>) -> Result<Me
 
 /// The member that begins with a character, and what follows it.
 #[tactic(auto, unfolding(crate::specs::Brackets::member_at))]
-fn member(first: (usize, char), rest: Rest<'_>) -> Result<(Member, Rest<'_>), EreFault>
+fn member(first: (usize, char), rest: Remaining<'_>) -> Result<(Member, Remaining<'_>), EreFault>
     ensures { Gives seen result
-        (map_ok (with_rest (left rest.entry)) (member_at first (left rest.entry))) }
+        (map_ok (with_remaining (left rest.entry)) (member_at first (left rest.entry))) }
 {
     if let Some(((_, '-'), behind)) = rest.split_first()
         && let Some((last, after)) = behind.split_first()
@@ -83,9 +83,13 @@ fn closes(first: bool, character: char) -> bool
 }
 
 /// The members of the bracket that opens at a place, and what follows its `]`.
-fn members(alloc: Global, place: usize, all: Rest<'_>) -> Result<(Vec<Member>, Rest<'_>), EreFault>
+fn members(
+    alloc: Global,
+    place: usize,
+    all: Remaining<'_>,
+) -> Result<(Vec<Member>, Remaining<'_>), EreFault>
     ensures { Gives (λ x. (x.0.items, left x.1)) result
-        (map_ok (with_rest (left all.entry)) (members_at place true 0 (left all.entry))) }
+        (map_ok (with_remaining (left all.entry)) (members_at place true 0 (left all.entry))) }
 {
     let mut members = Vec::new(alloc);
     let mut rest = all;
@@ -104,9 +108,9 @@ fn members(alloc: Global, place: usize, all: Rest<'_>) -> Result<(Vec<Member>, R
 }
 
 /// Whether a `^` comes first, and what follows it.
-fn complement(rest: Rest<'_>) -> (bool, Rest<'_>)
+fn complement(rest: Remaining<'_>) -> (bool, Remaining<'_>)
     ensures { (result.0, left result.1)
-        ≡ with_rest (left rest.entry) (complement_at (left rest.entry)) }
+        ≡ with_remaining (left rest.entry) (complement_at (left rest.entry)) }
 {
     match rest.split_first() {
         Some((first, after)) if first.1 == '^' => (true, after),
@@ -115,26 +119,30 @@ fn complement(rest: Rest<'_>) -> (bool, Rest<'_>)
 }
 
 /// The set of the bracket that opens at a place, and what follows the bracket.
-pub fn bracket(alloc: Global, place: usize, rest: Rest<'_>) -> Result<(Class, Rest<'_>), EreFault>
+pub fn bracket(
+    alloc: Global,
+    place: usize,
+    rest: Remaining<'_>,
+) -> Result<(Class, Remaining<'_>), EreFault>
     // What is read is spelled so.
     ensures found { IfOk result (λ x. IsBracket (left rest.entry) (left x.1) x.0) }
     // What is spelled so is read, unless memory runs out.
     ensures only { (b : Brackets) (end : List Located) → IsBracket (left rest.entry) end b
         → Gives seen result (Ok (b, end)) }
     ensures exact { Gives seen result
-        (map_ok (with_rest (left rest.entry)) (bracket_at place (left rest.entry))) }
+        (map_ok (with_remaining (left rest.entry)) (bracket_at place (left rest.entry))) }
 {
-    bracket_behind(alloc, place, rest)
+    bracket_after(alloc, place, rest)
 }
 
 #[tactic(auto, unfolding(crate::specs::Brackets::bracket_at))]
-fn bracket_behind(
+fn bracket_after(
     alloc: Global,
     place: usize,
-    rest: Rest<'_>,
-) -> Result<(Class, Rest<'_>), EreFault>
+    rest: Remaining<'_>,
+) -> Result<(Class, Remaining<'_>), EreFault>
     ensures { Gives seen result
-        (map_ok (with_rest (left rest.entry)) (bracket_at place (left rest.entry))) }
+        (map_ok (with_remaining (left rest.entry)) (bracket_at place (left rest.entry))) }
 {
     let (complement, rest) = complement(rest);
     let (mut members, rest) = members(alloc, place, rest)?;

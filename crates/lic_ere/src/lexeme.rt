@@ -1,7 +1,7 @@
 //! Lexemes: what a pattern is made of.
 ghost use Rattle.std.specs.Prelude.{◌≡◌, Some};
 ghost use Rattle.lic_ere.specs.Bounds.{bounds_at};
-ghost use Rattle.lic_ere.specs.Located.{with_rest};
+ghost use Rattle.lic_ere.specs.Located.{with_remaining};
 ghost use Rattle.lic_ere.specs.Faults.{Gives, map_ok};
 ghost use Rattle.lic_ere.specs.Lexemes.{means_nothing, anchor_at, escaped_at, counted_sign, sign, bounds, lexeme_at};
 ghost use Rattle.lic_ere.specs.Views.{left, lexeme_of};
@@ -11,7 +11,7 @@ use crate::brackets::bracket;
 use crate::ere::Ere;
 use crate::fault::{EreCause, EreFault};
 use crate::letters::letters;
-use crate::rest::Rest;
+use crate::remaining::Remaining;
 use std::alloc::Global;
 
 /// What is at one place of a pattern.
@@ -32,14 +32,14 @@ pub enum Lexeme {
 }
 
 /// Whether a character is a `^` at the beginning or a `$` at the end.
-fn means_nothing(place: usize, character: char, rest: Rest<'_>) -> bool
+fn means_nothing(place: usize, character: char, rest: Remaining<'_>) -> bool
     ensures { result ≡ means_nothing (place, character) (left rest.entry) }
 {
     (character == '^' && place == 0) || (character == '$' && rest.is_empty())
 }
 
 /// A `^` or a `$`.
-fn anchor(place: usize, character: char, rest: Rest<'_>) -> Result<Lexeme, EreFault>
+fn anchor(place: usize, character: char, rest: Remaining<'_>) -> Result<Lexeme, EreFault>
     ensures { Gives (λ x. (lexeme_of x, 0)) result
         (anchor_at (place, character) (left rest.entry)) }
 {
@@ -54,9 +54,13 @@ fn anchor(place: usize, character: char, rest: Rest<'_>) -> Result<Lexeme, EreFa
 }
 
 /// What a `\` at a place begins, and what follows it.
-fn escaped(alloc: Global, place: usize, rest: Rest<'_>) -> Result<(Lexeme, Rest<'_>), EreFault>
+fn escaped(
+    alloc: Global,
+    place: usize,
+    rest: Remaining<'_>,
+) -> Result<(Lexeme, Remaining<'_>), EreFault>
     ensures { Gives (λ x. (lexeme_of x.0, left x.1)) result
-        (map_ok (with_rest (left rest.entry)) (escaped_at place (left rest.entry))) }
+        (map_ok (with_remaining (left rest.entry)) (escaped_at place (left rest.entry))) }
 {
     let Some((next, after)) = rest.split_first() else {
         return Err(EreFault {
@@ -74,9 +78,9 @@ fn escaped(alloc: Global, place: usize, rest: Rest<'_>) -> Result<(Lexeme, Rest<
 }
 
 /// What a `{` begins, and what follows it.
-fn counted(rest: Rest<'_>) -> (Lexeme, Rest<'_>)
+fn counted(rest: Remaining<'_>) -> (Lexeme, Remaining<'_>)
     ensures { (lexeme_of result.0, left result.1)
-        ≡ with_rest (left rest.entry) (counted_sign (bounds_at (left rest.entry))) }
+        ≡ with_remaining (left rest.entry) (counted_sign (bounds_at (left rest.entry))) }
 {
     match read_bounds(rest) {
         Some((bounds, after)) => (Lexeme::Sign(Some(bounds)), after),
@@ -97,10 +101,10 @@ pub fn next_lexeme(
     alloc: Global,
     place: usize,
     character: char,
-    rest: Rest<'_>,
-) -> Result<(Lexeme, Rest<'_>), EreFault>
+    rest: Remaining<'_>,
+) -> Result<(Lexeme, Remaining<'_>), EreFault>
     ensures { Gives (λ x. (lexeme_of x.0, left x.1)) result
-        (map_ok (with_rest (left rest.entry)) (lexeme_at (place, character) (left rest.entry))) }
+        (map_ok (with_remaining (left rest.entry)) (lexeme_at (place, character) (left rest.entry))) }
 {
     match character {
         '.' => Ok((Lexeme::Unit(Ere::Any), rest)),

@@ -12,7 +12,7 @@ mod level;
 mod lexeme;
 mod reader;
 mod reading;
-mod rest;
+mod remaining;
 
 pub use class::Class;
 pub use ere::Ere;

@@ -12,11 +12,11 @@ use crate::ere::Ere;
 use crate::fault::EreFault;
 use crate::lexeme::next_lexeme;
 use crate::reader::Reader;
-use crate::rest::Rest;
+use crate::remaining::Remaining;
 use std::alloc::Global;
 
 /// Reads characters, the whole of a pattern.
-fn read_all(alloc: Global, all: Rest<'_>) -> Result<Ere, EreFault>
+fn read_all(alloc: Global, all: Remaining<'_>) -> Result<Ere, EreFault>
     ensures { Gives tree_of result (read_from start (left all.entry)) }
 {
     let mut reader = Reader::new(alloc);
@@ -44,5 +44,5 @@ pub fn read(alloc: Global, pattern: &str) -> Result<Ere, EreFault>
     // Which tree, or which fault it is, unless memory runs out.
     ensures exact { Gives tree_of result (reading pattern.now) }
 {
-    read_all(alloc, Rest::new(pattern))
+    read_all(alloc, Remaining::new(pattern))
 }

@@ -1,4 +1,4 @@
--- A character as it stands in a field.
+-- A character as it is in a field.
 use Rattle.std.proofs.Common.{◌≡◌, ℕ, suc, ◌<◌, ◌≤◌, List, [], ◌∷◌, ◌++◌, length, get_or, encode_utf8, refl, sym, ap, ◌∙◌, append-nil, ⊎_elim, arith}
 use Rattle.std.proofs.lemmas.Grind.{flat_map-append}
 use Rattle.std.proofs.Math.Utf8.{encodes}
@@ -14,7 +14,7 @@ escaped-ascii c small = ap escaped (encode_ascii c small) ∙ append-nil (escape
 byte-other : (b : ℕ) → 128 ≤ b → escaped_byte b ≡ b ∷ []
 byte-other b large = grind (arith, nat_tests)
 
--- bytes beyond ASCII stand as they are
+-- bytes beyond ASCII stay as they are
 bytes-other : (bytes : List ℕ) → ((k : ℕ) → k < length bytes → 128 ≤ get_or bytes k 0) → escaped bytes ≡ bytes
 bytes-other [] large = refl
 bytes-other (b ∷ bytes) large =

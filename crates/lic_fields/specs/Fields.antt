@@ -14,6 +14,6 @@ escaped_byte b =
 abbrev pub escaped : List ℕ → List ℕ
 escaped bytes = flat_map escaped_byte bytes
 
--- a field, and the tab or the line end behind it
+-- a field, and the tab or the line end after it
 abbrev pub field : List ℕ → ℕ → List ℕ
 field bytes mark = bytes ++ mark ∷ []

@@ -9,6 +9,9 @@ use itoa::{Buffer, write_digits};
 use std::alloc::AllocError;
 use std::fmt;
 
+/// The most bytes of four numbers: 20 digits each, and a mark after it.
+const FOUR_NUMBERS: usize = 84;
+
 /// How a byte is written that a field must not have: a backslash, a line feed, a carriage return or a tab. None for any
 /// other byte.
 fn escape_of(byte: u8) -> Option<&'static str>
@@ -121,9 +124,8 @@ pub fn add_last_numbers(
         ++ (field (decimal first) 0x09 ++ (field (decimal second) 0x09
         ++ (field (decimal third) 0x09 ++ field (decimal fourth) 0x0A)))) }
 {
-    // a number has at most 20 digits, and a mark after it
-    let mut buffer = [0; 84];
-    let at = write_number(&mut buffer, 84, fourth, b'\n');
+    let mut buffer = [0; FOUR_NUMBERS];
+    let at = write_number(&mut buffer, FOUR_NUMBERS, fourth, b'\n');
     let at = write_number(&mut buffer, at, third, b'\t');
     let at = write_number(&mut buffer, at, second, b'\t');
     let at = write_number(&mut buffer, at, first, b'\t');

@@ -30,7 +30,7 @@ not_less_last a b h =
     (λ e same. omega arith)
     (λ e high. omega arith)
 
--- each element of a sorted list is not above any behind it
+-- each element of a sorted list is not above any after it
 pub AllPairs-from_sorted : {X : Type 0} (R : X → X → Ordering) → IsTotalOrder R → (xs : List X)
     → IsSortedBy (λ x y. is_lt (R x y)) xs → AllPairs (λ x y. is_lt (R y x) ≡ false) xs
 AllPairs-from_sorted R total xs sorted = λ i j d before low.

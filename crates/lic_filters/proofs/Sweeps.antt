@@ -1,4 +1,4 @@
--- What a sweep keeps of a list in which each element that beats another stands before it: those that none beats.
+-- What a sweep keeps of a list in which each element that beats another comes before it: those that none beats.
 use Rattle.std.proofs.Common.{◌≡◌, ◌↔◌, suc, Bool, true, false, cond, not, ◌⊎◌, List, [], ◌∷◌, refl, sym, ◌∙◌, subst, inl, inr, ⊎_elim, arith}
 use Rattle.std.proofs.lemmas.Bool.{false≢true}
 use Rattle.std.specs.List.{Contains, AllPairs, dedup, dedup_from, filter, list_any}
@@ -7,7 +7,7 @@ use Rattle.std.proofs.lemmas.List.Sorted.{IsPermutation-sym, Contains-permutatio
 use Rattle.lic_filters.proofs.Members.{Contains-cons_cases, Contains-head, Contains-here, Contains-tail, Contains-nil, Contains-filter, not-list_any}
 
 module _ {X : Type 0} (Ahead : X → X → Type 0) (beats drops : X → X → Bool) where
-  -- each is ahead of all that stand behind it
+  -- each is ahead of all that come after it
   abbrev pub Ranked : List X → Type 0
   Ranked [] = Unit {0}
   Ranked (x ∷ xs) = ((y : X) → Contains xs y → Ahead x y) × Ranked xs
@@ -26,7 +26,7 @@ module _ {X : Type 0} (Ahead : X → X → Type 0) (beats drops : X → X → Bo
     pub next : (x y : X) → Ahead x y → drops y x ≡ false → beats x y ≡ true → ⊥
 
   module _ (sweep : Sweeps) where
-    -- what the first one beats, one behind it beats as well, if that is not dropped
+    -- what the first one beats, one after it beats as well, if that is not dropped
     Unbeaten-kept : (k x : X) (xs : List X) (t : X) → Ranked (k ∷ x ∷ xs) → drops x k ≡ false → Unbeaten (x ∷ xs) t → Unbeaten (k ∷ x ∷ xs) t
     Unbeaten-kept k x xs t ranked stays free = (
       Contains-tail k (x ∷ xs) t free.0,
@@ -54,7 +54,7 @@ module _ {X : Type 0} (Ahead : X → X → Type 0) (beats drops : X → X → Bo
           (λ later. free.1 s (Contains-tail k xs s later) beaten) (Contains-cons_cases x xs s behind)) (Contains-cons_cases k (x ∷ xs) s h),
     )
 
-    -- the first one is kept, since none behind it beats it
+    -- the first one is kept, since none after it beats it
     Unbeaten-first : (k : X) (xs : List X) → Ranked (k ∷ xs) → Unbeaten (k ∷ xs) k
     Unbeaten-first k xs ranked = (
       Contains-head k xs,

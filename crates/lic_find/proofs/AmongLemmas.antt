@@ -8,7 +8,7 @@ use Rattle.lic_set.specs.Matches.{AreMatches, IsAfter, IsMatch}
 use Rattle.lic_set.specs.Sets.{Known}
 use Rattle.lic_set.specs.declared.triple.Triple.{Triple}
 use Rattle.lic_find.specs.Among.{AreMatchesAmong, HaveAllMatches, IsMatchAmong}
-use Rattle.lic_find.specs.Listing.{is_among, matches_behind, matches_among}
+use Rattle.lic_find.specs.Listing.{is_among, matches_after, matches_among}
 use Rattle.lic_find.proofs.Collecting.{Collects, Collects-filter}
 use Rattle.lic_find.proofs.Triples.{Contains-nil, Contains-cons_cases}
 
@@ -36,12 +36,12 @@ module _ (set : List Known) (tokens : List TokenValue) where
 
   module _ (numbers : List ℕ) where
     -- those of all matches whose template has one of the numbers
-    pub AreMatchesAmong-listed : (after : Option Triple) → AreMatches set tokens after (matches_behind set tokens after) →
+    pub AreMatchesAmong-listed : (after : Option Triple) → AreMatches set tokens after (matches_after set tokens after) →
         AreMatchesAmong set tokens numbers after (matches_among set tokens numbers after)
     unfolding matches_among
     AreMatchesAmong-listed after m =
-        let found = Collects-filter (is_among numbers) (λ t. IsMatch set tokens t × IsAfter after t) (matches_behind set tokens after)
-        (Collects-matches after (matches_behind set tokens after) m) in
+        let found = Collects-filter (is_among numbers) (λ t. IsMatch set tokens t × IsAfter after t) (matches_after set tokens after)
+        (Collects-matches after (matches_after set tokens after) m) in
         record {
           ascending = found.ascending;
           exact = λ t. (

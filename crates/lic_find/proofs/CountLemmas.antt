@@ -7,7 +7,7 @@ use Rattle.lic_set.specs.Sets.{Known}
 use Rattle.lic_find.specs.Bounds.{letters_of, begins_one, firsts_from, longest_end, letters_of_longest}
 use Rattle.lic_find.specs.Among.{HaveAllMatches}
 use Rattle.lic_find.specs.Firsts.{NotedFirst, IsFirstFrom}
-use Rattle.lic_find.specs.Listing.{triple_at, matches_of, matches_behind, is_after}
+use Rattle.lic_find.specs.Listing.{triple_at, matches_of, matches_after, is_after}
 use Rattle.lic_set.specs.Matches.{AreMatches, IsMatch}
 use Rattle.lic_set.specs.declared.triple.Triple.{Triple}
 use Rattle.lic_find.proofs.AmongLemmas.{either_test}
@@ -76,8 +76,8 @@ filter-all [] = refl
 filter-all (t ∷ matches) = ap (λ ts. t ∷ ts) (filter-all matches)
 
 -- all matches, as a list that is filtered no more
-all_matches : (set : List Known) (tokens : List TokenValue) → matches_behind set tokens None ≡ matches_of set tokens
-unfolding matches_behind
+all_matches : (set : List Known) (tokens : List TokenValue) → matches_after set tokens None ≡ matches_of set tokens
+unfolding matches_after
 all_matches set tokens = filter-all (matches_of set tokens)
 
 -- fewer begin from a later token on
@@ -118,7 +118,7 @@ firsts_from-fewer set tokens from later order within =
     ap (λ x. length (filter p (range_with_len from x))) count in
     omega arith
 
-module _ (set : List Known) (tokens : List TokenValue) (listed : (after : Option Triple) → AreMatches set tokens after (matches_behind set tokens after)) where
+module _ (set : List Known) (tokens : List TokenValue) (listed : (after : Option Triple) → AreMatches set tokens after (matches_after set tokens after)) where
   match_in : (t : Triple) → Contains (matches_of set tokens) t → IsMatch set tokens t
   match_in t there = (((listed None).exact t).0 (subst (λ ts. Contains ts t) (sym (all_matches set tokens)) there)).0
 

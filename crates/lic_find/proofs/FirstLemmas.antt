@@ -14,10 +14,10 @@ use Rattle.lic_find.specs.Firsts.{NotedFirst, noted_at, noted_with, IsFirstFrom,
 use Rattle.lic_find.specs.Listing.{triple_at}
 use Rattle.lic_set.specs.Matches.{IsMatch, all_letters}
 use Rattle.lic_find.specs.Starts.{few_of}
-use Rattle.lic_find.specs.Walks.{letters_up_to}
+use Rattle.lic_find.specs.Scans.{letters_up_to}
 use Rattle.lic_set.specs.declared.triple.Triple.{Triple}
 
--- the letters of one token more at the front
+-- the letters of one token more at the start
 pub all_letters-drop : (tokens : List TokenValue) (first end : ℕ) (d : TokenValue) → first < length tokens → first + 1 ≡ end →
     all_letters (drop first tokens) ≡ chars (get_or tokens first d).text ∷ all_letters (drop end tokens)
 all_letters-drop tokens first end d inside next =
@@ -25,7 +25,7 @@ all_letters-drop tokens first end d inside next =
     ap all_letters (drop-cons tokens first d inside) ∙ ap (λ n. chars (get_or tokens first d).text ∷ all_letters (drop n tokens)) after
 
 module _ (set : List Known) (tokens : List TokenValue) where
-  -- the letters of so many tokens from this one on
+  -- the letters of that many tokens from this one on
   letters_of_some : (first n : ℕ) → letters_up_to tokens first (first + n) ≡ take n (all_letters (drop first tokens))
   letters_of_some first n =
       let count : (first + n) - first ≡ n = omega arith in
@@ -44,7 +44,7 @@ module _ (set : List Known) (tokens : List TokenValue) where
             ∙ letters_of_some t.first (t.last + 1 - t.first)) m.described,
       )
 
-  -- so many tokens from this one on, or all that there are
+  -- that many tokens from this one on, or all that there are
   module _ (first k : ℕ) (known : Known) (number : slice_get set k ≡ Some known) where
     some_match : (n : ℕ) → first + n ≤ length tokens
         → IsDescribed (words_of known) (letters_up_to tokens first (first + n))
@@ -123,7 +123,7 @@ module _ (set : List Known) (tokens : List TokenValue) where
           empty : Contains [] t.template → ⊥
           empty (i, within, is) = omega arith
 
-      -- numbers that stand for these templates, of which each is live
+      -- numbers that represent these templates, of which each is live
       noted_live : (numbers : List ℕ) → ((t : Triple) → IsMatchAmong set tokens kept t → t.first ≡ first → Contains (noted_with kept numbers) t.template) →
           ((k : ℕ) → Contains numbers k → Contains live k) → (k : ℕ) → Contains live k
           → IsFirstFrom set tokens kept first (noted_at first numbers)

@@ -1,14 +1,14 @@
 -- What a call for the next match gives.
 use Rattle.std.proofs.Common.{◌≡◌, ℕ, ◌+◌, ◌-◌, ◌^◌, ◌<◌, ◌≤◌, List, ◌∷◌, Option, Some, None, IfSome, IfNone, IfOk, Result, Ok, Err, min, refl, sym, ◌∙◌, arith}
 use Rattle.std.specs.Iterator.{YieldsFirst}
-use Rattle.lic_find.specs.Rest.{rest_of}
+use Rattle.lic_find.specs.Remaining.{remaining_matches}
 use Rattle.lic_set.specs.declared.triple.Triple.{Triple}
 use Rattle.lic_find.specs.declared.finder.Finder.{Finder}
 
 -- where something is given, it is the first of what was left
-pub YieldsFirst-given : (old new : Finder) (left : List Triple) (r : Option Triple) → left ≡ rest_of old
-    → IfSome r (λ triple. left ≡ triple ∷ rest_of new) → (r ≡ None → ⊥) →
-    YieldsFirst rest_of old r new
+pub YieldsFirst-given : (old new : Finder) (left : List Triple) (r : Option Triple) → left ≡ remaining_matches old
+    → IfSome r (λ triple. left ≡ triple ∷ remaining_matches new) → (r ≡ None → ⊥) →
+    YieldsFirst remaining_matches old r new
 YieldsFirst-given old new left None same some never = absurd (never refl)
 YieldsFirst-given old new left (Some triple) same some never = sym same ∙ some
 

@@ -10,6 +10,6 @@ pub mod FirstLemmas
 pub mod CountLemmas
 pub mod StepLemmas
 pub mod Asking
-pub mod Walking
+pub mod Scanning
 pub mod BeginningLemmas
 pub mod GivingLemmas

@@ -11,7 +11,7 @@ use Rattle.lic_words.specs.Expressions.{Expression}
 use Rattle.lic_words.specs.Describing.{IsDescribed}
 use Rattle.lic_marks.specs.Deciding.{is_described}
 use Rattle.lic_set.specs.Sets.{Known, words_of}
-use Rattle.lic_find.specs.Listing.{triple_at, numbers_below, all_triples, describes, is_matching, precedes, is_after, matches_behind}
+use Rattle.lic_find.specs.Listing.{triple_at, numbers_below, all_triples, describes, is_matching, precedes, is_after, matches_after}
 use Rattle.lic_set.specs.Matches.{Precedes, IsAfter, IsMatch, AreMatches, letters_between}
 use Rattle.lic_set.specs.declared.triple.Triple.{Triple}
 use Rattle.lic_find.proofs.Collecting.{Collects, Collects-one, Collects-same, Collects-rows, Collects-filter}
@@ -103,8 +103,8 @@ module _ (decided : (e : Expression) (ts : List (List ℕ)) → IsTrue (is_descr
         and_from _ _ (le-leb t.first t.last m.order)
         (describes_by (slice_get set t.template) (letters_between tokens t.first t.last) m.known m.number m.described)
 
-  pub AreMatches-listed : (set : List Known) (tokens : List TokenValue) (after : Option Triple) → AreMatches set tokens after (matches_behind set tokens after)
-  unfolding matches_behind
+  pub AreMatches-listed : (set : List Known) (tokens : List TokenValue) (after : Option Triple) → AreMatches set tokens after (matches_after set tokens after)
+  unfolding matches_after
   AreMatches-listed set tokens after =
       let all = Collects-all (length tokens) (length set) in
       let matching = Collects-filter (is_matching set tokens) (IsInside (length tokens) (length set)) (all_triples (length tokens) (length set)) all in

@@ -6,9 +6,9 @@ use Rattle.std.specs.List.{Contains}
 use Rattle.lic_norm.specs.Tokens.{TokenValue}
 use Rattle.lic_set.specs.Sets.{Known}
 use Rattle.lic_find.specs.Among.{IsMatchAmong}
-use Rattle.lic_find.specs.Listing.{triple_at, matches_behind, matches_among}
+use Rattle.lic_find.specs.Listing.{triple_at, matches_after, matches_among}
 use Rattle.lic_set.specs.Matches.{AreMatches, IsAfter, IsMatch, Precedes}
-use Rattle.lic_find.specs.Walks.{IsNext}
+use Rattle.lic_find.specs.Scans.{IsNext}
 use Rattle.lic_set.specs.declared.triple.Triple.{Triple}
 use Rattle.lic_find.proofs.AmongLemmas.{AreMatchesAmong-listed, Collects-among, Collects-matches}
 use Rattle.lic_find.proofs.Collecting.{Collects}
@@ -43,19 +43,19 @@ module _ (P : Triple → Type 0) (place : Option Triple) where
   Collects-no_one [] c none = refl
   Collects-no_one (x ∷ xs) c none = let p = (c.exact x).0 (Contains-head x xs) in absurd (none x p.0 p.1)
 
-module _ (set : List Known) (tokens : List TokenValue) (listed : (after : Option Triple) → AreMatches set tokens after (matches_behind set tokens after)) where
-  matching : (place : Option Triple) → Collects (λ t. IsMatch set tokens t × IsAfter place t) (matches_behind set tokens place)
-  matching place = Collects-matches set tokens place (matches_behind set tokens place) (listed place)
+module _ (set : List Known) (tokens : List TokenValue) (listed : (after : Option Triple) → AreMatches set tokens after (matches_after set tokens after)) where
+  matching : (place : Option Triple) → Collects (λ t. IsMatch set tokens t × IsAfter place t) (matches_after set tokens place)
+  matching place = Collects-matches set tokens place (matches_after set tokens place) (listed place)
 
   -- the first of the matches after a place, and those after it
-  pub matches_behind-next : (place : Option Triple) (t : Triple) → IsNext (IsMatch set tokens) place t
-      → matches_behind set tokens place ≡ t ∷ matches_behind set tokens (Some t)
-  matches_behind-next place t next =
-      Collects-next (IsMatch set tokens) place t (matches_behind set tokens place)
-      (matches_behind set tokens (Some t)) next (matching place) (matching (Some t))
+  pub matches_after-next : (place : Option Triple) (t : Triple) → IsNext (IsMatch set tokens) place t
+      → matches_after set tokens place ≡ t ∷ matches_after set tokens (Some t)
+  matches_after-next place t next =
+      Collects-next (IsMatch set tokens) place t (matches_after set tokens place)
+      (matches_after set tokens (Some t)) next (matching place) (matching (Some t))
 
-  pub matches_behind-none : (place : Option Triple) → ((t : Triple) → IsMatch set tokens t → IsAfter place t → ⊥) → matches_behind set tokens place ≡ []
-  matches_behind-none place none = Collects-no_one (IsMatch set tokens) place (matches_behind set tokens place) (matching place) none
+  pub matches_after-none : (place : Option Triple) → ((t : Triple) → IsMatch set tokens t → IsAfter place t → ⊥) → matches_after set tokens place ≡ []
+  matches_after-none place none = Collects-no_one (IsMatch set tokens) place (matches_after set tokens place) (matching place) none
 
   -- the same of the matches of some templates
   module _ (numbers : List ℕ) where
@@ -76,7 +76,7 @@ module _ (set : List Known) (tokens : List TokenValue) (listed : (after : Option
     matches_among-none place none =
         Collects-no_one (IsMatchAmong set tokens numbers) place (matches_among set tokens numbers place) (among place) none
 
--- triples as their numbers, by which they are told apart
+-- triples as their numbers, by which they are distinguished
 abbrev triple_code : Coded Triple
 triple_code =
     code_by (ℕ × (ℕ × ℕ)) (coded× coded_ℕ (coded× coded_ℕ coded_ℕ)) (λ t. (t.first, (t.last, t.template)))

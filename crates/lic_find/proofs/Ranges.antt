@@ -5,7 +5,7 @@ use Rattle.std.specs.Str.{chars}
 use Rattle.std.proofs.lemmas.List.{take_more, map-append, drop-drop}
 use Rattle.std.proofs.Math.Seq.{take-add}
 use Rattle.lic_norm.specs.Tokens.{TokenValue}
-use Rattle.lic_find.specs.Walks.{letters_up_to}
+use Rattle.lic_find.specs.Scans.{letters_up_to}
 
 module _ {A : Type 0} (xs : List A) where
   pub slice_range-none : (a : ℕ) → slice_range xs a a ≡ []

@@ -9,24 +9,24 @@ use Rattle.lic_norm.specs.Tokens.{TokenValue}
 use Rattle.lic_words.specs.Letters.{letters_in}
 use Rattle.lic_set.specs.Sets.{Known}
 use Rattle.lic_find.specs.Among.{HaveAllMatches}
-use Rattle.lic_find.specs.Bounds.{letters_of, walk_over, firsts_from, firsts_of, letters_of_longest, letters_of_matches}
+use Rattle.lic_find.specs.Bounds.{letters_of, scan_steps, firsts_from, firsts_of, letters_of_longest, letters_of_matches}
 use Rattle.lic_find.specs.Counts.{AreCounted}
 use Rattle.lic_find.specs.Firsts.{NotedFirst, IsFirstFrom, NoneBeginFrom}
-use Rattle.lic_find.specs.Listing.{matches_behind}
+use Rattle.lic_find.specs.Listing.{matches_after}
 use Rattle.lic_set.specs.Matches.{AreMatches}
-use Rattle.lic_find.specs.Walks.{AllEndBy}
+use Rattle.lic_find.specs.Scans.{AllEndBy}
 use Rattle.lic_set.specs.declared.triple.Triple.{Triple}
 use Rattle.lic_find.proofs.CountLemmas.{firsts_from-none, firsts_from-next, firsts_from-more, firsts_from-fewer, letters_of_longest-ended}
 use Rattle.lic_find.proofs.LetterLemmas.{letters_of-none, letters_of-empty, letters_of-more, letters_of-drop, letters_of-drop_le}
 
-module _ (set : List Known) (tokens : List TokenValue) (listed : (after : Option Triple) → AreMatches set tokens after (matches_behind set tokens after)) where
+module _ (set : List Known) (tokens : List TokenValue) (listed : (after : Option Triple) → AreMatches set tokens after (matches_after set tokens after)) where
   -- one first token more is left
   left_more : (kept : List ℕ) (from : ℕ) (noted : NotedFirst) → IsFirstFrom set tokens kept from noted →
-      walk_over tokens * length (firsts_from set tokens (noted.first + 1)) + walk_over tokens ≤ walk_over tokens * length (firsts_from set tokens from)
+      scan_steps tokens * length (firsts_from set tokens (noted.first + 1)) + scan_steps tokens ≤ scan_steps tokens * length (firsts_from set tokens from)
   left_more kept from noted is =
-      let most : walk_over tokens * suc (length (firsts_from set tokens (noted.first + 1))) ≤ walk_over tokens * length (firsts_from set tokens from) =
-      mul-le-mul_left (walk_over tokens) (firsts_from-more set tokens listed kept from noted is) in
-      let one = mul-suc (walk_over tokens) (length (firsts_from set tokens (noted.first + 1))) in
+      let most : scan_steps tokens * suc (length (firsts_from set tokens (noted.first + 1))) ≤ scan_steps tokens * length (firsts_from set tokens from) =
+      mul-le-mul_left (scan_steps tokens) (firsts_from-more set tokens listed kept from noted is) in
+      let one = mul-suc (scan_steps tokens) (length (firsts_from set tokens (noted.first + 1))) in
       omega arith
 
   sum_more : (kept : List ℕ) (from : ℕ) (noted : NotedFirst) → IsFirstFrom set tokens kept from noted → HaveAllMatches set tokens kept →
@@ -43,8 +43,8 @@ module _ (set : List Known) (tokens : List TokenValue) (listed : (after : Option
         IsFirstFrom set tokens kept from noted → AreCounted set tokens kept began noting walked noted.first noted.first
     AreCounted-begin kept from walked noted whole within few is =
         let left = left_more kept from noted is in
-        let fewer : walk_over tokens * length (firsts_from set tokens from) ≤ walk_over tokens * length (firsts_of set tokens) =
-        mul-le-mul_left (walk_over tokens) (firsts_from-fewer set tokens 0 from (omega arith) within) in
+        let fewer : scan_steps tokens * length (firsts_from set tokens from) ≤ scan_steps tokens * length (firsts_of set tokens) =
+        mul-le-mul_left (scan_steps tokens) (firsts_from-fewer set tokens 0 from (omega arith) within) in
         let part : letters_of (drop noted.first tokens) ≤ letters_of tokens = letters_of-drop_le tokens noted.first in
         let empty : letters_of (slice_range tokens noted.first noted.first) ≡ 0 = letters_of-empty tokens noted.first in
         record {
@@ -64,14 +64,14 @@ module _ (set : List Known) (tokens : List TokenValue) (listed : (after : Option
     AreCounted-none kept from walked whole within few none =
         let nothing : letters_of (drop (length tokens) tokens) ≡ 0 = ap letters_of (drop-length tokens) ∙ letters_of-none in
         let empty : letters_of (slice_range tokens (length tokens) (length tokens)) ≡ 0 = letters_of-empty tokens (length tokens) in
-        let left : walk_over tokens * length (firsts_from set tokens (length tokens + 1)) ≡ 0 =
-        ap (λ firsts. walk_over tokens * length firsts)
+        let left : scan_steps tokens * length (firsts_from set tokens (length tokens + 1)) ≡ 0 =
+        ap (λ firsts. scan_steps tokens * length firsts)
         (firsts_from-none set tokens listed (length tokens + 1)
         (λ t m late.
         let order : t.first ≤ t.last = m.order in
         let inside : t.last < length tokens = m.within in
         omega arith))
-        ∙ mul-zero (walk_over tokens) in
+        ∙ mul-zero (scan_steps tokens) in
         record {
           noting_most = noting_most;
           noting_least = noting_least;
@@ -143,9 +143,9 @@ module _ (set : List Known) (tokens : List TokenValue) (kept : List ℕ) (began 
   -- at any time
   pub steps_most : noting + walked ≤ 2 * (letters_of tokens + 1) * (1 + length (firsts_of set tokens))
   steps_most =
-      let all : walk_over tokens * (1 + length (firsts_of set tokens)) ≡ walk_over tokens * 1 + walk_over tokens * length (firsts_of set tokens) =
-      mul-add (walk_over tokens) 1 (length (firsts_of set tokens)) in
-      let one : walk_over tokens * 1 ≡ walk_over tokens = mul-one (walk_over tokens) in
+      let all : scan_steps tokens * (1 + length (firsts_of set tokens)) ≡ scan_steps tokens * 1 + scan_steps tokens * length (firsts_of set tokens) =
+      mul-add (scan_steps tokens) 1 (length (firsts_of set tokens)) in
+      let one : scan_steps tokens * 1 ≡ scan_steps tokens = mul-one (scan_steps tokens) in
       let a = counted.noting_most in
       let b = counted.walked_most in
       omega arith

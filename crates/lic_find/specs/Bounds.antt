@@ -13,8 +13,8 @@ unfoldable pub letters_of : List TokenValue → ℕ
 letters_of tokens = sum_by (λ t. letters_in (chars t.text)) tokens
 
 -- the most steps that one walk over the tokens takes: two a letter, and two where it begins
-abbrev pub walk_over : List TokenValue → ℕ
-walk_over tokens = 2 * (letters_of tokens + 1)
+abbrev pub scan_steps : List TokenValue → ℕ
+scan_steps tokens = 2 * (letters_of tokens + 1)
 
 -- whether one of the matches begins with this token
 abbrev pub begins_one : List Triple → ℕ → Bool

@@ -3,7 +3,7 @@ use Rattle.std.specs.Prelude.{◌≡◌, ℕ, ◌+◌, ◌-◌, ◌*◌, ◌^◌
 use Rattle.lic_norm.specs.Tokens.{TokenValue}
 use Rattle.lic_set.specs.Sets.{Known}
 use Rattle.lic_find.specs.Among.{HaveAllMatches}
-use Rattle.lic_find.specs.Bounds.{letters_of, walk_over, firsts_from, firsts_of, letters_of_longest, letters_of_matches}
+use Rattle.lic_find.specs.Bounds.{letters_of, scan_steps, firsts_from, firsts_of, letters_of_longest, letters_of_matches}
 use Rattle.lic_set.specs.declared.triple.Triple.{Triple}
 
 -- The steps of the walk that noted first tokens, and of the walks from first tokens up to `first` and its `end`: with what is still to
@@ -14,8 +14,8 @@ pub record AreCounted (set : List Known) (tokens : List TokenValue) (numbers : L
   pub noting_most : noting ≤ 2 * letters_of tokens
   pub noting_least : began ≡ None → noting < 2 ^ 64 - 1 → letters_of tokens ≤ noting
   pub walked_most : walked + 2 * letters_of (drop end tokens)
-      + walk_over tokens * length (firsts_from set tokens (first + 1))
-      ≤ walk_over tokens * length (firsts_of set tokens)
+      + scan_steps tokens * length (firsts_from set tokens (first + 1))
+      ≤ scan_steps tokens * length (firsts_of set tokens)
   pub walked_least : began ≡ None → HaveAllMatches set tokens numbers → walked < 2 ^ 64 - 1
       → letters_of_matches set tokens + letters_of (slice_range tokens first end)
       ≤ walked + letters_of_longest set tokens first

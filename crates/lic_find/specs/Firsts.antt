@@ -15,7 +15,7 @@ pub record NotedFirst : Type 0 where
 abbrev pub noted_at : ℕ → List ℕ → NotedFirst
 noted_at first numbers = record { first = first; numbers = numbers }
 
--- the templates that a first token stands for: those of its numbers, or without numbers all that were kept
+-- the templates that a first token represents: those of its numbers, or without numbers all that were kept
 abbrev pub noted_with : List ℕ → List ℕ → List ℕ
 noted_with kept [] = kept
 noted_with kept (n ∷ numbers) = n ∷ numbers
@@ -25,7 +25,7 @@ abbrev pub NoneBeginFrom : List Known → List TokenValue → List ℕ → ℕ �
 NoneBeginFrom set tokens kept from = (t : Triple) → IsMatchAmong set tokens kept t → ¬ (from ≤ t.first)
 
 -- The first token, from this one on, with which a match of one of the kept templates begins. Its numbers are some of theirs, and the
--- templates that it stands for are all that describe a range from there.
+-- templates that it represents are all that describe a range from there.
 pub record IsFirstFrom (set : List Known) (tokens : List TokenValue) (kept : List ℕ) (from : ℕ)
     (noted : NotedFirst) : Type 0 where
   pub low : from ≤ noted.first

@@ -3,14 +3,14 @@ use Rattle.std.specs.Prelude.{◌≡◌, ◌+◌, ◌-◌, ◌*◌, ◌^◌, ◌
 use Rattle.std.specs.Iterator.{YieldsFirst}
 use Rattle.std.specs.Option.{option_or}
 use Rattle.lic_find.specs.Bounds.{letters_of, letters_of_matches}
-use Rattle.lic_find.specs.Rest.{rest_of, set_in, tokens_in, numbers_in, began_after, last_given, HasAllMatches, steps_taken}
+use Rattle.lic_find.specs.Remaining.{remaining_matches, set_in, tokens_in, numbers_in, began_after, last_given, HasAllMatches, steps_taken}
 use Rattle.lic_set.specs.declared.triple.Triple.{Triple}
 use Rattle.lic_find.specs.declared.finder.Finder.{Finder}
 
 -- The first of the matches that are left is given. At most two walks over the tokens are taken for it; where there is none, and the
 -- search began with the first match and is for all matches, the letters of the text and of the longest match from each first token have been counted.
 pub record GivesMatch (old : Finder) (item : Option Triple) (new : Finder) : Type 0 where
-  pub first : YieldsFirst rest_of old item new
+  pub first : YieldsFirst remaining_matches old item new
   pub templates : set_in new ≡ set_in old
   pub text : tokens_in new ≡ tokens_in old
   pub numbers : numbers_in new ≡ numbers_in old

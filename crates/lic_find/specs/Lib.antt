@@ -3,9 +3,9 @@ pub mod Listing
 pub mod Bounds
 pub mod Firsts
 pub mod Starts
-pub mod Walks
+pub mod Scans
 pub mod Counts
-pub mod Rest
+pub mod Remaining
 pub mod Giving
 pub use Rattle.lic_set.specs.Sets
 pub use Rattle.lic_norm.specs.Tokens

@@ -14,7 +14,7 @@ triple_at first last template = record { first = first; last = last; template = 
 abbrev pub numbers_below : ℕ → List ℕ
 numbers_below bound = range_with_len 0 bound
 
--- all triples of so many tokens and so many templates, in order
+-- all triples of that many tokens and that many templates, in order
 abbrev pub all_triples : ℕ → ℕ → List Triple
 all_triples tokens templates =
     flat_map (λ first. flat_map (λ last. map (λ template. triple_at first last template) (numbers_below templates))
@@ -46,8 +46,8 @@ is_after None t = true
 is_after (Some place) t = precedes place t
 
 -- the matches after a place, or all of them
-unfoldable pub matches_behind : List Known → List TokenValue → Option Triple → List Triple
-matches_behind set tokens place = filter (is_after place) (matches_of set tokens)
+unfoldable pub matches_after : List Known → List TokenValue → Option Triple → List Triple
+matches_after set tokens place = filter (is_after place) (matches_of set tokens)
 
 -- whether the template of a triple has one of these numbers
 abbrev pub is_among : List ℕ → Triple → Bool
@@ -55,4 +55,4 @@ is_among numbers t = list_any (λ n. t.template == n) numbers
 
 -- the matches after a place, or all of them, of the templates of these numbers
 unfoldable pub matches_among : List Known → List TokenValue → List ℕ → Option Triple → List Triple
-matches_among set tokens numbers place = filter (is_among numbers) (matches_behind set tokens place)
+matches_among set tokens numbers place = filter (is_among numbers) (matches_after set tokens place)

@@ -1,6 +1,6 @@
 //! What is asked of a scan.
 
-use crate::triple::Triple;
+use lic_auto::Triple;
 
 /// What is asked of a scan.
 #[derive(Clone, Copy, Debug, PartialEq, Eq)]

@@ -4,22 +4,20 @@ ghost use Rattle.std.specs.Prelude.{◌≡◌, ℕ, ◌+◌, ◌-◌, ◌*◌, �
 ghost use Rattle.std.specs.Iterator.{item_count};
 ghost use Rattle.std.specs.Option.{option_or};
 ghost use Rattle.lic_set.specs.Rising.{IsRising};
-ghost use Rattle.lic_auto.specs.Runs.{StandsAmong, set_of, numbers_of, steps_of};
+ghost use Rattle.lic_auto.specs.Runs.{RunHasTakenAmong, set_of, numbers_of, steps_of};
 ghost use Rattle.lic_find.specs.Among.{AreMatchesAmong, HaveAllMatches};
-ghost use Rattle.lic_find.specs.Bounds.{letters_of, walk_over, firsts_of};
+ghost use Rattle.lic_find.specs.Bounds.{letters_of, scan_steps, firsts_of};
 ghost use Rattle.lic_find.specs.Counts.{AreCounted};
 ghost use Rattle.lic_find.specs.Firsts.{NotedFirst, noted_with};
 ghost use Rattle.lic_find.specs.Listing.{triple_at};
 ghost use Rattle.lic_set.specs.Matches.{AreMatches, IsAfter};
 ghost use Rattle.lic_find.specs.Starts.{starts_in};
-ghost use Rattle.lic_find.specs.Walks.{AllEndBy, BeginsAt, HasCome, IsNextOfRange, NoneBegins};
+ghost use Rattle.lic_find.specs.Scans.{AllEndBy, BeginsAt, HasCome, IsNextOfRange, NoneBegins};
 
 use crate::laws::matches_are_listed;
-use crate::noting::first_tokens;
+use crate::reverse_scan::first_tokens;
 use crate::starts::Starts;
-use crate::triple::Triple;
-use lic_auto::run::Run;
-use lic_auto::set::Set;
+use lic_auto::{Run, Set, Triple};
 use lic_norm::text::Text;
 use std::alloc::{AllocError, Global};
 use std::cmp::Ordering;
@@ -53,15 +51,15 @@ pub struct Finder<'a> {
 }
 
 impl<'a> Finder<'a> {
-    ghost use Rattle.lic_find.specs.Rest.{HasAllMatches, IsBegun, IsOnSameWalk, numbers_in, place_of, rest_of, set_in, steps_taken, tokens_in};
+    ghost use Rattle.lic_find.specs.Remaining.{HasAllMatches, IsBegun, IsInSameScan, numbers_in, place_of, remaining_matches, set_in, steps_taken, tokens_in};
 
     /// All matches. Fails if memory runs out.
     ///
     /// It is over the templates alone that can describe a range of the text.
     pub fn new(alloc: Global, set: &'a Set, text: &'a Text) -> Result<Finder<'a>, AllocError>
-        ensures all { IfOk result (λ f. AreMatches set.now text.now.tokens None (rest_of f)) }
+        ensures all { IfOk result (λ f. AreMatches set.now text.now.tokens None (remaining_matches f)) }
         ensures only { IfOk result (λ f. (others : List Triple)
-            → AreMatches set.now text.now.tokens None others → others ≡ rest_of f) }
+            → AreMatches set.now text.now.tokens None others → others ≡ remaining_matches f) }
         ensures begun { IfOk result (λ f. IsBegun f set.now text.now.tokens None) }
         ensures whole { IfOk result HasAllMatches }
         ensures most { IfOk result (λ f. steps_taken f ≤ 2 * (letters_of text.now.tokens + 1)) }
@@ -82,9 +80,9 @@ impl<'a> Finder<'a> {
         after: Triple,
     ) -> Result<Finder<'a>, AllocError>
         ensures later { IfOk result (λ f.
-            AreMatches set.now text.now.tokens (Some after) (rest_of f)) }
+            AreMatches set.now text.now.tokens (Some after) (remaining_matches f)) }
         ensures only { IfOk result (λ f. (others : List Triple)
-            → AreMatches set.now text.now.tokens (Some after) others → others ≡ rest_of f) }
+            → AreMatches set.now text.now.tokens (Some after) others → others ≡ remaining_matches f) }
         ensures begun { IfOk result (λ f. IsBegun f set.now text.now.tokens (Some after)) }
         ensures most { IfOk result (λ f. steps_taken f ≤ 2 * (letters_of text.now.tokens + 1)) }
     {
@@ -102,7 +100,7 @@ impl<'a> Finder<'a> {
     ) -> Result<Finder<'a>, AllocError>
         requires { IsRising numbers.items (length set.now) }
         ensures matches { IfOk result (λ f.
-            AreMatchesAmong set.now text.now.tokens numbers.items after (rest_of f)) }
+            AreMatchesAmong set.now text.now.tokens numbers.items after (remaining_matches f)) }
         ensures begun { IfOk result (λ f. IsBegun f set.now text.now.tokens after) }
         ensures numbers { IfOk result (λ f. numbers_in f ≡ numbers.items) }
         ensures most { IfOk result (λ f. steps_taken f ≤ 2 * (letters_of text.now.tokens + 1)) }
@@ -175,15 +173,15 @@ impl<'a> Finder<'a> {
 
     // The next match, if it begins with the current first token.
     fn next_of_first(&mut self) -> Option<Triple>
-        ensures some { IfSome result (λ triple. rest_of self.old ≡ triple ∷ rest_of self.new) }
+        ensures some { IfSome result (λ triple. remaining_matches self.old ≡ triple ∷ remaining_matches self.new) }
         ensures none { IfNone result
             (NoneBegins self.new.set.now self.new.text.now.tokens (numbers_in self.new)
             (place_of self.new) self.new.first) }
         ensures ended { IfNone result
             (AllEndBy self.new.set.now self.new.text.now.tokens (numbers_in self.new) self.new.first self.new.end) }
-        ensures rest { IfNone result (rest_of self.new ≡ rest_of self.old) }
+        ensures rest { IfNone result (remaining_matches self.new ≡ remaining_matches self.old) }
         ensures given { self.new.given ≡ option_or result self.old.given }
-        ensures same { IsOnSameWalk self.old self.new }
+        ensures same { IsInSameScan self.old self.new }
         ensures never_fall { steps_of self.old.run ≤ steps_of self.new.run }
         ensures most { steps_of self.new.run
             ≤ steps_of self.old.run + 2 * letters_of self.old.text.now.tokens }
@@ -230,7 +228,7 @@ fn begin_next(run: &mut Run<'_>, starts: &mut Starts) -> Option<usize>
         → (k : ℕ) → Contains noted.numbers k → Contains (numbers_of run.old) k }
     ensures some { IfSome result (λ first. (noted : NotedFirst)
         × (starts_in starts.old ≡ noted ∷ starts_in starts.new) × (noted.first ≡ first)
-        × StandsAmong run.new (noted_with (numbers_of run.old) noted.numbers) []) }
+        × RunHasTakenAmong run.new (noted_with (numbers_of run.old) noted.numbers) []) }
     ensures none { IfNone result
         ((starts_in starts.old ≡ []) × (starts.new ≡ starts.old) × (run.new ≡ run.old)) }
     ensures set { set_of run.new ≡ set_of run.old }
@@ -252,11 +250,11 @@ impl Iterator for Finder<'_> {
     type Item = Triple;
 
     ghost use Rattle.lic_find.specs.Giving.{GivesMatch};
-    ghost use Rattle.lic_find.specs.Rest.{rest_of};
+    ghost use Rattle.lic_find.specs.Remaining.{remaining_matches};
 
     ghost next_gives = { GivesMatch };
 
-    ghost remaining = { item_count rest_of };
+    ghost remaining = { item_count remaining_matches };
 
     fn next(&mut self) -> Option<Triple> {
         if let Some(triple) = self.next_of_first() {

@@ -3,7 +3,7 @@
 ghost use Rattle.std.specs.Prelude.{◌≡◌, List, Option};
 ghost use Rattle.lic_norm.specs.Tokens.{TokenValue};
 ghost use Rattle.lic_set.specs.Sets.{Known};
-ghost use Rattle.lic_find.specs.Listing.{matches_behind};
+ghost use Rattle.lic_find.specs.Listing.{matches_after};
 ghost use Rattle.lic_set.specs.Matches.{AreMatches};
 ghost use Rattle.lic_set.specs.declared.triple.Triple.{Triple};
 
@@ -19,7 +19,7 @@ pub fn matches_are_one_list()
 /// The list that is computed by a test of each triple has exactly the matches.
 pub fn matches_are_listed()
     ensures { (set : List Known) (tokens : List TokenValue) (after : Option Triple)
-        → AreMatches set tokens after (matches_behind set tokens after) }
+        → AreMatches set tokens after (matches_after set tokens after) }
 {
     whether_an_expression_describes_is_decided();
 }

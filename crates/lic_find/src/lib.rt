@@ -1,10 +1,13 @@
 //! The walk over a text: where templates describe ranges of its tokens.
 #![tactic(auto)]
 
-pub mod ask;
-pub mod finder;
+mod ask;
+mod finder;
 pub mod laws;
 pub mod matches;
-mod noting;
+mod reverse_scan;
 mod starts;
-pub mod triple;
+
+pub use ask::Ask;
+pub use finder::Finder;
+pub use lic_auto::Triple;

@@ -3,9 +3,7 @@
 ghost use Rattle.std.specs.Prelude.{◌↔◌, IfOk, IsTrue};
 ghost use Rattle.lic_set.specs.Matches.{IsMatch};
 
-use crate::triple::Triple;
-use lic_auto::run::Run;
-use lic_auto::set::Set;
+use lic_auto::{Run, Set, Triple};
 use lic_norm::text::Text;
 use std::alloc::{AllocError, Global};
 

@@ -6,6 +6,9 @@ ghost use Rattle.lic_find.specs.declared.starts.Entry.{Entry};
 
 use std::alloc::{AllocError, Global};
 
+/// The most numbers of templates that are kept with a first token.
+const MOST_NUMBERS: usize = 4;
+
 /// A first token, and how many numbers are kept for it.
 #[derive(Clone, Copy, Debug)]
 pub struct Entry {
@@ -52,7 +55,11 @@ impl Starts {
         ensures memory { OnOk result ((tokens : ℕ) → HasAtMost self.old tokens
             → HasAtMost self.new (tokens + 1)) }
     {
-        let few = if numbers.len() <= 4 { numbers } else { &[] };
+        let few = if numbers.len() <= MOST_NUMBERS {
+            numbers
+        } else {
+            &[]
+        };
         self.numbers.extend_from_slice(few)?;
         self.entries.push(Entry {
             first,

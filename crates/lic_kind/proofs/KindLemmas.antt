@@ -13,11 +13,11 @@ abbrev pub fails_from : (ℕ → Bool) → ℕ → ℕ → Bool
 fails_from p first zero = true
 fails_from p first (suc n) = not (p first) && fails_from p (suc first) n
 
-abbrev fails_at : (ℕ → Bool) → Entry → Bool
+abbrev pub fails_at : (ℕ → Bool) → Entry → Bool
 fails_at p (one d) = not (p d)
 fails_at p (range first last) = fails_from p first (suc last - first)
 
-abbrev fails_on : (ℕ → Bool) → List Entry → Bool
+abbrev pub fails_on : (ℕ → Bool) → List Entry → Bool
 fails_on p [] = true
 fails_on p (entry ∷ table) = fails_at p entry && fails_on p table
 
@@ -38,7 +38,7 @@ fails_at-entry p (range first last) c fails is =
     let high : c ≤ last = leb-true c last parts.1 in
     fails_from-within p first (suc last - first) c fails low (omega arith)
 
-fails_on-listed : (p : ℕ → Bool) (table : List Entry) (c : ℕ) → fails_on p table ≡ true → is_listed table c ≡ true → p c ≡ false
+pub fails_on-listed : (p : ℕ → Bool) (table : List Entry) (c : ℕ) → fails_on p table ≡ true → is_listed table c ≡ true → p c ≡ false
 fails_on-listed p [] c fails is = cc
 fails_on-listed p (entry ∷ table) c fails is =
     let parts = and_parts (fails_at p entry) (fails_on p table) fails in
@@ -54,7 +54,7 @@ dropped_is_not_white c = fails_on-listed is_whitespace dropped c refl
 
 module _ (p : ℕ → Bool) (ascii : fails_on p ascii_punctuation ≡ true) (dash : fails_on p dashes ≡ true) (quote : fails_on p quotes ≡ true)
     (bullet : fails_on p bullets ≡ true) (box : fails_on p box_drawing ≡ true) (other : fails_on p other_marks ≡ true) where
-  fails_on-marks : (c : ℕ) → is_mark c ≡ true → p c ≡ false
+  pub fails_on-marks : (c : ℕ) → is_mark c ≡ true → p c ≡ false
   unfolding is_dash is_quote is_bullet is_box_drawing is_other_mark
   fails_on-marks c is =
       elim (or_cases _ _ is) [
@@ -138,6 +138,16 @@ kind_of-white c white = kind_of-choice c ∙ choice-white (is_dropped c) (is_whi
 pub kind_of-mark : (c : ℕ) → is_mark c ≡ true → kind_of c ≡ Mark
 kind_of-mark c mark =
     kind_of-choice c ∙ choice-mark (is_dropped c) (is_whitespace c) (is_mark c) (mark_is_not_dropped c mark) (mark_is_not_white c mark) mark
+
+choice-none : (drops white mark : Bool) → drops ≡ false → white ≡ false → mark ≡ false → choice drops white mark ≡ Word
+choice-none false false false d w m = refl
+choice-none true white mark d w m = cc
+choice-none false true mark d w m = cc
+choice-none false false true d w m = cc
+
+-- of no table, so a word character
+pub kind_of-none : (c : ℕ) → is_dropped c ≡ false → is_whitespace c ≡ false → is_mark c ≡ false → kind_of c ≡ Word
+kind_of-none c stays dark other = kind_of-choice c ∙ choice-none (is_dropped c) (is_whitespace c) (is_mark c) stays dark other
 
 pub is_dropped-Dropped : (c : ℕ) → kind_of c ≡ Dropped → is_dropped c ≡ true
 is_dropped-Dropped c is = choice-Dropped (is_dropped c) (is_whitespace c) (is_mark c) (sym (kind_of-choice c) ∙ is)

@@ -10,3 +10,5 @@ pub mod RulesRead
 pub mod FirstFault
 mod examples
 pub mod OpenerLemmas
+pub mod PlainWords
+pub mod LetterTable

@@ -2,7 +2,7 @@
 
 ghost use Rattle.std.specs.Prelude.{◌≡◌, ◌∷◌, [], IfOk, IsOk};
 ghost use Rattle.caseless.specs.Caseless.{default_case_fold};
-ghost use Rattle.lic_kind.specs.Kinds.{spell, letter_of};
+ghost use Rattle.lic_kind.specs.Kinds.{kind_of, spell, letter_of};
 
 use crate::tables::{is_dash, is_quote};
 use crate::{Kind, kind_of};
@@ -32,6 +32,15 @@ pub fn spell(alloc: Global, c: char) -> Result<SmallVec<char, 4, Global>, AllocE
         // No folding of a word character holds another kind, as the laws say.
         Kind::Word => folding(alloc, c),
     }
+}
+
+/// The one letter of a mark: `-` for a dash, `'` for a quote, and any other mark itself.
+#[tactic(auto, using(crate::proofs::WordFoldings::letter_rules))]
+pub fn mark_letter(c: char) -> char
+    requires { kind_of c ≡ Kind.Mark }
+    ensures { spell c ≡ result ∷ [] }
+{
+    letter_of(c)
 }
 
 fn letter_of(c: char) -> char

@@ -3,6 +3,7 @@
 
 ghost use Rattle.std.specs.Prelude.{◌≡◌};
 ghost use Rattle.lic_kind.specs.Kinds.{kind_of, is_word_kind};
+ghost use Rattle.lic_kind.specs.Ranges.{is_far_word};
 
 mod latin;
 pub mod laws;
@@ -16,14 +17,16 @@ pub mod rules;
 pub mod rules_fault;
 mod tables;
 pub mod texts;
+mod word_letters;
 
 use latin::latin_kind;
-pub use letters::spell;
+pub use letters::{mark_letter, spell};
 pub use rule_kind::RuleKind;
 pub use rules::Rules;
 pub use rules_fault::{RulesCause, RulesFault};
 pub use tables::{is_bullet, is_dash, is_dropped, is_quote};
 pub use texts::Texts;
+pub use word_letters::word_letter;
 
 /// What a character is to the scanner.
 #[derive(Clone, Copy, Debug, PartialEq, Eq)]
@@ -59,10 +62,28 @@ pub fn is_word(c: char) -> bool
     kind_of(c) == Kind::Word
 }
 
-/// The kind of any character, by the tables.
+/// Whether the character is of a range in which all are word characters.
+#[inline(always)]
+fn is_far_word(c: char) -> bool
+    ensures { result ≡ is_far_word c }
+{
+    matches!(c, '\u{100}'..='\u{167F}' | '\u{3001}'..='\u{FE57}')
+}
+
+/// The kind of any character, mostly by its range.
 #[inline(never)]
-#[tactic(auto, unfolding(crate::specs::Kinds::kind_of))]
 fn other_kind(c: char) -> Kind
+    ensures { result ≡ kind_of c }
+{
+    if is_far_word(c) {
+        return Kind::Word;
+    }
+    table_kind(c)
+}
+
+/// The kind of any character, by the tables.
+#[tactic(auto, unfolding(crate::specs::Kinds::kind_of))]
+fn table_kind(c: char) -> Kind
     ensures { result ≡ kind_of c }
 {
     if is_dropped(c) {

@@ -1,7 +1,7 @@
 //! Prefilters of lines: the characters that texts of line rules begin or end in.
 ghost use Rattle.std.specs.Prelude.{◌≡◌, ℕ, ◌∷◌, [], reverse, true};
 ghost use Rattle.std.specs.List.{All};
-ghost use Rattle.lic_kind.specs.Openers.{opens_in, may_open, IsKnown, Grows};
+ghost use Rattle.lic_kind.specs.Openers.{opens_in, has, may_open, IsKnown, Grows};
 ghost use Rattle.lic_kind.specs.TextLists.{texts_of};
 
 use crate::texts::Texts;
@@ -11,6 +11,8 @@ use crate::texts::Texts;
 pub(crate) struct Openers {
     /// Some text begins in white space.
     white: bool,
+    /// Some text begins in a character beyond ASCII.
+    wide: bool,
     /// Whether some text begins in this character of ASCII.
     ascii: [bool; 128],
 }
@@ -19,6 +21,7 @@ impl Openers {
     pub(crate) fn none() -> Openers {
         Openers {
             white: false,
+            wide: false,
             ascii: [false; 128],
         }
     }
@@ -31,6 +34,8 @@ impl Openers {
             self.white = true;
         } else if first.is_ascii() {
             self.ascii[first as usize] = true;
+        } else {
+            self.wide = true;
         }
     }
 
@@ -72,11 +77,23 @@ impl Openers {
         }
     }
 
-    /// Whether the table has the character; it says nothing where white space begins a text, nor outside of ASCII.
+    /// Whether a text begins in this character, or in another one beyond ASCII if this one is.
+    #[inline(always)]
+    fn has(&self, c: char) -> bool
+        ensures { result ≡ has self.now c }
+    {
+        if c.is_ascii() {
+            self.ascii[c as usize]
+        } else {
+            self.wide
+        }
+    }
+
+    /// Whether the table has the character. It has all where white space begins a text, and all beyond ASCII where one of these does.
     #[inline(always)]
     pub(crate) fn may_open(&self, c: char) -> bool
         ensures { result ≡ may_open self.now c }
     {
-        self.white || !c.is_ascii() || self.ascii[c as usize]
+        self.white || self.has(c)
     }
 }

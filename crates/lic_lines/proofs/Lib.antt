@@ -26,3 +26,4 @@ pub mod PlainSigns
 pub mod TextFronts
 pub mod LineByLine
 mod examples
+pub mod ItemFronts

@@ -21,7 +21,7 @@ pub record IsNoLongItem (front : List ℕ) : Type 0 where
   pub no_digit : is_ascii_digit (get_or front 0 0) ≡ false
   pub no_parenthesis : (get_or front 0 0 == 0x28) ≡ false
 
-not_equal : (m n : ℕ) → n < m → (m == n) ≡ false
+pub not_equal : (m n : ℕ) → n < m → (m == n) ≡ false
 not_equal m n lt = ⊎_elim (λ yes. let same : m ≡ n = eqb-true m n yes in absurd (omega arith)) (λ none. none) (cases_Bool (m == n))
 
 not_in_range : (low high n : ℕ) → high < n → is_in_range low high n ≡ false
@@ -33,21 +33,21 @@ not_in_range low high n lt = at (nat_le low n) (nat_le n high)
     at true b off = off
     at false b off = refl
 
-and_off : (a b : Bool) → b ≡ false → (a && b) ≡ false
+pub and_off : (a b : Bool) → b ≡ false → (a && b) ≡ false
 and_off true b off = off
 and_off false b off = refl
 
-off_and : (a b : Bool) → a ≡ false → (a && b) ≡ false
+pub off_and : (a b : Bool) → a ≡ false → (a && b) ≡ false
 off_and a b off = ap (λ x. x && b) off
 
-or_off : (a b : Bool) → a ≡ false → b ≡ false → (a || b) ≡ false
+pub or_off : (a b : Bool) → a ≡ false → b ≡ false → (a || b) ≡ false
 or_off a b x y = ap₂ (λ p q. p || q) x y
 
 or_left_off : (a b : Bool) → (a || b) ≡ false → a ≡ false
 or_left_off false b h = refl
 or_left_off true b h = h
 
-no_numbers : (f : ℕ) (fs : List ℕ) → is_ascii_digit f ≡ false → list_all is_number (slice_split (λ c. c == 0x2E) (f ∷ fs)) ≡ false
+pub no_numbers : (f : ℕ) (fs : List ℕ) → is_ascii_digit f ≡ false → list_all is_number (slice_split (λ c. c == 0x2E) (f ∷ fs)) ≡ false
 no_numbers f fs no_digit = sym (numbers_is (f ∷ fs)) ∙ ⊎_elim
     (λ stop. cond-true (f == 0x2E) (is_in_range 1 3 0 && numbers_after 0 fs) (is_ascii_digit f && numbers_after (0 + 1) fs) stop)
     (λ other. cond-false (f == 0x2E) (is_in_range 1 3 0 && numbers_after 0 fs) (is_ascii_digit f && numbers_after (0 + 1) fs) other ∙ off_and _ _ no_digit)
@@ -57,16 +57,16 @@ module _ (f : ℕ) (fs : List ℕ) (c : ℕ) where
   abbrev word : List ℕ
   word = (f ∷ fs) ++ c ∷ []
 
-  no_bullet : is_bullet_item word ≡ false
+  pub no_bullet : is_bullet_item word ≡ false
   no_bullet = let many = length-append fs (c ∷ []) in off_and _ _ (not_equal (length word) 1 (omega arith))
 
-  number : is_number_item word ≡ (ends_item c && list_all is_number (slice_split (λ d. d == 0x2E) (f ∷ fs)))
+  pub number : is_number_item word ≡ (ends_item c && list_all is_number (slice_split (λ d. d == 0x2E) (f ∷ fs)))
   number = ends_in-snoc ends_item (λ front. list_all is_number (slice_split (λ d. d == 0x2E) front)) (f ∷ fs) c
 
-  letter : is_letter_item word ≡ (((c == 0x2E) || (c == 0x29)) && (is_letter (f ∷ fs) || is_roman (f ∷ fs)))
+  pub letter : is_letter_item word ≡ (((c == 0x2E) || (c == 0x29)) && (is_letter (f ∷ fs) || is_roman (f ∷ fs)))
   letter = ends_in-snoc (λ d. (d == 0x2E) || (d == 0x29)) (λ front. is_letter front || is_roman front) (f ∷ fs) c
 
-  closed : is_item_in_parentheses word ≡ ((f == 0x28) && ((c == 0x29) && (is_number fs || is_letter fs || is_roman fs)))
+  pub closed : is_item_in_parentheses word ≡ ((f == 0x28) && ((c == 0x29) && (is_number fs || is_letter fs || is_roman fs)))
   closed = ap (λ b. (f == 0x28) && b) (ends_in-snoc (λ d. d == 0x29) (λ front. is_number front || is_letter front || is_roman front) fs c)
 
   other_end : ends_item c ≡ false → is_item_form word ≡ false

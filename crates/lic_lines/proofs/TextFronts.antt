@@ -1,22 +1,19 @@
--- The tokens of a text from its front on: a blank, a word that begins no sign, and a mark by itself.
+-- The tokens of a text from its front on: a blank, a word that begins no sign, and such a mark by itself.
 use Rattle.std.proofs.Common.{◌≡◌, ◌≢◌, ℕ, ◌-◌, ◌<◌, ◌≤◌, Bool, true, false, cond, List, [], ◌∷◌, ◌++◌, length, take, drop, map, get_or, refl, sym, ap, ap₂, ◌∙◌, arith}
 use Rattle.std.specs.Prelude.{bytes_eq, codes, encode_utf8_all}
-use Rattle.std.specs.Char.{encode_utf8}
-use Rattle.std.proofs.lemmas.Str.{encode_ascii}
 use Rattle.std.proofs.lemmas.Bool.{cond-false}
-use Rattle.std.proofs.lemmas.List.{length-take-le, get_or-take}
+use Rattle.std.proofs.lemmas.List.{append-nil, length-take-le, get_or-take}
 use Rattle.lic_kind.specs.Kinds.{kind_of, spell}
 use Rattle.lic_kind.specs.declared.Kind.TheVariants as kind
 use Rattle.lic_lines.specs.Texts.{groups}
 use Rattle.lic_lines.specs.Sources.{SourceChar}
 use Rattle.lic_lines.specs.LineRules.{LineRules}
 use Rattle.lic_lines.specs.Lines.{Mark, Word, cell_of}
-use Rattle.lic_lines.specs.Runs.{runs_joined, without_separators, with_joined}
+use Rattle.lic_lines.specs.Runs.{may_join, runs_joined, without_separators, with_joined}
 use Rattle.lic_lines.specs.TextFronts.{text_token}
-use Rattle.lic_lines.specs.Tokens.{Token, both_words, blank_behind, letters_of, is_text, as_sign, single_signs, text_tokens_after, tokens_after, tokens_from}
+use Rattle.lic_lines.specs.Tokens.{Token, both_words, blank_behind, letters_of, is_text, single_signs, text_tokens_after, tokens_after, tokens_from}
 use Rattle.lic_lines.proofs.KindRows.{cell_of-Mark, words_row, marks_row, blank_front}
 use Rattle.lic_lines.proofs.PlainSigns.{plain_first}
-use Rattle.lic_lines.proofs.TextLemmas.{bytes_eq-other}
 use Rattle.lic_lines.proofs.TokenLemmas.{word_is_token}
 
 -- a character that is neither a mark nor of a word
@@ -47,20 +44,6 @@ front_word rules after_blank text n letters d some within words stop is no_paren
     ∙ ap (λ l. l ++ rest) (word_is_token after_blank word d letters (omega arith) is)
     ∙ words_row rules after_blank text n within some words stop)
 
--- what begins with another character of ASCII than `(` is no sign and begins none
-module _ (t : Token) (b : ℕ) (text : List ℕ) (is : t.text ≡ b ∷ text) (small : b < 128) (other : b ≢ 0x28) where
-  no_parenthesis : is_text (codes "(") t ≡ false
-  no_parenthesis = sym (bytes_eq-other (codes "(") t.text (λ same. other (sym (ap (λ l. get_or l 0 0) (same ∙ is)))))
-
-  no_single_sign : as_sign t ≡ t
-  unfolding encode_utf8
-  no_single_sign =
-      cond-false (is_text (0xC2 ∷ 0xA9 ∷ []) t) (record t { text = codes "copyright" }) t
-      (sym (bytes_eq-other (0xC2 ∷ 0xA9 ∷ []) t.text (λ same. let first : 0xC2 ≡ b = ap (λ l. get_or l 0 0) (same ∙ is) in absurd (omega arith))))
-
-  plain_token : (ts : List Token) → single_signs (t ∷ ts) ≡ t ∷ single_signs ts
-  plain_token ts = plain_first t ts no_parenthesis no_single_sign
-
 one_mark : (rules : LineRules) (s : SourceChar) → runs_joined rules (Mark s ∷ []) ≡ Mark s ∷ []
 one_mark rules s = at rules.separators
   where
@@ -68,27 +51,26 @@ one_mark rules s = at rules.separators
     at true = refl
     at false = refl
 
--- a mark of ASCII that stands for itself and begins no sign, with no other behind it
+-- a mark that is not joined to one behind it, where it is no sign and begins none
 pub front_mark : (rules : LineRules) (after_blank : Bool) (text : List SourceChar) (letters : List ℕ) (d : SourceChar) → 0 < length text
-    → kind_of (get_or text 0 d).char ≡ kind.Mark → (get_or text 0 d).char < 128 → spell (get_or text 0 d).char ≡ (get_or text 0 d).char ∷ []
-    → (get_or text 0 d).char ≢ 0x28
-    → ((d : SourceChar) → 1 < length text → kind_of (get_or text 1 d).char ≢ kind.Mark)
-    → letters ≡ encode_utf8 (get_or text 0 d).char
+    → kind_of (get_or text 0 d).char ≡ kind.Mark
+    → ((d : SourceChar) → 1 < length text → kind_of (get_or text 1 d).char ≡ kind.Mark → may_join (get_or text 0 d).char (get_or text 1 d).char ≡ false)
+    → letters ≡ encode_utf8_all (spell (get_or text 0 d).char)
+    → bytes_eq (codes "(") letters ≡ false → bytes_eq (encode_utf8_all (0xA9 ∷ [])) letters ≡ false
     → text_token after_blank 1 letters text d ∷ text_tokens_after rules false (drop 1 text) ≡ text_tokens_after rules after_blank text
-front_mark rules after_blank [] letters d some mark small letter other alone is = absurd (omega arith)
-front_mark rules after_blank (s ∷ behind) letters d some mark small letter other alone is =
+front_mark rules after_blank [] letters d some mark alone is no_parenthesis no_sign = absurd (omega arith)
+front_mark rules after_blank (s ∷ behind) letters d some mark alone is no_parenthesis no_sign =
     let text = s ∷ behind in
     let t = text_token after_blank 1 letters text d in
     let rest = tokens_after rules false behind in
     let runs : runs_joined rules (map cell_of (s ∷ [])) ≡ Mark s ∷ [] = ap (λ c. runs_joined rules (c ∷ [])) (cell_of-Mark s mark) ∙ one_mark rules s in
-    let byte : letters ≡ s.char ∷ [] = is ∙ encode_ascii s.char small in
-    let spelled : letters ≡ encode_utf8_all (letters_of (Mark s ∷ [])) =
-    byte ∙ sym (ap (λ l. encode_utf8_all (l ++ [])) letter ∙ ap (λ l. l ++ []) (encode_ascii s.char small)) in
-    sym (plain_token t s.char [] byte small other rest)
+    let spelled : letters ≡ encode_utf8_all (letters_of (Mark s ∷ [])) = is ∙ ap encode_utf8_all (sym (append-nil (spell s.char))) in
+    sym (plain_first t rest no_parenthesis
+    (cond-false (is_text (encode_utf8_all (0xA9 ∷ [])) t) (record t { text = codes "copyright" }) t no_sign))
     ∙ ap single_signs
     (ap (λ l. let u : Token = record { text = l; start = s.start; end = s.end; after_blank = after_blank } in u ∷ rest) spelled
     ∙ sym (ap (λ l. tokens_from after_blank (groups both_words l) ++ tokens_after rules (blank_behind after_blank (groups both_words l)) behind) runs)
     ∙ marks_row rules after_blank text 1
     (omega arith) (omega arith)
     (λ i e lt. let here : i ≡ 0 = omega arith in ap (λ k. kind_of (get_or text k e).char) here ∙ mark)
-    (λ e lt next. absurd (alone e lt next)))
+    alone)

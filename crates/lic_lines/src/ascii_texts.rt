@@ -1,5 +1,5 @@
 //! Whether a text of the line rules stands at a place of a line of ASCII.
-ghost use Rattle.std.specs.Prelude.{◌≡◌, ◌<◌, ◌≤◌, length, drop, slice_index};
+ghost use Rattle.std.specs.Prelude.{◌≡◌, ◌<◌, ◌≤◌, true, false, length, drop, slice_index};
 ghost use Rattle.lic_lines.specs.Walks.{walked, stands_in};
 
 use crate::ascii_cut::byte_at;
@@ -17,8 +17,9 @@ fn text_at(text: &[char], side: Side, place: usize) -> char
     }
 }
 
-/// Whether the line has a text from this place on, seen from this side.
-pub(crate) fn stands(side: Side, text: &[char], line: &[u8], place: usize) -> bool
+/// Whether the line has a text from this place on, seen from this side, character by character.
+#[inline(never)]
+fn stands_whole(side: Side, text: &[char], line: &[u8], place: usize) -> bool
     requires { place ≤ length line.now }
     ensures { result ≡ stands_in (drop place (walked side line.now)) (walked side text.now) }
 {
@@ -31,4 +32,28 @@ pub(crate) fn stands(side: Side, text: &[char], line: &[u8], place: usize) -> bo
         }
     }
     true
+}
+
+/// Whether the line has another first character at this place than the text.
+#[inline(always)]
+fn begins_otherwise(side: Side, text: &[char], line: &[u8], place: usize) -> bool
+    requires { place ≤ length line.now }
+    ensures { result ≡ true → stands_in (drop place (walked side line.now)) (walked side text.now) ≡ false }
+{
+    if text.is_empty() || place >= line.len() {
+        return false;
+    }
+    byte_at(line, side, place) as char != text_at(text, side, 0)
+}
+
+/// Whether the line has a text from this place on, seen from this side. Mostly its first character shows that it has not.
+#[inline(always)]
+pub(crate) fn stands(side: Side, text: &[char], line: &[u8], place: usize) -> bool
+    requires { place ≤ length line.now }
+    ensures { result ≡ stands_in (drop place (walked side line.now)) (walked side text.now) }
+{
+    if begins_otherwise(side, text, line, place) {
+        return false;
+    }
+    stands_whole(side, text, line, place)
 }

@@ -1,12 +1,12 @@
 //! List items at the front of a line.
-ghost use Rattle.std.specs.Prelude.{◌≡◌, ◌≤◌, ◌++◌, ◌==◌, ◌&&◌, ◌||◌, not, false, find, length, option_to_list};
+ghost use Rattle.std.specs.Prelude.{◌≡◌, ◌≤◌, ◌++◌, ◌==◌, ◌&&◌, ◌||◌, ℕ, List, IsTrue, not, false, find, length, option_to_list};
 ghost use Rattle.std.specs.List.{list_all, position_or_len, slice_split};
 ghost use Rattle.std.specs.Option.{option_map_or};
-ghost use Rattle.std.specs.Char.{is_whitespace, is_ascii_digit, is_ascii_alphabetic};
+ghost use Rattle.std.specs.Char.{is_whitespace, is_ascii, is_ascii_digit, is_ascii_alphabetic};
 ghost use Rattle.lic_kind.specs.Kinds.{is_dash, is_bullet};
 ghost use Rattle.lic_lines.specs.Texts.{ends_in};
 ghost use Rattle.lic_lines.specs.Sources.{chars_of};
-ghost use Rattle.lic_lines.specs.LineRules.{rules_of};
+ghost use Rattle.lic_lines.specs.LineRules.{LineRules, rules_of};
 ghost use Rattle.lic_lines.specs.Lines.{is_bullet_sign, is_roman_digit, is_number, is_letter, is_roman, is_bullet_item, is_number_item, is_letter_item, is_item_in_parentheses, is_item_form, is_copyright_sign, item_length};
 
 use crate::source::SourceChar;
@@ -194,6 +194,21 @@ fn lets_item(form: &[SourceChar], text: &[SourceChar], behind: Option<char>) -> 
     }
 }
 
+/// Whether a list item may begin with this character.
+fn may_begin_item(c: char) -> bool
+    ensures { result ≡ (is_ascii c || is_dash c || is_bullet c) }
+{
+    c.is_ascii() || is_dash(c) || is_bullet(c)
+}
+
+/// Whether a line begins with no list item, as far as its first character shows.
+fn begins_as_no_item(line: &[SourceChar]) -> bool
+    ensures { IsTrue result → (rules : LineRules) (behind : List ℕ)
+        → item_length rules (chars_of line.now ++ behind) ≡ 0 }
+{
+    !line.is_empty() && !may_begin_item(line[0].char)
+}
+
 /// How long the item at the front of a line is, whose lead is taken already, or 0.
 pub fn item_length(rules: &Rules, line: &[SourceChar], behind: Option<char>) -> usize
     ensures item { result ≡ item_length (rules_of rules.now)
@@ -201,6 +216,9 @@ pub fn item_length(rules: &Rules, line: &[SourceChar], behind: Option<char>) -> 
     ensures within { result ≤ length line.now }
 {
     if !rules.items() {
+        return 0;
+    }
+    if begins_as_no_item(line) {
         return 0;
     }
     let end = first_space(line);

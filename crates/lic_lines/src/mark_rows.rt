@@ -16,7 +16,7 @@ fn may_join(a: char, b: char) -> bool
 
 /// Whether a character after a mark is a mark that may be joined to it.
 #[inline(always)]
-fn goes_on(mark: char, next: char) -> bool
+pub(crate) fn goes_on(mark: char, next: char) -> bool
     ensures mark { IsTrue result → kind_of next ≡ Kind.Mark }
     ensures stop { result ≡ false → kind_of next ≡ Kind.Mark → may_join mark next ≡ false }
 {

@@ -1,21 +1,34 @@
 //! The longest row of pieces at a side of a line, which is mostly white space alone.
-ghost use Rattle.std.specs.Prelude.{◌≡◌, ◌≢◌, ◌||◌, ◌+◌, ◌<◌, ◌≤◌, ℕ, true, false, length, slice_index, IfOk, IfSome};
+ghost use Rattle.std.specs.Prelude.{◌≡◌, ◌≢◌, ◌+◌, ◌<◌, ◌≤◌, ℕ, true, false, length, drop, slice_index, IfOk, IfSome};
 ghost use Rattle.std.specs.Char.{is_whitespace};
 ghost use Rattle.std.specs.List.{list_any};
 ghost use Rattle.lic_lines.specs.Sources.{chars_of};
 ghost use Rattle.lic_lines.specs.LineRules.{texts_of, rules_of};
 ghost use Rattle.lic_lines.specs.Texts.{is_row, longest_front};
-ghost use Rattle.lic_lines.specs.Walks.{walked, is_walked_piece, opens_in, may_open};
+ghost use Rattle.lic_lines.specs.Walks.{walked, is_walked_piece, may_open, stands_in, may_stand, may_stand_at};
 
 use crate::rows::{longest_row, side_spaced, side_texts};
 use crate::source::SourceChar;
-use crate::walk::{Side, char_at};
+use crate::walk::{Side, char_at, is_text, part};
 use lic_kind::{RuleKind, Rules, Texts};
 use std::alloc::{AllocError, Global};
 
-/// Whether a text begins, on the way from this side, in white space or in this character.
-fn opens_in(c: char, side: Side, text: &[char]) -> bool
-    ensures { result ≡ opens_in c (walked side text.now) }
+/// Whether a line has a text from this place of the way on.
+fn stands(side: Side, text: &[char], line: &[SourceChar], place: usize) -> bool
+    requires { place ≤ length line.now }
+    ensures { result ≡ stands_in (drop place (walked side (chars_of line.now))) (walked side text.now) }
+{
+    let len = text.len();
+    if len > line.len() - place {
+        return false;
+    }
+    is_text(text, part(line, side, place, place + len))
+}
+
+/// Whether a text begins, on the way from this side, in white space, or a line has it from this place on.
+fn may_stand(side: Side, text: &[char], line: &[SourceChar], place: usize) -> bool
+    requires { place ≤ length line.now }
+    ensures { result ≡ may_stand (drop place (walked side (chars_of line.now))) (walked side text.now) }
 {
     if text.is_empty() {
         return false;
@@ -24,15 +37,18 @@ fn opens_in(c: char, side: Side, text: &[char]) -> bool
         Side::Front => text[0],
         Side::End => text[text.len() - 1],
     };
-    first.is_whitespace() | (first == c)
+    first.is_whitespace() || stands(side, text, line, place)
 }
 
 /// Whether one of these texts does.
-fn any_opens_in(c: char, side: Side, texts: &Texts) -> bool
-    ensures { result ≡ list_any (λ t. opens_in c (walked side t)) (texts_of texts.now) }
+fn any_may_stand(side: Side, texts: &Texts, line: &[SourceChar], place: usize) -> bool
+    requires { place ≤ length line.now }
+    ensures { result ≡ list_any
+        (λ t. may_stand (drop place (walked side (chars_of line.now))) (walked side t))
+        (texts_of texts.now) }
 {
     for i in 0..texts.len() {
-        if opens_in(c, side, texts.characters(i)) {
+        if may_stand(side, texts.characters(i), line, place) {
             return true;
         }
     }
@@ -50,18 +66,17 @@ pub(crate) fn quick_look(rules: &Rules, side: Side, c: char) -> bool
     }
 }
 
-/// Whether one of the texts of a side begins in white space or in this character.
-fn may_open(rules: &Rules, side: Side, c: char) -> bool
-    ensures { result ≡ may_open (rules_of rules.now) side c }
+/// Whether one of the texts of a side begins in white space, or a line has it from this place of the way on.
+fn may_stand_at(rules: &Rules, side: Side, line: &[SourceChar], place: usize) -> bool
+    requires { place ≤ length line.now }
+    ensures { result ≡ may_stand_at (rules_of rules.now) side
+        (drop place (walked side (chars_of line.now))) }
 {
-    if !quick_look(rules, side, c) {
-        return false;
-    }
-    let texts = any_opens_in(c, side, side_texts(rules, side));
-    let spaced = any_opens_in(c, side, side_spaced(rules, side));
+    let texts = any_may_stand(side, side_texts(rules, side), line, place);
+    let spaced = any_may_stand(side, side_spaced(rules, side), line, place);
     let repeated = match side {
         Side::Front => false,
-        Side::End => any_opens_in(c, side, rules.texts(RuleKind::TailRepeat)),
+        Side::End => any_may_stand(side, rules.texts(RuleKind::TailRepeat), line, place),
     };
     texts | (spaced | repeated)
 }
@@ -96,8 +111,7 @@ fn three_alike(side: Side, line: &[SourceChar], place: usize) -> bool
         && char_at(line, side, place + 2) == c
 }
 
-/// How long the longest row of pieces is if it is white space alone, as far as the character after
-/// that shows, if there is one.
+/// How long the longest row of pieces is if it is white space alone, as far as the characters after that show.
 fn space_row(rules: &Rules, side: Side, line: &[SourceChar]) -> Option<usize>
     ensures row { IfSome result (λ n. n
         ≡ longest_front (is_row (is_walked_piece (rules_of rules.now) side))
@@ -111,7 +125,10 @@ fn space_row(rules: &Rules, side: Side, line: &[SourceChar]) -> Option<usize>
     if three_alike(side, line, count) {
         return None;
     }
-    if may_open(rules, side, char_at(line, side, count)) {
+    if !quick_look(rules, side, char_at(line, side, count)) {
+        return Some(count);
+    }
+    if may_stand_at(rules, side, line, count) {
         return None;
     }
     Some(count)

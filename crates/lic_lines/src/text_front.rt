@@ -1,11 +1,13 @@
-//! What a text begins with: mostly a blank, a word, or a mark of ASCII by itself.
-ghost use Rattle.std.specs.Prelude.{◌≡◌, ◌≢◌, ◌∷◌, [], ◌<◌, ℕ, false, length, map, take, slice_index_or, IfOk, IsTrue, bytes_eq, codes, encode_utf8_all, string_bytes};
-ghost use Rattle.lic_kind.specs.Kinds.{kind_of, spell};
+//! What a text begins with: mostly a blank, a word, or a mark by itself.
+ghost use Rattle.std.specs.Prelude.{◌≡◌, ◌∷◌, [], ◌<◌, false, length, slice_index_or, IfOk, bytes_eq, codes, encode_utf8_all, string_bytes};
+ghost use Rattle.lic_kind.specs.Kinds.{kind_of};
+ghost use Rattle.lic_lines.specs.Runs.{may_join};
 ghost use Rattle.lic_lines.specs.TextFronts.{IsTextFront};
 
+use crate::mark_rows::goes_on;
 use crate::source::SourceChar;
 use crate::tokens::spell_word;
-use lic_kind::{Kind, is_dash, is_quote, kind_of};
+use lic_kind::{Kind, kind_of, mark_letter};
 use std::alloc::{AllocError, Global};
 
 /// What a text begins with.
@@ -46,52 +48,32 @@ fn front_word(
     Ok(TextFront::Token(length))
 }
 
-/// Whether a mark stands for itself, and begins no copyright sign.
+/// Whether the text begins with a mark that may be joined to another one after it.
 #[inline(always)]
-fn is_itself(mark: u8) -> bool
-    requires { kind_of mark ≡ Kind.Mark }
-    ensures letter { IsTrue result → spell mark ≡ mark ∷ [] }
-    ensures sign { IsTrue result → mark ≢ 0x28 }
-{
-    match mark {
-        b'(' => false,
-        b'-' | b'\'' => true,
-        _ => !is_dash(mark as char) && !is_quote(mark as char),
-    }
-}
-
-/// Whether the text begins with a mark of ASCII that has itself as its letter, and no mark follows.
-#[inline(always)]
-fn is_plain_mark(text: &[SourceChar]) -> bool
+fn is_joined(text: &[SourceChar]) -> bool
     requires some { 0 < length text.now }
-    requires mark { (d : SourceChar) → kind_of (slice_index_or text.now 0 d).char ≡ Kind.Mark }
-    ensures small { IsTrue result → (d : SourceChar) → (slice_index_or text.now 0 d).char < 128 }
-    ensures letter { IsTrue result → (d : SourceChar) → spell (slice_index_or text.now 0 d).char
-        ≡ (slice_index_or text.now 0 d).char ∷ [] }
-    ensures sign { IsTrue result → (d : SourceChar)
-        → (slice_index_or text.now 0 d).char ≢ 0x28 }
-    ensures alone { IsTrue result → (d : SourceChar) → 1 < length text.now
-        → kind_of (slice_index_or text.now 1 d).char ≢ Kind.Mark }
+    ensures alone { result ≡ false → (d : SourceChar) → 1 < length text.now
+        → kind_of (slice_index_or text.now 1 d).char ≡ Kind.Mark
+        → may_join (slice_index_or text.now 0 d).char (slice_index_or text.now 1 d).char ≡ false }
 {
-    let mark = text[0].char;
-    if text.len() > 1 && kind_of(text[1].char) == Kind::Mark {
-        return false;
-    }
-    mark.is_ascii() && is_itself(mark as u8)
+    text.len() > 1 && goes_on(text[0].char, text[1].char)
 }
 
-/// The mark in front of a text, which is put in the place of the letters that are there.
+/// The mark in front of a text, whose letter is put in the place of the letters that are there.
 #[inline(always)]
 fn front_mark(text: &[SourceChar], letters: &mut String) -> Result<TextFront, AllocError>
     requires some { 0 < length text.now }
     requires mark { (d : SourceChar) → kind_of (slice_index_or text.now 0 d).char ≡ Kind.Mark }
     ensures { IfOk result (λ front. IsTextFront front (string_bytes letters.new) text.now) }
 {
-    if !is_plain_mark(text) {
+    if is_joined(text) {
         return Ok(TextFront::Other);
     }
     letters.clear();
-    letters.push(text[0].char)?;
+    letters.push(mark_letter(text[0].char))?;
+    if may_be_sign(letters.as_str()) {
+        return Ok(TextFront::Other);
+    }
     Ok(TextFront::Token(1))
 }
 

@@ -1,6 +1,6 @@
 //! First tokens.
-ghost use Rattle.std.specs.Prelude.{◌≡◌, ◌≢◌, ◌++◌, ◌∷◌, ◌<◌, ◌≤◌, [], ℕ, IfOk, OnOk, length, map, take, slice_index_or, string_bytes, encode_utf8_all};
-ghost use Rattle.lic_kind.specs.Kinds.{kind_of, spell};
+ghost use Rattle.std.specs.Prelude.{◌≡◌, ◌≢◌, ◌++◌, ◌∷◌, ◌<◌, ◌≤◌, [], ℕ, IfOk, IsTrue, OnOk, false, length, map, take, slice_index_or, string_bytes, encode_utf8_all};
+ghost use Rattle.lic_kind.specs.Kinds.{kind_of, is_word_kind, spell};
 ghost use Rattle.lic_lines.specs.Texts.{groups};
 ghost use Rattle.lic_lines.specs.Lines.{Mark, Word};
 ghost use Rattle.lic_lines.specs.Tokens.{both_words, cell_letters, letters_of, token_of, tokens_from, blank_behind, token_in, tokens_in};
@@ -9,8 +9,7 @@ use crate::cell::Cell;
 use crate::runs::{Grouping, end_after, group_end};
 use crate::small_string::SmallString;
 use crate::source::SourceChar;
-use lic_kind::laws::words_are_folded;
-use lic_kind::{Kind, kind_of, spell};
+use lic_kind::{Kind, kind_of, spell, word_letter};
 use std::alloc::{AllocError, Global};
 
 /// A token: its text, its span in bytes of the input, and whether a blank precedes it.
@@ -36,18 +35,23 @@ fn push_spelled(alloc: Global, text: &mut String, c: char) -> Result<(), AllocEr
     Ok(())
 }
 
-/// Adds the letters of a word character.
-fn push_word_letters(alloc: Global, text: &mut String, c: char) -> Result<(), AllocError>
-    requires { kind_of c ≡ Kind.Word }
-    ensures { OnOk result (string_bytes text.new
-        ≡ string_bytes text.old ++ encode_utf8_all (spell c)) }
+/// Adds the letters of a character if it is a word character, and says whether it is one.
+#[inline(always)]
+fn push_if_word(alloc: Global, text: &mut String, c: char) -> Result<bool, AllocError>
+    ensures word { IfOk result (λ is_word. is_word ≡ is_word_kind (kind_of c)) }
+    ensures letters { IfOk result (λ is_word. IsTrue is_word
+        → string_bytes text.new ≡ string_bytes text.old ++ encode_utf8_all (spell c)) }
+    ensures same { IfOk result (λ is_word. is_word ≡ false → text.new ≡ text.old) }
 {
-    if c.is_ascii() {
-        words_are_folded();
-        text.push(c.to_ascii_lowercase())
-    } else {
-        push_spelled(alloc, text, c)
+    if let Some(letter) = word_letter(c) {
+        text.push(letter)?;
+        return Ok(true);
     }
+    if kind_of(c) != Kind::Word {
+        return Ok(false);
+    }
+    push_spelled(alloc, text, c)?;
+    Ok(true)
 }
 
 /// Adds the letters of a cell.
@@ -108,8 +112,10 @@ pub(crate) fn spell_word(
 {
     letters.clear();
     let mut count = 0;
-    while count < text.len() && kind_of(text[count].char) == Kind::Word {
-        push_word_letters(alloc, letters, text[count].char)?;
+    while count < text.len() {
+        if !push_if_word(alloc, letters, text[count].char)? {
+            return Ok(count);
+        }
         count += 1;
     }
     Ok(count)

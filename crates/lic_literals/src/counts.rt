@@ -1,12 +1,12 @@
 //! How often windows occur in literals.
 
-ghost use Rattle.std.specs.Prelude.{◌+◌, ◌≤◌, length};
+ghost use Rattle.std.specs.Prelude.{◌≡◌, ◌+◌, ◌≤◌, length, IfOk};
 
 use crate::grams::hash;
 use std::alloc::{AllocError, Global};
 
-// The most counters for windows.
-const MAX_COUNTERS: usize = 1 << 19;
+// How many counters there are: the highest bits of a hash are the number of one.
+const COUNTERS: usize = 1 << 16;
 
 // How many windows of a literal are counted, the first ones: one of these is rare enough, and a set of long texts is made soon.
 const MOST_WINDOWS: usize = 512;
@@ -18,14 +18,12 @@ pub struct Counts {
 }
 
 impl Counts {
-    /// A counter for each byte of these literals, none of which has counted anything.
-    pub fn new(alloc: Global, literals: &[&[u8]]) -> Result<Counts, AllocError> {
-        let mut bytes: usize = 0;
-        for literal in literals {
-            bytes = bytes.saturating_add(literal.len());
-        }
+    /// Counters that have counted nothing.
+    pub fn new(alloc: Global) -> Result<Counts, AllocError>
+        ensures { IfOk result (λ counts. length counts.counters.items ≡ 65536) }
+    {
         Ok(Counts {
-            counters: vec![in alloc; 0u16; bytes.clamp(1, MAX_COUNTERS)]?,
+            counters: vec![in alloc; 0u16; COUNTERS]?,
         })
     }
 
@@ -34,7 +32,7 @@ impl Counts {
         requires { 4 ≤ size }
     {
         for window in literal.windows(size).take(MOST_WINDOWS) {
-            let counter = self.counter_of(window);
+            let counter = counter_of(window);
             if let Some(count) = self.counters.get_mut(counter) {
                 *count = count.saturating_add(1);
             }
@@ -63,17 +61,18 @@ impl Counts {
     fn count(&self, window: &[u8]) -> u16
         requires { 4 ≤ length window.now }
     {
-        let counter = self.counter_of(window);
+        let counter = counter_of(window);
         self.counters.get(counter).copied().unwrap_or(u16::MAX)
     }
+}
 
-    // The number of the counter of a window: by its first bytes and its last ones.
-    fn counter_of(&self, window: &[u8]) -> usize
-        requires { 4 ≤ length window.now }
-    {
-        let gram = if window.len() < 8 { 4 } else { 8 };
-        let last = hash(&window[window.len() - gram..]);
-        let spread = hash(window).rotate_left(23) ^ last;
-        (spread % self.counters.len().max(1) as u64) as usize
-    }
+// The number of the counter of a window: by its first bytes and its last ones.
+#[inline(always)]
+fn counter_of(window: &[u8]) -> usize
+    requires { 4 ≤ length window.now }
+{
+    let gram = if window.len() < 8 { 4 } else { 8 };
+    let last = hash(&window[window.len() - gram..]);
+    let spread = hash(window).rotate_left(23) ^ last;
+    (spread >> 48) as usize
 }

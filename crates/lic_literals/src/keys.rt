@@ -134,7 +134,7 @@ fn candidate(
 
 // How often each window of the literals occurs in them.
 fn count_windows(alloc: Global, literals: &[&[u8]]) -> Result<Counts, AllocError> {
-    let mut counts = Counts::new(alloc, literals)?;
+    let mut counts = Counts::new(alloc)?;
     for literal in literals {
         if let Some(size) = window_length(literal) {
             counts.add(literal, size);

@@ -13,7 +13,7 @@ abbrev pub fault_of_read : ReadFault → TemplateFault
 fault_of_read Read = UnreadableTemplate
 fault_of_read Memory = WantsMemory
 
--- why bytes that were read are refused: they are not UTF-8, with the length of the longest front that is, or they are and what they say is at fault
+-- why bytes that were read are refused: they are not UTF-8, with the length of the longest prefix that is, or they are and what they say is at fault
 abbrev pub IsFileFault : {F : Type 0} → List ℕ → (F → Type 0) → FileFault F → Type 0
 IsFileFault bytes IsFault Unreadable = ⊥
 IsFileFault bytes IsFault (NotUtf8 at) = ¬ IsUtf8 bytes × IsValidUpTo bytes at

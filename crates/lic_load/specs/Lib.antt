@@ -1,4 +1,4 @@
 pub mod Causes
 pub mod Listings
-pub mod Telling
+pub mod Reporting
 pub use Rattle.lic_stream.specs.Stream

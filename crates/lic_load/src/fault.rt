@@ -2,14 +2,13 @@
 
 ghost use Rattle.std.specs.Prelude.{◌≡◌, ◌↔◌, IsTrue};
 ghost use Rattle.std.specs.IoError.{error_kind};
-ghost use Rattle.lic_load.specs.Telling.{IsTold};
+ghost use Rattle.lic_load.specs.Reporting.{IsReported};
 ghost use Rattle.lic_load.specs.declared.fault.LoadFault.TheVariants.{Memory};
 
 use lic_kind::RulesFault;
 use lic_norm::words::WordsFault;
 use lic_set::set::BuildFault;
-use lic_stream::stream::Sink;
-use lic_stream::transfer::put_all;
+use lic_stream::{Sink, put_all};
 use std::alloc::{AllocError, AllocFailed};
 use std::fmt::Display;
 use std::io;
@@ -23,7 +22,7 @@ pub enum FileFault<F> {
     /// The file cannot be opened or read, or has more than 67,108,864 bytes.
     #[error("cannot be read")]
     Unreadable,
-    /// `at` is the length in bytes of the longest front that is UTF-8.
+    /// `at` is the length in bytes of the longest prefix that is UTF-8.
     #[error("not UTF-8 at byte {at}")]
     NotUtf8 { at: usize },
     #[error("{0}")]
@@ -70,7 +69,7 @@ pub fn wants_memory(error: &io::Error) -> bool
 
 /// Writes to standard error. A failure there can be reported nowhere.
 pub fn tell<E: Sink>(err: &mut E, text: &str)
-    ensures { IsTold (E.taken err.old) (E.taken err.new) (E.failed err.old) (E.failed err.new) text.now }
+    ensures { IsReported (E.taken err.old) (E.taken err.new) (E.failed err.old) (E.failed err.new) text.now }
 {
     let _ = put_all(err, text.as_bytes());
 }

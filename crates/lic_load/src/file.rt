@@ -3,8 +3,7 @@
 ghost use Rattle.std.specs.Prelude.{◌≤◌, length, IfOk, IfSome};
 
 use crate::fault::wants_memory;
-use lic_stream::stream::Counted;
-use lic_stream::transfer::{ReadFault, read_up_to};
+use lic_stream::{Counted, ReadFault, read_up_to};
 use std::alloc::{AllocError, Global};
 use std::fs::File;
 use std::rt::Files;

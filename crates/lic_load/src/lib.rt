@@ -1,8 +1,13 @@
 //! What is loaded before any input is read: the line rules, the list of equivalent words, and the folder of the templates.
 #![tactic(auto)]
 
-pub mod fault;
+mod fault;
 mod file;
-pub mod rules;
-pub mod templates;
-pub mod word_list;
+mod rules;
+mod templates;
+mod word_list;
+
+pub use fault::{FileFault, LoadFault, tell, wants_memory};
+pub use rules::load_rules;
+pub use templates::{Loaded, load_all};
+pub use word_list::load_words;

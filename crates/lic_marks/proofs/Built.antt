@@ -2,7 +2,7 @@
 use Rattle.std.proofs.Common.{◌≡◌, ℕ, ◌+◌, ◌==◌, Bool, true, List, [], ◌∷◌, map, length, Vec, Box, Global, refl, sym, ap, ◌∙◌, arith, eq-eqb, ne_eqb, false, suc, replicate}
 use Rattle.std.specs.Bool.{beq}
 use Rattle.std.specs.List.{list_all}
-use Rattle.lic_marks.specs.Cores.{Core, one, cat_all, alt_all, any_front, plus, tidy}
+use Rattle.lic_marks.specs.Cores.{Core, one, cat_all, alt_all, any_prefix, plus, tidy}
 use Rattle.lic_marks.specs.Marks.{is_nullable}
 use Rattle.lic_marks.specs.Rows.{weight}
 use Rattle.lic_marks.specs.Nodes.{core_of, passes, is_measured, letter_cores, so_many, IsBuilt}
@@ -16,13 +16,13 @@ pub weight-alt_all : (rs : List Core) → weight (cat_all rs) ≡ weight (alt_al
 weight-alt_all [] = refl
 weight-alt_all (r ∷ rs) = ap (λ n. weight r + n) (weight-alt_all rs)
 
-pub weight-any_front : (rs : List Core) → weight (cat_all rs) ≡ weight (any_front rs)
-weight-any_front [] = refl
-weight-any_front (r ∷ rs) = omega (arith, weight-any_front rs)
+pub weight-any_prefix : (rs : List Core) → weight (cat_all rs) ≡ weight (any_prefix rs)
+weight-any_prefix [] = refl
+weight-any_prefix (r ∷ rs) = omega (arith, weight-any_prefix rs)
 
-pub nullable-any_front : (rs : List Core) → is_nullable (any_front rs) ≡ true
-nullable-any_front [] = refl
-nullable-any_front (r ∷ rs) = refl
+pub nullable-any_prefix : (rs : List Core) → is_nullable (any_prefix rs) ≡ true
+nullable-any_prefix [] = refl
+nullable-any_prefix (r ∷ rs) = refl
 
 beq-refl : (b : Bool) → beq b b ≡ true
 beq-refl true = refl
@@ -32,13 +32,13 @@ module _ (children : Vec Node Global) (kept : ℕ) (all : list_all is_measured c
     (size : kept ≡ weight (cat_all (map core_of children.items))) where
   pub IsBuilt-Cat : IsBuilt (cat_all (map core_of children.items)) (Cat children kept)
   IsBuilt-Cat = record {
-    stands = core_of-Cat children kept;
+    core = core_of-Cat children kept;
     measured = is_measured-Cat children kept ∙ and_both (list_all is_measured children.items) _ all (eq-eqb kept _ size);
   }
 
   pub IsBuilt-Alt : IsBuilt (alt_all (map core_of children.items)) (Alt children kept)
   IsBuilt-Alt = record {
-    stands = core_of-Alt children kept;
+    core = core_of-Alt children kept;
     measured = is_measured-Alt children kept
         ∙ and_both (list_all is_measured children.items) _ all (eq-eqb kept _ (size ∙ weight-alt_all (map core_of children.items)));
   }
@@ -46,21 +46,21 @@ module _ (children : Vec Node Global) (kept : ℕ) (all : list_all is_measured c
 pub IsBuilt-Repeat : (child : Box Node Global) (times : Times) (kept : ℕ) → is_measured child.value ≡ true →
     kept ≡ weight (so_many times (core_of child.value)) → IsBuilt (so_many times (core_of child.value)) (Repeat child times kept)
 IsBuilt-Repeat child times kept all size = record {
-  stands = core_of-Repeat child times kept;
+  core = core_of-Repeat child times kept;
   measured = is_measured-Repeat child times kept ∙ and_both (is_measured child.value) _ all (eq-eqb kept _ size);
 }
 
 module _ (child : Box Node Global) (kept : ℕ) (all : is_measured child.value ≡ true) (size : kept ≡ weight (core_of child.value)) where
   pub IsBuilt-Plus : IsBuilt (plus (core_of child.value)) (Plus child kept)
   IsBuilt-Plus = record {
-    stands = core_of-Plus child kept;
+    core = core_of-Plus child kept;
     measured = is_measured-Plus child kept ∙ and_both (is_measured child.value) _ all (eq-eqb kept _ size);
   }
 
   pub IsBuilt-Tidy : (has_empty : Bool) → has_empty ≡ is_nullable (core_of child.value) →
       IsBuilt (tidy (core_of child.value)) (Tidy child kept has_empty)
   IsBuilt-Tidy has_empty e = record {
-    stands = core_of-Tidy child kept has_empty;
+    core = core_of-Tidy child kept has_empty;
     measured = is_measured-Tidy child kept has_empty
         ∙ and_both _ (beq has_empty (is_nullable (core_of child.value)))
         (and_both (is_measured child.value) (kept == weight (core_of child.value)) all (eq-eqb kept _ size))
@@ -72,13 +72,13 @@ nullable-letters [] n e = eq-eqb n 0 e
 nullable-letters (c ∷ text) n e = ne_eqb n 0 (λ z. let s : suc (length text) ≡ 0 = sym e ∙ z in cc)
 
 pub IsBuilt-Letters : (text : Vec ℕ Global) → IsBuilt (cat_all (letter_cores text.items)) (Letters text)
-IsBuilt-Letters text = record { stands = core_of-Letters text; measured = is_measured-Letters text }
+IsBuilt-Letters text = record { core = core_of-Letters text; measured = is_measured-Letters text }
 
 pub IsBuilt-One : (test : Test) → IsBuilt (one (passes test)) (One test)
-IsBuilt-One test = record { stands = core_of-One test; measured = is_measured-One test }
+IsBuilt-One test = record { core = core_of-One test; measured = is_measured-One test }
 
 pub IsBuilt-Copies : (test : Test) (count : ℕ) → IsBuilt (cat_all (replicate count (one (passes test)))) (Copies test count)
-IsBuilt-Copies test count = record { stands = core_of-Copies test count; measured = is_measured-Copies test count }
+IsBuilt-Copies test count = record { core = core_of-Copies test count; measured = is_measured-Copies test count }
 
-pub IsBuilt-UpTo : (test : Test) (count : ℕ) → IsBuilt (any_front (replicate count (one (passes test)))) (UpTo test count)
-IsBuilt-UpTo test count = record { stands = core_of-UpTo test count; measured = is_measured-UpTo test count }
+pub IsBuilt-UpTo : (test : Test) (count : ℕ) → IsBuilt (any_prefix (replicate count (one (passes test)))) (UpTo test count)
+IsBuilt-UpTo test count = record { core = core_of-UpTo test count; measured = is_measured-UpTo test count }

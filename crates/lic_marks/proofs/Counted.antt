@@ -1,4 +1,4 @@
--- Copies of a core in a row, and up to so many of them.
+-- Copies of a core in a row, and up to that many of them.
 use Rattle.std.proofs.Common.{◌≡◌, ℕ, zero, suc, ◌+◌, ◌-◌, ◌*◌, ◌≤◌, ◌<◌, Bool, true, false, ◌==◌, ◌||◌, ne_eqb, refl, sym, ap, ◌∙◌, arith}
 use Rattle.std.proofs.Math.Nat.{suc-mul, zero-mul}
 use Rattle.lic_marks.specs.Cores.{Core, empty, cat, alt, copies, up_to}
@@ -18,7 +18,7 @@ module _ (a : Core) where
   weight-copies zero = sym (zero-mul (weight a))
   weight-copies (suc n) = omega (arith, weight-copies n, suc-mul n (weight a))
 
-  -- the place after so many copies
+  -- the place after that many copies
   pub place_past : (n at w : ℕ) → w ≡ weight a → at + n * w ≡ at + weight (copies n a)
   place_past n at w e = ap (λ k. at + n * k) e ∙ ap (λ k. at + k) (sym (weight-copies n))
 

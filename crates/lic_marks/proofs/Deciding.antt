@@ -9,11 +9,11 @@ use Rattle.lic_words.proofs.Rows.{gapped_from-blank, gapped_from-letter}
 use Rattle.lic_marks.specs.Cores.{Core, empty, one, cat, none, alt, plus, tidy, WordsOf, core}
 use Rattle.lic_marks.specs.Marks.{Marks, no_marks, shift, join}
 use Rattle.lic_marks.specs.Rows.{weight}
-use Rattle.lic_marks.specs.Standing.{After, Leads, LeadsOverBlanks, StandsAtOnce, StandsFor, Gathers, IsClosed}
+use Rattle.lic_marks.specs.Representing.{After, Leads, LeadsOverBlanks, RepresentsAtOnce, Represents, Gathers, IsClosed}
 use Rattle.lic_marks.specs.Deciding.{has_new, gather, over_blanks, read_letter, can_read, is_described}
 use Rattle.lic_marks.proofs.Cuts.{or_cases}
 use Rattle.lic_marks.proofs.Repetitions.{core_sound, core_complete}
-use Rattle.lic_marks.proofs.Standing.{Gathers-first, Gathers-more, IsClosed-same, LeadsOverBlanks-close, StandsFor-letter, StandsAtOnce-letter, StandsAtOnce-begin, accept_sound, accept_complete}
+use Rattle.lic_marks.proofs.Representing.{Gathers-first, Gathers-more, IsClosed-same, LeadsOverBlanks-close, Represents-letter, RepresentsAtOnce-letter, RepresentsAtOnce-begin, accept_sound, accept_complete}
 
 -- how many positions are not marked
 abbrev pub unmarked : (r : Core) → Marks r → ℕ
@@ -137,19 +137,19 @@ LeadsOverBlanks-over_blanks r entry at_once A s =
     (IsClosed-gather r (weight r) first _ refl (unmarked-bound r first))
 
 -- the marks for some letters, closed over blanks
-StandsFor-over_blanks : (r : Core) (entry : Bool) (at_once : Marks r) (letters : List (Gap × ℕ)) →
-    StandsAtOnce r entry at_once letters → StandsFor r entry at_once (over_blanks r entry at_once) letters
-StandsFor-over_blanks r entry at_once letters = LeadsOverBlanks-over_blanks r entry at_once (After (WordsOf r) letters)
+Represents-over_blanks : (r : Core) (entry : Bool) (at_once : Marks r) (letters : List (Gap × ℕ)) →
+    RepresentsAtOnce r entry at_once letters → Represents r entry at_once (over_blanks r entry at_once) letters
+Represents-over_blanks r entry at_once letters = LeadsOverBlanks-over_blanks r entry at_once (After (WordsOf r) letters)
 
 -- one letter more
-StandsAtOnce-read_letter : (r : Core) (entry : Bool) (at_once : Marks r) (letters : List (Gap × ℕ)) →
-    StandsAtOnce r entry at_once letters → (g : Gap) (c : ℕ) → (c ≡ blank → ⊥) →
-    StandsAtOnce r false (read_letter r entry at_once g c) (letters ++ (g, c) ∷ [])
-StandsAtOnce-read_letter r entry at_once letters s no_gap c letter = StandsAtOnce-letter r entry at_once letters s c letter
-StandsAtOnce-read_letter r entry at_once letters s free c letter =
-    StandsFor-letter r entry at_once (over_blanks r entry at_once) letters (StandsFor-over_blanks r entry at_once letters s) free c letter
-StandsAtOnce-read_letter r entry at_once letters s needed c letter =
-    StandsFor-letter r entry at_once (over_blanks r entry at_once) letters (StandsFor-over_blanks r entry at_once letters s) needed c letter
+RepresentsAtOnce-read_letter : (r : Core) (entry : Bool) (at_once : Marks r) (letters : List (Gap × ℕ)) →
+    RepresentsAtOnce r entry at_once letters → (g : Gap) (c : ℕ) → (c ≡ blank → ⊥) →
+    RepresentsAtOnce r false (read_letter r entry at_once g c) (letters ++ (g, c) ∷ [])
+RepresentsAtOnce-read_letter r entry at_once letters s no_gap c letter = RepresentsAtOnce-letter r entry at_once letters s c letter
+RepresentsAtOnce-read_letter r entry at_once letters s free c letter =
+    Represents-letter r entry at_once (over_blanks r entry at_once) letters (Represents-over_blanks r entry at_once letters s) free c letter
+RepresentsAtOnce-read_letter r entry at_once letters s needed c letter =
+    Represents-letter r entry at_once (over_blanks r entry at_once) letters (Represents-over_blanks r entry at_once letters s) needed c letter
 
 -- no letter is a blank
 abbrev AreLetters : List (Gap × ℕ) → Type 0
@@ -171,34 +171,34 @@ AreLetters-gapped_from (c ∷ t) last apart =
 
 -- what is read are the letters of a word
 module _ (r : Core) where
-  can_read_sound : (rest letters : List (Gap × ℕ)) (entry : Bool) (at_once : Marks r) → StandsAtOnce r entry at_once letters →
+  can_read_sound : (rest letters : List (Gap × ℕ)) (entry : Bool) (at_once : Marks r) → RepresentsAtOnce r entry at_once letters →
       AreLetters rest → can_read r entry at_once rest ≡ true → (w : Word) × WordsOf r w × SpellsGapped w (letters ++ rest)
   can_read_sound [] letters entry at_once s _ h =
-      rw (append-nil letters) (accept_sound r entry at_once (over_blanks r entry at_once) letters (StandsFor-over_blanks r entry at_once letters s) h)
+      rw (append-nil letters) (accept_sound r entry at_once (over_blanks r entry at_once) letters (Represents-over_blanks r entry at_once letters s) h)
   can_read_sound (p ∷ rest) letters entry at_once s (letter, others) h =
       rw (← append_assoc letters (p ∷ []) rest)
       (can_read_sound rest (letters ++ p ∷ []) false (read_letter r entry at_once p.0 p.1)
-      (StandsAtOnce-read_letter r entry at_once letters s p.0 p.1 letter) others h)
+      (RepresentsAtOnce-read_letter r entry at_once letters s p.0 p.1 letter) others h)
 
-  can_read_complete : (rest letters : List (Gap × ℕ)) (entry : Bool) (at_once : Marks r) → StandsAtOnce r entry at_once letters →
+  can_read_complete : (rest letters : List (Gap × ℕ)) (entry : Bool) (at_once : Marks r) → RepresentsAtOnce r entry at_once letters →
       AreLetters rest → (w : Word) → WordsOf r w → SpellsGapped w (letters ++ rest) → can_read r entry at_once rest ≡ true
   can_read_complete [] letters entry at_once s _ w p q =
-      accept_complete r entry at_once (over_blanks r entry at_once) letters (StandsFor-over_blanks r entry at_once letters s) w p
+      accept_complete r entry at_once (over_blanks r entry at_once) letters (Represents-over_blanks r entry at_once letters s) w p
       (rw append-nil at q)
   can_read_complete (x ∷ rest) letters entry at_once s (letter, others) w p q =
       can_read_complete rest (letters ++ x ∷ []) false (read_letter r entry at_once x.0 x.1)
-      (StandsAtOnce-read_letter r entry at_once letters s x.0 x.1 letter) others w p
+      (RepresentsAtOnce-read_letter r entry at_once letters s x.0 x.1 letter) others w p
       (rw (append_assoc letters (x ∷ []) rest) q)
 
 pub is_described_sound : (e : Expression) (ts : List (List ℕ)) → is_described e ts ≡ true → IsDescribed e ts
 is_described_sound e [] h = absurd (let never : false ≡ true = h in cc)
 is_described_sound e (t ∷ ts) h =
-    let found = can_read_sound (core e) (gapped (t ∷ ts)) [] true (no_marks (core e)) (StandsAtOnce-begin (core e))
+    let found = can_read_sound (core e) (gapped (t ∷ ts)) [] true (no_marks (core e)) (RepresentsAtOnce-begin (core e))
     (AreLetters-gapped_from (row_of (t ∷ ts)) blank false) h in
     (λ none. let never : t ∷ ts ≡ [] = none in cc, found.0, core_sound e found.0 found.1, found.2)
 
 pub is_described_complete : (e : Expression) (ts : List (List ℕ)) → IsDescribed e ts → is_described e ts ≡ true
 is_described_complete e [] h = absurd (h.0 refl)
 is_described_complete e (t ∷ ts) h =
-    can_read_complete (core e) (gapped (t ∷ ts)) [] true (no_marks (core e)) (StandsAtOnce-begin (core e))
+    can_read_complete (core e) (gapped (t ∷ ts)) [] true (no_marks (core e)) (RepresentsAtOnce-begin (core e))
     (AreLetters-gapped_from (row_of (t ∷ ts)) blank false) h.1 (core_complete e h.1 h.2) h.3

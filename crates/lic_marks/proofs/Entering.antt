@@ -4,18 +4,18 @@ use Rattle.lic_words.specs.Words.{Word, blank, blanks}
 use Rattle.lic_words.specs.Spelling.{Gap, free, gap_of}
 use Rattle.lic_marks.specs.Cores.{Core, WordsOf}
 use Rattle.lic_marks.specs.Marks.{Marks, no_marks, shift, join}
-use Rattle.lic_marks.specs.Rests.{Completes, GoesOn}
+use Rattle.lic_marks.specs.Continuations.{Completes, Continues}
 use Rattle.lic_marks.specs.Rows.{marks_of}
-use Rattle.lic_marks.specs.Standing.{After, Then, AfterAny, each_with, Leads, LeadsOverBlanks}
+use Rattle.lic_marks.specs.Representing.{After, Then, AfterAny, each_with, Leads, LeadsOverBlanks}
 use Rattle.lic_marks.specs.Deciding.{over_blanks}
 use Rattle.lic_marks.specs.States.{HasFirstBlanks}
 use Rattle.lic_marks.proofs.Shifting.{Completes-no_marks, shift_sound, shift_complete}
-use Rattle.lic_marks.proofs.Standing.{Leads-same, Completes-join, join-left, join-right, StandsAtOnce-begin}
-use Rattle.lic_marks.proofs.RowWalks.{marks_of-flags_of}
+use Rattle.lic_marks.proofs.Representing.{Leads-same, Completes-join, join-left, join-right, RepresentsAtOnce-begin}
+use Rattle.lic_marks.proofs.RowSteps.{marks_of-flags_of}
 use Rattle.lic_marks.proofs.Lists.{AfterAny-snoc, snoc-AfterAny}
 use Rattle.lic_marks.proofs.Deciding.{LeadsOverBlanks-over_blanks}
 
--- what may follow a letter that a word begins with, after any blanks, or that goes on after the gap
+-- what may follow a letter that a word begins with, after any blanks, or that continues after the gap
 abbrev pub Entered : Core → Gap → ℕ → (Word → Type 0) → Word → Type 0
 Entered r gap c A v = Then free c (WordsOf r) v ⊎ Then gap c A v
 
@@ -31,30 +31,30 @@ module _ (r : Core) (entry : Bool) (at_once after_blanks first : Marks r) (A : W
   abbrev both : Bool → Marks r
   both are_words = join r (shift r false true (begun r are_words at_once) c) (shift r true false (join r after_blanks first) c)
 
-  taken : (after enters : Bool) (m : Marks r) (v : Word) → Completes r false (shift r after enters m c) v → GoesOn r after enters m (c ∷ v)
+  taken : (after enters : Bool) (m : Marks r) (v : Word) → Completes r false (shift r after enters m c) v → Continues r after enters m (c ∷ v)
   taken after enters m v h = shift_sound r after enters m c v (subst (λ b. Completes r b (shift r after enters m c) v) (sym letter) h)
 
-  take : (after enters : Bool) (m : Marks r) (v : Word) → GoesOn r after enters m (c ∷ v) → Completes r false (shift r after enters m c) v
+  take : (after enters : Bool) (m : Marks r) (v : Word) → Continues r after enters m (c ∷ v) → Completes r false (shift r after enters m c) v
   take after enters m v h = subst (λ b. Completes r b (shift r after enters m c) v) letter (shift_complete r after enters m c v h)
 
-  at_once_sound : (are_words : Bool) (v : Word) → GoesOn r false true (begun r are_words at_once) (c ∷ v) → Entered r (gap_of true are_words) c A v
+  at_once_sound : (are_words : Bool) (v : Word) → Continues r false true (begun r are_words at_once) (c ∷ v) → Entered r (gap_of true are_words) c A v
   at_once_sound are_words v (inr h) = inl (0, tt, h.1)
   at_once_sound true v (inl h) = absurd (Completes-no_marks r false (c ∷ v) h)
   at_once_sound false v (inl h) = inr (0, tt, s.now.sound (c ∷ v) (inl h))
 
-  -- any gap that stands there may be written as blanks
+  -- any gap that is there may be written as blanks
   may_be_blanks : (are_words : Bool) (n : ℕ) (v : Word) → A (blanks (suc n) ++ c ∷ v) → Then (gap_of true are_words) c A v
   may_be_blanks true n v h = (suc n, omega arith, h)
   may_be_blanks false n v h = (suc n, tt, h)
 
-  after_blanks_sound : (are_words : Bool) (v : Word) → GoesOn r true false (join r after_blanks first) (c ∷ v) → Entered r (gap_of true are_words) c A v
+  after_blanks_sound : (are_words : Bool) (v : Word) → Continues r true false (join r after_blanks first) (c ∷ v) → Entered r (gap_of true are_words) c A v
   after_blanks_sound are_words v (inr h) = absurd (let e = h.0 in cc)
   after_blanks_sound are_words v (inl h) = elim (Completes-join r true after_blanks first (c ∷ v) h) [
     | inl p ↦ let t = s.blanks_sound (c ∷ v) p in inr (may_be_blanks are_words t.0 v t.1)
     | inr p ↦ let t = first_sound (c ∷ v) p in inl (suc t.0, tt, t.1)
   ]
 
-  sound : (are_words : Bool) (v : Word) → GoesOn r false false (both are_words) v → Entered r (gap_of true are_words) c A v
+  sound : (are_words : Bool) (v : Word) → Continues r false false (both are_words) v → Entered r (gap_of true are_words) c A v
   sound are_words v (inr h) = absurd (let e = h.0 in cc)
   sound are_words v (inl h) =
       elim (Completes-join r false (shift r false true (begun r are_words at_once) c) (shift r true false (join r after_blanks first) c) v h) [
@@ -62,7 +62,7 @@ module _ (r : Core) (entry : Bool) (at_once after_blanks first : Marks r) (A : W
         | inr p ↦ after_blanks_sound are_words v (taken true false (join r after_blanks first) v p)
       ]
 
-  to_at_once : (are_words : Bool) (v : Word) → GoesOn r false true (begun r are_words at_once) (c ∷ v) → Completes r false (both are_words) v
+  to_at_once : (are_words : Bool) (v : Word) → Continues r false true (begun r are_words at_once) (c ∷ v) → Completes r false (both are_words) v
   to_at_once are_words v h = join-left r false (shift r false true (begun r are_words at_once) c) (shift r true false (join r after_blanks first) c) v
       (take false true (begun r are_words at_once) v h)
 
@@ -70,8 +70,8 @@ module _ (r : Core) (entry : Bool) (at_once after_blanks first : Marks r) (A : W
   to_after_blanks are_words v h = join-right r false (shift r false true (begun r are_words at_once) c) (shift r true false (join r after_blanks first) c) v
       (take true false (join r after_blanks first) v (inl h))
 
-  -- where one may begin besides, what went on goes on
-  goes_on : (v : Word) → GoesOn r false entry at_once v → GoesOn r false true at_once v
+  -- where one may begin besides, what continued continues
+  goes_on : (v : Word) → Continues r false entry at_once v → Continues r false true at_once v
   goes_on v (inl h) = inl h
   goes_on v (inr h) = inr (refl, h.1)
 
@@ -112,7 +112,7 @@ first_marks r row h =
 module _ (r : Core) (first : Marks r) (h : first ≡ over_blanks r true (no_marks r)) where
   begins : LeadsOverBlanks r true (no_marks r) first (After (WordsOf r) [])
   begins = subst (λ (m : Marks r). LeadsOverBlanks r true (no_marks r) m (After (WordsOf r) [])) (sym h)
-      (LeadsOverBlanks-over_blanks r true (no_marks r) (After (WordsOf r) []) (StandsAtOnce-begin r))
+      (LeadsOverBlanks-over_blanks r true (no_marks r) (After (WordsOf r) []) (RepresentsAtOnce-begin r))
 
   pub first_sound : (v : Word) → Completes r true first v → (n : ℕ) × WordsOf r (blanks (suc n) ++ v)
   first_sound v p = begins.blanks_sound v p

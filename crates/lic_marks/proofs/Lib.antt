@@ -3,11 +3,11 @@ pub mod Cuts
 pub mod TidyLetters
 pub mod Shifting
 pub mod Repetitions
-pub mod Standing
+pub mod Representing
 pub mod Nodes
 pub mod Leaving
-pub mod LetterWalks
-pub mod RowWalks
+pub mod LetterSteps
+pub mod RowSteps
 pub mod JoinedRows
 pub mod Counted
 pub mod Children

@@ -2,8 +2,8 @@
 use Rattle.std.proofs.Common.{◌≡◌, ℕ, List, [], ◌∷◌, ◌++◌, ◌⊎◌, inl, inr, refl, ap, append_assoc}
 use Rattle.lic_words.specs.Words.{Word, blanks}
 use Rattle.lic_words.specs.Spelling.{Gap}
-use Rattle.lic_marks.specs.Standing.{After, Then, AfterAny, each_with}
-use Rattle.lic_marks.proofs.Standing.{After-snoc, snoc-After}
+use Rattle.lic_marks.specs.Representing.{After, Then, AfterAny, each_with}
+use Rattle.lic_marks.proofs.Representing.{After-snoc, snoc-After}
 
 abbrev Letters : Type 0
 Letters = List (Gap × ℕ)

@@ -2,14 +2,14 @@
 use Rattle.std.proofs.Common.{◌≡◌, ◌≢◌, ℕ, zero, suc, ◌+◌, ◌-◌, ◌≤◌, ◌<◌, ◌==◌, ◌&&◌, Bool, true, false, List, [], ◌∷◌, length, drop, set, get_or, replicate, refl, sym, ap, ◌∙◌, ⊎_elim, arith}
 use Rattle.std.proofs.lemmas.Bool.{cases_lt, cases_eq}
 use Rattle.std.proofs.lemmas.List.{get_or-set_same, get_or-set_other, get_or-drop}
-use Rattle.lic_marks.specs.Cores.{Core, cat_all, any_front, one}
+use Rattle.lic_marks.specs.Cores.{Core, cat_all, any_prefix, one}
 use Rattle.lic_marks.specs.Marks.{shift}
 use Rattle.lic_marks.specs.Rows.{weight, flags_of, marks_of, first_flag, Leaves, Shifts}
 use Rattle.lic_marks.specs.Nodes.{letter_cores}
 use Rattle.lic_rows.specs.Bits.{flag_at, IsKeptOutside}
 use Rattle.lic_marks.specs.Moves.{flag_before, Moves}
-use Rattle.lic_marks.proofs.RowWalks.{length-flags_of}
-use Rattle.lic_marks.proofs.LetterWalks.{weight-letters, weight-copies, weight-up_to}
+use Rattle.lic_marks.proofs.RowSteps.{length-flags_of}
+use Rattle.lic_marks.proofs.LetterSteps.{weight-letters, weight-copies, weight-up_to}
 use Rattle.lic_marks.proofs.Patches.{patched}
 
 and_none : (b : Bool) → (b && false) ≡ false
@@ -173,9 +173,9 @@ flag-copies passes (suc n) after entry c row (suc j) h =
     flag-copies passes n after (first_flag row) c (drop 1 row) j (omega (arith, h)) ∙ ap (λ b. b && passes c) (before_next row j)
 
 flag-up_to : (passes : ℕ → Bool) (n : ℕ) (after entry : Bool) (c : ℕ) (row : List Bool) (j : ℕ) → j < n →
-    get_or (flags_of (any_front (replicate n (one passes)))
-    (shift (any_front (replicate n (one passes))) after entry
-    (marks_of (any_front (replicate n (one passes))) row) c)) j false
+    get_or (flags_of (any_prefix (replicate n (one passes)))
+    (shift (any_prefix (replicate n (one passes))) after entry
+    (marks_of (any_prefix (replicate n (one passes))) row) c)) j false
     ≡ (flag_before row entry j && passes c)
 flag-up_to passes zero after entry c row j h = absurd (omega arith)
 flag-up_to passes (suc n) after entry c row zero h = refl
@@ -211,8 +211,8 @@ module _ (passes : ℕ → Bool) (n : ℕ) (after entry : Bool) (c : ℕ) (old :
       Shifts-moved (cat_all (replicate n (one passes))) (λ j. passes c) after entry c old at n new x
       (weight-copies passes n) room long (flag-copies passes n after entry c (drop at old)) p m
 
-  pub Shifts-up_to : Leaves (any_front (replicate n (one passes))) after entry old at x → Moves (λ j. passes c) entry old at n new →
-      Shifts (any_front (replicate n (one passes))) after entry c old at new x
+  pub Shifts-up_to : Leaves (any_prefix (replicate n (one passes))) after entry old at x → Moves (λ j. passes c) entry old at n new →
+      Shifts (any_prefix (replicate n (one passes))) after entry c old at new x
   Shifts-up_to p m =
-      Shifts-moved (any_front (replicate n (one passes))) (λ j. passes c) after entry c old at n new x
+      Shifts-moved (any_prefix (replicate n (one passes))) (λ j. passes c) after entry c old at n new x
       (weight-up_to passes n) room long (flag-up_to passes n after entry c (drop at old)) p m

@@ -2,11 +2,11 @@
 use Rattle.std.proofs.Common.{◌≡◌, ℕ, Bool, true, ◌==◌, ◌&&◌, List, [], ◌∷◌, length, map, replicate, Vec, Box, Global, refl, sym, ap, ◌∙◌, false, eqb-true}
 use Rattle.std.specs.List.{list_all}
 use Rattle.std.specs.Bool.{beq}
-use Rattle.lic_marks.specs.Cores.{Core, one, cat_all, alt_all, any_front, plus, tidy}
+use Rattle.lic_marks.specs.Cores.{Core, one, cat_all, alt_all, any_prefix, plus, tidy}
 use Rattle.lic_marks.specs.Marks.{is_nullable}
 use Rattle.lic_marks.specs.Rows.{weight}
 use Rattle.lic_marks.specs.Nodes.{passes, letter_cores, so_many, node_core, core_of, are_right, cores_of, node_is_measured, is_measured}
-use Rattle.lic_marks.proofs.LetterWalks.{weight-letters, weight-copies, weight-up_to}
+use Rattle.lic_marks.proofs.LetterSteps.{weight-letters, weight-copies, weight-up_to}
 use Rattle.lic_marks.proofs.Cuts.{and_left, and_right}
 use Rattle.lic_marks.specs.declared.test.Test.{Test}
 use Rattle.lic_marks.specs.declared.node.Times.{Times}
@@ -23,7 +23,7 @@ module _ (test : Test) (count : ℕ) where
   pub core_of-Copies : core_of (Copies test count) ≡ cat_all (replicate count (one (passes test)))
   core_of-Copies = ap core_of (sym (rolls-Copies test count)) ∙ fold-roll-Node Core node_core (Node-F.Copies test count)
 
-  pub core_of-UpTo : core_of (UpTo test count) ≡ any_front (replicate count (one (passes test)))
+  pub core_of-UpTo : core_of (UpTo test count) ≡ any_prefix (replicate count (one (passes test)))
   core_of-UpTo = ap core_of (sym (rolls-UpTo test count)) ∙ fold-roll-Node Core node_core (Node-F.UpTo test count)
 
   pub is_measured-Copies : is_measured (Copies test count) ≡ true

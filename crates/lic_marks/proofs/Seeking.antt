@@ -7,10 +7,10 @@ use Rattle.lic_words.specs.Spelling.{Gap, free, gap_of, gapped, gapped_from, las
 use Rattle.lic_words.proofs.Rows.{gapped_from-blank, gapped_from-letter, last_letter-blank, last_letter-letter, last_of-snoc}
 use Rattle.lic_words.proofs.Spellings.{gap-behind_blank}
 use Rattle.lic_marks.specs.Cores.{Core, HasWordsOf, WordsOf}
-use Rattle.lic_marks.specs.Standing.{After, AfterAny, each_with}
-use Rattle.lic_marks.specs.Seeks.{DescribesEnd, ends_of, AllEndWith}
+use Rattle.lic_marks.specs.Representing.{After, AfterAny, each_with}
+use Rattle.lic_marks.specs.Unanchored.{DescribesEnd, ends_of, AllEndWith}
 use Rattle.lic_marks.proofs.TokenRows.{gapped-snoc}
-use Rattle.lic_marks.proofs.Standing.{After-spells, spells-After}
+use Rattle.lic_marks.proofs.Representing.{After-spells, spells-After}
 use Rattle.lic_marks.proofs.Lists.{each_with-append}
 
 -- ---- the first letter of a token
@@ -45,7 +45,7 @@ gap_apart false b true e = cc
 gap_apart false b false e = cc
 
 module _ (last : ℕ) (t : List ℕ) (p : Gap × ℕ) (rest : List (Gap × ℕ)) (e : gapped_from last true t ≡ p ∷ rest) where
-  -- it stands apart
+  -- it is set apart
   pub first_apart : (a b : Bool) → p.0 ≡ gap_of a b → a ≡ true
   first_apart a b g = gap_apart a b (is_word last && is_word p.1) (sym g ∙ (first_letter last blank t p rest e).0)
 

@@ -3,7 +3,7 @@ use Rattle.std.proofs.Common.{◌≡◌, ℕ, suc, Bool, true, false, ◌==◌, 
 use Rattle.lic_words.specs.Words.{Word, Cat, blank}
 use Rattle.lic_marks.specs.Cores.{Core, empty, one, cat, none, alt, plus, tidy, Star, WordsOf}
 use Rattle.lic_marks.specs.Marks.{Marks, no_marks, is_nullable, can_leave, shift}
-use Rattle.lic_marks.specs.Rests.{IsTidyAfter, Completes, GoesOn}
+use Rattle.lic_marks.specs.Continuations.{IsTidyAfter, Completes, Continues}
 use Rattle.lic_marks.proofs.Cuts.{or_cases, or_left, or_right, and_left, and_right, and_both, cat_nil_left, cat_nil_right, nil_cat, cat_cons, power_cons}
 use Rattle.lic_marks.proofs.TidyLetters.{tidy_nil, tidy_cons, tidy_first, tidy_rest}
 
@@ -123,8 +123,8 @@ module _ (a : Core) (entry : Bool) (c : ℕ) (v : Word) where
   tidy_shift after b m = if b then (if after then no_marks a else shift a after false m c) else shift a after entry m c
 
   tidy_sound : (after : Bool) (m : Marks a) (b : Bool) → (c == blank) ≡ b →
-      ((e : Bool) → Completes a b (shift a after e m c) v → GoesOn a after e m (c ∷ v)) →
-      Completes a b (tidy_shift after b m) v → IsTidyAfter b v → GoesOn (tidy a) after entry m (c ∷ v)
+      ((e : Bool) → Completes a b (shift a after e m c) v → Continues a after e m (c ∷ v)) →
+      Completes a b (tidy_shift after b m) v → IsTidyAfter b v → Continues (tidy a) after entry m (c ∷ v)
   tidy_sound true m true is ih h t = absurd (Completes-no_marks a true v h)
   tidy_sound false m true is ih h t =
       elim (ih false h) [ inl s ↦ inl (s, (refl, subst (λ x. IsTidyAfter x v) (sym is) t)) | inr s ↦ absurd (let e = s.0 in cc) ]
@@ -136,8 +136,8 @@ module _ (a : Core) (entry : Bool) (c : ℕ) (v : Word) where
       ]
 
   tidy_complete : (after : Bool) (m : Marks a) (b : Bool) → (c == blank) ≡ b →
-      ((e : Bool) → GoesOn a after e m (c ∷ v) → Completes a b (shift a after e m c) v) →
-      GoesOn (tidy a) after entry m (c ∷ v) → Completes a b (tidy_shift after b m) v × IsTidyAfter b v
+      ((e : Bool) → Continues a after e m (c ∷ v) → Completes a b (shift a after e m c) v) →
+      Continues (tidy a) after entry m (c ∷ v) → Completes a b (tidy_shift after b m) v × IsTidyAfter b v
   tidy_complete true m true is ih (inl h) = absurd (let g = h.1.0 in cc)
   tidy_complete false m true is ih (inl h) = (ih false (inl h.0), subst (λ x. IsTidyAfter x v) is h.1.1)
   tidy_complete after m true is ih (inr h) = absurd (let g = tidy_first c v h.1.1 in cc)
@@ -146,7 +146,7 @@ module _ (a : Core) (entry : Bool) (c : ℕ) (v : Word) where
       (ih entry (inr (h.0, h.1.0)), subst (λ x. IsTidyAfter x v) is (tidy_rest c v h.1.1))
 
 pub shift_sound : (r : Core) (after entry : Bool) (m : Marks r) (c : ℕ) (v : Word) →
-    Completes r (c == blank) (shift r after entry m c) v → GoesOn r after entry m (c ∷ v)
+    Completes r (c == blank) (shift r after entry m c) v → Continues r after entry m (c ∷ v)
 shift_sound empty after entry m c v h = absurd h
 shift_sound (one passes) after entry m c v h =
     inr (and_left entry (passes c) h.0, (c, and_right entry (passes c) h.0, ap (λ x. c ∷ x) h.1))
@@ -185,7 +185,7 @@ shift_sound (tidy a) after entry m c v h =
     tidy_sound a entry c v after m (c == blank) refl (λ e. shift_sound a after e m c v) h.0 h.1
 
 pub shift_complete : (r : Core) (after entry : Bool) (m : Marks r) (c : ℕ) (v : Word) →
-    GoesOn r after entry m (c ∷ v) → Completes r (c == blank) (shift r after entry m c) v
+    Continues r after entry m (c ∷ v) → Completes r (c == blank) (shift r after entry m c) v
 shift_complete empty after entry m c v (inl h) = absurd h
 shift_complete empty after entry m c v (inr h) = absurd (let e = h.1 in cc)
 shift_complete (one passes) after entry m c v (inl h) = absurd (let e = h.1 in cc)
@@ -231,11 +231,11 @@ shift_complete (tidy a) after entry m c v h =
     tidy_complete a entry c v after m (c == blank) refl (λ e. shift_complete a after e m c v) h
 
 -- at the beginning there is no mark
-pub begin_sound : (r : Core) (after : Bool) (v : Word) → GoesOn r after true (no_marks r) v → WordsOf r v
+pub begin_sound : (r : Core) (after : Bool) (v : Word) → Continues r after true (no_marks r) v → WordsOf r v
 begin_sound r after v (inl h) = absurd (Completes-no_marks r after v h)
 begin_sound r after v (inr h) = h.1
 
-pub begin_complete : (r : Core) (after : Bool) (v : Word) → WordsOf r v → GoesOn r after true (no_marks r) v
+pub begin_complete : (r : Core) (after : Bool) (v : Word) → WordsOf r v → Continues r after true (no_marks r) v
 begin_complete r after v h = inr (refl, h)
 
 -- where nothing is marked and one may not begin, one cannot leave

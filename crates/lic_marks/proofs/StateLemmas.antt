@@ -6,11 +6,11 @@ use Rattle.lic_words.specs.Spelling.{Gap}
 use Rattle.lic_marks.specs.Cores.{Core, WordsOf}
 use Rattle.lic_marks.specs.Marks.{Marks, no_marks}
 use Rattle.lic_marks.specs.Rows.{marks_of}
-use Rattle.lic_marks.specs.Rests.{Completes, GoesOn}
-use Rattle.lic_marks.specs.Standing.{After, AfterAny, Leads, LeadsOverBlanks, LeadsSoFar, StandsAtOnce}
-use Rattle.lic_marks.proofs.RowWalks.{marks_of-replicate}
+use Rattle.lic_marks.specs.Continuations.{Completes, Continues}
+use Rattle.lic_marks.specs.Representing.{After, AfterAny, Leads, LeadsOverBlanks, LeadsSoFar, RepresentsAtOnce}
+use Rattle.lic_marks.proofs.RowSteps.{marks_of-replicate}
 use Rattle.lic_marks.proofs.Shifting.{Completes-no_marks}
-use Rattle.lic_marks.proofs.Standing.{Leads-same, StandsAtOnce-begin}
+use Rattle.lic_marks.proofs.Representing.{Leads-same, RepresentsAtOnce-begin}
 
 never : {X : Type 0} → false ≡ true → X
 never h = cc
@@ -27,7 +27,7 @@ begins r row n after_blanks clear =
     let none : no_marks r ≡ marks_of r row = sym (ap (marks_of r) clear ∙ marks_of-replicate r n) in
     record {
       now = Leads-same r true (marks_of r row) (After (WordsOf r) []) (AfterAny (WordsOf r) ([] ∷ [])) (λ v h. inl h) (λ v h. one_list (WordsOf r) [] v h)
-          (subst (λ (m : Marks r). StandsAtOnce r true m []) none (StandsAtOnce-begin r));
+          (subst (λ (m : Marks r). RepresentsAtOnce r true m []) none (RepresentsAtOnce-begin r));
       apart = λ e. never e;
     }
 
@@ -58,9 +58,9 @@ LeadsSoFar-same r entry at_once after_blanks is_apart A B f g s = record {
   };
 }
 
--- nothing goes on from a clear row where none may begin
+-- nothing continues from a clear row where none may begin
 pub none_go_on : (r : Core) (entry : Bool) (row : List Bool) (n : ℕ) → entry ≡ false → row ≡ replicate n false →
-    (v : Word) → GoesOn r false entry (marks_of r row) v → ⊥
+    (v : Word) → Continues r false entry (marks_of r row) v → ⊥
 none_go_on r entry row n none clear v (inl h) =
     Completes-no_marks r false v (subst (λ (m : Marks r). Completes r false m v) (ap (marks_of r) clear ∙ marks_of-replicate r n) h)
 none_go_on r entry row n none clear v (inr h) = never (sym none ∙ h.0)

@@ -2,7 +2,7 @@
 use Rattle.std.proofs.Common.{◌≡◌, ℕ, Bool, true, false, ◌==◌, ◌&&◌, [], ◌∷◌, ◌++◌, refl}
 use Rattle.std.proofs.Common.{eq-eqb, eqb-true}
 use Rattle.lic_words.specs.Words.{Word, IsTidy, blank}
-use Rattle.lic_marks.specs.Rests.{IsTidyAfter}
+use Rattle.lic_marks.specs.Continuations.{IsTidyAfter}
 use Rattle.lic_marks.proofs.Cuts.{and_left, and_right}
 
 -- it does not end in a blank, and has no two together

@@ -8,7 +8,7 @@ use Rattle.lic_marks.specs.Cores.{Core}
 use Rattle.lic_marks.specs.Marks.{no_marks}
 use Rattle.lic_marks.specs.Rows.{weight, marks_of, Leaves, Shifts}
 use Rattle.lic_marks.proofs.Shifting.{can_leave-no_marks}
-use Rattle.lic_marks.proofs.RowWalks.{marks_of-clear, Shifts-clear_slice}
+use Rattle.lic_marks.proofs.RowSteps.{marks_of-clear, Shifts-clear_slice}
 use Rattle.lic_marks.proofs.ClearRows.{all_clear}
 
 -- a range of clear flags

@@ -42,9 +42,9 @@ alt_all [] = none
 alt_all (a ∷ rest) = alt a (alt_all rest)
 
 -- one after another, up to any of them
-abbrev pub any_front : List Core → Core
-any_front [] = empty
-any_front (a ∷ rest) = alt empty (cat a (any_front rest))
+abbrev pub any_prefix : List Core → Core
+any_prefix [] = empty
+any_prefix (a ∷ rest) = alt empty (cat a (any_prefix rest))
 
 -- n copies of a in a row
 abbrev pub copies : ℕ → Core → Core

@@ -6,7 +6,7 @@ use Rattle.lic_words.specs.Spelling.{Gap, no_gap, free, needed, gapped}
 use Rattle.lic_marks.specs.Cores.{Core, empty, one, cat, none, alt, plus, tidy, core}
 use Rattle.lic_marks.specs.Marks.{Marks, no_marks, join, can_leave, shift}
 use Rattle.lic_marks.specs.Rows.{weight}
-use Rattle.lic_marks.specs.Standing.{shift_over}
+use Rattle.lic_marks.specs.Representing.{shift_over}
 
 -- whether the second has a position marked that the first has not
 abbrev pub has_new : (r : Core) → Marks r → Marks r → Bool
@@ -18,7 +18,7 @@ has_new (alt a b) m n = has_new a m.0 n.0 || has_new b m.1 n.1
 has_new (plus a) m n = has_new a m n
 has_new (tidy a) m n = has_new a m n
 
--- The marks joined with those after one blank more, up to so many times. `grew` says that the last time
+-- The marks joined with those after one blank more, up to that many times. `grew` says that the last time
 -- marked a new position; where it did not, neither would one time more.
 abbrev pub gather : ℕ → (grew : Bool) → (r : Core) → Marks r → Marks r
 gather zero grew r m = m

@@ -1,11 +1,11 @@
 pub mod Cores
 pub mod Marks
-pub mod Rests
-pub mod Standing
+pub mod Continuations
+pub mod Representing
 pub mod Rows
 pub mod Moves
 pub mod Nodes
 pub mod States
-pub mod Runs
-pub mod Seeks
+pub mod Anchored
+pub mod Unanchored
 pub mod Deciding

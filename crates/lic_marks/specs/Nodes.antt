@@ -3,7 +3,7 @@ use Rattle.std.specs.Prelude.{IsTrue, ◌≡◌, ℕ, Bool, true, ◌==◌, ◌&
 use Rattle.std.specs.Bool.{beq}
 use Rattle.std.specs.List.{list_all}
 use Rattle.lic_ere.specs.Sets.{is_in}
-use Rattle.lic_marks.specs.Cores.{Core, one, cat, cat_all, alt_all, any_front, copies, up_to, plus, tidy}
+use Rattle.lic_marks.specs.Cores.{Core, one, cat, cat_all, alt_all, any_prefix, copies, up_to, plus, tidy}
 use Rattle.lic_marks.specs.Marks.{is_nullable}
 use Rattle.lic_marks.specs.Rows.{weight}
 use Rattle.lic_marks.specs.declared.test.Test.{Test}
@@ -24,7 +24,7 @@ passes (Class brackets) c = is_in brackets c
 abbrev pub letter_cores : List ℕ → List Core
 letter_cores text = map (λ d. one (λ c. c == d)) text
 
--- so many of these in a row
+-- that many of these in a row
 abbrev pub so_many : Times → Core → Core
 so_many (Bounded needed more) a = cat (copies needed a) (up_to more a)
 so_many (Unbounded before) a = cat (copies before a) (plus a)
@@ -34,7 +34,7 @@ abbrev pub node_core : Node-F Core → Core
 node_core (Node-F.Letters text) = cat_all (letter_cores text.items)
 node_core (Node-F.One test) = one (passes test)
 node_core (Node-F.Copies test count) = cat_all (replicate count (one (passes test)))
-node_core (Node-F.UpTo test count) = any_front (replicate count (one (passes test)))
+node_core (Node-F.UpTo test count) = any_prefix (replicate count (one (passes test)))
 node_core (Node-F.Cat children weight) = cat_all children.items
 node_core (Node-F.Alt children weight) = alt_all children.items
 node_core (Node-F.Repeat child times weight) = so_many times child.value
@@ -76,5 +76,5 @@ is_measured = para-Node Bool node_is_measured
 
 -- this is the node's core, and its cached numbers are right
 pub record IsBuilt (r : Core) (node : Node) : Type 0 where
-  pub stands : core_of node ≡ r
+  pub core : core_of node ≡ r
   pub measured : IsTrue (is_measured node)

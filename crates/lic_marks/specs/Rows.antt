@@ -28,7 +28,7 @@ abbrev pub first_flag : List Bool → Bool
 first_flag [] = false
 first_flag (flag ∷ rest) = flag
 
--- the marks that stand first in a row
+-- the marks that come first in a row
 abbrev pub marks_of : (r : Core) → List Bool → Marks r
 marks_of empty row = tt
 marks_of (one passes) row = first_flag row

@@ -5,13 +5,13 @@ use Rattle.lic_words.specs.Spelling.{Gap}
 use Rattle.lic_marks.specs.Cores.{Core, WordsOf}
 use Rattle.lic_marks.specs.Marks.{no_marks}
 use Rattle.lic_marks.specs.Rows.{flags_of, marks_of}
-use Rattle.lic_marks.specs.Standing.{AfterAny, LeadsSoFar}
+use Rattle.lic_marks.specs.Representing.{AfterAny, LeadsSoFar}
 use Rattle.lic_marks.specs.Deciding.{over_blanks}
 use Rattle.lic_marks.specs.declared.state.State.{State}
 
 -- how many positions a state has
-abbrev pub room_of : State → ℕ
-room_of state = length state.at_once
+abbrev pub position_count : State → ℕ
+position_count state = length state.at_once
 
 -- whether a gap is open after the last letter
 abbrev pub has_gap : State → Bool
@@ -32,7 +32,7 @@ HasTaken r state letters = HasTakenAny r state (letters ∷ [])
 -- the state has taken nothing, and one may begin
 pub record IsFresh (state : State) : Type 0 where
   pub entry : state.entry ≡ true
-  pub clear : state.at_once ≡ replicate (room_of state) false
+  pub clear : state.at_once ≡ replicate (position_count state) false
 
 -- the row has the marks after blanks at the beginning of a word
 abbrev pub HasFirstBlanks : Core → List Bool → Type 0

@@ -2,7 +2,7 @@
 
 ghost use Rattle.std.specs.Prelude.{◌≡◌, ◌<◌, IsTrue, IfSome, IfNone, map, replicate};
 ghost use Rattle.std.specs.List.{list_all};
-ghost use Rattle.lic_marks.specs.Cores.{one, cat_all, alt_all, any_front, plus, tidy};
+ghost use Rattle.lic_marks.specs.Cores.{one, cat_all, alt_all, any_prefix, plus, tidy};
 ghost use Rattle.lic_marks.specs.Marks.{is_nullable};
 ghost use Rattle.lic_marks.specs.Rows.{weight};
 ghost use Rattle.lic_marks.specs.Nodes.{core_of, is_measured, letter_cores, passes, so_many, IsBuilt};
@@ -33,7 +33,7 @@ pub fn copies(test: Test, count: usize) -> Node
 
 /// Up to `count` letters in a row that each pass.
 pub fn up_to(test: Test, count: usize) -> Node
-    ensures { IsBuilt (any_front (replicate count (one (passes test)))) result }
+    ensures { IsBuilt (any_prefix (replicate count (one (passes test)))) result }
 {
     Node::UpTo { test, count }
 }

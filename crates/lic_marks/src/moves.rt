@@ -3,7 +3,7 @@
 ghost use Rattle.std.specs.Prelude.{◌≡◌, ◌==◌, ◌+◌, ◌≤◌, ◌<◌, length, slice_index};
 ghost use Rattle.lic_marks.specs.Moves.{Moves, Advances};
 
-use lic_rows::bits::Bits;
+use lic_rows::Bits;
 
 /// The letter that is read, and whether the letter before it was a blank.
 #[derive(Clone, Copy, Debug)]
@@ -40,7 +40,7 @@ pub fn move_letters(text: &[char], row: &mut Bits, at: usize, entry: bool, lette
 fn advance(text: &[char], row: &mut Bits, at: usize, place: usize, letter: char)
     requires begun { at ≤ place }
     requires inside { place < at + length text.now }
-    requires room { at + length text.now ≤ length row.old }
+    requires within { at + length text.now ≤ length row.old }
     ensures moves { Advances (λ j. letter == slice_index text.now j) row.old at (length text.now) place row.new }
     ensures len { length row.new ≡ length row.old }
 {

@@ -9,7 +9,7 @@ ghost use Rattle.lic_marks.specs.Nodes.{core_of, is_measured};
 use crate::moves::Reading;
 use crate::node::Node;
 use crate::shift::shift;
-use lic_rows::bits::Bits;
+use lic_rows::Bits;
 
 /// Whether no position is active.
 pub fn is_clear(row: &Bits) -> bool
@@ -43,7 +43,7 @@ pub fn join(row: &mut Bits, other: &Bits) -> bool
 /// word may begin with it.
 pub fn step(row: &mut Bits, tree: &Node, after: bool, entry: bool, letter: char)
     requires measured { IsTrue (is_measured tree.now) }
-    requires room { weight (core_of tree.now) ≤ length row.old }
+    requires within { weight (core_of tree.now) ≤ length row.old }
     ensures marks { marks_of (core_of tree.now) row.new
         ≡ shift (core_of tree.now) after entry (marks_of (core_of tree.now) row.old) letter }
     ensures len { length row.new ≡ length row.old }

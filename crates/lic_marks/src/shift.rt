@@ -2,23 +2,23 @@
 
 ghost use Rattle.std.specs.Prelude.{◌≡◌, ℕ, ◌+◌, ◌≤◌, IsTrue, length, map, replicate};
 ghost use Rattle.std.specs.List.{list_all};
-ghost use Rattle.lic_marks.specs.Cores.{one, cat_all, alt_all, any_front, copies, up_to, plus, tidy};
+ghost use Rattle.lic_marks.specs.Cores.{one, cat_all, alt_all, any_prefix, copies, up_to, plus, tidy};
 ghost use Rattle.lic_marks.specs.Marks.{is_nullable};
 ghost use Rattle.lic_marks.specs.Rows.{weight, Shifts};
 ghost use Rattle.lic_marks.specs.Nodes.{core_of, is_measured, letter_cores, passes, so_many};
 
+use crate::leave::{leaves, leaves_copies, leaves_letters, leaves_up_to};
 use crate::moves::{Reading, move_copies, move_letters};
 use crate::node::{Node, Times};
 use crate::test::Test;
-use crate::walk::{leaves, leaves_copies, leaves_letters, leaves_up_to};
-use lic_rows::bits::Bits;
+use lic_rows::Bits;
 
 /// Takes the active positions, which are in the row from `at` on, over the letter that is read. `entry` says that a word may
 /// begin with it. Answers whether a word could end before the letter.
 #[cycle(shift)]
 pub fn shift(node: &Node, row: &mut Bits, at: usize, entry: bool, reading: Reading) -> bool
     requires measured { IsTrue (is_measured node.now) }
-    requires room { at + weight (core_of node.now) ≤ length row.old }
+    requires within { at + weight (core_of node.now) ≤ length row.old }
     ensures shifts { Shifts (core_of node.now) reading.after entry reading.letter row.old at row.new result }
     ensures len { length row.new ≡ length row.old }
 {
@@ -92,7 +92,7 @@ fn shift_up_to(
     reading: Reading,
 ) -> bool
     requires { at + count ≤ length row.old }
-    ensures shifts { Shifts (any_front
+    ensures shifts { Shifts (any_prefix
         (replicate count (one (passes test.now)))) reading.after entry reading.letter row.old at row.new result }
     ensures len { length row.new ≡ length row.old }
 {
@@ -106,7 +106,7 @@ fn shift_up_to(
 #[cycle(shift)]
 fn shift_plus(child: &Node, row: &mut Bits, at: usize, entry: bool, reading: Reading) -> bool
     requires measured { IsTrue (is_measured child.now) }
-    requires room { at + weight (plus (core_of child.now)) ≤ length row.old }
+    requires within { at + weight (plus (core_of child.now)) ≤ length row.old }
     ensures shifts { Shifts (plus
         (core_of child.now)) reading.after entry reading.letter row.old at row.new result }
     ensures len { length row.new ≡ length row.old }
@@ -145,7 +145,7 @@ fn shift_repeat(
     reading: Reading,
 ) -> bool
     requires measured { IsTrue (is_measured child.now) }
-    requires room { at + weight (so_many times (core_of child.now)) ≤ length row.old }
+    requires within { at + weight (so_many times (core_of child.now)) ≤ length row.old }
     ensures shifts { Shifts (so_many times
         (core_of child.now)) reading.after entry reading.letter row.old at row.new result }
     ensures len { length row.new ≡ length row.old }
@@ -179,7 +179,7 @@ fn shift_copies_of(
     reading: Reading,
 ) -> (bool, bool)
     requires measured { IsTrue (is_measured child.now) }
-    requires room { at + weight (copies count (core_of child.now)) ≤ length row.old }
+    requires within { at + weight (copies count (core_of child.now)) ≤ length row.old }
     ensures all { Shifts (copies count
         (core_of child.now)) reading.after entry reading.letter row.old at row.new result.0 }
     ensures any { Shifts (up_to count
@@ -204,7 +204,7 @@ fn shift_copies_of(
 #[cycle(shift)]
 fn shift_row(children: &[Node], row: &mut Bits, at: usize, entry: bool, reading: Reading) -> bool
     requires measured { IsTrue (list_all is_measured children.now) }
-    requires room { at + weight (cat_all (map core_of children.now)) ≤ length row.old }
+    requires within { at + weight (cat_all (map core_of children.now)) ≤ length row.old }
     ensures shifts { Shifts (cat_all
         (map core_of children.now)) reading.after entry reading.letter row.old at row.new result }
     ensures len { length row.new ≡ length row.old }
@@ -223,7 +223,7 @@ fn shift_row(children: &[Node], row: &mut Bits, at: usize, entry: bool, reading:
 #[cycle(shift)]
 fn shift_any(children: &[Node], row: &mut Bits, at: usize, entry: bool, reading: Reading) -> bool
     requires measured { IsTrue (list_all is_measured children.now) }
-    requires room { at + weight (alt_all (map core_of children.now)) ≤ length row.old }
+    requires within { at + weight (alt_all (map core_of children.now)) ≤ length row.old }
     ensures shifts { Shifts (alt_all
         (map core_of children.now)) reading.after entry reading.letter row.old at row.new result }
     ensures len { length row.new ≡ length row.old }
@@ -252,7 +252,7 @@ fn shift_tidy(
 ) -> bool
     requires measured { IsTrue (is_measured child.now) }
     requires empty { has_empty ≡ is_nullable (core_of child.now) }
-    requires room { at + weight (core_of child.now) ≤ length row.old }
+    requires within { at + weight (core_of child.now) ≤ length row.old }
     ensures shifts { Shifts (tidy
         (core_of child.now)) reading.after entry reading.letter row.old at row.new result }
     ensures len { length row.new ≡ length row.old }

@@ -4,20 +4,19 @@ ghost use Rattle.std.specs.Prelude.{◌≡◌, ℕ, ◌≤◌, ◌↔◌, true, 
 ghost use Rattle.std.specs.Str.{chars};
 ghost use Rattle.lic_words.specs.Words.{Word, blanks};
 ghost use Rattle.lic_words.specs.Spelling.{Gap, free, gapped_from, last_letter, SpellsGapped};
-ghost use Rattle.lic_words.specs.Reading.{gapped_letter, turned_last_in, turned_letters_left};
+ghost use Rattle.lic_words.specs.Reading.{gapped_letter, reversed_last_in, reversed_letters_left};
 ghost use Rattle.lic_marks.specs.Cores.{Core, WordsOf};
 ghost use Rattle.lic_marks.specs.Marks.{no_marks};
 ghost use Rattle.lic_marks.specs.Rows.{weight, marks_of};
 ghost use Rattle.lic_marks.specs.Nodes.{core_of, is_measured};
-ghost use Rattle.lic_marks.specs.Standing.{After, AfterAny, StandsAtOnce, each_with, shift_over};
+ghost use Rattle.lic_marks.specs.Representing.{After, AfterAny, RepresentsAtOnce, each_with, shift_over};
 ghost use Rattle.lic_marks.specs.Deciding.{over_blanks};
 
+use crate::leave::leaves;
 use crate::node::Node;
 use crate::rows::{clear, is_clear, join, step};
-use crate::walk::leaves;
-use lic_rows::bits::Bits;
-use lic_words::letters::{Letter, Letters};
-use lic_words::turned_letters::TurnedLetters;
+use lic_rows::Bits;
+use lic_words::{Letter, Letters, ReversedLetters};
 use std::alloc::{AllocError, Global};
 
 /// The active positions of an expression. They say which words may follow the letters and gaps that were taken.
@@ -38,7 +37,7 @@ pub struct State {
 }
 
 impl State {
-    ghost use Rattle.lic_marks.specs.States.{HasFirstBlanks, HasTaken, HasTakenAny, IsFresh, has_gap, room_of};
+    ghost use Rattle.lic_marks.specs.States.{HasFirstBlanks, HasTaken, HasTakenAny, IsFresh, has_gap, position_count};
 
     /// A state that has taken nothing, with as many positions as this expression.
     ///
@@ -46,8 +45,8 @@ impl State {
     /// Out of memory.
     pub fn new(alloc: Global, tree: &Node) -> Result<State, AllocError>
         requires { IsTrue (is_measured tree.now) }
-        ensures room { IfOk result (λ state. weight (core_of tree.now) ≤ room_of state) }
-        ensures size { IfOk result (λ state. room_of state ≡ weight (core_of tree.now)) }
+        ensures positions { IfOk result (λ state. weight (core_of tree.now) ≤ position_count state) }
+        ensures size { IfOk result (λ state. position_count state ≡ weight (core_of tree.now)) }
         ensures fresh { IfOk result IsFresh }
         ensures taken { (r : Core) → IfOk result (λ state. HasTaken r state []) }
     {
@@ -66,7 +65,7 @@ impl State {
 
     /// Forgets all that was taken.
     pub fn begin(&mut self)
-        ensures room { room_of self.new ≡ room_of self.old }
+        ensures positions { position_count self.new ≡ position_count self.old }
         ensures taken { (r : Core) → HasTaken r self.new [] }
     {
         clear(&mut self.at_once);
@@ -77,8 +76,8 @@ impl State {
     /// Takes one letter more, after the gap before it.
     pub fn letter(&mut self, tree: &Node, letter: Letter)
         requires measured { IsTrue (is_measured tree.now) }
-        requires room { weight (core_of tree.now) ≤ room_of self.old }
-        ensures room { room_of self.new ≡ room_of self.old }
+        requires within { weight (core_of tree.now) ≤ position_count self.old }
+        ensures positions { position_count self.new ≡ position_count self.old }
         ensures taken { (lists : List (List (Gap × ℕ)))
             → HasTakenAny (core_of tree.now) self.old lists
             → HasTakenAny (core_of tree.now) self.new
@@ -95,8 +94,8 @@ impl State {
     /// Opens a gap after the last letter, where none is open.
     pub fn gap(&mut self, tree: &Node)
         requires measured { IsTrue (is_measured tree.now) }
-        requires room { weight (core_of tree.now) ≤ room_of self.old }
-        ensures room { room_of self.new ≡ room_of self.old }
+        requires within { weight (core_of tree.now) ≤ position_count self.old }
+        ensures positions { position_count self.new ≡ position_count self.old }
         ensures taken { (lists : List (List (Gap × ℕ)))
             → HasTakenAny (core_of tree.now) self.old lists
             → HasTakenAny (core_of tree.now) self.new lists }
@@ -111,8 +110,8 @@ impl State {
     /// Takes one token more, between gaps, after the letter `last`. Answers its last letter, or else the one before.
     pub fn token(&mut self, tree: &Node, token: &str, last: char) -> char
         requires measured { IsTrue (is_measured tree.now) }
-        requires room { weight (core_of tree.now) ≤ room_of self.old }
-        ensures room { room_of self.new ≡ room_of self.old }
+        requires within { weight (core_of tree.now) ≤ position_count self.old }
+        ensures positions { position_count self.new ≡ position_count self.old }
         ensures taken { (lists : List (List (Gap × ℕ)))
             → HasTakenAny (core_of tree.now) self.old lists
             → HasTakenAny (core_of tree.now) self.new
@@ -131,7 +130,7 @@ impl State {
     /// Whether some word of the expression spells what was taken.
     pub fn accepts(&self, tree: &Node) -> bool
         requires measured { IsTrue (is_measured tree.now) }
-        requires room { weight (core_of tree.now) ≤ room_of self.now }
+        requires within { weight (core_of tree.now) ≤ position_count self.now }
         requires open { IsTrue (has_gap self.now) }
         ensures { (lists : List (List (Gap × ℕ)))
             → HasTakenAny (core_of tree.now) self.now lists
@@ -145,7 +144,7 @@ impl State {
     /// Whether a word of the expression ends with the last letter that was taken.
     pub fn ends(&self, tree: &Node) -> bool
         requires measured { IsTrue (is_measured tree.now) }
-        requires room { weight (core_of tree.now) ≤ room_of self.now }
+        requires within { weight (core_of tree.now) ≤ position_count self.now }
         ensures { (letters : List (Gap × ℕ)) → HasTaken (core_of tree.now) self.now letters
             → IsTrue result ↔ After (WordsOf (core_of tree.now)) letters [] }
     {
@@ -156,7 +155,7 @@ impl State {
     pub fn is_clear(&self) -> bool
         ensures { (r : Core) (letters : List (Gap × ℕ)) → HasTaken r self.now letters
             → IsTrue result
-            → StandsAtOnce r false (no_marks r) letters }
+            → RepresentsAtOnce r false (no_marks r) letters }
     {
         self.is_dead()
     }
@@ -172,7 +171,7 @@ impl State {
 
     /// Forgets all that was taken. No position is active, and a word may begin only where `enter` says so.
     pub fn clear(&mut self)
-        ensures room { room_of self.new ≡ room_of self.old }
+        ensures positions { position_count self.new ≡ position_count self.old }
         ensures taken { (r : Core) → HasTakenAny r self.new [] }
         ensures open { IsTrue (has_gap self.new) }
     {
@@ -188,10 +187,10 @@ impl State {
     /// Out of memory.
     pub fn first_blanks(&mut self, alloc: Global, tree: &Node) -> Result<Bits, AllocError>
         requires measured { IsTrue (is_measured tree.now) }
-        requires size { room_of self.old ≡ weight (core_of tree.now) }
+        requires size { position_count self.old ≡ weight (core_of tree.now) }
         requires fresh { IsFresh self.old }
-        ensures room { room_of self.new ≡ room_of self.old }
-        ensures size { IfOk result (λ first. length first ≡ room_of self.old) }
+        ensures positions { position_count self.new ≡ position_count self.old }
+        ensures size { IfOk result (λ first. length first ≡ position_count self.old) }
         ensures first { IfOk result (HasFirstBlanks (core_of tree.now)) }
     {
         self.close(tree);
@@ -204,12 +203,12 @@ impl State {
     /// are active after blanks at the beginning of a word.
     pub fn enter(&mut self, tree: &Node, first: &Bits, letter: Letter)
         requires measured { IsTrue (is_measured tree.now) }
-        requires room { weight (core_of tree.now) ≤ room_of self.old }
-        requires size { length first.now ≡ room_of self.old }
+        requires within { weight (core_of tree.now) ≤ position_count self.old }
+        requires size { length first.now ≡ position_count self.old }
         requires first { HasFirstBlanks (core_of tree.now) first.now }
         requires open { IsTrue (has_gap self.old) }
         requires apart { IsTrue letter.is_apart }
-        ensures room { room_of self.new ≡ room_of self.old }
+        ensures positions { position_count self.new ≡ position_count self.old }
         ensures taken { (lists : List (List (Gap × ℕ)))
             → HasTakenAny (core_of tree.now) self.old lists
             → HasTakenAny (core_of tree.now) self.new
@@ -229,16 +228,16 @@ impl State {
 
     /// Takes the letters that are left of a token, which is read from its end, and opens a gap after them. Answers the
     /// last of them, or else the letter before.
-    pub fn rest_of_token(&mut self, tree: &Node, letters: TurnedLetters) -> char
+    pub fn finish_token(&mut self, tree: &Node, letters: ReversedLetters) -> char
         requires measured { IsTrue (is_measured tree.now) }
-        requires room { weight (core_of tree.now) ≤ room_of self.old }
-        ensures room { room_of self.new ≡ room_of self.old }
+        requires within { weight (core_of tree.now) ≤ position_count self.old }
+        ensures positions { position_count self.new ≡ position_count self.old }
         ensures taken { (lists : List (List (Gap × ℕ)))
             → HasTakenAny (core_of tree.now) self.old lists
             → HasTakenAny (core_of tree.now) self.new
-            (each_with (turned_letters_left letters.entry) lists) }
+            (each_with (reversed_letters_left letters.entry) lists) }
         ensures open { IsTrue (has_gap self.new) }
-        ensures last { result ≡ turned_last_in letters.entry }
+        ensures last { result ≡ reversed_last_in letters.entry }
     {
         let mut letters = letters;
         while let Some(letter) = letters.next() {
@@ -251,8 +250,8 @@ impl State {
     // The positions that are active after one blank or more, from those at once: the closure over blanks.
     fn close(&mut self, tree: &Node)
         requires measured { IsTrue (is_measured tree.now) }
-        requires room { weight (core_of tree.now) ≤ room_of self.old }
-        ensures room { room_of self.new ≡ room_of self.old }
+        requires within { weight (core_of tree.now) ≤ position_count self.old }
+        ensures positions { position_count self.new ≡ position_count self.old }
         ensures after_blanks { marks_of (core_of tree.now) self.new.after_blanks
             ≡ over_blanks (core_of tree.now) self.old.entry
             (marks_of (core_of tree.now) self.old.at_once) }
@@ -272,8 +271,8 @@ impl State {
     // Takes the active positions over a letter that comes at once, or after the gap that is open.
     fn shift(&mut self, tree: &Node, letter: Letter)
         requires measured { IsTrue (is_measured tree.now) }
-        requires room { weight (core_of tree.now) ≤ room_of self.old }
-        ensures room { room_of self.new ≡ room_of self.old }
+        requires within { weight (core_of tree.now) ≤ position_count self.old }
+        ensures positions { position_count self.new ≡ position_count self.old }
         ensures marks { marks_of (core_of tree.now) self.new.at_once
             ≡ shift_over (core_of tree.now) self.old.entry
             (marks_of (core_of tree.now) self.old.at_once)

@@ -2,7 +2,7 @@
 use Rattle.std.proofs.Common.{◌≡◌, ℕ, zero, suc, ◌+◌, List, [], ◌∷◌, ◌++◌, length, drop, Option, Some, None, Result, Ok, Err, refl, sym, ap, ◌∙◌, append_assoc, arith}
 use Rattle.std.specs.Option.{option_map}
 use Rattle.std.proofs.lemmas.List.{drop-drop}
-use Rattle.lic_ere.specs.Located.{Located, with_rest, further}
+use Rattle.lic_ere.specs.Located.{Located, with_remaining, further}
 use Rattle.lic_markup.specs.declared.tag.Tag.{Tag}
 use Rattle.lic_markup.specs.declared.fault.MarkupFault.{MarkupFault}
 use Rattle.lic_markup.specs.declared.fault.MarkupCause.{MarkupCause}
@@ -53,7 +53,7 @@ rule_turn x after n (Ok y) = ap (λ es. rule y.0 ∷ es) (elements-skipped [] (n
 rule_turn x after n (Err e) = refl
 
 step-tagged : (piece : List Located) (x : Located) (after : List Located) (tag : Tag) (behind : List Located)
-    (t : Option (Tag × ℕ)) → Some (tag, behind) ≡ option_map (with_rest after) t
+    (t : Option (Tag × ℕ)) → Some (tag, behind) ≡ option_map (with_remaining after) t
     → step piece x after t ≡ text piece ∷ element_read (rule_at x.0 tag behind) ∷ others behind (rule_at x.0 tag behind)
 step-tagged piece x after tag behind None is = absurd cc
 step-tagged piece x after tag behind (Some t) is =
@@ -63,13 +63,13 @@ step-tagged piece x after tag behind (Some t) is =
     ∙ (λ i. text piece ∷ element_read (rule_at x.0 (one i) (two i)) ∷ others (two i) (rule_at x.0 (one i) (two i)))
 
 step-plain : (piece : List Located) (x : Located) (after : List Located) (t : Option (Tag × ℕ))
-    → option_map (with_rest after) t ≡ None → step piece x after t ≡ elements (piece ++ x ∷ []) 0 after
+    → option_map (with_remaining after) t ≡ None → step piece x after t ≡ elements (piece ++ x ∷ []) 0 after
 step-plain piece x after None is = refl
 step-plain piece x after (Some t) is = absurd cc
 
 -- one more character of a piece
 pub cut_plain : (found total : List Element) (piece pushed : List Located) (x : Located) (after rest : List Located)
-    → rest ≡ x ∷ after → pushed ≡ piece ++ x ∷ [] → option_map (with_rest after) (tag_at x after) ≡ None
+    → rest ≡ x ∷ after → pushed ≡ piece ++ x ∷ [] → option_map (with_remaining after) (tag_at x after) ≡ None
     → found ++ elements piece 0 rest ≡ total → found ++ elements pushed 0 after ≡ total
 cut_plain found total piece pushed x after rest is more none so_far =
     ap (λ (p : List Located). found ++ elements p 0 after) more
@@ -79,7 +79,7 @@ cut_plain found total piece pushed x after rest is more none so_far =
 -- a piece and the rule behind it
 pub cut_rule : (found now total : List Element) (piece : List Located) (x : Located) (after rest : List Located)
     (tag : Tag) (behind : List Located) → rest ≡ x ∷ after
-    → Some (tag, behind) ≡ option_map (with_rest after) (tag_at x after)
+    → Some (tag, behind) ≡ option_map (with_remaining after) (tag_at x after)
     → now ≡ (found ++ text piece ∷ []) ++ element_read (rule_at x.0 tag behind) ∷ []
     → found ++ elements piece 0 rest ≡ total → now ++ others behind (rule_at x.0 tag behind) ≡ total
 cut_rule found now total piece x after rest tag behind is tagged pushed so_far =

@@ -5,7 +5,7 @@ use Rattle.std.proofs.lemmas.List.{drop-drop}
 use Rattle.lic_markup.specs.declared.fault.MarkupFault.{MarkupFault}
 use Rattle.lic_markup.specs.declared.fault.MarkupCause.{MarkupCause}
 use Rattle.lic_markup.specs.declared.fault.MarkupCause.TheVariants.{OutOfMemory}
-use Rattle.lic_ere.specs.Located.{Located, further, with_rest}
+use Rattle.lic_ere.specs.Located.{Located, further, with_remaining}
 use Rattle.lic_markup.specs.Faults.{fault_at, told, told_cause, Fails, Gives, map_ok}
 
 -- a reading that fails wherever another does fails with it
@@ -29,8 +29,8 @@ pub map_ok-map_ok : {A B C : Type 0} (g : B → C) (f : A → B) (r : Result A M
 map_ok-map_ok g f (Ok x) = refl
 map_ok-map_ok g f (Err e) = refl
 
-pub with_rest-further : {A : Type 0} (n : ℕ) (rest : List Located) (x : A × ℕ) → with_rest rest (further n x) ≡ with_rest (drop n rest) x
-with_rest-further n rest x = ap (λ l. (x.0, l)) (sym (drop-drop x.1 n rest))
+pub with_remaining-further : {A : Type 0} (n : ℕ) (rest : List Located) (x : A × ℕ) → with_remaining rest (further n x) ≡ with_remaining (drop n rest) x
+with_remaining-further n rest x = ap (λ l. (x.0, l)) (sym (drop-drop x.1 n rest))
 
 pub Gives-same : {X A : Type 0} (view : X → A) (result : Result X MarkupFault) (r s : Result A MarkupFault) → r ≡ s → Gives view result r → Gives view result s
 Gives-same view result r s same h = subst (Gives view result) same h

@@ -1,7 +1,7 @@
 -- Reading the fields of a rule, one after another.
 use Rattle.std.proofs.Common.{◌≡◌, ◌≤◌, ℕ, zero, suc, ◌+◌, true, false, cond, List, [], ◌∷◌, length, drop, Result, Ok, Err, refl, sym, ap, ◌∙◌, arith}
 use Rattle.std.proofs.lemmas.List.{drop-drop, length-drop}
-use Rattle.lic_ere.specs.Located.{Located, with_rest, further}
+use Rattle.lic_ere.specs.Located.{Located, with_remaining, further}
 use Rattle.lic_markup.specs.declared.tag.Tag.{Tag}
 use Rattle.lic_markup.specs.declared.fault.MarkupFault.{MarkupFault}
 use Rattle.lic_markup.specs.declared.fault.MarkupCause.TheVariants.{NotClosed}
@@ -9,7 +9,7 @@ use Rattle.lic_markup.specs.Signs.{semicolon, greater}
 use Rattle.lic_markup.specs.Texts.{begins_with, begins_with_two, spaces, trim_front}
 use Rattle.lic_markup.specs.Faults.{fault_at, map_ok, ◌>>=◌}
 use Rattle.lic_markup.specs.Rules.{Values, field_or_none, fields_at}
-use Rattle.lic_markup.proofs.FaultLemmas.{map_ok-same, map_ok-map_ok, with_rest-further}
+use Rattle.lic_markup.proofs.FaultLemmas.{map_ok-same, map_ok-map_ok, with_remaining-further}
 use Rattle.lic_markup.proofs.RuleLemmas.{read}
 
 -- what stands behind a reading is no longer than what it was read from
@@ -30,8 +30,8 @@ module _ (rule : ℕ) (tag : Tag) where
   fields-skipped values zero xs = refl
   fields-skipped values (suc n) [] = refl
   fields-skipped values (suc n) (x ∷ xs) =
-      map_ok-map_ok (with_rest (x ∷ xs)) (further 1) (fields_at rule tag values n xs)
-      ∙ map_ok-same (λ y. with_rest (x ∷ xs) (further 1 y)) (with_rest xs) (fields_at rule tag values n xs) (λ y. with_rest-further 1 (x ∷ xs) y)
+      map_ok-map_ok (with_remaining (x ∷ xs)) (further 1) (fields_at rule tag values n xs)
+      ∙ map_ok-same (λ y. with_remaining (x ∷ xs) (further 1 y)) (with_remaining xs) (fields_at rule tag values n xs) (λ y. with_remaining-further 1 (x ∷ xs) y)
       ∙ fields-skipped values n xs
 
   pub fields-end : (values : Values) (rest : List Located) (x : Located) (after : List Located) → rest ≡ x ∷ after
@@ -61,8 +61,8 @@ module _ (rule : ℕ) (tag : Tag) where
         let one : y.0 ≡ more = ap (λ (r : Result (Values × List Located) MarkupFault). elim r [ Ok z ↦ z.0 | Err e ↦ more ]) is in
         let two : drop y.1 (trim_front after) ≡ behind = ap (λ (r : Result (Values × List Located) MarkupFault). elim r [ Ok z ↦ z.1 | Err e ↦ behind ]) is in
         let all : Result (Values × ℕ) MarkupFault = fields_at rule tag y.0 (spaces after + y.1) after in
-        map_ok-map_ok (with_rest (x ∷ after)) (further 1) all
-        ∙ map_ok-same (λ z. with_rest (x ∷ after) (further 1 z)) (with_rest after) all (λ z. with_rest-further 1 (x ∷ after) z)
+        map_ok-map_ok (with_remaining (x ∷ after)) (further 1) all
+        ∙ map_ok-same (λ z. with_remaining (x ∷ after) (further 1 z)) (with_remaining after) all (λ z. with_remaining-further 1 (x ∷ after) z)
         ∙ fields-skipped y.0 (spaces after + y.1) after
         ∙ (λ i. fields_of (one i) ((sym (drop-drop y.1 (spaces after) after) ∙ two) i))
 

@@ -9,7 +9,7 @@ use Rattle.std.proofs.Math.Utf8.{encodes}
 use Rattle.std.proofs.lemmas.Str.{encodes-chars, encode_ascii, length-encode, len_utf8_bounds}
 use Rattle.std.proofs.lemmas.List.{get_or-append-add}
 use Rattle.memchr.specs.Find.{IsFirstByte, is_byte}
-use Rattle.lic_ere.specs.Located.{Located, located, located_from, with_rest}
+use Rattle.lic_ere.specs.Located.{Located, located, located_from, with_remaining}
 use Rattle.lic_phrases.specs.Rewriting.{Phrase}
 use Rattle.lic_lines.specs.LineRules.{LineRules}
 use Rattle.lic_norm.specs.Pieces.{piece_of}
@@ -44,7 +44,7 @@ one_piece piece place (c ∷ cs) none =
     let rest = located_from (place + len_utf8 c) cs in
     let two = neither (c == less) (list_any (λ c. c == less) cs) none in
     sym (cut_plain [] (elements piece 0 (x ∷ rest)) piece (piece ++ x ∷ []) x rest (x ∷ rest) refl refl
-    (ap (option_map (with_rest rest)) (no_tag x rest two.0)) refl)
+    (ap (option_map (with_remaining rest)) (no_tag x rest two.0)) refl)
     ∙ one_piece (piece ++ x ∷ []) (place + len_utf8 c) cs two.1
     ∙ ap (λ l. text l ∷ []) (append_assoc piece (x ∷ []) rest)
 
@@ -58,12 +58,12 @@ plain_front piece (x ∷ xs) (suc n) within plain =
     ap (λ (p : List Located). elements p 0 (drop n xs)) (sym (append_assoc piece (x ∷ []) (take n xs)))
     ∙ plain_front (piece ++ x ∷ []) xs n (omega arith) (λ i d lt. plain (suc i) d (omega arith))
     ∙ cut_plain [] (elements piece 0 (x ∷ xs)) piece (piece ++ x ∷ []) x xs (x ∷ xs) refl refl
-    (ap (option_map (with_rest xs)) (no_tag x xs first)) refl
+    (ap (option_map (with_remaining xs)) (no_tag x xs first)) refl
 
 -- a character at which no rule begins, and those behind it of which none is a `<`
 pub cut_plain_row : (found total : List Element) (piece pushed : List Located) (x : Located) (after rest left : List Located) (n : ℕ)
     → rest ≡ x ∷ after → pushed ≡ piece ++ take (suc n) rest → left ≡ drop (suc n) rest → n ≤ length after
-    → ((i : ℕ) (d : Located) → i < n → (get_or after i d).1 ≢ less) → option_map (with_rest after) (tag_at x after) ≡ None
+    → ((i : ℕ) (d : Located) → i < n → (get_or after i d).1 ≢ less) → option_map (with_remaining after) (tag_at x after) ≡ None
     → found ++ elements piece 0 rest ≡ total → found ++ elements pushed 0 left ≡ total
 cut_plain_row found total piece pushed x after rest left n is more behind within plain none so_far =
     let row : pushed ≡ (piece ++ x ∷ []) ++ take n after =

@@ -2,7 +2,7 @@
 use Rattle.std.proofs.Common.{◌≡◌, ◌<◌, ℕ, zero, suc, ◌+◌, Bool, true, false, cond, eqb, List, [], ◌∷◌, ◌++◌, length, take, drop, Result, Ok, Err, refl, sym, ap, ◌∙◌, add-one, arith}
 use Rattle.std.specs.Char.{is_ascii_alphanumeric}
 use Rattle.std.proofs.lemmas.List.{drop-drop, append-nil}
-use Rattle.lic_ere.specs.Located.{Located, with_rest, further}
+use Rattle.lic_ere.specs.Located.{Located, with_remaining, further}
 use Rattle.lic_markup.specs.declared.fault.MarkupFault.{MarkupFault}
 use Rattle.lic_markup.specs.declared.fault.MarkupCause.TheVariants.{NotClosed}
 use Rattle.lic_markup.specs.Signs.{equals, backslash}
@@ -39,7 +39,7 @@ drop_within (y ∷ ys) (suc n) x after is = let h : n < length ys = drop_within 
 
 -- a reading, with what stands behind the characters that it takes
 abbrev pub read : {A : Type 0} → List Located → Result (A × ℕ) MarkupFault → Result (A × List Located) MarkupFault
-read rest r = map_ok (with_rest rest) r
+read rest r = map_ok (with_remaining rest) r
 
 -- a reader that takes one character more
 pub one_more-read : (x : Located) (after : List Located) (r : Result (List Located × ℕ) MarkupFault)

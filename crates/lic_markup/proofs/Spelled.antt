@@ -1,14 +1,14 @@
 -- Names, values, fields and rules that are read are those of the markup.
 use Rattle.std.proofs.Common.{◌≡◌, ℕ, Bool, true, false, cond, not, ◌&&◌, ◌||◌, List, [], ◌∷◌, ◌++◌, drop, Result, Ok, Err, refl, sym, ap, subst, ◌∙◌, eq-eqb, eqb}
 use Rattle.std.proofs.lemmas.Bool.{eqb-true}
-use Rattle.lic_ere.specs.Located.{Located, with_rest, further}
+use Rattle.lic_ere.specs.Located.{Located, with_remaining, further}
 use Rattle.lic_markup.specs.declared.fault.MarkupFault.{MarkupFault}
 use Rattle.lic_markup.specs.Signs.{double_quote, semicolon, equals, greater, backslash}
 use Rattle.lic_markup.specs.Texts.{begins_with, begins_with_two, trim_end}
 use Rattle.lic_markup.specs.Faults.{map_ok}
 use Rattle.lic_markup.specs.Rules.{at_end, ends_quoted, ends_plain, name_at, quoted_at, plain_at, value_at}
 use Rattle.lic_markup.specs.Markup.{UpTo, ends_field, ends_name, ends_quote, ends_escaped, IsValue, quoted, plain}
-use Rattle.lic_markup.proofs.FaultLemmas.{behind, map_ok-map_ok, map_ok-same, with_rest-further}
+use Rattle.lic_markup.proofs.FaultLemmas.{behind, map_ok-map_ok, map_ok-same, with_remaining-further}
 use Rattle.lic_markup.proofs.RuleLemmas.{read, one_more-read, name-ends, name-refused, name-goes_on, name-open, quoted-ends, quoted-goes_on, quoted-open, plain-ends, plain-goes_on, plain-open}
 
 -- ---- the first place
@@ -210,8 +210,8 @@ module _ (rule : ℕ) where
   value_is cs = refl
 
   further_read : (x : Located) (cs : List Located) (r : Result (List Located × ℕ) MarkupFault) → read (x ∷ cs) (map_ok (further 1) r) ≡ read cs r
-  further_read x cs r = map_ok-map_ok (with_rest (x ∷ cs)) (further 1) r
-      ∙ map_ok-same (λ y. with_rest (x ∷ cs) (further 1 y)) (with_rest cs) r (λ y. with_rest-further 1 (x ∷ cs) y)
+  further_read x cs r = map_ok-map_ok (with_remaining (x ∷ cs)) (further 1) r
+      ∙ map_ok-same (λ y. with_remaining (x ∷ cs) (further 1 y)) (with_remaining cs) r (λ y. with_remaining-further 1 (x ∷ cs) y)
 
   trimmed : Result (List Located × List Located) MarkupFault → Result (List Located × List Located) MarkupFault
   trimmed r = map_ok (λ v. (trim_end v.0, v.1)) r

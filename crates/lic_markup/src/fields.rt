@@ -1,6 +1,6 @@
 //! The fields of a rule.
 ghost use Rattle.std.specs.Prelude.{◌≡◌, false};
-ghost use Rattle.lic_ere.specs.Located.{with_rest};
+ghost use Rattle.lic_ere.specs.Located.{with_remaining};
 ghost use Rattle.lic_markup.specs.Faults.{Gives, map_ok};
 ghost use Rattle.lic_markup.specs.Rules.{no_values, field_of, at_end, ends_quoted, ends_plain, name_at, quoted_at, plain_at, value_at, field_at, field_or_none, fields_at};
 ghost use Rattle.lic_markup.specs.Views.{values_of};
@@ -109,7 +109,7 @@ fn name(
     all: &[(usize, char)],
 ) -> Result<(&[(usize, char)], &[(usize, char)]), MarkupFault>
     ensures { Gives (λ x. (x.0.now, x.1.now)) result
-        (map_ok (with_rest all.now) (name_at rule start all.now)) }
+        (map_ok (with_remaining all.now) (name_at rule start all.now)) }
 {
     let mut count = 0;
     let mut rest = all;
@@ -148,7 +148,7 @@ fn quoted(
     all: &[(usize, char)],
 ) -> Result<(&[(usize, char)], &[(usize, char)]), MarkupFault>
     ensures { Gives (λ x. (x.0.now, x.1.now)) result
-        (map_ok (with_rest all.now) (quoted_at rule all.now)) }
+        (map_ok (with_remaining all.now) (quoted_at rule all.now)) }
 {
     let mut count = 0;
     let mut rest = all;
@@ -178,7 +178,7 @@ fn plain(
     all: &[(usize, char)],
 ) -> Result<(&[(usize, char)], &[(usize, char)]), MarkupFault>
     ensures { Gives (λ x. (x.0.now, x.1.now)) result
-        (map_ok (with_rest all.now) (plain_at rule false all.now)) }
+        (map_ok (with_remaining all.now) (plain_at rule false all.now)) }
 {
     let mut count = 0;
     let mut escaped = false;
@@ -204,7 +204,7 @@ fn value(
     rest: &[(usize, char)],
 ) -> Result<(&[(usize, char)], &[(usize, char)]), MarkupFault>
     ensures { Gives (λ x. (x.0.now, x.1.now)) result
-        (map_ok (with_rest rest.now) (value_at rule rest.now)) }
+        (map_ok (with_remaining rest.now) (value_at rule rest.now)) }
 {
     if begins_with(rest, '"') {
         return quoted(rule, &rest[1..]);
@@ -225,7 +225,7 @@ fn read_field<'a>(
     rest: &'a [(usize, char)],
 ) -> Result<&'a [(usize, char)], MarkupFault>
     ensures { Gives (λ x. (values_of values.new, x.now)) result
-        (map_ok (with_rest rest.now) (field_at rule start tag (values_of values.old) rest.now)) }
+        (map_ok (with_remaining rest.now) (field_at rule start tag (values_of values.old) rest.now)) }
 {
     let (name, behind) = name(rule, start, rest)?;
     let name = text_of(alloc, trim_end(name))?;
@@ -250,7 +250,7 @@ fn field_or_none<'a>(
     rest: &'a [(usize, char)],
 ) -> Result<&'a [(usize, char)], MarkupFault>
     ensures { Gives (λ x. (values_of values.new, x.now)) result
-        (map_ok (with_rest rest.now) (field_or_none rule tag (values_of values.old) rest.now)) }
+        (map_ok (with_remaining rest.now) (field_or_none rule tag (values_of values.old) rest.now)) }
 {
     let [(start, _), ..] = rest else {
         return Ok(rest);
@@ -269,7 +269,7 @@ pub fn fields(
     all: &[(usize, char)],
 ) -> Result<(Values, &[(usize, char)]), MarkupFault>
     ensures { Gives (λ x. (values_of x.0, x.1.now)) result
-        (map_ok (with_rest all.now) (fields_at rule tag no_values 0 all.now)) }
+        (map_ok (with_remaining all.now) (fields_at rule tag no_values 0 all.now)) }
 {
     let mut values = Values::none();
     let mut rest = all;

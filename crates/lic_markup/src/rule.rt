@@ -1,5 +1,5 @@
 //! Rules.
-ghost use Rattle.lic_ere.specs.Located.{with_rest};
+ghost use Rattle.lic_ere.specs.Located.{with_remaining};
 ghost use Rattle.lic_markup.specs.Faults.{Gives, map_ok};
 ghost use Rattle.lic_markup.specs.Rules as rules;
 ghost use Rattle.lic_markup.specs.Views.{values_of, rule_of};
@@ -64,7 +64,7 @@ pub fn read_rule(
     rest: &[(usize, char)],
 ) -> Result<(Rule, &[(usize, char)]), MarkupFault>
     ensures { Gives (λ x. (rule_of x.0, x.1.now)) result
-        (map_ok (with_rest rest.now) (rules.rule_at place tag rest.now)) }
+        (map_ok (with_remaining rest.now) (rules.rule_at place tag rest.now)) }
 {
     let (values, behind) = fields(alloc, place, tag, trim_front(rest))?;
     Ok((complete(place, tag, values)?, behind))

@@ -1,7 +1,7 @@
 //! Where a rule begins.
 ghost use Rattle.std.specs.Prelude.{◌≡◌, ◌≤◌, IfOk, length, drop};
 ghost use Rattle.std.specs.Option.{option_map};
-ghost use Rattle.lic_ere.specs.Located.{with_rest};
+ghost use Rattle.lic_ere.specs.Located.{with_remaining};
 ghost use Rattle.lic_markup.specs.Rules.{word_at, tag_of, tag_at};
 
 use crate::texts::{begins_with, text_of};
@@ -58,7 +58,7 @@ pub fn read_tag(
     rest: &[(usize, char)],
 ) -> Result<Option<(Tag, &[(usize, char)])>, AllocError>
     ensures { IfOk result (λ found. option_map (λ x. (x.0, x.1.now)) found
-        ≡ option_map (with_rest rest.now) (tag_at first rest.now)) }
+        ≡ option_map (with_remaining rest.now) (tag_at first rest.now)) }
 {
     if first.1 != '<' || !begins_with(rest, '<') {
         return Ok(None);

@@ -1,7 +1,7 @@
 //! Matches of templates in texts.
 
 use crate::profile::{set_of, text_of};
-use lic_find::finder::Finder;
+use lic_find::Finder;
 use lic_find::matches::is_match;
 use lic_norm::text::Text;
 use lic_set::triple::Triple;

@@ -1,6 +1,6 @@
 //! Letters of a token, each with the gap before it.
 
-use lic_words::letters::Letters;
+use lic_words::Letters;
 use std::alloc::{AllocError, Global};
 use std::fmt::Write;
 use std::test::Fail;

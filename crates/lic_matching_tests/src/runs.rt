@@ -3,8 +3,7 @@ ghost use Rattle.std.specs.Prelude.{IsTrue};
 ghost use Rattle.lic_phrases.specs.TokenTexts.{IsTokenText};
 
 use crate::profile::set_of;
-use lic_auto::back::Back;
-use lic_auto::run::Run;
+use lic_auto::{Back, Run};
 use std::alloc::Global;
 use std::fmt::Write;
 use std::test::Fail;

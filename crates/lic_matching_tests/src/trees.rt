@@ -1,8 +1,7 @@
 //! Compiled patterns: what the tree of each is and weighs, and what a run of it says of tokens.
 
-use lic_auto::compile::compile_pattern;
-use lic_marks::node::Node;
-use lic_marks::run::Run;
+use lic_auto::compile_pattern;
+use lic_marks::{Node, Run};
 use std::alloc::Global;
 use std::test::Fail;
 

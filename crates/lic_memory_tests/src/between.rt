@@ -4,19 +4,17 @@ ghost use Rattle.std.specs.Prelude.{◌≡◌, ◌≤◌, length};
 
 use crate::lent::{CHOICE, OF, OPTIONAL, TWO, Templates, lend};
 use crate::refused::{Refused, retried};
-use lic_auto::back::Back;
-use lic_auto::run::Run;
+use lic_auto::{Back, Run};
 use lic_ere::Ere;
-use lic_find::finder::Finder;
+use lic_find::Finder;
 use lic_kind::{Kind, Rules, kind_of};
 use lic_norm::feeder::Feeder;
 use lic_norm::text::Text;
 use lic_norm::words::Words;
-use lic_rows::bits::Bits;
-use lic_rows::{and_into, any_from, is_zero, or_into, shift_up_one};
+use lic_rows::{Bits, and_into, any_from, is_zero, or_into, shift_up_one};
 use lic_set::set::Set;
 use lic_set::triple::Triple;
-use lic_stream::stream::{Counted, Sink, Source};
+use lic_stream::{Counted, Sink, Source};
 use std::alloc::{AllocError, Global};
 
 /// A request that no system grants. To `scripts/refused_growths/fail_nth.c`, where that is preloaded, it is a sign: from the first on

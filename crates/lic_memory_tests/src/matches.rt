@@ -2,16 +2,15 @@
 
 use crate::lent::{CHOICE, OF, ONE, OPTIONAL, TWO, Templates, lend};
 use crate::refused::{Refused, retried};
-use lic_auto::back::Back;
-use lic_auto::run::Run;
+use lic_auto::{Back, Run};
 use lic_filters::filters::{outer, tight};
-use lic_find::finder::Finder;
+use lic_find::Finder;
 use lic_find::matches::is_match;
 use lic_kind::Rules;
 use lic_norm::text::Text;
 use lic_norm::token::Span;
 use lic_norm::words::Words;
-use lic_report::all_matches::AllMatches;
+use lic_report::AllMatches;
 use lic_search::tight_matches;
 use lic_set::set::Set;
 use lic_set::triple::Triple;

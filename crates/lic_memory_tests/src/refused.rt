@@ -3,7 +3,7 @@
 ghost use Rattle.std.specs.Prelude.{◌≡◌};
 ghost use Rattle.lic_memory_tests.specs.declared.refused.Refused.TheVariants.{Memory};
 
-use lic_engine::fault::RunFault;
+use lic_engine::RunFault;
 use lic_ere::{EreCause, EreFault};
 use lic_kind::{RulesCause, RulesFault};
 use lic_markup::{MarkupCause, MarkupFault};

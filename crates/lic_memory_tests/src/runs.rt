@@ -2,9 +2,8 @@
 
 use crate::lent::{CHECKED, OF, OPTIONAL, TWO, Templates, set_of, text_of};
 use crate::refused::{Refused, retried};
-use lic_engine::check::check;
-use lic_engine::engine::{run, run_tokens};
-use lic_find::ask::Ask;
+use lic_engine::{check, run, run_tokens};
+use lic_find::Ask;
 use lic_kind::Rules;
 use lic_norm::words::Words;
 use lic_set::set::Set;

@@ -3,6 +3,7 @@ pub mod ValidFronts
 pub mod FrontChars
 pub mod Refused
 pub mod EntryLemmas
+pub mod CopyLemmas
 pub mod LineCuts
 pub mod FirstLines
 pub mod NextChars

@@ -1,8 +1,9 @@
 -- Tokens that are given by the places where they begin and end.
-use Rattle.std.proofs.Common.{◌≡◌, ℕ, zero, suc, ◌+◌, ◌-◌, ◌<◌, Bool, true, false, not, ◌&&◌, ◌||◌, List, [], ◌∷◌, length, drop, get_or, refl, sym, ap, ◌∙◌, subst, arith, add-one, drop-cons, length-drop, true≢false}
+use Rattle.std.proofs.Common.{◌≡◌, ℕ, zero, suc, ◌+◌, ◌-◌, ◌<◌, Bool, true, false, not, ◌&&◌, ◌||◌, List, [], ◌∷◌, length, take, drop, get_or, refl, sym, ap, ◌∙◌, subst, arith, add-one, drop-cons, length-drop, true≢false}
 use Rattle.std.specs.Char.{encode_utf8}
-use Rattle.std.specs.Prelude.{codes, nat_lt, slice_range, IsAscii}
+use Rattle.std.specs.Prelude.{codes, if◌then◌else◌, nat_lt, slice_range, IsAscii}
 use Rattle.std.proofs.lemmas.Bool.{cond-true, cond-false}
+use Rattle.lic_columns.specs.Marks.{is_joining}
 use Rattle.lic_columns.specs.SpanTokens.{span_tokens, spans_by, token_text}
 use Rattle.lic_lines.specs.Tokens.{Token, is_text, is_sign_in_parentheses, sign_from, as_sign, single_signs}
 use Rattle.lic_lines.proofs.TextLemmas.{bytes_eq-other}
@@ -62,6 +63,25 @@ module _ (at : ℕ) (letters starts ends : List ℕ) (tokens : List Token) (pair
       → token_between at letters (get_or starts i 0) (get_or ends i 0) (blank_before true at starts ends i) ≡ get_or tokens i d
   token_is i d lt =
       sym (one_token true at at letters starts ends i d paired (omega (arith, count))) ∙ ap (λ l. get_or l i d) are
+
+-- ---- letters
+
+take_twice : (l : List ℕ) (n : ℕ) → take (length (take n l)) l ≡ take n l
+take_twice [] zero = refl
+take_twice [] (suc n) = refl
+take_twice (x ∷ l) zero = refl
+take_twice (x ∷ l) (suc n) = ap (λ r. x ∷ r) (take_twice l n)
+
+-- the letters from a token's first on begin with its text
+pub text_in_front : (l : List ℕ) (n : ℕ) → token_text (take n l) ≡ take (length (token_text (take n l))) l
+text_in_front [] zero = refl
+text_in_front [] (suc n) = refl
+text_in_front (x ∷ l) zero = refl
+text_in_front (x ∷ l) (suc n) = at (is_joining x)
+  where
+    at : (b : Bool) → (if b then x ∷ [] else x ∷ take n l) ≡ take (length (if b then x ∷ [] else x ∷ take n l)) (x ∷ l)
+    at true = refl
+    at false = ap (λ r. x ∷ r) (sym (take_twice l n))
 
 -- ---- signs
 

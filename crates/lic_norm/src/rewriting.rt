@@ -1,5 +1,5 @@
 //! From first tokens to the tokens of the rewriting, as they are kept.
-ghost use Rattle.std.specs.Prelude.{◌≡◌, ◌++◌, ◌∷◌, ◌<◌, ◌≤◌, [], true, List, length, drop, map, IfOk, OnOk};
+ghost use Rattle.std.specs.Prelude.{◌≡◌, ◌++◌, ◌∷◌, ◌<◌, ◌≤◌, [], true, List, length, drop, take, map, IfOk, IsAscii, OnOk};
 ghost use Rattle.lic_lines.specs.LineRules.{rules_of};
 ghost use Rattle.lic_lines.specs.Tokens.{Token, single_signs, text_tokens_after, token_in, tokens_in};
 ghost use Rattle.lic_phrases.specs.Rewriting.{rewritten};
@@ -123,6 +123,44 @@ impl<'w> Rewriting<'w> {
         })
     }
 
+    /// Takes the next token, with whose text these letters begin, and lists those that are settled then.
+    #[inline(always)]
+    fn take_letters(
+        &mut self,
+        alloc: Global,
+        text: &str,
+        letters: &str,
+        start: u32,
+        end: u32,
+        after_blank: bool,
+    ) -> Result<(), AllocError>
+        requires emptied { self.old.settled.items ≡ [] }
+        requires before { HasTakenSome self.old }
+        requires text { IsTokenText text.now }
+        requires front { text.now ≡ take (length text.now) letters.now }
+        requires ascii { IsAscii letters.now }
+        ensures taken { OnOk result ((taken : List Token) → HasTaken self.old taken
+            → HasTaken self.new (taken
+            ++ (record {
+              text = text.now;
+              start = start;
+              end = end;
+              after_blank = after_blank;
+            }) ∷ [])) }
+        ensures phrases { self.new.phrases.now ≡ self.old.phrases.now }
+        ensures emptied { OnOk result (self.new.settled.items ≡ []) }
+    {
+        if self.rewriter.lets_pass(self.phrases, text) {
+            return self.tokens.push_front(text, letters, start, end);
+        }
+        self.push(FirstToken {
+            text: SmallString::from_str(alloc, text)?,
+            start,
+            end,
+            after_blank,
+        })
+    }
+
     /// Takes the next token, and lists those that are settled then: mostly itself, as it is.
     #[inline(always)]
     fn take_one(&mut self, token: FirstToken) -> Result<(), AllocError>
@@ -183,7 +221,8 @@ impl<'w> Rewriting<'w> {
                 self.take_text(alloc, "copyright", start, stretch.end(i + 2), blank)?;
                 i += 3;
             } else {
-                self.take_text(alloc, text, start, stretch.end(i), blank)?;
+                let letters = stretch.letters_from(i);
+                self.take_letters(alloc, text, letters, start, stretch.end(i), blank)?;
                 i += 1;
             }
         }

@@ -1,5 +1,5 @@
 //! The first tokens of lines of ASCII, by the places where they begin and end.
-ghost use Rattle.std.specs.Prelude.{◌≡◌, ◌<◌, ◌&&◌, not, true, length, drop, slice_index, slice_index_or, codes, IsAscii};
+ghost use Rattle.std.specs.Prelude.{◌≡◌, ◌<◌, ◌&&◌, not, true, length, drop, take, slice_index, slice_index_or, codes, IsAscii};
 ghost use Rattle.lic_columns.specs.SpanTokens.{span_tokens, spans_by, token_text};
 ghost use Rattle.lic_lines.specs.Tokens.{is_text};
 ghost use Rattle.lic_norm.specs.Stretches.{AreTokenPlaces, begins_sign};
@@ -96,6 +96,19 @@ impl<'a> Stretch<'a> {
         let from = (start - self.at) as usize;
         let to = (end - self.at) as usize;
         token_text(&self.letters[from..to])
+    }
+
+    /// The letters from the token number `i` on.
+    #[inline(always)]
+    pub(crate) fn letters_from(&self, i: usize) -> &'a str
+        requires { i < length self.now }
+        ensures front { (d : _) → (slice_index_or self.now i d).text
+            ≡ take (length (slice_index_or self.now i d).text) result.now }
+        ensures ascii { IsAscii result.now }
+    {
+        let start = place(self.starts, i);
+        let from = (start - self.at) as usize;
+        &self.letters[from..]
     }
 
     /// Where it begins in the input.

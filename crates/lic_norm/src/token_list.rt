@@ -1,5 +1,6 @@
 //! Tokens as they are kept.
-ghost use Rattle.std.specs.Prelude.{◌≡◌, ◌<◌, ◌++◌, ◌∷◌, [], All, IsUtf8, length, map, slice_index_or, IfOk, OnOk};
+ghost use Rattle.std.specs.Prelude.{◌≡◌, ◌<◌, ◌≤◌, ◌+◌, ◌++◌, ◌∷◌, [], All, IsAscii, IsOk, IsUtf8, length, map, slice_index_or, take, IfOk, OnOk};
+ghost use Rattle.std.specs.String.{string_bytes, string_capacity, string_len};
 ghost use Rattle.lic_phrases.specs.Spelling.{is_parted, spelled};
 ghost use Rattle.lic_phrases.specs.TokenTexts.{IsTokenText};
 ghost use Rattle.lic_phrases.specs.Waiting.{AreKnown, spanned_in};
@@ -64,6 +65,27 @@ fn is_parted(spelling: &str, text: &str) -> bool
         return is_parted_beyond_ascii(spelling, text);
     }
     is_word(*last as char) & is_word(*first as char)
+}
+
+/// So many bytes are copied at once.
+const COPIED: usize = 16;
+
+/// Adds a text with which these letters begin. Mostly it is short: a copy of a fixed length, of which the end is let go of, takes
+/// less time than one of its length.
+#[inline(always)]
+fn copy_text(spelling: &mut String, text: &str, letters: &str) -> Result<(), AllocError>
+    requires front { text.now ≡ take (length text.now) letters.now }
+    requires ascii { IsAscii letters.now }
+    ensures bytes { OnOk result (string_bytes spelling.new ≡ string_bytes spelling.old ++ text.now) }
+    ensures succeeds { string_len spelling.old + (length text.now + COPIED) ≤ string_capacity spelling.old → IsOk result }
+{
+    if text.len() > COPIED || letters.len() < COPIED {
+        return spelling.push_str(text);
+    }
+    let end = spelling.len() + text.len();
+    spelling.push_str(&letters[..COPIED])?;
+    spelling.truncate(end);
+    Ok(())
 }
 
 impl TokenList {
@@ -133,6 +155,39 @@ impl TokenList {
             self.spelling.push(' ')?;
         }
         self.spelling.push_str(text)?;
+        Ok(())
+    }
+
+    /// Adds a token with whose text these letters begin.
+    #[inline(always)]
+    pub(crate) fn push_front(
+        &mut self,
+        text: &str,
+        letters: &str,
+        start: u32,
+        end: u32,
+    ) -> Result<(), AllocError>
+        requires text { IsTokenText text.now }
+        requires front { text.now ≡ take (length text.now) letters.now }
+        requires ascii { IsAscii letters.now }
+        ensures { OnOk result (self.new
+            ≡ self.old ++ (record {
+              text = text.now;
+              span = record { start = start; end = end };
+            }) ∷ []) }
+    {
+        let blank = is_parted(self.spelling.as_str(), text);
+        // Memory for the text comes first: once an entry is added, nothing fails.
+        self.spelling.reserve(1 + (text.len() + COPIED))?;
+        self.entries.push(Entry {
+            text_end: self.spelling.len() + usize::from(blank) + text.len(),
+            start,
+            end,
+        })?;
+        if blank {
+            self.spelling.push(' ')?;
+        }
+        copy_text(&mut self.spelling, text, letters)?;
         Ok(())
     }
 

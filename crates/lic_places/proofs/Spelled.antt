@@ -116,7 +116,7 @@ text_begins text rest token is =
 pub text_ends : (text front : List ℕ) → IsTokenText text → text ≡ front ++ (0x20 ∷ []) → ⊥
 text_ends text front token is = true≢false (sym (token.blanks front [] is).1 ∙ empty_no_word)
 
--- and two blanks do not stand together in it
+-- and two blanks are not adjacent in it
 pub text_apart : (text front rest : List ℕ) → IsTokenText text → text ≡ front ++ (0x20 ∷ 0x20 ∷ rest) → ⊥
 text_apart text front rest token is =
     true≢false (sym (token.blanks front (0x20 ∷ rest) is).1 ∙ begins_no_word rest)
@@ -127,7 +127,7 @@ text_apart text front rest token is =
 abbrev pub BeginsNoBlank : List ℕ → Type 0
 BeginsNoBlank xs = (rest : List ℕ) → xs ≡ 0x20 ∷ rest → ⊥
 
--- two blanks stand nowhere together
+-- no two blanks are adjacent
 abbrev pub AreApart : List ℕ → Type 0
 AreApart [] = Unit {0}
 AreApart (c ∷ cs) = (c ≡ 0x20 → BeginsNoBlank cs) × AreApart cs
@@ -163,7 +163,7 @@ blank_if-apart : (b : Bool) (xs : List ℕ) → BeginsNoBlank xs → AreApart xs
 blank_if-apart true xs begins apart = (λ is. begins, apart)
 blank_if-apart false xs begins apart = apart
 
--- two blanks stand nowhere together in it
+-- no two blanks are adjacent in it
 pub spelled-apart : (texts : List (List ℕ)) → All IsTokenText texts → AreApart (spelled texts)
 spelled-apart [] all = tt
 spelled-apart (t ∷ []) all =

@@ -1,11 +1,11 @@
--- Where bytes stand in others: from one place up to the other.
+-- Where bytes occur in others: from one place up to the other.
 use Rattle.std.proofs.Common.{◌≡◌, ℕ, suc, ◌+◌, ◌-◌, ◌<◌, List, [], ◌∷◌, ◌++◌, length, get_or, take, drop, inl, inr, refl, sym, ap, ap₂, ◌∙◌, arith, append_assoc, length-append, eqb-true, IsTrue}
 use Rattle.std.proofs.lemmas.Bool.{cases_lt, eq-eqb}
 use Rattle.std.proofs.lemmas.List.{take-append-drop, take_at, drop_at, drop-drop, get_or-drop, get_or_past}
 use Rattle.std.proofs.Math.Seq.{drop-cons, take-add}
 use Rattle.lic_places.specs.Places.{Stands, is_blank_at}
 
--- what begins at the place begins with the bytes that stand there
+-- what begins at the place begins with the bytes that are there
 pub Stands-drop : (bytes : List ℕ) (p : ℕ) (text : List ℕ) (q : ℕ) → Stands bytes p text q
     → drop p bytes ≡ text ++ drop q bytes
 Stands-drop bytes p text q stands =
@@ -19,7 +19,7 @@ Stands-from bytes p text after q is from =
     let many : q - p ≡ length text = omega arith in
     (is, ap₂ take many from ∙ take_at text after (length text) refl)
 
--- nothing stands anywhere
+-- nothing occurs anywhere
 pub Stands-nil : (bytes : List ℕ) (p : ℕ) → Stands bytes p [] p
 Stands-nil bytes p = Stands-from bytes p [] (drop p bytes) p (omega arith) refl
 
@@ -52,7 +52,7 @@ Stands-among front text after =
     Stands-from (front ++ (text ++ after)) (length front) text after (length front + length text) refl
     (drop_at front (text ++ after) (length front) refl)
 
--- what ends at a place ends with the bytes that stand before it
+-- what ends at a place ends with the bytes that come before it
 pub Stands-take : (bytes : List ℕ) (p : ℕ) (text : List ℕ) (q : ℕ) → Stands bytes p text q
     → take q bytes ≡ take p bytes ++ text
 Stands-take bytes p text q stands =
@@ -75,7 +75,7 @@ is_inside bytes p some = elim (cases_lt p (length bytes)) [
   | inr past ↦ absurd (some (get_or_past bytes p 0 past))
 ]
 
--- a blank stands at a place
+-- a blank is at a place
 pub blank_stands : (bytes : List ℕ) (p : ℕ) → IsTrue (is_blank_at bytes p) → Stands bytes p (0x20 ∷ []) (suc p)
 blank_stands bytes p blank =
     let here : get_or bytes p 0 ≡ 0x20 = eqb-true (get_or bytes p 0) 0x20 blank in

@@ -1,4 +1,4 @@
--- The letters of a text with no blank at its edges are read exactly where its bytes stand.
+-- The letters of a text with no blank at its edges are read exactly where its bytes occur.
 use Rattle.std.proofs.Common.{◌≡◌, ℕ, suc, ◌+◌, ◌<◌, true, false, inl, inr, List, [], ◌∷◌, ◌++◌, length, get_or, take, drop, reverse, refl, sym, ap, ◌∙◌, subst, arith, append-nil, length-append, eqb-true, add-one, lit<, All, IsTrue}
 use Rattle.std.specs.Char.{IsScalar}
 use Rattle.std.specs.Str.{chars, IsUtf8}
@@ -33,7 +33,7 @@ encode-blank = encode_ascii blank (lit< tt)
 encode-some : (c : ℕ) → 0 < length (encode c)
 encode-some c = omega (arith, length-encode c, (len_utf8_bounds c).0)
 
--- where a letter stands whose first byte is a blank, it is a blank
+-- where a letter is whose first byte is a blank, it is a blank
 blank_letter : (bytes : List ℕ) (p c q : ℕ) → Stands bytes p (encode c) q → IsTrue (is_blank_at bytes p) → c ≡ blank
 blank_letter bytes p c q stands is = by_bytes (encode c) refl
   where
@@ -57,7 +57,7 @@ chars-some text utf8 some = by_chars (chars text) refl
     by_chars [] e = absurd (omega (arith, some, ap length (sym (encodes-chars text utf8) ∙ ap encodes e)))
     by_chars (c ∷ cs) e = omega arith
 
--- a text that stands before others begins as all do
+-- a text that comes before others begins as all do
 begins-front : (text after rest : List ℕ) (c : ℕ) → IsUtf8 text → 0 < length text → IsUtf8 (text ++ after)
     → text ++ after ≡ encode c ++ rest → begins_in_word text ≡ is_word c
 begins-front text after rest c utf8 some all is =
@@ -73,7 +73,7 @@ ends-append front text utf8 some =
     ap first_is_word (ap reverse (chars-append front text utf8) ∙ reverse-append (chars front) (chars text))
     ∙ first_of_front (reverse (chars text)) (reverse (chars front)) (omega (arith, length-reverse (chars text), some))
 
--- a text that stands after others ends as all do
+-- a text that comes after others ends as all do
 ends-after : (front text rest : List ℕ) (c : ℕ) → IsUtf8 front → IsUtf8 text → 0 < length text → IsScalar c
     → front ++ text ≡ rest ++ encode c → ends_in_word text ≡ is_word c
 ends-after front text rest c front_utf8 utf8 some is_scalar is =
@@ -129,7 +129,7 @@ letter_after texts i p d q within end joined utf8 some stands =
     (subst IsUtf8 from.1 (spelled-utf8 (drop (suc i) texts) (All-drop IsUtf8 (suc i) texts utf8)))
     (sym from.1 ∙ here)
 
--- where a token ends and no blank stands, the letters beside the place are not both of kind Word
+-- where a token ends and no blank is there, the letters beside the place are not both of kind Word
 pub token_end : (tokens : List TokenValue) (o c p d q : ℕ) → AreTexts tokens → IsTokenEnd tokens p → IsScalar c
     → IsTrue (is_word c) → IsTrue (is_word d) → Stands (spelling_of tokens) o (encode c) p
     → Stands (spelling_of tokens) p (encode d) q → (IsTrue (is_blank_at (spelling_of tokens) p) → ⊥) → ⊥
@@ -162,7 +162,7 @@ token_end tokens o c p d q are ends is_scalar first_word second_word first secon
 
 -- ---- blanks within a text
 
--- each blank stands between two letters of kind Word; `last` is the letter before
+-- each blank is between two letters of kind Word; `last` is the letter before
 abbrev AreBetween : ℕ → List ℕ → Type 0
 AreBetween last [] = Unit {0}
 AreBetween last (c ∷ cs) = (c ≡ blank → IsTrue (is_word last) × IsTrue (first_is_word cs)) × AreBetween c cs
@@ -221,7 +221,7 @@ module _ (text : List ℕ) (utf8 : IsUtf8 text) (piece : IsPieceText text)
         sym (ap first_is_word (chars-encodes rest (scalars-right front rest all))) ∙ beside.1,
       )
 
--- ---- what is read stands there
+-- ---- what is read is there
 
 -- the letter that is read first at a place where no gap leads over a blank
 first_read : (tokens : List TokenValue) (p q : ℕ) (cs : List ℕ) → IsTrue (first_is_word cs) → Reads tokens p cs q
@@ -297,7 +297,7 @@ text_stands tokens text p q are utf8 piece some start after reads =
     by_letters [] e reads = subst (λ r. Stands (spelling_of tokens) p [] r) reads (Stands-nil (spelling_of tokens) p)
     by_letters (c ∷ cs) e reads = by_first c cs e reads.0 reads.1 reads.2
 
--- ---- what stands there is read
+-- ---- what is there is read
 
 letters_read : (tokens : List TokenValue) (p q : ℕ) (cs : List ℕ) → scalars cs ≡ true
     → Stands (spelling_of tokens) p (encodes cs) q → Reads tokens p cs q

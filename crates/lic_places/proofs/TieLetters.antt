@@ -1,4 +1,4 @@
--- The letters inside one token, with their gaps, stand where its bytes do.
+-- The letters inside one token, with their gaps, are where its bytes do.
 use Rattle.std.proofs.Common.{◌≡◌, ◌≢◌, ℕ, suc, ◌+◌, ◌<◌, Bool, true, false, ◌==◌, ◌&&◌, List, [], ◌∷◌, ◌++◌, length, drop, reverse, encode_utf8_all, IsTrue, ne_eqb, refl, sym, ap, ap₂, ◌∙◌, subst, arith, append_assoc, append-nil, length-append}
 use Rattle.std.specs.Str.{all_scalars}
 use Rattle.std.specs.Char.{encode_utf8}
@@ -25,7 +25,7 @@ word-other c h same = let false_true : is_word blank ≡ true = subst (λ x. is_
 not_blank : (c : ℕ) → (c == blank) ≡ false → c ≢ blank
 not_blank c h same = let t : (c == blank) ≡ true = ap (λ x. x == blank) same in cc
 
--- each blank stands between two letters of kind Word
+-- each blank is between two letters of kind Word
 pub record AreWordsApart (whole : List ℕ) : Type 0 where
   pub apart : (front rest : List ℕ) → whole ≡ front ++ blank ∷ rest → IsTrue (first_is_word (reverse front)) × IsTrue (first_is_word rest)
 
@@ -41,12 +41,12 @@ gapped_from-token last t cs ts c b are other words =
     ∙ gapped_from-letter last true c (cs ++ row_of ts) (ne_eqb c blank other)
     ∙ ap (λ x. (gap_of true x, c) ∷ gapped_from c false (cs ++ row_of ts)) words
 
--- the letters of a token, whose text stands from one place up to another, and what follows it
+-- the letters of a token, whose text is from one place up to another, and what follows it
 module _ (tokens : List TokenValue) (whole : List ℕ) (apart : AreWordsApart whole) (start stop : ℕ)
     (inside : (p : ℕ) → start < p → p < stop → IsTokenEnd tokens p → ⊥) (after : List ℕ) (row : List ℕ) (e : ℕ)
     (go_on : (last : ℕ) → is_word last ≡ first_is_word (reverse whole) → (IsBehindBlank (spelling_of tokens) stop → ⊥)
     → StandGapped tokens stop (gapped_from last false row) e) where
-  -- from some place inside on these letters stand, after one that is no blank
+  -- from some place inside on these letters occur, after one that is no blank
   pub record IsAt (front : List ℕ) (last p : ℕ) (cs : List ℕ) : Type 0 where
     pub parts : whole ≡ front ++ cs
     pub last_is : first_is_word (reverse front) ≡ is_word last

@@ -1,4 +1,4 @@
--- What stands at a place of a text: letters and blanks by their bytes.
+-- What is at a place of a text: letters and blanks by their bytes.
 use Rattle.std.proofs.Common.{◌≡◌, ◌≢◌, ℕ, suc, ◌+◌, ◌-◌, ◌<◌, inl, inr, ◌==◌, List, [], ◌∷◌, ◌++◌, length, get_or, take, drop, IsTrue, refl, sym, ap, ◌∙◌, subst, arith, add-zero, add-one}
 use Rattle.std.specs.Prelude.{slice_range}
 use Rattle.std.specs.Char.{IsScalar, encode_utf8}
@@ -26,7 +26,7 @@ slice-on bytes front rest p is =
     let size : p + length front - p ≡ length front = omega arith in
     ap (λ n. take n (drop p bytes)) size ∙ ap (take (length front)) is ∙ take_at front rest (length front) refl
 
--- what stands at a place, with the bytes after it
+-- what is at a place, with the bytes after it
 Stands-on : (bytes text : List ℕ) (p q : ℕ) → Stands bytes p text q → drop p bytes ≡ text ++ drop (q - p) (drop p bytes)
 Stands-on bytes text p q stands =
     sym (take-append-drop (q - p) (drop p bytes)) ∙ ap (λ x. x ++ drop (q - p) (drop p bytes)) stands.1
@@ -54,12 +54,12 @@ not_within bytes rest p c k other is within blank_at =
 pub length-letter : (c : ℕ) → 0 < length (encode_utf8 c)
 length-letter c = omega (arith, length-encode c, (len_utf8_bounds c).0)
 
--- no blank stands where another letter begins
+-- no blank is where another letter begins
 pub not_at : (bytes rest : List ℕ) (p c : ℕ) → c ≢ blank → drop p bytes ≡ encode_utf8 c ++ rest → IsTrue (is_blank_at bytes p) → ⊥
 not_at bytes rest p c other is blank_at =
     not_within bytes rest p c 0 other is (length-letter c) (subst (λ x. IsTrue (is_blank_at bytes x)) (sym (add-zero p)) blank_at)
 
--- no blank stands before the place where another letter ends
+-- no blank comes before the place where another letter ends
 pub not_behind : (bytes rest : List ℕ) (p c : ℕ) → c ≢ blank → drop p bytes ≡ encode_utf8 c ++ rest
     → IsBehindBlank bytes (p + length (encode_utf8 c)) → ⊥
 not_behind bytes rest p c other is (k, next, blank_at) =
@@ -94,7 +94,7 @@ module _ (tokens : List TokenValue) where
   no_gap_inside p no_blank forward inside (inr (inl is)) = no_blank is
   no_gap_inside p no_blank forward inside (inr (inr is)) = inside is
 
-  -- no blank may stand before a letter inside a token
+  -- no blank may come before a letter inside a token
   pub is_shut_inside : (rest : List ℕ) (p c : ℕ) → c ≢ blank → drop p (spelling_of tokens) ≡ encode_utf8 c ++ rest
       → 0 < p → (IsTokenEnd tokens p → ⊥) → IsShut tokens p
   is_shut_inside rest p c other is forward inside =
@@ -109,7 +109,7 @@ module _ (tokens : List TokenValue) where
   only_stays p q no_blank (over is) = absurd (no_blank is)
   only_stays p q no_blank (stays not_behind gap) = refl
 
-  -- blanks may stand at the end of a token before a letter
+  -- blanks may be at the end of a token before a letter
   pub is_free_before : (rest : List ℕ) (p c : ℕ) → c ≢ blank → drop p (spelling_of tokens) ≡ encode_utf8 c ++ rest
       → (IsBehindBlank (spelling_of tokens) p → ⊥) → HasGap tokens p → IsFree tokens p
   is_free_before rest p c other is no_blank gap = record {

@@ -22,7 +22,7 @@ use Rattle.lic_places.proofs.TieTokens.{token_stands, tokens_stand, gap_before, 
 
 -- ---- the gap before a range
 
--- letters between two places, after a gap at which blanks may stand or have to
+-- letters between two places, after a gap at which blanks may be or have to
 module _ (tokens : List TokenValue) (c : ℕ) (gaps : List (Gap × ℕ)) (r s e : ℕ) (letter : HasLetter tokens r c s)
     (later : StandGapped tokens s gaps e) (w : Word) where
   -- if the word may have any number of blanks, it is read from before the gap, or from after it
@@ -71,7 +71,7 @@ module _ (tokens : List TokenValue) (first e : ℕ) (w : Word) where
 -- ---- the range
 
 module _ (tokens : List TokenValue) (known : AreTexts tokens) where
-  -- the gap before a token, at which blanks may stand or have to
+  -- the gap before a token, at which blanks may be or have to
   first_gap : (i c : ℕ) (cs : List ℕ) → i < length tokens → c ≢ blank → chars (text_at tokens i) ≡ c ∷ cs
       → (b : Bool) × (p : ℕ) × StandsGap tokens p (gap_of true b) (place_start tokens i)
   first_gap zero c cs h other are =

@@ -1,4 +1,4 @@
--- Letters with gaps that stand between two places of a text, and the words that are read there.
+-- Letters with gaps that are between two places of a text, and the words that are read there.
 use Rattle.std.proofs.Common.{◌≡◌, ◌≢◌, ℕ, zero, suc, ◌≤◌, ◌<◌, ◌⊎◌, inl, inr, List, [], ◌∷◌, ◌++◌, IsTrue, refl, sym, ap, ◌∙◌, subst, arith}
 use Rattle.std.specs.Char.{IsScalar, encode_utf8}
 use Rattle.std.proofs.lemmas.Str.{length-encode, len_utf8_bounds}
@@ -8,9 +8,9 @@ use Rattle.lic_norm.specs.Tokens.{TokenValue}
 use Rattle.lic_places.specs.Places.{IsBehindBlank, OverBlank, over, stays, Stands, is_blank_at, spelling_of}
 use Rattle.lic_places.specs.Reads.{Takes, Reads}
 
--- ---- what stands between places
+-- ---- what is between places
 
--- a letter stands between two places, and no other begins at the first of them
+-- a letter is between two places, and no other begins at the first of them
 pub record HasLetter (tokens : List TokenValue) (p c q : ℕ) : Type 0 where
   pub other : c ≢ blank
   pub scalar : IsScalar c
@@ -26,7 +26,7 @@ pub record IsFree (tokens : List TokenValue) (p : ℕ) : Type 0 where
   pub stay : OverBlank tokens p p
   pub only : (q : ℕ) → OverBlank tokens p q → q ≡ p
 
--- a blank stands between two places, and some blank of a word has to lead over it
+-- a blank is between two places, and some blank of a word has to lead over it
 pub record IsNeeded (tokens : List TokenValue) (p r : ℕ) : Type 0 where
   pub stay : OverBlank tokens p p
   pub is_blank : IsTrue (is_blank_at (spelling_of tokens) p)
@@ -34,19 +34,19 @@ pub record IsNeeded (tokens : List TokenValue) (p r : ℕ) : Type 0 where
   pub shut : IsShut tokens r
   pub no_letter : (d q : ℕ) → d ≢ blank → IsScalar d → Stands (spelling_of tokens) p (encode_utf8 d) q → ⊥
 
--- a gap stands between two places
+-- a gap is between two places
 abbrev pub StandsGap : List TokenValue → ℕ → Gap → ℕ → Type 0
 StandsGap tokens p no_gap r = (p ≡ r) × IsShut tokens p
 StandsGap tokens p free r = (p ≡ r) × IsFree tokens p
 StandsGap tokens p needed r = IsNeeded tokens p r
 
--- letters, each with the gap before it, stand between two places, and blanks may follow
+-- letters, each with the gap before it, are between two places, and blanks may follow
 abbrev pub StandGapped : List TokenValue → ℕ → List (Gap × ℕ) → ℕ → Type 0
 StandGapped tokens p [] e = (p ≡ e) × OverBlank tokens p p
 StandGapped tokens p (x ∷ gaps) e =
     (r s : ℕ) × StandsGap tokens p x.0 r × HasLetter tokens r x.1 s × StandGapped tokens s gaps e
 
--- ---- reading goes on
+-- ---- reading continues
 
 OverBlank-order : (tokens : List TokenValue) (p q : ℕ) → OverBlank tokens p q → p ≤ q
 OverBlank-order tokens p q (over is) = omega arith
@@ -57,7 +57,7 @@ OverBlank-either : (tokens : List TokenValue) (p q : ℕ) → OverBlank tokens p
 OverBlank-either tokens p q (over is) = inr refl
 OverBlank-either tokens p q (stays not_behind gap) = inl refl
 
--- a blank that leads to the place where it stands leaves it there
+-- a blank that leads to the place where it is leaves it there
 OverBlank-back : (tokens : List TokenValue) (p q : ℕ) → OverBlank tokens p q → q ≤ p → q ≡ p
 OverBlank-back tokens p q leads order = let far = OverBlank-order tokens p q leads in omega arith
 
@@ -89,13 +89,13 @@ StandGapped-order tokens p (x ∷ gaps) e (r, s, gap, letter, later) =
     let farther = StandGapped-order tokens s gaps e later in
     omega arith
 
--- blanks may stand after the last letter
+-- blanks may come after the last letter
 pub StandGapped-end : (tokens : List TokenValue) (p : ℕ) (gaps : List (Gap × ℕ)) (e : ℕ) → StandGapped tokens p gaps e
     → OverBlank tokens e e
 StandGapped-end tokens p [] e (same, stay) = subst (λ x. OverBlank tokens x x) same stay
 StandGapped-end tokens p (x ∷ gaps) e (r, s, gap, letter, later) = StandGapped-end tokens s gaps e later
 
--- a blank that stays does not stand right after another
+-- a blank that stays does not come right after another
 not_behind_over : (tokens : List TokenValue) (p q : ℕ) → OverBlank tokens p q → q ≡ p → IsBehindBlank (spelling_of tokens) p → ⊥
 not_behind_over tokens p q (over is) same blank_before = omega arith
 not_behind_over tokens p q (stays not_behind gap) same blank_before = not_behind blank_before

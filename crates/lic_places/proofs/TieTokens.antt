@@ -1,4 +1,4 @@
--- The letters of tokens, with their gaps, stand where the texts of the tokens do.
+-- The letters of tokens, with their gaps, are where the texts of the tokens do.
 use Rattle.std.proofs.Common.{◌≡◌, ◌≢◌, ℕ, zero, suc, ◌+◌, ◌<◌, inr, Bool, true, false, ◌&&◌, List, [], ◌∷◌, ◌++◌, length, take, drop, map, reverse, encode_utf8_all, IsTrue, refl, sym, ap, ap₂, ◌∙◌, subst, arith, append_assoc, length-append, add-zero}
 use Rattle.std.specs.Char.{encode_utf8}
 use Rattle.std.specs.Str.{IsUtf8, all_scalars, chars}
@@ -61,7 +61,7 @@ first_other text cs c utf8 token is same =
 pub text_written : (text cs : List ℕ) (c : ℕ) → IsUtf8 text → chars text ≡ c ∷ cs → text ≡ encode_utf8 c ++ encode_utf8_all cs
 text_written text cs c utf8 is = sym (encodes-chars text utf8) ∙ ap encode_utf8_all is
 
--- a row stands where the gap before its first token does, and the letters of the token and of the others
+-- a row is where the gap before its first token does, and the letters of the token and of the others
 row_stands : (tokens : List TokenValue) (p e last : ℕ) (t cs : List ℕ) (ts : List (List ℕ)) (c : ℕ) (b : Bool) (r s : ℕ) → t ≡ c ∷ cs
     → is_word last && is_word c ≡ b → StandsGap tokens p (gap_of true b) r → HasLetter tokens r c s
     → StandGapped tokens s (gapped_from c false (cs ++ row_of ts)) e → StandGapped tokens p (gapped_from last false (row_of (t ∷ ts))) e

@@ -1,4 +1,4 @@
--- Where the texts of tokens stand in the canonical spelling.
+-- Where the texts of tokens are in the canonical spelling.
 use Rattle.std.proofs.Common.{◌≡◌, ℕ, suc, ◌+◌, ◌-◌, ◌<◌, ◌≤◌, true, false, ◌⊎◌, inl, inr, List, [], ◌∷◌, ◌++◌, length, get_or, take, drop, refl, sym, ap, ◌∙◌, subst, arith, length-append, eqb-true, All, IsTrue}
 use Rattle.std.specs.Str.{IsUtf8}
 use Rattle.std.proofs.lemmas.Bool.{cases_Bool, false_from_ne_true, true≢false}

@@ -1,4 +1,4 @@
--- Which words spell what stands between two places.
+-- Which words spell what is between two places.
 use Rattle.std.specs.Prelude.{◌≡◌, ◌⊎◌, ℕ, suc, List, [], ◌∷◌}
 use Rattle.std.specs.Char.{IsScalar, encode_utf8}
 use Rattle.lic_words.specs.Words.{Word, blank}
@@ -6,13 +6,13 @@ use Rattle.lic_norm.specs.Tokens.{TokenValue}
 use Rattle.lic_norm.specs.Places.{place_start, place_end}
 use Rattle.lic_places.specs.Places.{IsBehindBlank, OverBlank, Stands, spelling_of}
 
--- a letter stands between two places, or a blank leads from the one to the other
+-- a letter is between two places, or a blank leads from the one to the other
 abbrev pub Takes : List TokenValue → ℕ → ℕ → ℕ → Type 0
 Takes tokens p c q =
     ((c ≡ blank) × OverBlank tokens p q)
     ⊎ (¬ (c ≡ blank) × IsScalar c × Stands (spelling_of tokens) p (encode_utf8 c) q)
 
--- the word spells what stands from one place up to the other
+-- the word spells what is from one place up to the other
 abbrev pub Reads : List TokenValue → ℕ → Word → ℕ → Type 0
 Reads tokens p [] q = p ≡ q
 Reads tokens p (c ∷ w) q = (r : ℕ) × Takes tokens p c r × Reads tokens r w q

@@ -1,15 +1,15 @@
--- The first so many of a list, one at a time.
+-- The first n of a list, one at a time.
 use Rattle.std.proofs.Common.{◌≡◌, ◌≢◌, ℕ, ◌-◌, List, [], ◌∷◌, take, Option, None, Some, refl, ◌∙◌, ap, arith, zero, suc}
 use Rattle.std.specs.Prelude.{MatchOption}
 use Rattle.std.proofs.Math.Seq.{take-nil}
 use Rattle.lic_report.specs.Report.{first_of}
 
--- the first so many of a list that is not empty
+-- the first n of a list that is not empty
 take-step : {X : Type 0} (n : ℕ) (x : X) (xs : List X) → n ≢ 0 → take n (x ∷ xs) ≡ x ∷ take (n - 1) xs
 take-step zero x xs h = absurd (h refl)
 take-step (suc n) x xs h = let e : n ≡ suc n - 1 = omega arith in ap (λ k. x ∷ take k xs) e
 
--- the first so many, one at a time
+-- the first n, one at a time
 pub limited_step : {X : Type 0} (r : Option X) (left : Option ℕ) (n : ℕ) (xs ys : List X) → left ≡ Some n → n ≢ 0
     → MatchOption r ((xs ≡ []) × (ys ≡ [])) (λ x. xs ≡ x ∷ ys)
     → MatchOption r ((first_of left xs ≡ []) × (take (n - 1) ys ≡ [])) (λ x. first_of left xs ≡ x ∷ take (n - 1) ys)

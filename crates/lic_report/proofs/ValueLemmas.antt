@@ -17,7 +17,7 @@ use Rattle.lic_report.specs.Report.{match_line, no_token, value_line, valued_lin
 
 -- ---- spans
 
--- a later token ends behind this place
+-- a later token ends after this place
 rising_from : (from : ℕ) (tokens : List TokenValue) (j : ℕ) → AreRising from tokens → j < length tokens → from ≤ (get_or tokens j no_token).span.end
 rising_from from [] j r h = absurd (omega arith)
 rising_from from (t ∷ ts) zero r h = let a = r.0 in let b = r.1 in omega arith

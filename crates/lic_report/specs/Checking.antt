@@ -18,7 +18,7 @@ abbrev pub DescribesItsOriginal : LineRules → List Phrase → Known → Type 0
 DescribesItsOriginal rules words known =
     IsDescribed (words_of known) (all_letters (tokens_of rules words known.template.original))
 
--- a template, and what is said of it
+-- a template, and the verdict on it
 pub record Checked : Type 0 where
   pub known : Known
   pub yes : Bool
@@ -29,7 +29,7 @@ known_of c = c.known
 abbrev pub says_yes : Checked → Bool
 says_yes c = c.yes
 
--- yes is said of a template that describes its original text, and of no other
+-- the verdict yes is given to a template that describes its original text, and of no other
 abbrev pub IsVerdict : LineRules → List Phrase → Checked → Type 0
 IsVerdict rules words c = IsTrue c.yes ↔ DescribesItsOriginal rules words c.known
 

@@ -4,7 +4,7 @@ pub mod Merging
 pub mod Found
 pub mod Wanted
 pub mod Assigners
-pub mod Fronts
+pub mod Prefixes
 pub use Rattle.lic_vars.specs.Values
 pub use Rattle.lic_vars.specs.Views
 pub use Rattle.lic_filters.specs.Filters

@@ -22,8 +22,8 @@ no_token = record { text = []; span = record { start = 0; end = 0 } }
 -- ---- matches
 
 -- what the lines of a template's matches begin with: the file's name and the template's identifier
-abbrev pub match_front : List ℕ → List Known → ℕ → List ℕ
-match_front name set k = field (escaped name) 0x09 ++ field (escaped (slice_index_or set k no_known).id) 0x09
+abbrev pub match_prefix : List ℕ → List Known → ℕ → List ℕ
+match_prefix name set k = field (escaped name) 0x09 ++ field (escaped (slice_index_or set k no_known).id) 0x09
 
 -- the line of a match: the file's name, the template's identifier, the numbers of its first and last token,
 -- the first byte of the one and the end of the other
@@ -34,7 +34,7 @@ match_line name set tokens t =
     ++ (field (decimal (slice_index_or tokens t.first no_token).span.start) 0x09
     ++ field (decimal (slice_index_or tokens t.last no_token).span.end) 0x0A))))
 
--- the first so many, or all
+-- the first n, or all
 abbrev pub first_of : {A : Type 0} → Option ℕ → List A → List A
 first_of None xs = xs
 first_of (Some limit) xs = take limit xs
@@ -55,7 +55,7 @@ place_fields source (Some span) =
     field (decimal span.start) 0x09 ++ (field (decimal span.end) 0x09
     ++ field (escaped (slice_range source span.start span.end)) 0x0A)
 
--- the line of a variable: an empty field, its name, and the bytes of the source that it stood for
+-- the line of a variable: an empty field, its name, and the bytes of the source that it matched
 abbrev pub value_line : List ℕ → Assigned → List ℕ
 value_line source v = field [] 0x09 ++ (field (escaped v.name) 0x09 ++ place_fields source v.span)
 
@@ -71,7 +71,7 @@ triple_of m = m.triple
 abbrev pub HasItsValues : List Known → List TokenValue → Valued → Type 0
 HasItsValues set tokens m = AreValues set tokens m.triple m.values
 
--- the line of a match, and those of its variables behind it
+-- the line of a match, and those of its variables after it
 abbrev pub valued_lines : List ℕ → List Known → List ℕ → List TokenValue → Valued → List ℕ
 valued_lines name set source tokens m = match_line name set tokens m.triple ++ flat_map (value_line source) m.values
 
@@ -87,7 +87,7 @@ pub record AreOuterLines (name : List ℕ) (set : List Known) (source : List ℕ
 
 -- ---- reports
 
--- All matches from behind a triple and up to a limit, or the outer ones of all matches.
+-- All matches from after a triple and up to a limit, or the outer ones of all matches.
 abbrev pub AreLines : Bool → List ℕ → List Known → Ask → List ℕ → List TokenValue → List ℕ → Type 0
 AreLines true name set ask source tokens written = AreAllLines name set ask tokens written
 AreLines false name set ask source tokens written = AreOuterLines name set source tokens written

@@ -9,7 +9,7 @@ ghost use Rattle.lic_report.specs.Found.{found_in};
 ghost use Rattle.lic_report.specs.Merging.{comes_first as is_first};
 
 use lic_bundles::triples::Triples;
-use lic_find::finder::Finder;
+use lic_find::Finder;
 use lic_find::laws::matches_are_one_list;
 use lic_norm::text::Text;
 use lic_search::all_matches;

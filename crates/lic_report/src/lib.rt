@@ -1,11 +1,19 @@
 //! What a report is: the matches that are asked for, and the lines that are written about them.
 #![tactic(auto)]
 
-pub mod all_matches;
-pub mod assigners;
+mod all_matches;
+mod assigners;
 pub mod laws;
-pub mod lines;
-pub mod match_lines;
-pub mod outer;
-pub mod valued_lines;
-pub mod wanted;
+mod lines;
+mod match_lines;
+mod outer;
+mod valued_lines;
+mod wanted;
+
+pub use all_matches::AllMatches;
+pub use assigners::Assigners;
+pub use lines::{add_checked, add_file, add_token, add_value};
+pub use match_lines::MatchLines;
+pub use outer::outer_matches;
+pub use valued_lines::ValuedLines;
+pub use wanted::Wanted;

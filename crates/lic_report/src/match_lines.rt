@@ -2,7 +2,7 @@
 
 ghost use Rattle.std.specs.Prelude.{◌≡◌, ◌++◌, IfOk, OnOk};
 ghost use Rattle.std.specs.List.{slice_index_or};
-ghost use Rattle.lic_report.specs.Report.{match_front, match_line, no_known, no_token};
+ghost use Rattle.lic_report.specs.Report.{match_prefix, match_line, no_known, no_token};
 
 use crate::lines::add_file;
 use lic_fields::{add_last_numbers, add_text};
@@ -21,14 +21,14 @@ pub struct MatchLines<'a> {
     name: &'a str,
     set: &'a Set,
     // by the numbers of their templates
-    fronts: HashMap<usize, Vec<u8>>,
+    prefixes: HashMap<usize, Vec<u8>>,
 }
 
 impl<'a> Model for MatchLines<'a> {
     ghost use Rattle.std.specs.Prelude.{List, ℕ};
     ghost use Rattle.std.specs.Coded.{codes};
     ghost use Rattle.lic_markup.specs.contracts.part.Part as e;
-    ghost use Rattle.lic_report.specs.Fronts.{AreFronts, Named};
+    ghost use Rattle.lic_report.specs.Prefixes.{ArePrefixes, Named};
 
     ghost Value = { Named };
 
@@ -36,7 +36,7 @@ impl<'a> Model for MatchLines<'a> {
 
     ghost view = { λ lines. record { name = lines.name.now; set = lines.set.now } };
 
-    ghost invariant = { λ lines. AreFronts (λ front. front.items) lines.name.now lines.set.now lines.fronts };
+    ghost invariant = { λ lines. ArePrefixes (λ front. front.items) lines.name.now lines.set.now lines.prefixes };
 }
 
 impl<'a> MatchLines<'a> {
@@ -47,7 +47,7 @@ impl<'a> MatchLines<'a> {
         MatchLines {
             name,
             set,
-            fronts: HashMap::new(alloc),
+            prefixes: HashMap::new(alloc),
         }
     }
 
@@ -64,32 +64,32 @@ impl<'a> MatchLines<'a> {
         ensures line { OnOk result (lines.new.items
             ≡ lines.old.items ++ match_line self.old.name self.old.set text.now.tokens triple) }
     {
-        self.add_front(alloc, lines, triple.template)?;
+        self.add_prefix(alloc, lines, triple.template)?;
         let start = span_at(text, triple.first).start as u64;
         let end = span_at(text, triple.last).end as u64;
         add_last_numbers(lines, triple.first as u64, triple.last as u64, start, end)
     }
 
     /// Adds what the lines of a template begin with.
-    fn add_front(&mut self, alloc: Global, lines: &mut Vec<u8>, k: usize) -> Result<(), AllocError>
+    fn add_prefix(&mut self, alloc: Global, lines: &mut Vec<u8>, k: usize) -> Result<(), AllocError>
         ensures of { self.new ≡ self.old }
-        ensures front { OnOk result (lines.new.items
-            ≡ lines.old.items ++ match_front self.old.name self.old.set k) }
+        ensures prefix { OnOk result (lines.new.items
+            ≡ lines.old.items ++ match_prefix self.old.name self.old.set k) }
     {
-        if let Some(front) = self.fronts.get(&k) {
+        if let Some(front) = self.prefixes.get(&k) {
             return lines.extend_from_slice(front);
         }
-        let front = front_of(alloc, self.name, self.set, k)?;
+        let front = prefix_of(alloc, self.name, self.set, k)?;
         lines.extend_from_slice(&front)?;
-        self.fronts.insert(k, front)?;
+        self.prefixes.insert(k, front)?;
         Ok(())
     }
 }
 
 /// What the lines of a template begin with: the fields of the file's name and of its identifier.
 #[inline(never)]
-fn front_of(alloc: Global, name: &str, set: &Set, k: usize) -> Result<Vec<u8>, AllocError>
-    ensures { IfOk result (λ front. front.items ≡ match_front name.now set.now k) }
+fn prefix_of(alloc: Global, name: &str, set: &Set, k: usize) -> Result<Vec<u8>, AllocError>
+    ensures { IfOk result (λ front. front.items ≡ match_prefix name.now set.now k) }
 {
     let mut front = Vec::new(alloc);
     add_file(&mut front, name)?;

@@ -32,7 +32,7 @@ impl<'a> Model for ValuedLines<'a> {
     ghost use Rattle.std.specs.Prelude.{◌≡◌};
     ghost use Rattle.std.specs.Coded.{codes};
     ghost use Rattle.lic_markup.specs.contracts.part.Part as e;
-    ghost use Rattle.lic_report.specs.Fronts.{Named};
+    ghost use Rattle.lic_report.specs.Prefixes.{Named};
 
     ghost Value = { Named };
 

@@ -7,7 +7,7 @@ ghost use Rattle.lic_report.specs.Report.{first_of};
 ghost use Rattle.lic_report.specs.Wanted.{wanted_of};
 
 use crate::all_matches::AllMatches;
-use lic_find::ask::Ask;
+use lic_find::Ask;
 use lic_norm::text::Text;
 use lic_set::set::Set;
 use lic_set::triple::Triple;

@@ -8,7 +8,7 @@ use Rattle.std.specs.List.{slice_range}
 use borrow.Rule.Slice.PartMut.{put_mid}
 use Rattle.lic_rows.specs.Bits.{has}
 
--- a bit of a row whose words stand in another from `first` on
+-- a bit of a row whose words are in another from `first` on
 bit_of : (xs ys : List ℕ) (first b : ℕ) → first * 64 ≤ b → get_or xs (b / 64 - first) 0 ≡ get_or ys (b / 64) 0 → has xs (b - first * 64) ≡ has ys b
 bit_of xs ys first b low e =
     let word : (b - first * 64) / 64 ≡ b / 64 - first = omega arith in

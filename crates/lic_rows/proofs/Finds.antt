@@ -9,7 +9,7 @@ use Rattle.lic_rows.specs.Bits.{has}
 use Rattle.lic_rows.proofs.Sets.{some_bit}
 
 -- The search has come to the word at `at`: of the bits of the range before it none is wanted, and of its own the
--- word has those that are wanted and stand in the range or after.
+-- word has those that are wanted and are in the range or after.
 pub record Looks (wanted : ℕ → Bool) (from to at word : ℕ) : Type 0 where
   pub begun : from / 64 ≤ at
   pub within : at ≤ to / 64
@@ -86,7 +86,7 @@ module _ (wanted : ℕ → Bool) (from to : ℕ) (order : from ≤ to) where
 -- ---- from the last word to the first
 
 -- The search has come down to the word at `at`: of the bits of the range after it none is wanted, and of its own the
--- word has those that are wanted and stand in the range or before.
+-- word has those that are wanted and are in the range or before.
 pub record LooksDown (wanted : ℕ → Bool) (from to at word : ℕ) : Type 0 where
   pub within : at ≤ to / 64
   pub fits : word < 2 ^ 64
@@ -94,7 +94,7 @@ pub record LooksDown (wanted : ℕ → Bool) (from to at word : ℕ) : Type 0 wh
   pub outside : (i : ℕ) → i < 64 → to ≤ at * 64 + i → bit_at word i ≡ 0
   pub inside : (i : ℕ) → i < 64 → at * 64 + i < to → (bit_at word i == 1) ≡ wanted (at * 64 + i)
 
--- what stands above the highest bit, and that bit
+-- what is above the highest bit, and that bit
 quotient_one : (word j : ℕ) → 2 ^ j ≤ word → word < 2 ^ suc j → word / 2 ^ j ≡ 1
 quotient_one word j low high =
     let rest : 1 * 2 ^ j + (word - 2 ^ j) ≡ word = omega arith in

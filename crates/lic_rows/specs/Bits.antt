@@ -7,7 +7,7 @@ use Rattle.std.specs.List.{range_with_len}
 abbrev pub has : List ℕ → ℕ → Bool
 has row b = bit_at (slice_index row (b / 64)) (b % 64) == 1
 
--- the first so many bits of a row of words, as a list of flags
+-- the first n bits of a row of words, as a list of flags
 abbrev pub flags : ℕ → List ℕ → List Bool
 flags n words = map (λ b. has words b) (range_with_len 0 n)
 

@@ -71,7 +71,7 @@ impl Bits {
     #[inline]
     fn next_set(&self, from: usize, to: usize) -> Option<usize>
         requires order { from ≤ to }
-        requires room { to ≤ length self.now }
+        requires within { to ≤ length self.now }
         ensures found { IfSome result (λ at. (from ≤ at) × (at < to) × (flag_at self.now at ≡ true)
             × ((k : ℕ) → from ≤ k → k < at → flag_at self.now k ≡ false)) }
         ensures none { IfNone result ((k : ℕ) → from ≤ k → k < to → flag_at self.now k ≡ false) }
@@ -83,7 +83,7 @@ impl Bits {
     #[inline]
     pub fn last_set(&self, from: usize, to: usize) -> Option<usize>
         requires order { from ≤ to }
-        requires room { to ≤ length self.now }
+        requires within { to ≤ length self.now }
         ensures found { IfSome result (λ at. (from ≤ at) × (at < to) × (flag_at self.now at ≡ true)
             × ((k : ℕ) → at < k → k < to → flag_at self.now k ≡ false)) }
         ensures none { IfNone result ((k : ℕ) → from ≤ k → k < to → flag_at self.now k ≡ false) }
@@ -95,7 +95,7 @@ impl Bits {
     #[inline]
     pub fn is_any_set(&self, from: usize, to: usize) -> bool
         requires order { from ≤ to }
-        requires room { to ≤ length self.now }
+        requires within { to ≤ length self.now }
         ensures { IsTrue result ↔ ((k : ℕ) × (from ≤ k) × (k < to) × (flag_at self.now k ≡ true)) }
     {
         self.next_set(from, to).is_some()
@@ -105,7 +105,7 @@ impl Bits {
     #[inline]
     pub fn clear(&mut self, from: usize, to: usize)
         requires order { from ≤ to }
-        requires room { to ≤ length self.old }
+        requires within { to ≤ length self.old }
         ensures len { length self.new ≡ length self.old }
         ensures kept { IsKeptOutside from to (flag_at self.old) (flag_at self.new) }
         ensures inside { (k : ℕ) → from ≤ k → k < to → flag_at self.new k ≡ false }
@@ -141,7 +141,7 @@ impl Bits {
     #[inline]
     pub fn move_up(&mut self, from: usize, to: usize, is_set: bool)
         requires order { from < to }
-        requires room { to ≤ length self.old }
+        requires within { to ≤ length self.old }
         ensures len { length self.new ≡ length self.old }
         ensures kept { IsKeptOutside from to (flag_at self.old) (flag_at self.new) }
         ensures first { flag_at self.new from ≡ is_set }

@@ -7,8 +7,8 @@ use std::simd::prelude::*;
 /// The four words from `at` on become their bitwise or with the other row's.
 #[inline(always)]
 pub fn or_four(into: &mut [u64], from: &[u64], at: usize)
-    requires room { at + 4 ≤ length into.old }
-    requires from_room { at + 4 ≤ length from.now }
+    requires within { at + 4 ≤ length into.old }
+    requires from_within { at + 4 ≤ length from.now }
     ensures below { (k : ℕ) → k < at → slice_index into.new k ≡ slice_index into.old k }
     ensures here { (k : ℕ) → at ≤ k → k < at + 4
         → slice_index into.new k ≡ bit_or (slice_index into.old k) (slice_index from.now k) }
@@ -22,8 +22,8 @@ pub fn or_four(into: &mut [u64], from: &[u64], at: usize)
 /// The four words from `at` on become their bitwise and with the other row's.
 #[inline(always)]
 pub fn and_four(into: &mut [u64], from: &[u64], at: usize)
-    requires room { at + 4 ≤ length into.old }
-    requires from_room { at + 4 ≤ length from.now }
+    requires within { at + 4 ≤ length into.old }
+    requires from_within { at + 4 ≤ length from.now }
     ensures below { (k : ℕ) → k < at → slice_index into.new k ≡ slice_index into.old k }
     ensures here { (k : ℕ) → at ≤ k → k < at + 4
         → slice_index into.new k ≡ bit_and (slice_index into.old k) (slice_index from.now k) }
@@ -38,7 +38,7 @@ pub fn and_four(into: &mut [u64], from: &[u64], at: usize)
 #[inline(always)]
 pub fn shift_four(row: &mut [u64], at: usize)
     requires low { 1 ≤ at }
-    requires room { at + 4 ≤ length row.old }
+    requires within { at + 4 ≤ length row.old }
     ensures below { (k : ℕ) → k < at → slice_index row.new k ≡ slice_index row.old k }
     ensures here { (k : ℕ) → at ≤ k → k < at + 4
         → slice_index row.new k
@@ -55,7 +55,7 @@ pub fn shift_four(row: &mut [u64], at: usize)
 /// Whether the four words from `at` on are zero.
 #[inline(always)]
 pub fn four_are_zero(row: &[u64], at: usize) -> bool
-    requires room { at + 4 ≤ length row.now }
+    requires within { at + 4 ≤ length row.now }
     ensures zero { result ≡ true → (k : ℕ) → at ≤ k → k < at + 4 → slice_index row.now k ≡ 0 }
     ensures some { result ≡ false
         → (k : ℕ) × (at ≤ k) × (k < at + 4) × (0 < slice_index row.now k) }

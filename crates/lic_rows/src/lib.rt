@@ -6,7 +6,7 @@
 ghost use Rattle.std.specs.Prelude.{◌≡◌, ℕ, suc, ◌*◌, ◌≤◌, ◌↔◌, ◌&&◌, ◌||◌, nat_lt, IsTrue, true, false, length};
 ghost use Rattle.lic_rows.specs.Bits.{has};
 
-pub mod bits;
+mod bits;
 mod lanes;
 mod range;
 mod word;
@@ -14,6 +14,7 @@ mod words;
 
 use crate::lanes::{and_four, or_four};
 use crate::words::{are_zero_from, clear_from, shift_words};
+pub use bits::Bits;
 
 /// Sets in `into` each bit that is set in `from`. Both rows have the same number of words.
 pub fn or_into(into: &mut [u64], from: &[u64])

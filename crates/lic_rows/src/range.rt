@@ -30,7 +30,7 @@ pub fn put(row: &mut [u64], at: usize, is_set: bool)
 // Puts back what the words at the ends of the range, which were `low` and `high`, had outside of it.
 fn put_back(row: &mut [u64], from: usize, to: usize, low: u64, high: u64)
     requires order { from ≤ to }
-    requires room { to / 64 < length row.old }
+    requires within { to / 64 < length row.old }
     ensures inside { (b : ℕ) → from ≤ b → b < to → has row.new b ≡ has row.old b }
     ensures kept { (whole : List ℕ) → low ≡ slice_index whole (from / 64)
         → high ≡ slice_index whole (to / 64)
@@ -47,7 +47,7 @@ fn put_back(row: &mut [u64], from: usize, to: usize, low: u64, high: u64)
 fn put_part(row: &mut [u64], from: usize, to: usize, word: u64)
     requires order { from ≤ to }
     requires one { from / 64 ≡ to / 64 }
-    requires room { to / 64 < length row.old }
+    requires within { to / 64 < length row.old }
     ensures kept { IsKeptOutside from to (has row.old) (has row.new) }
     ensures inside { (b : ℕ) → from ≤ b → b < to → has row.new b ≡ (bit_at word (b % 64) == 1) }
 {
@@ -59,7 +59,7 @@ fn put_part(row: &mut [u64], from: usize, to: usize, word: u64)
 #[inline]
 pub fn clear(row: &mut [u64], from: usize, to: usize)
     requires order { from ≤ to }
-    requires room { to / 64 < length row.old }
+    requires within { to / 64 < length row.old }
     ensures kept { IsKeptOutside from to (has row.old) (has row.new) }
     ensures inside { (b : ℕ) → from ≤ b → b < to → has row.new b ≡ false }
 {
@@ -73,7 +73,7 @@ pub fn clear(row: &mut [u64], from: usize, to: usize)
 // The same where it ends in a later word.
 fn clear_words(row: &mut [u64], from: usize, to: usize)
     requires order { from ≤ to }
-    requires room { to / 64 < length row.old }
+    requires within { to / 64 < length row.old }
     ensures kept { IsKeptOutside from to (has row.old) (has row.new) }
     ensures inside { (b : ℕ) → from ≤ b → b < to → has row.new b ≡ false }
 {
@@ -83,11 +83,11 @@ fn clear_words(row: &mut [u64], from: usize, to: usize)
     put_back(row, from, to, low, high);
 }
 
-/// Moves each bit of the range to the next number. The one at its front is then clear or set, and the last is lost.
+/// Moves each bit of the range to the next number. The one at its start is then clear or set, and the last is lost.
 #[inline]
 pub fn move_up(row: &mut [u64], from: usize, to: usize, is_set: bool)
     requires order { from < to }
-    requires room { to / 64 < length row.old }
+    requires within { to / 64 < length row.old }
     ensures kept { IsKeptOutside from to (has row.old) (has row.new) }
     ensures first { has row.new from ≡ is_set }
     ensures rest { (b : ℕ) → from ≤ b → suc b < to → has row.new (suc b) ≡ has row.old b }
@@ -103,7 +103,7 @@ pub fn move_up(row: &mut [u64], from: usize, to: usize, is_set: bool)
 // The same where it ends in a later word.
 fn move_up_words(row: &mut [u64], from: usize, to: usize, is_set: bool)
     requires order { from < to }
-    requires room { to / 64 < length row.old }
+    requires within { to / 64 < length row.old }
     ensures kept { IsKeptOutside from to (has row.old) (has row.new) }
     ensures first { has row.new from ≡ is_set }
     ensures rest { (b : ℕ) → from ≤ b → suc b < to → has row.new (suc b) ≡ has row.old b }
@@ -119,7 +119,7 @@ fn move_up_words(row: &mut [u64], from: usize, to: usize, is_set: bool)
 #[inline]
 pub fn next_set(row: &[u64], from: usize, to: usize) -> Option<usize>
     requires order { from ≤ to }
-    requires room { to / 64 < length row.now }
+    requires within { to / 64 < length row.now }
     ensures found { IfSome result (λ at. (from ≤ at) × (at < to) × (has row.now at ≡ true)
         × ((b : ℕ) → from ≤ b → b < at → has row.now b ≡ false)) }
     ensures none { IfNone result ((b : ℕ) → from ≤ b → b < to → has row.now b ≡ false) }
@@ -141,7 +141,7 @@ pub fn next_set(row: &[u64], from: usize, to: usize) -> Option<usize>
 #[inline]
 pub fn last_set(row: &[u64], from: usize, to: usize) -> Option<usize>
     requires order { from ≤ to }
-    requires room { to / 64 < length row.now }
+    requires within { to / 64 < length row.now }
     ensures found { IfSome result (λ at. (from ≤ at) × (at < to) × (has row.now at ≡ true)
         × ((b : ℕ) → at < b → b < to → has row.now b ≡ false)) }
     ensures none { IfNone result ((b : ℕ) → from ≤ b → b < to → has row.now b ≡ false) }

@@ -2,9 +2,9 @@
 
 use crate::asked::Asked;
 use crate::chosen::chosen_numbers;
-use lic_find::finder::Finder;
+use lic_find::Finder;
 use lic_norm::text::Text;
-use lic_report::all_matches::AllMatches;
+use lic_report::AllMatches;
 use lic_search::tight_matches;
 use lic_set::set::Set;
 use lic_set::triple::Triple;

@@ -1,4 +1,4 @@
--- A sweep goes on from place to place: an active span covers what it reaches, and leaves.
+-- A sweep continues from place to place: an active span covers what it reaches, and leaves.
 use Rattle.std.proofs.Common.{◌≡◌, ℕ, ◌+◌, ◌<◌, ◌≤◌, max, false, true, ◌⊎◌, List, ◌∷◌, refl, sym, ap, subst, inl, inr, ⊎_elim, arith}
 use Rattle.std.proofs.lemmas.Bool.{cases_lt}
 use Rattle.std.proofs.lemmas.Cmp.{ranked, by_ranked}

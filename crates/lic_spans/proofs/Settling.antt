@@ -29,7 +29,7 @@ module _ {X : Type 0} where
       subst (R (get_or xs i d)) (front-get_or xs b j d low)
       (subst (λ x. R x (get_or (xs ++ b ∷ []) j d)) (front-get_or xs b i d (omega arith)) (pairs i j d before (omega (arith, length-append xs (b ∷ [])))))
 
-  -- each of the front stands before b
+  -- each of the front comes before b
   pub pair_last : (R : X → X → Type 0) (xs : List X) (b : X) → AllPairs R (xs ++ b ∷ []) → (k : ℕ) (d : X) → k < length xs → R (get_or xs k d) b
   pair_last R xs b pairs k d low =
       subst (R (get_or xs k d)) (get_or-append_seam xs b [] d)
@@ -158,7 +158,7 @@ last_set xs n y e =
     let same : n + 1 ≡ length (set xs n y) = e ∙ sym (length-set xs n y) in
     sym (ap (λ k. take k (set xs n y)) same ∙ take-length (set xs n y)) ∙ take_more_set xs n y (omega arith)
 
--- the last span of a list is made longer where it stands
+-- the last span of a list is made longer where it is
 module _ (xs : List PlaceSpan) (n : ℕ) (b s : PlaceSpan) (e : n + 1 ≡ length xs) (last : b ≡ get_or xs n b) (joins : IsContinued b s) where
   is_split : xs ≡ take n xs ++ b ∷ []
   is_split = last_split xs n b e ∙ ap (λ x. take n xs ++ x ∷ []) (sym last)

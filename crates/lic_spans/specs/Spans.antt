@@ -71,7 +71,7 @@ abbrev pub is_continued_by : PlaceSpan → PlaceSpan → Bool
 is_continued_by before span =
     rank before.kind == rank span.kind && (before.last == span.last && (nat_le before.low span.low && nat_le span.low (before.high + gap_of before.kind)))
 
--- a span that goes on to this place at least
+-- a span that continues to this place at least
 abbrev pub lengthened : PlaceSpan → ℕ → PlaceSpan
 lengthened span high = record { low = span.low; high = max span.high high; last = span.last; kind = span.kind }
 

@@ -15,7 +15,7 @@ Active = Reverse ℕ × ℕ
 abbrev pub active_cmp : Active → Active → Ordering
 active_cmp x y = ordering_then (nat_cmp y.0.0 x.0.0) (nat_cmp x.1 y.1)
 
--- some active span of this last token goes on to the place or past it
+-- some active span of this last token continues to the place or past it
 pub record Reaches (active : List Active) (place last : ℕ) : Type 0 where
   pub item : Active
   pub among : Contains active item

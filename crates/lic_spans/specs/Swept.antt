@@ -9,9 +9,9 @@ use Rattle.lic_spans.specs.Sweeps.{Advances, IsSweepOf}
 abbrev pub HasTaken : List PlaceSpan → Sweep → Type 0
 HasTaken taken sweep = IsSweepOf taken sweep.kind sweep.at (heap_items sweep.active) sweep.least.items
 
--- the sweep went on to the place within its kind
-abbrev pub GoesOn : Sweep → ℕ → Sweep → Type 0
-GoesOn old to new = Advances old.kind old.at (heap_items old.active) old.least.items to (heap_items new.active) new.least.items
+-- the sweep continued to the place within its kind
+abbrev pub HasReached : Sweep → ℕ → Sweep → Type 0
+HasReached old to new = Advances old.kind old.at (heap_items old.active) old.least.items to (heap_items new.active) new.least.items
 
 -- how many spans it holds, those that are active and those that are done
 abbrev pub size_of : Sweep → ℕ

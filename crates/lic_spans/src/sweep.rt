@@ -28,7 +28,7 @@ pub(crate) struct Sweep {
 }
 
 impl Sweep {
-    ghost use Rattle.lic_spans.specs.Swept.{HasTaken, GoesOn, size_of};
+    ghost use Rattle.lic_spans.specs.Swept.{HasTaken, HasReached, size_of};
 
     /// A sweep that has taken no span.
     pub(crate) fn new(alloc: Global) -> Sweep
@@ -93,7 +93,7 @@ impl Sweep {
     // Moves to a place of the kind, after what the active spans have before it is done; those that end before it leave.
     fn settle(&mut self, to: usize) -> Result<(), AllocError>
         requires { self.old.at ≤ to }
-        ensures advances { OnOk result (GoesOn self.old to self.new) }
+        ensures advances { OnOk result (HasReached self.old to self.new) }
         ensures kind { OnOk result (self.new.kind ≡ self.old.kind) }
         ensures at { OnOk result (self.new.at ≡ to) }
         ensures few { OnOk result (size_of self.new ≤ size_of self.old + 1) }

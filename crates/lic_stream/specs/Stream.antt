@@ -20,6 +20,6 @@ failures_after_put (Err e) piece f = one_more f
 abbrev pub BeginsWith : Option (List ℕ) → Option (List ℕ) → List ℕ → Type 0
 BeginsWith old new all = (written rest : List ℕ) × Appends old new written × (all ≡ written ++ rest)
 
--- these bytes were read, and so many at most
+-- these bytes were read, and that many at most
 abbrev pub ReadsUpTo : Option (List ℕ) → Option (List ℕ) → ℕ → Type 0
 ReadsUpTo old new limit = (bytes : List ℕ) × Consumes old new bytes × (length bytes ≤ limit)

@@ -1,5 +1,8 @@
 //! Readers and writers that report their bytes and count their failed calls, and whole inputs and outputs over them.
 #![tactic(auto)]
 
-pub mod stream;
-pub mod transfer;
+mod stream;
+mod transfer;
+
+pub use stream::{Counted, Sink, Source};
+pub use transfer::{ReadFault, WriteFailed, put_all, put_gathered, read_up_to};

@@ -40,7 +40,7 @@ pub trait Sink {
     /// How many calls have failed.
     ghost failed: { Self → ℕ };
 
-    /// Takes bytes from the front of `piece`, and gives how many. A call that takes none of a piece that is
+    /// Takes bytes from the start of `piece`, and gives how many. A call that takes none of a piece that is
     /// not empty has failed.
     fn put(&mut self, piece: &[u8]) -> io::Result<usize>
         ensures bound { WritesAtMost result piece.now }

@@ -1,6 +1,6 @@
 //! An input that comes byte by byte, and a report that is taken as it comes; either may fail.
 
-use lic_stream::stream::{Sink, Source};
+use lic_stream::{Sink, Source};
 use std::io;
 
 /// A reader that gives one byte a call, and of whose calls one may fail.

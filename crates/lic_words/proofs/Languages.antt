@@ -1,4 +1,4 @@
--- The words that rows of expressions stand for.
+-- The words that rows of expressions denote.
 use Rattle.std.proofs.Common.{◌≡◌, ◌≢◌, ℕ, zero, suc, ◌≤◌, All, List, [], ◌∷◌, ◌++◌, Option, Some, None, length, replicate, inl, inr, map, eq-eqb, eqb-true, refl, sym, ap, ◌∙◌, subst, append_assoc, append-nil}
 use Rattle.std.specs.List.{concat}
 use Rattle.std.proofs.lemmas.List.{length-replicate}
@@ -46,7 +46,7 @@ pub optional_complete : (a : Expression) (w : Word) → Language (alt empty a) w
 optional_complete a w (inl h) = inl h
 optional_complete a w (inr h) = inr (w, [], inr h, refl, sym (append-nil w))
 
--- ---- a letter so many times
+-- ---- a letter that many times
 
 power_sound : (c k : ℕ) (w : Word) → Power (Language (letter c)) k w → w ≡ replicate k c
 power_sound c zero w h = h

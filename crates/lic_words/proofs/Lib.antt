@@ -4,6 +4,6 @@ pub mod Spellings
 pub mod Tokens
 pub mod Counts
 pub mod ReadLetters
-pub mod Mirrors
+pub mod Reversal
 pub mod Turned
 pub mod ReadTurned

@@ -18,16 +18,16 @@ module _ (last : ℕ) (apart : Bool) (bs front : List ℕ) (c : ℕ) (scalar : I
       ∙ reverse-append (chars front) (c ∷ [])
 
   module _ (gap : c ≡ blank) where
-    pub turned-letters-blank : gapped_from last apart (reverse (chars bs)) ≡ gapped_from last true (reverse (chars front))
-    turned-letters-blank = ap (gapped_from last apart) split ∙ gapped_from-blank last apart c (reverse (chars front)) (eq-eqb c blank gap)
+    pub reversed_tokens-letters-blank : gapped_from last apart (reverse (chars bs)) ≡ gapped_from last true (reverse (chars front))
+    reversed_tokens-letters-blank = ap (gapped_from last apart) split ∙ gapped_from-blank last apart c (reverse (chars front)) (eq-eqb c blank gap)
 
-    pub turned-last-blank : last_letter last (reverse (chars bs)) ≡ last_letter last (reverse (chars front))
-    turned-last-blank = ap (last_letter last) split ∙ last_letter-blank last apart c (reverse (chars front)) (eq-eqb c blank gap)
+    pub reversed_tokens-last-blank : last_letter last (reverse (chars bs)) ≡ last_letter last (reverse (chars front))
+    reversed_tokens-last-blank = ap (last_letter last) split ∙ last_letter-blank last apart c (reverse (chars front)) (eq-eqb c blank gap)
 
   module _ (letter : c ≡ blank → ⊥) where
-    pub turned-letters-letter : gapped_from last apart (reverse (chars bs))
+    pub reversed_tokens-letters-letter : gapped_from last apart (reverse (chars bs))
         ≡ (gap_of apart (is_word last && is_word c), c) ∷ gapped_from c false (reverse (chars front))
-    turned-letters-letter = ap (gapped_from last apart) split ∙ gapped_from-letter last apart c (reverse (chars front)) (ne_eqb c blank letter)
+    reversed_tokens-letters-letter = ap (gapped_from last apart) split ∙ gapped_from-letter last apart c (reverse (chars front)) (ne_eqb c blank letter)
 
-    pub turned-last-letter : last_letter last (reverse (chars bs)) ≡ last_letter c (reverse (chars front))
-    turned-last-letter = ap (last_letter last) split ∙ last_letter-letter last apart c (reverse (chars front)) (ne_eqb c blank letter)
+    pub reversed_tokens-last-letter : last_letter last (reverse (chars bs)) ≡ last_letter c (reverse (chars front))
+    reversed_tokens-last-letter = ap (last_letter last) split ∙ last_letter-letter last apart c (reverse (chars front)) (ne_eqb c blank letter)

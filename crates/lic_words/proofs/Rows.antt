@@ -36,7 +36,7 @@ last_letter-none last apart (c ∷ cs) h = by_letter (λ e. last_letter-none las
     by_letter rest true e = rest (sym (gapped_from-blank last apart c cs e) ∙ h) ∙ sym (last_letter-blank last apart c cs e)
     by_letter rest false e = absurd (let some = sym (gapped_from-letter last apart c cs e) ∙ h in cc)
 
--- where no letter is left, a gap stands behind the row if one stood before it or the row is not empty
+-- where no letter is left, a gap comes after the row if one came before it or the row is not empty
 pub apart_after-gap : (last : ℕ) (cs : List ℕ) → gapped_from last true cs ≡ [] → apart_after true cs ≡ true
 apart_after-gap last [] h = refl
 apart_after-gap last (c ∷ cs) h = by_letter (λ e. apart_after-gap last cs e) (c == blank) refl

@@ -19,7 +19,7 @@ word-no_blank : (c : ℕ) → is_word c ≡ true → IsNoBlank c
 unfolding kind_of
 word-no_blank c h e = let false_true : is_word blank ≡ true = subst (λ x. is_word x ≡ true) e h in cc
 
--- ---- letters side by side, and what stands behind them
+-- ---- letters side by side, and what comes after them
 
 side_by_side : (last : ℕ) (t rest w : Word) → HasNone t → SpellsGapped w (gapped_from last false (t ++ rest)) →
     (v : Word) × (w ≡ t ++ v) × SpellsGapped v (gapped_from (last_letter last t) false rest)
@@ -38,7 +38,7 @@ written_side_by_side last (c ∷ t) rest v h s =
     let behind = written_side_by_side c t rest v (All-tail IsNoBlank c t h) (rw (last_letter-letter last false c t other) at s) in
     rw (gapped_from-letter last false c (t ++ rest) other) (0, refl, t ++ v, refl, behind)
 
--- ---- the same behind a gap
+-- ---- the same after a gap
 
 module _ (last c : ℕ) (t rest : Word) (h : HasNone (c ∷ t)) where
   other : (c == blank) ≡ false
@@ -57,7 +57,7 @@ module _ (last c : ℕ) (t rest : Word) (h : HasNone (c ∷ t)) where
   written_behind_gap n v allows s =
       rw (gapped_from-letter last true c (t ++ rest) other) (n, allows, t ++ v, refl, written_side_by_side c t rest v (All-tail IsNoBlank c t h) s)
 
--- any number of blanks may stand before the first letter
+-- any number of blanks may come before the first letter
 free_before : (c n : ℕ) → Allows (gap_of true (is_word blank && is_word c)) n
 free_before c n = rw (gap-behind_blank c) tt
 
@@ -84,7 +84,7 @@ Spells-whole t w h = (whole t w h, written_whole t w h)
 abbrev Apart : Word → Word → Word → Type 0
 Apart t u w = (before between behind : ℕ) × (1 ≤ between) × (w ≡ blanks before ++ t ++ blanks between ++ u ++ blanks behind)
 
--- the same stretches in a row, from behind
+-- the same stretches in a row, from after
 in_a_row : (a b c d e : Word) → a ++ b ++ c ++ d ++ e ≡ a ++ (b ++ (c ++ (d ++ e)))
 in_a_row a b c d e = append_assoc (a ++ b ++ c) d e ∙ append_assoc (a ++ b) c (d ++ e) ∙ append_assoc a b (c ++ (d ++ e))
 

@@ -7,11 +7,11 @@ use Rattle.lic_words.specs.Letters.{is_word}
 use Rattle.lic_words.specs.Spelling.{Gap, free, gap_of, gapped_from, Allows, SpellsGapped, row_of, gapped, Spells, last_letter, apart_after}
 use Rattle.lic_words.specs.Expressions.{Expression}
 use Rattle.lic_words.specs.Describing.{IsDescribed}
-use Rattle.lic_words.specs.Mirrors.{mirrored, turned}
-use Rattle.lic_words.proofs.Mirrors.{Language-mirrored, mirrored-Language}
+use Rattle.lic_words.specs.Reversal.{reversed_expression, reversed_tokens}
+use Rattle.lic_words.proofs.Reversal.{Language-reversed_expression, reversed_expression-Language}
 use Rattle.lic_words.proofs.Spellings.{gap-behind_blank}
 
--- the letters, each with the gap behind it; behind the last any number of blanks may stand
+-- the letters, each with the gap after it; after the last any number of blanks may be
 abbrev pub behind : List (Gap × ℕ) → List (Gap × ℕ)
 behind [] = []
 behind (p ∷ []) = (free, p.1) ∷ []
@@ -26,7 +26,7 @@ abbrev SpellsEnd : Word → List (Gap × ℕ) → Type 0
 SpellsEnd w [] = w ≡ []
 SpellsEnd w (p ∷ rest) = (n : ℕ) × Allows p.0 n × (v : Word) × (w ≡ blanks n ++ p.1 ∷ v) × SpellsEnd v rest
 
--- each letter and then the gap behind it
+-- each letter and then the gap after it
 abbrev SpellsBehind : Word → List (Gap × ℕ) → Type 0
 SpellsBehind w [] = w ≡ []
 SpellsBehind w (p ∷ rest) = (n : ℕ) × Allows p.0 n × (v : Word) × (w ≡ p.1 ∷ blanks n ++ v) × SpellsBehind v rest
@@ -56,7 +56,7 @@ End-snoc (p ∷ rest) u g c n (k, b, v, e, s) a = (
   End-snoc rest v g c n s a,
 )
 
--- from the end, the gap behind a letter stands before it
+-- from the end, the gap after a letter comes before it
 Behind-reversed : (B : List (Gap × ℕ)) (w : Word) → SpellsBehind w B → SpellsEnd (reverse w) (reverse B)
 Behind-reversed [] w e = ap reverse e
 Behind-reversed (p ∷ rest) w (n, a, v, e, s) =
@@ -151,17 +151,17 @@ last-reverse (c ∷ xs) = elim (cases_Bool (c == blank)) [
   | inr e ↦ ap (λ s. last_letter blank s) (reverse-append (c ∷ []) xs) ∙ last-snoc blank (reverse xs) c e ∙ rw e refl
 ]
 
-and-turned : (x y : Bool) → (x && y) ≡ (y && x)
-and-turned true true = refl
-and-turned true false = refl
-and-turned false true = refl
-and-turned false false = refl
+and-reversed_tokens : (x y : Bool) → (x && y) ≡ (y && x)
+and-reversed_tokens true true = refl
+and-reversed_tokens true false = refl
+and-reversed_tokens false true = refl
+and-reversed_tokens false false = refl
 
 head-apart : (c : ℕ) (xs : List ℕ) → head_gap (gapped_from c true xs) ≡ gap_of true (is_word (first_letter xs) && is_word c)
 head-apart c [] = sym (gap-behind_blank c)
 head-apart c (d ∷ xs) = elim (cases_Bool (d == blank)) [
   | inl e ↦ rw e (head-apart c xs)
-  | inr e ↦ rw e (ap (λ b. gap_of true b) (and-turned (is_word c) (is_word d)))
+  | inr e ↦ rw e (ap (λ b. gap_of true b) (and-reversed_tokens (is_word c) (is_word d)))
 ]
 
 head-is : (c : ℕ) (xs : List ℕ)
@@ -172,7 +172,7 @@ head-is c (d ∷ xs) =
     let gap : apart_after true (reverse (d ∷ xs)) ≡ (d == blank) = ap (λ s. apart_after true s) (reverse-append (d ∷ []) xs) ∙ apart-snoc true (reverse xs) d in
     rw (gap, last-reverse (d ∷ xs)) (elim (cases_Bool (d == blank)) [
       | inl e ↦ rw e (head-apart c xs)
-      | inr e ↦ rw e (ap (λ b. gap_of false b) (and-turned (is_word c) (is_word d)))
+      | inr e ↦ rw e (ap (λ b. gap_of false b) (and-reversed_tokens (is_word c) (is_word d)))
     ])
 
 -- the gaps of a row read from its end
@@ -197,16 +197,16 @@ row-snoc : (us : List (List ℕ)) (t : List ℕ) → row_of (us ++ t ∷ []) ≡
 row-snoc [] t = ap (λ s. blank ∷ s) (append-nil t)
 row-snoc (u ∷ us) t = ap (λ s. blank ∷ u ++ s) (row-snoc us t) ∙ simp append_assoc
 
-turned-cons : (t : List ℕ) (ts : List (List ℕ)) → turned (t ∷ ts) ≡ turned ts ++ reverse t ∷ []
-turned-cons t ts = reverse-append (reverse t ∷ []) (map reverse ts)
+reversed_tokens-cons : (t : List ℕ) (ts : List (List ℕ)) → reversed_tokens (t ∷ ts) ≡ reversed_tokens ts ++ reverse t ∷ []
+reversed_tokens-cons t ts = reverse-append (reverse t ∷ []) (map reverse ts)
 
-row-turned : (ts : List (List ℕ)) → row_of (turned ts) ++ blank ∷ [] ≡ blank ∷ reverse (row_of ts)
-row-turned [] = refl
-row-turned (t ∷ ts) =
-    ap (λ us. row_of us ++ blank ∷ []) (turned-cons t ts) ∙ ap (λ s. s ++ blank ∷ []) (row-snoc (turned ts) (reverse t))
-    ∙ append_assoc (row_of (turned ts)) (blank ∷ reverse t) (blank ∷ [])
-    ∙ sym (append_assoc (row_of (turned ts)) (blank ∷ []) (reverse t ++ blank ∷ []))
-    ∙ ap (λ s. s ++ (reverse t ++ blank ∷ [])) (row-turned ts)
+row-reversed_tokens : (ts : List (List ℕ)) → row_of (reversed_tokens ts) ++ blank ∷ [] ≡ blank ∷ reverse (row_of ts)
+row-reversed_tokens [] = refl
+row-reversed_tokens (t ∷ ts) =
+    ap (λ us. row_of us ++ blank ∷ []) (reversed_tokens-cons t ts) ∙ ap (λ s. s ++ blank ∷ []) (row-snoc (reversed_tokens ts) (reverse t))
+    ∙ append_assoc (row_of (reversed_tokens ts)) (blank ∷ reverse t) (blank ∷ [])
+    ∙ sym (append_assoc (row_of (reversed_tokens ts)) (blank ∷ []) (reverse t ++ blank ∷ []))
+    ∙ ap (λ s. s ++ (reverse t ++ blank ∷ [])) (row-reversed_tokens ts)
     ∙ ap (λ s. blank ∷ s) (sym (append_assoc (reverse (row_of ts)) (reverse t) (blank ∷ []))
     ∙ ap (λ s. s ++ blank ∷ []) (sym (reverse-append t (row_of ts)))
     ∙ sym (reverse-append (blank ∷ []) (t ++ row_of ts)))
@@ -215,18 +215,18 @@ gapped-at_blank : (ts : List (List ℕ)) → gapped_from blank true (row_of ts) 
 gapped-at_blank [] = refl
 gapped-at_blank (t ∷ ts) = refl
 
-pub gapped-turned : (ts : List (List ℕ)) → gapped (turned ts) ≡ mirror (gapped ts)
-gapped-turned ts =
-    sym (gapped-snoc_blank blank false (row_of (turned ts))) ∙ ap (λ s. gapped_from blank false s) (row-turned ts)
+pub gapped-reversed_tokens : (ts : List (List ℕ)) → gapped (reversed_tokens ts) ≡ mirror (gapped ts)
+gapped-reversed_tokens ts =
+    sym (gapped-snoc_blank blank false (row_of (reversed_tokens ts))) ∙ ap (λ s. gapped_from blank false s) (row-reversed_tokens ts)
     ∙ gapped-reversed (row_of ts) ∙ ap mirror (gapped-at_blank ts)
 
 -- what spells a list of tokens spells it from the end
-pub Spells-turned : (w : Word) (ts : List (List ℕ)) → Spells w ts → Spells (reverse w) (turned ts)
-Spells-turned w ts h = rw (gapped-turned ts) (SpellsGapped-mirror (gapped ts) w h)
+pub Spells-reversed_tokens : (w : Word) (ts : List (List ℕ)) → Spells w ts → Spells (reverse w) (reversed_tokens ts)
+Spells-reversed_tokens w ts h = rw (gapped-reversed_tokens ts) (SpellsGapped-mirror (gapped ts) w h)
 
-turned-turned_map : (ts : List (List ℕ)) → map reverse (map reverse ts) ≡ ts
-turned-turned_map [] = refl
-turned-turned_map (t ∷ ts) = λ i. reverse-reverse t i ∷ turned-turned_map ts i
+reversed_tokens-turned_map : (ts : List (List ℕ)) → map reverse (map reverse ts) ≡ ts
+reversed_tokens-turned_map [] = refl
+reversed_tokens-turned_map (t ∷ ts) = λ i. reverse-reverse t i ∷ reversed_tokens-turned_map ts i
 
 map-snoc : (us : List (List ℕ)) (t : List ℕ) → map reverse (us ++ t ∷ []) ≡ map reverse us ++ reverse t ∷ []
 map-snoc [] t = refl
@@ -238,23 +238,23 @@ map-reverse (t ∷ ts) =
     ap (map reverse) (reverse-append (t ∷ []) ts) ∙ map-snoc (reverse ts) t ∙ ap (λ s. s ++ reverse t ∷ []) (map-reverse ts)
     ∙ sym (reverse-append (reverse t ∷ []) (map reverse ts))
 
-pub turned-turned : (ts : List (List ℕ)) → turned (turned ts) ≡ ts
-turned-turned ts = ap reverse (map-reverse (map reverse ts)) ∙ reverse-reverse (map reverse (map reverse ts)) ∙ turned-turned_map ts
+pub reversed_tokens-reversed_tokens : (ts : List (List ℕ)) → reversed_tokens (reversed_tokens ts) ≡ ts
+reversed_tokens-reversed_tokens ts = ap reverse (map-reverse (map reverse ts)) ∙ reverse-reverse (map reverse (map reverse ts)) ∙ reversed_tokens-turned_map ts
 
-pub turned-Spells : (w : Word) (ts : List (List ℕ)) → Spells (reverse w) (turned ts) → Spells w ts
-turned-Spells w ts h =
-    subst (λ x. Spells w x) (turned-turned ts) (subst (λ x. Spells x (turned (turned ts))) (reverse-reverse w) (Spells-turned (reverse w) (turned ts) h))
+pub reversed_tokens-Spells : (w : Word) (ts : List (List ℕ)) → Spells (reverse w) (reversed_tokens ts) → Spells w ts
+reversed_tokens-Spells w ts h =
+    subst (λ x. Spells w x) (reversed_tokens-reversed_tokens ts) (subst (λ x. Spells x (reversed_tokens (reversed_tokens ts))) (reverse-reverse w) (Spells-reversed_tokens (reverse w) (reversed_tokens ts) h))
 
 -- no token, from either end
-turned-none : (ts : List (List ℕ)) → turned ts ≡ [] → ts ≡ []
-turned-none ts none = sym (turned-turned ts) ∙ ap turned none
+reversed_tokens-none : (ts : List (List ℕ)) → reversed_tokens ts ≡ [] → ts ≡ []
+reversed_tokens-none ts none = sym (reversed_tokens-reversed_tokens ts) ∙ ap reversed_tokens none
 
 -- what an expression describes is described from its end by the mirrored expression
-pub IsDescribed-turned : (e : Expression) (ts : List (List ℕ)) → IsDescribed e ts → IsDescribed (mirrored e) (turned ts)
-IsDescribed-turned e ts (some, w, p, s) =
-    (λ none. some (turned-none ts none), reverse w, Language-mirrored e w p, Spells-turned w ts s)
+pub IsDescribed-reversed_tokens : (e : Expression) (ts : List (List ℕ)) → IsDescribed e ts → IsDescribed (reversed_expression e) (reversed_tokens ts)
+IsDescribed-reversed_tokens e ts (some, w, p, s) =
+    (λ none. some (reversed_tokens-none ts none), reverse w, Language-reversed_expression e w p, Spells-reversed_tokens w ts s)
 
-pub turned-IsDescribed : (e : Expression) (ts : List (List ℕ)) → IsDescribed (mirrored e) (turned ts) → IsDescribed e ts
-turned-IsDescribed e ts (some, w, p, s) =
+pub reversed_tokens-IsDescribed : (e : Expression) (ts : List (List ℕ)) → IsDescribed (reversed_expression e) (reversed_tokens ts) → IsDescribed e ts
+reversed_tokens-IsDescribed e ts (some, w, p, s) =
     let word : reverse (reverse w) ≡ w = reverse-reverse w in
-    (λ none. some (ap turned none), reverse w, mirrored-Language e (reverse w) (rw word p), turned-Spells (reverse w) ts (rw word s))
+    (λ none. some (ap reversed_tokens none), reverse w, reversed_expression-Language e (reverse w) (rw word p), reversed_tokens-Spells (reverse w) ts (rw word s))

@@ -1,4 +1,4 @@
--- Expressions over letters, and the words that they stand for.
+-- Expressions over letters, and the words that they denote.
 use Rattle.std.specs.Prelude.{◌≡◌, ◌==◌, ℕ, ◌≤◌, Bool, true, List, [], ◌∷◌, Option, Some, None, ◌⊎◌, map}
 use Rattle.lic_words.specs.Words.{Word, IsTidy, Cat, Power}
 
@@ -11,7 +11,7 @@ pub data Expression : Type 0 where
   -- no word
   none : Expression
   alt : Expression → Expression → Expression
-  -- from so many to so many words of the body, or more
+  -- from a least to a greatest number of words of the body, or more
   repeat : ℕ → Option ℕ → Expression → Expression
   -- the tidy words of the body
   tidy : Expression → Expression
@@ -20,7 +20,7 @@ abbrev pub IsAtMost : Option ℕ → ℕ → Type 0
 IsAtMost None k = Unit {0}
 IsAtMost (Some max) k = k ≤ max
 
--- the set of words that an expression stands for
+-- the set of words that an expression denotes
 abbrev pub Language : Expression → Word → Type 0
 Language empty w = w ≡ []
 Language (one passes) w = (c : ℕ) × (passes c ≡ true) × (w ≡ c ∷ [])

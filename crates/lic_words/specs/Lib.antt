@@ -4,4 +4,4 @@ pub mod Letters
 pub mod Spelling
 pub mod Reading
 pub mod Describing
-pub mod Mirrors
+pub mod Reversal

@@ -5,7 +5,7 @@ use Rattle.std.specs.Str.{chars}
 use Rattle.lic_words.specs.Spelling.{Gap, gap_of, gapped_from, last_letter, apart_after}
 use Rattle.lic_words.specs.declared.letters.Letter.{Letter}
 use Rattle.lic_words.specs.declared.letters.Letters.{Letters}
-use Rattle.lic_words.specs.declared.turned_letters.TurnedLetters.{TurnedLetters}
+use Rattle.lic_words.specs.declared.reversed_letters.ReversedLetters.{ReversedLetters}
 
 -- a letter with the gap before it
 abbrev pub gapped_letter : Letter → Gap × ℕ
@@ -19,7 +19,7 @@ letters_left s = gapped_from s.last s.is_apart (chars s.rest.now)
 abbrev pub last_in : Letters → ℕ
 last_in s = last_letter s.last (chars s.rest.now)
 
--- whether a gap will stand behind the last letter
+-- whether a gap will come after the last letter
 abbrev pub is_apart_in : Letters → Bool
 is_apart_in s = apart_after s.is_apart (chars s.rest.now)
 
@@ -32,14 +32,14 @@ pub record GivesLetter (old : Letters) (item : Option Letter) (new : Letters) : 
 -- ---- from the last letter to the first
 
 -- the letters that are left, each with the gap before it as it is read
-abbrev pub turned_letters_left : TurnedLetters → List (Gap × ℕ)
-turned_letters_left s = gapped_from s.last s.is_apart (reverse (chars s.rest.now))
+abbrev pub reversed_letters_left : ReversedLetters → List (Gap × ℕ)
+reversed_letters_left s = gapped_from s.last s.is_apart (reverse (chars s.rest.now))
 
 -- the letter that will be the last
-abbrev pub turned_last_in : TurnedLetters → ℕ
-turned_last_in s = last_letter s.last (reverse (chars s.rest.now))
+abbrev pub reversed_last_in : ReversedLetters → ℕ
+reversed_last_in s = last_letter s.last (reverse (chars s.rest.now))
 
 -- the first of the letters that are left is given, and what will be last stays
-pub record GivesTurnedLetter (old : TurnedLetters) (item : Option Letter) (new : TurnedLetters) : Type 0 where
-  pub first : YieldsFirstBy gapped_letter turned_letters_left old item new
-  pub last : turned_last_in new ≡ turned_last_in old
+pub record GivesTurnedLetter (old : ReversedLetters) (item : Option Letter) (new : ReversedLetters) : Type 0 where
+  pub first : YieldsFirstBy gapped_letter reversed_letters_left old item new
+  pub last : reversed_last_in new ≡ reversed_last_in old

@@ -3,7 +3,7 @@ use Rattle.std.specs.Prelude.{◌≡◌, ℕ, ◌≤◌, Bool, true, false, ◌=
 use Rattle.lic_words.specs.Words.{Word, blank, blanks}
 use Rattle.lic_words.specs.Letters.{is_word}
 
--- what may stand between two letters: no blank, none or more, one or more
+-- what may be between two letters: no blank, none or more, one or more
 pub data Gap : Type 0 where
   no_gap : Gap
   free : Gap
@@ -38,7 +38,7 @@ Allows no_gap n = n ≡ 0
 Allows free n = Unit {0}
 Allows needed n = 1 ≤ n
 
--- each gap is written as so many blanks as it allows; any number of blanks may end the word
+-- each gap is written as that many blanks as it allows; any number of blanks may end the word
 abbrev pub SpellsGapped : Word → List (Gap × ℕ) → Type 0
 SpellsGapped w [] = (n : ℕ) × (w ≡ blanks n)
 SpellsGapped w (p ∷ rest) = (n : ℕ) × Allows p.0 n × (v : Word) × (w ≡ blanks n ++ p.1 ∷ v) × SpellsGapped v rest
@@ -57,7 +57,7 @@ abbrev pub last_of : ℕ → List (List ℕ) → ℕ
 last_of last [] = last
 last_of last (t ∷ ts) = last_of (last_letter last t) ts
 
--- whether a gap stands behind the last letter of a row: a blank ends it, or it is empty and a gap stands there already
+-- whether a gap comes after the last letter of a row: a blank ends it, or it is empty and a gap is there already
 abbrev pub apart_after : Bool → List ℕ → Bool
 apart_after apart [] = apart
 apart_after apart (c ∷ rest) = apart_after (c == blank) rest

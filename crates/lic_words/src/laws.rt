@@ -5,23 +5,23 @@ ghost use Rattle.std.specs.List.{concat, filter};
 ghost use Rattle.lic_words.specs.Describing.{IsDescribed};
 ghost use Rattle.lic_words.specs.Expressions.{Expression, Language, alt, alt_all, cat_all, empty, letter, letters, repeat, tidy};
 ghost use Rattle.lic_words.specs.Letters.{is_word};
-ghost use Rattle.lic_words.specs.Mirrors.{mirrored, turned};
+ghost use Rattle.lic_words.specs.Reversal.{reversed_expression, reversed_tokens};
 ghost use Rattle.lic_words.specs.Spelling.{Spells};
 ghost use Rattle.lic_words.specs.Words.{Cat, blank, blanks};
 
 /// Letters in a row have one word, themselves.
-pub fn letters_stand_for_themselves()
+pub fn letters_denote_themselves()
     ensures { (text w : List ℕ) → Language (letters text) w ↔ (w ≡ text) }
 {}
 
 /// Texts in a row have one word, their letters one after another.
-pub fn texts_stand_for_their_letters()
+pub fn texts_denote_their_letters()
     ensures { (texts : List (List ℕ)) (w : List ℕ)
         → Language (cat_all (map letters texts)) w ↔ (w ≡ concat texts) }
 {}
 
 /// A word of two rows of expressions together is a word of the first and then one of the second.
-pub fn rows_together_stand_for_both()
+pub fn joined_rows_denote_both()
     ensures { (xs ys : List Expression) (w : List ℕ)
         → Language (cat_all (xs ++ ys)) w ↔ Cat (Language (cat_all xs)) (Language (cat_all ys)) w }
 {}
@@ -43,7 +43,7 @@ pub fn repetitions_stay_within_their_bounds()
 {}
 
 /// Alternatives have the words of each of them.
-pub fn alternatives_stand_for_each_of_them()
+pub fn alternatives_denote_each_of_them()
     ensures { (xs : List Expression) (w : List ℕ) → Language (alt_all xs) w
         ↔ ((front back : List Expression) × (a : Expression) × (xs ≡ front ++ a ∷ back)
         × Language a w) }
@@ -79,7 +79,7 @@ pub fn a_blank_before_is_free()
 {}
 
 /// A blank at the end makes no difference.
-pub fn a_blank_behind_is_free()
+pub fn a_blank_after_is_free()
     ensures { (w : List ℕ) (ts : List (List ℕ)) → Spells w ts ↔ Spells (w ++ blank ∷ []) ts }
 {}
 
@@ -90,7 +90,7 @@ pub fn a_token_is_written_whole()
 {}
 
 /// Where two tokens with no blank meet in letters of words, a blank at least is written between them.
-pub fn words_stand_apart()
+pub fn words_are_set_apart()
     ensures { (t u : List ℕ) (a b : ℕ) (w : List ℕ) → All (λ c. c ≢ blank) t
         → All (λ c. c ≢ blank) u → IsTrue (is_word a) → IsTrue (is_word b)
         → Spells w ((t ++ a ∷ []) ∷ (b ∷ u) ∷ [])
@@ -106,16 +106,16 @@ pub fn a_blank_within_a_token_is_a_gap()
 
 /// The words of an expression, read from the end, are those of the mirrored expression.
 pub fn words_are_read_from_the_end()
-    ensures { (e : Expression) (w : List ℕ) → Language (mirrored e) (reverse w) ↔ Language e w }
+    ensures { (e : Expression) (w : List ℕ) → Language (reversed_expression e) (reverse w) ↔ Language e w }
 {}
 
 /// What spells some tokens spells, read from the end, the tokens from the last to the first, each from its end.
 pub fn spellings_are_read_from_the_end()
-    ensures { (w : List ℕ) (ts : List (List ℕ)) → Spells (reverse w) (turned ts) ↔ Spells w ts }
+    ensures { (w : List ℕ) (ts : List (List ℕ)) → Spells (reverse w) (reversed_tokens ts) ↔ Spells w ts }
 {}
 
 /// What an expression describes is, read from the end, what the mirrored expression describes.
 pub fn lists_are_read_from_the_end()
     ensures { (e : Expression) (ts : List (List ℕ))
-        → IsDescribed (mirrored e) (turned ts) ↔ IsDescribed e ts }
+        → IsDescribed (reversed_expression e) (reversed_tokens ts) ↔ IsDescribed e ts }
 {}

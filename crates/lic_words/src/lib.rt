@@ -3,5 +3,8 @@
 #![tactic(auto)]
 
 pub mod laws;
-pub mod letters;
-pub mod turned_letters;
+mod letters;
+mod reversed_letters;
+
+pub use letters::{Letter, Letters};
+pub use reversed_letters::ReversedLetters;

@@ -1,12 +1,10 @@
 //! The licence scanner: finds the ranges of a text that a licence template describes.
 #![tactic(auto)]
 
-use lic_arguments::fault::ArgumentFault;
-use lic_command::command_with;
-use lic_command::faults::{Stop, tell_stop};
-use lic_command::progress::Progress;
-use lic_load::fault::wants_memory;
-use lic_stream::stream::Counted;
+use lic_arguments::ArgumentFault;
+use lic_command::{Progress, Stop, command_with, tell_stop};
+use lic_load::wants_memory;
+use lic_stream::Counted;
 use std::env;
 use std::io::IsTerminal;
 use std::process::ExitCode;

@@ -1,4 +1,4 @@
--- Two texts, `a b` and `a-b`: where their tokens stand, and words that spell them.
+-- Two texts, `a b` and `a-b`: where their tokens are, and words that spell them.
 use Rattle.std.proofs.Common.{◌≡◌, ℕ, zero, suc, true, false, List, [], ◌∷◌, inl, inr, get_or, refl, sym, ap, ◌∙◌, arith, IsTrue}
 use Rattle.std.proofs.lemmas.Bool.{true≢false}
 use Rattle.std.specs.Char.{encode_utf8}
@@ -48,7 +48,7 @@ parted-blanks = (refl, refl)
 
 -- ---- where blanks of words lead
 
--- no blank stands in front of the second byte where the first is none
+-- no blank comes before the second byte where the first is none
 begins_in_letter : (bytes : List ℕ) → is_blank_at bytes 0 ≡ false → IsBehindBlank bytes 1 → ⊥
 begins_in_letter bytes first after = by_place after.0 after.1 after.2
   where
@@ -65,7 +65,7 @@ stays-parted : OverBlank parted 1 1
 unfolding kind_of chars
 stays-parted = stays (begins_in_letter (spelling_of parted) refl) (inr (inl refl))
 
--- in `a-b` nowhere, and it may stand wherever a token ends
+-- in `a-b` nowhere, and it may be wherever a token ends
 stays-marked : OverBlank marked 1 1
 unfolding kind_of chars place_end
 stays-marked = stays (begins_in_letter (spelling_of marked) refl)

@@ -11,7 +11,7 @@ pub returns-in_ok-push-in-One-2 : goal.returns-in_ok-push-in-One-2
 returns-in_ok-push-in-One-2 c =
     let first = copies_of_one c.args.body c.in-One.test _ c.args.min _ c.in-One.is c.in_ok-copy-in-One.ensures c.copies.ensures in
     let rest = up_to_of_one c.args.body c.in-One.test c.in-One.test (c.args.max - c.args.min) _ c.in-One.is refl c.up_to.ensures in
-    changed _ (bounded_row _ _ _ c.args.min c.args.max c.requires.some first.stands rest.stands)
+    changed _ (bounded_row _ _ _ c.args.min c.args.max c.requires.some first.core rest.core)
     (rw (c.in_ok-push-in-One-2.ensures.items, c.in_ok-push-in-One.ensures.items, c.new-children.ensures.items) at c.row.ensures)
 
 pub returns-in_ok-new-in_default : goal.returns-in_ok-new-in_default

@@ -12,7 +12,7 @@ returns-in_ok-push-in-Letter-clause-words c =
 
 pub returns-in_ok-push-in_default : goal.returns-in_ok-push-in_default
 returns-in_ok-push-in_default c =
-    let stands = c.one.ensures.stands in
+    let core = c.one.ensures.core in
     let same = c.in_default.test-is in
     let core : core_of c.one.result ≡ one (passes c.args.test) = cc in
     record {

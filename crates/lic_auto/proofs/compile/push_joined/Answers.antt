@@ -7,4 +7,4 @@ use Rattle.lic_auto.proofs.compile.push_joined.Goals as goal
 pub returns-clause-words : goal.returns-clause-words
 returns-clause-words c =
     rw c.in-Some-pop.ensures.items (letter_joined _ _ _ _ _ _ _ c.in_ok-push-4.ensures.items
-    (c.letters.ensures.stands ∙ ap (λ t. cat_all (letter_cores t)) c.in_ok-push-3.ensures.items) c.in-Some.ensures c.in_ok-text.ensures.words)
+    (c.letters.ensures.core ∙ ap (λ t. cat_all (letter_cores t)) c.in_ok-push-3.ensures.items) c.in-Some.ensures c.in_ok-text.ensures.words)

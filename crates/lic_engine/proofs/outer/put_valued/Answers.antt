@@ -3,7 +3,7 @@ use Rattle.std.specs.Io.KnownBytes.{Appends}
 use Rattle.std.proofs.lemmas.List.{take-append-drop, take_all}
 use Rattle.lic_set.specs.Matches.{IsMatch}
 use Rattle.lic_set.specs.declared.triple.Triple.{Triple}
-use Rattle.lic_report.specs.Fronts.{Named}
+use Rattle.lic_report.specs.Prefixes.{Named}
 use Rattle.lic_report.specs.Report.{HasItsValues, Valued, triple_of, valued_lines}
 use Rattle.lic_stream.specs.Stream.{BeginsWith}
 use Rattle.lic_engine.proofs.DoneLemmas.{AreDone, done_nothing, done_put, done_whole, err_begins, err_begins_within}

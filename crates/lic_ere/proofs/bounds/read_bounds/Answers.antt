@@ -3,7 +3,7 @@ use Rattle.lic_ere.proofs.BoundSpelling.{is_spelled, is_read}
 use Rattle.lic_ere.proofs.bounds.read_bounds.Goals as goal
 
 pub returns-clause-found : goal.returns-clause-found
-returns-clause-found c = is_spelled (left c.args.rest) c.bounds_behind.result c.bounds_behind.ensures
+returns-clause-found c = is_spelled (left c.args.rest) c.bounds_after.result c.bounds_after.ensures
 
 pub returns-clause-only : goal.returns-clause-only
-returns-clause-only c b end is = is_read (left c.args.rest) c.bounds_behind.result b end is c.bounds_behind.ensures
+returns-clause-only c b end is = is_read (left c.args.rest) c.bounds_after.result b end is c.bounds_after.ensures

@@ -4,7 +4,7 @@ use Rattle.lic_ere.specs.Trees.{Tree}
 use Rattle.lic_ere.specs.Reading.{reading}
 use Rattle.lic_ere.specs.Grammar.{IsPattern}
 use Rattle.lic_ere.specs.FirstFaults.{IsFaultOf}
-use Rattle.lic_ere.proofs.FaultStands.{reading-IsFaultOf}
+use Rattle.lic_ere.proofs.FaultFollows.{reading-IsFaultOf}
 use Rattle.lic_ere.proofs.Sound.{reading-IsPattern}
 use Rattle.lic_ere.proofs.laws.each_pattern_has_a_tree_or_a_fault.Goals as goal
 

@@ -2,9 +2,9 @@ use Rattle.std.proofs.Common.{◌≡◌, ◌+◌, ◌<◌, ◌≤◌, ◌∷◌,
 use Rattle.std.specs.Str.{chars}
 use Rattle.lic_norm.specs.Tokens.{TokenValue}
 use Rattle.lic_auto.specs.Picked.{IsLeastOf}
-use Rattle.lic_auto.specs.Runs.{StandsFor, set_of}
+use Rattle.lic_auto.specs.Runs.{RunHasTaken, set_of}
 use Rattle.lic_set.specs.Matches.{letters_between}
-use Rattle.lic_find.specs.Walks.{letters_up_to}
+use Rattle.lic_find.specs.Scans.{letters_up_to}
 use Rattle.lic_find.proofs.Asking.{IsMatch-answer, is_number}
 use Rattle.lic_find.proofs.Ranges.{letters_up_to-more, letters_up_to-none}
 use Rattle.lic_find.proofs.matches.is_match.Goals as goal
@@ -14,7 +14,7 @@ loop-number-init c =
     record {
       templates = c.in_ok-run.ensures.set;
       numbers = c.in_ok-run.ensures.numbers ∙ c.in_ok-only.ensures.items;
-      stands = subst (StandsFor c.in_ok-run.run') (sym (letters_up_to-none c.args.text.now.tokens c.args.triple.first)) c.in_ok-run.ensures.stands;
+      taken = subst (RunHasTaken c.in_ok-run.run') (sym (letters_up_to-none c.args.text.now.tokens c.args.triple.first)) c.in_ok-run.ensures.taken;
     }
 
 pub loop-number-preserved : goal.loop-number-preserved
@@ -27,9 +27,9 @@ loop-number-preserved c =
     record {
       templates = c.push.ensures.set ∙ c.loop-number.invariant.templates;
       numbers = c.push.ensures.numbers ∙ c.loop-number.invariant.numbers;
-      stands = subst (StandsFor c.push.new.self) (sym (letters_up_to-more tokens first number token c.loop-number.auto.number within))
-          (subst (λ text. StandsFor c.push.new.self (letters_up_to tokens first number ++ chars text ∷ [])) (c.token.ensures.text token)
-          (c.push.ensures.stands (letters_up_to tokens first number) c.loop-number.invariant.stands));
+      taken = subst (RunHasTaken c.push.new.self) (sym (letters_up_to-more tokens first number token c.loop-number.auto.number within))
+          (subst (λ text. RunHasTaken c.push.new.self (letters_up_to tokens first number ++ chars text ∷ [])) (c.token.ensures.text token)
+          (c.push.ensures.taken (letters_up_to tokens first number) c.loop-number.invariant.taken));
     }
 
 pub returns : goal.returns
@@ -39,9 +39,9 @@ returns c =
     let order : triple.first ≤ triple.last = omega arith in
     let within : triple.last < length tokens = omega arith in
     let whole : c.loop-number.number ≡ triple.last + 1 = omega arith in
-    let stands : StandsFor c.loop-number.run (letters_between tokens triple.first triple.last) =
-    subst (λ n. StandsFor c.loop-number.run (letters_up_to tokens triple.first n)) whole c.loop-number.invariant.stands in
-    let least = c.accepted.ensures.least (letters_between tokens triple.first triple.last) stands in
+    let taken : RunHasTaken c.loop-number.run (letters_between tokens triple.first triple.last) =
+    subst (λ n. RunHasTaken c.loop-number.run (letters_up_to tokens triple.first n)) whole c.loop-number.invariant.taken in
+    let least = c.accepted.ensures.least (letters_between tokens triple.first triple.last) taken in
     IsMatch-answer c.args.set.now tokens triple c.accepted.result _ order within
     (subst (λ s. IsLeastOf s (triple.template ∷ [])
     (letters_between tokens triple.first triple.last) triple.template c.accepted.result) c.loop-number.invariant.templates

@@ -8,6 +8,10 @@ use Rattle.lic_lines.proofs.ItemLemmas.{char_of, item_none, item_value, item_on,
 use Rattle.lic_lines.proofs.item.item_length.Goals as goal
 use Rattle.lic_lines.proofs.item.item_length.Goals.{else-is_item_form-via-then-is_item_form+else-lets_item, else-is_item_form-via-else-is_item_form}
 
+pub returns-then-begins_as_no_item-clause-item : goal.returns-then-begins_as_no_item-clause-item
+returns-then-begins_as_no_item-clause-item c =
+    sym (c.begins_as_no_item.ensures c.if-begins_as_no_item.true (rules_of c.args.rules.now) (option_to_list c.args.behind))
+
 pub returns-then-end-line-clause-item : goal.returns-then-end-line-clause-item
 returns-then-end-line-clause-item c =
     let many : length (chars_of c.args.line.now) ≡ length c.args.line.now = length-map c.args.line.now char_of in

@@ -2,9 +2,21 @@ use Rattle.std.proofs.Common.{◌≡◌, ◌∙◌, length, sym, ap, arith}
 use Rattle.lic_lines.specs.Sources.{chars_of}
 use Rattle.lic_lines.specs.LineRules.{rules_of}
 use Rattle.lic_lines.specs.Walks.{walked, may_open}
-use Rattle.lic_lines.proofs.SpaceRows.{longest_spaces, longest_of_spaces}
+use Rattle.lic_lines.proofs.SpaceRows.{longest_spaces, longest_standing, longest_of_spaces}
 use Rattle.lic_lines.proofs.Walking.{length-walked_chars}
 use Rattle.lic_lines.proofs.space_rows.space_row.Goals as goal
+
+pub returns-then-not-quick_look-clause-row : goal.returns-then-not-quick_look-clause-row
+returns-then-not-quick_look-clause-row c =
+    let rules = rules_of c.args.rules.now in
+    let side = c.args.side in
+    let line = walked side (chars_of c.args.line.now) in
+    let n = c.spaces-count.result in
+    let many = length-walked_chars side c.args.line.now in
+    let known = c.spaces-count.ensures in
+    longest_spaces rules side line n (omega arith) known.all (known.stop (omega arith))
+    (ap (may_open rules side) (sym c.char_at.ensures) ∙ c.quick_look.ensures c.if-not-quick_look.true)
+    (λ lt. c.three_alike.ensures c.if-three_alike.false (omega arith))
 
 pub returns-clause-row : goal.returns-clause-row
 returns-clause-row c =
@@ -14,8 +26,8 @@ returns-clause-row c =
     let n = c.spaces-count.result in
     let many = length-walked_chars side c.args.line.now in
     let known = c.spaces-count.ensures in
-    longest_spaces rules side line n (omega arith) known.all (known.stop (omega arith))
-    (ap (may_open rules side) (sym c.char_at.ensures) ∙ sym c.may_open.ensures ∙ c.if-may_open.false)
+    longest_standing rules side line n (omega arith) known.all (known.stop (omega arith))
+    (sym c.may_stand_at.ensures ∙ c.if-may_stand_at.false)
     (λ lt. c.three_alike.ensures c.if-three_alike.false (omega arith))
 
 pub returns-then-count-line-clause-row : goal.returns-then-count-line-clause-row

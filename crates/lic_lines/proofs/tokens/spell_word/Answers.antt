@@ -1,9 +1,10 @@
-use Rattle.std.proofs.Common.{rules, ◌≡◌, ◌∙◌, ◌++◌, ℕ, get_or, sym, ap, ⊎_elim, arith}
+use Rattle.std.proofs.Common.{◌≡◌, ◌∙◌, ◌++◌, ℕ, get_or, sym, ap, ⊎_elim, arith}
 use Rattle.std.specs.Prelude.{encode_utf8_all}
 use Rattle.std.proofs.lemmas.Bool.{cases_lt}
 use Rattle.std.proofs.lemmas.List.{get_or_default}
 use Rattle.lic_kind.specs.Kinds.{kind_of, spell}
 use Rattle.lic_kind.specs.declared.Kind.TheVariants as kind
+use Rattle.lic_kind.proofs.KindLemmas.{is_word_kind-true}
 use Rattle.lic_lines.proofs.ItemLemmas.{none}
 use Rattle.lic_lines.proofs.TokenLemmas.{word_letters_more}
 use Rattle.lic_lines.proofs.tokens.spell_word.Goals as goal
@@ -14,7 +15,9 @@ loop-count-preserved c =
     let text = c.args.text.now in
     let n : ℕ = c.loop-count.count in
     let inside = c.loop-count-test.true in
-    let word : kind_of (get_or text n none).char ≡ kind.Word = search rules in
+    let told = c.in_ok-push_if_word.ensures in
+    let yes = c.if-not-branch.false in
+    let word : kind_of (get_or text n none).char ≡ kind.Word = is_word_kind-true _ (sym told.word ∙ yes) in
     record {
       within = omega arith;
       words = λ i d lt. ⊎_elim
@@ -24,7 +27,7 @@ loop-count-preserved c =
           ∙ ap (λ s. kind_of s.char) (get_or_default text n d none inside) ∙ word)
           (cases_lt i n);
       letters =
-          c.in_ok-push_word_letters.ensures
+          told.letters yes
           ∙ ap (λ l. l ++ encode_utf8_all (spell (get_or text n none).char)) known.letters
           ∙ sym (word_letters_more text n none inside);
     }

@@ -2,8 +2,8 @@ use Rattle.std.proofs.Common.{◌≡◌, ◌==◌, ◌||◌, ap, vec_len, length
 use Rattle.lic_marks.specs.Marks.{is_nullable}
 use Rattle.lic_marks.specs.Nodes.{core_of}
 use Rattle.lic_marks.proofs.Nodes.{core_of-Letters, core_of-Copies, core_of-UpTo, core_of-Repeat}
-use Rattle.lic_marks.proofs.LetterWalks.{nullable-copies}
-use Rattle.lic_marks.proofs.Built.{nullable-letters, nullable-any_front}
+use Rattle.lic_marks.proofs.LetterSteps.{nullable-copies}
+use Rattle.lic_marks.proofs.Built.{nullable-letters, nullable-any_prefix}
 use Rattle.lic_marks.proofs.Counted.{nullable-bounded, nullable-unbounded}
 use Rattle.lic_marks.proofs.build.+is_nullable.Goals as goal
 
@@ -16,7 +16,7 @@ pub is_nullable-returns-in-Copies : goal.is_nullable-returns-in-Copies
 is_nullable-returns-in-Copies t c = rw (c.in-Copies.is, core_of-Copies) (nullable-copies _ c.in-Copies.count)
 
 pub is_nullable-returns-in-UpTo : goal.is_nullable-returns-in-UpTo
-is_nullable-returns-in-UpTo t c = rw (c.in-UpTo.is, core_of-UpTo) (sym (nullable-any_front _))
+is_nullable-returns-in-UpTo t c = rw (c.in-UpTo.is, core_of-UpTo) (sym (nullable-any_prefix _))
 
 pub is_nullable-returns-in-Bounded : goal.is_nullable-returns-in-Bounded
 is_nullable-returns-in-Bounded t c =

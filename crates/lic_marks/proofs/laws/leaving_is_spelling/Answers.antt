@@ -1,4 +1,4 @@
-use Rattle.lic_marks.proofs.Standing.{accept_sound, accept_complete}
+use Rattle.lic_marks.proofs.Representing.{accept_sound, accept_complete}
 use Rattle.lic_marks.proofs.laws.leaving_is_spelling.Goals as goal
 
 pub returns : goal.returns

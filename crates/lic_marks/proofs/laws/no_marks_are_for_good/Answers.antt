@@ -1,4 +1,4 @@
-use Rattle.lic_marks.proofs.Standing.{never_spelled}
+use Rattle.lic_marks.proofs.Representing.{never_spelled}
 use Rattle.lic_marks.proofs.laws.no_marks_are_for_good.Goals as goal
 
 pub returns : goal.returns

@@ -1,4 +1,4 @@
-use Rattle.lic_marks.proofs.RowWalks.{Shifts-marks_of}
+use Rattle.lic_marks.proofs.RowSteps.{Shifts-marks_of}
 use Rattle.lic_marks.proofs.rows.step.Goals as goal
 
 pub returns-clause-marks : goal.returns-clause-marks

@@ -6,8 +6,8 @@ use Rattle.lic_marks.specs.Cores.{cat_all, alt_all}
 use Rattle.lic_marks.specs.Nodes.{core_of, passes}
 use Rattle.lic_marks.specs.declared.node.Node.{the_lemmas}
 use Rattle.lic_marks.proofs.Nodes.{core_of-One, core_of-Copies, core_of-UpTo, core_of-Cat, core_of-Alt, core_of-Repeat, core_of-Plus, core_of-Tidy, children-Cat, children-Alt, child-Repeat, child-Plus, child-Tidy, nullable-Tidy}
-use Rattle.lic_marks.proofs.LetterWalks.{weight-copies, weight-up_to}
-use Rattle.lic_marks.proofs.RowWalks.{Shifts-empty, Shifts-none, Shifts-one, Shifts-cat, Shifts-alt, Shifts-front, Shifts-plus, Shifts-tidy, Shifts-tidy-clear, Leaves-tidy-after}
+use Rattle.lic_marks.proofs.LetterSteps.{weight-copies, weight-up_to}
+use Rattle.lic_marks.proofs.RowSteps.{Shifts-empty, Shifts-none, Shifts-one, Shifts-cat, Shifts-alt, Shifts-front, Shifts-plus, Shifts-tidy, Shifts-tidy-clear, Leaves-tidy-after}
 use Rattle.lic_marks.proofs.Leaving.{Leaves-tidy-past, and_never, never_and}
 use Rattle.lic_marks.proofs.Counted.{weight-copies as weight-copies_of, weight-same, place_past, copies_more, up_to_more, copies_done, up_to_done}
 use Rattle.lic_marks.proofs.Children.{cores_more, cores_done, measured_at}
@@ -21,7 +21,7 @@ pub shift-returns-then-not-is_any_set : goal.shift-returns-then-not-is_any_set
 shift-returns-then-not-is_any_set t c =
     let clear = none_set _ _ _ _ c.if-not-is_any_set.true (rw c.weight.ensures at c.is_any_set.ensures) in
     record {
-      shifts = rw c.if-not-entry.true (Shifts-untouched _ c.args.reading.after c.args.row.now c.args.at c.requires.room clear c.args.reading.letter);
+      shifts = rw c.if-not-entry.true (Shifts-untouched _ c.args.reading.after c.args.row.now c.args.at c.requires.within clear c.args.reading.letter);
       len = refl;
     }
 
@@ -30,7 +30,7 @@ shift-shift_row-requires t c = (
   search (rules, the_lemmas),
   (
     rw c.deref-in-Cat.ensures.value (children-Cat _ _ (rw c.in-Cat.is at c.requires.measured)),
-    rw c.deref-in-Cat.ensures.value (rw (c.in-Cat.is, core_of-Cat) at c.requires.room),
+    rw c.deref-in-Cat.ensures.value (rw (c.in-Cat.is, core_of-Cat) at c.requires.within),
   ),
 )
 
@@ -39,7 +39,7 @@ shift-shift_any-requires t c = (
   search (rules, the_lemmas),
   (
     rw c.deref-in-Alt.ensures.value (children-Alt _ _ (rw c.in-Alt.is at c.requires.measured)),
-    rw c.deref-in-Alt.ensures.value (rw (c.in-Alt.is, core_of-Alt) at c.requires.room),
+    rw c.deref-in-Alt.ensures.value (rw (c.in-Alt.is, core_of-Alt) at c.requires.within),
   ),
 )
 
@@ -50,14 +50,14 @@ shift-shift_tidy-requires t c = (
     rw c.deref-in-Tidy.ensures (child-Tidy _ _ _ (rw c.in-Tidy.is at c.requires.measured)),
     (
       rw c.deref-in-Tidy.ensures (nullable-Tidy _ _ _ (rw c.in-Tidy.is at c.requires.measured)),
-      rw c.deref-in-Tidy.ensures (rw (c.in-Tidy.is, core_of-Tidy) at c.requires.room),
+      rw c.deref-in-Tidy.ensures (rw (c.in-Tidy.is, core_of-Tidy) at c.requires.within),
     ),
   ),
 )
 
 pub shift-shift_copies-requires : goal.shift-shift_copies-requires
 shift-shift_copies-requires t c =
-    let room = rw (c.in-Copies.is, core_of-Copies) at c.requires.room in
+    let room = rw (c.in-Copies.is, core_of-Copies) at c.requires.within in
     omega (arith, room, weight-copies (passes c.in-Copies.test) c.in-Copies.count)
 
 pub shift-returns-in-Copies : goal.shift-returns-in-Copies
@@ -68,7 +68,7 @@ shift-returns-in-Copies t c = record {
 
 pub shift-shift_up_to-requires : goal.shift-shift_up_to-requires
 shift-shift_up_to-requires t c =
-    let room = rw (c.in-UpTo.is, core_of-UpTo) at c.requires.room in
+    let room = rw (c.in-UpTo.is, core_of-UpTo) at c.requires.within in
     omega (arith, room, weight-up_to (passes c.in-UpTo.test) c.in-UpTo.count)
 
 pub shift-returns-in-UpTo : goal.shift-returns-in-UpTo
@@ -79,7 +79,7 @@ shift-returns-in-UpTo t c = record {
 
 pub shift-returns-in-One : goal.shift-returns-in-One
 shift-returns-in-One t c =
-    let room = rw (c.in-One.is, core_of-One) at c.requires.room in
+    let room = rw (c.in-One.is, core_of-One) at c.requires.within in
     record {
       shifts = rw (c.in-One.is, core_of-One) (Shifts-one _ _ _ _ _ _ _ _ false (omega (arith, room)) c.get-out.ensures
           (c.put.ensures ∙ ap (λ b. set c.args.row.now c.args.at (c.args.entry && b)) c.passes-is_passed.ensures));
@@ -91,7 +91,7 @@ shift-shift_plus-requires t c = (
   search (rules, the_lemmas),
   (
     rw c.deref-in-Plus.ensures (child-Plus _ _ (rw c.in-Plus.is at c.requires.measured)),
-    rw c.deref-in-Plus.ensures (rw (c.in-Plus.is, core_of-Plus) at c.requires.room),
+    rw c.deref-in-Plus.ensures (rw (c.in-Plus.is, core_of-Plus) at c.requires.within),
   ),
 )
 
@@ -106,7 +106,7 @@ shift-shift_repeat-requires t c = (
   search (rules, the_lemmas),
   (
     rw c.deref-in-Repeat.ensures (child-Repeat _ _ _ (rw c.in-Repeat.is at c.requires.measured)),
-    rw c.deref-in-Repeat.ensures (rw (c.in-Repeat.is, core_of-Repeat) at c.requires.room),
+    rw c.deref-in-Repeat.ensures (rw (c.in-Repeat.is, core_of-Repeat) at c.requires.within),
   ),
 )
 
@@ -140,7 +140,7 @@ shift_tidy-returns-then-reading t c =
     record {
       shifts = rw c.if-reading.true (Shifts-tidy-clear _ _ _ _ _ _ _ _ (eq-eqb c.args.reading.letter blank c.if-reading-eq32.true)
           (Leaves-tidy-after _ _ _ _ _ c.requires.empty) next
-          (patched_clear c.args.row.now c.clear.new.self c.args.at _ (omega arith) (omega (arith, next, c.requires.room)) c.clear.ensures.len c.clear.ensures.kept c.clear.ensures.inside));
+          (patched_clear c.args.row.now c.clear.new.self c.args.at _ (omega arith) (omega (arith, next, c.requires.within)) c.clear.ensures.len c.clear.ensures.kept c.clear.ensures.inside));
       len = c.clear.ensures.len;
     }
 
@@ -163,7 +163,7 @@ shift_row-shift-flag-requires t c =
       search (rules, the_lemmas),
       (
         measured_at c.args.children.now c.loop-child.child-index _ c.requires.measured c.loop-child-test.true c.child-item.is,
-        omega (arith, rest, c.requires.room),
+        omega (arith, rest, c.requires.within),
       ),
     )
 
@@ -194,7 +194,7 @@ shift_any-shift-out-requires t c =
       search (rules, the_lemmas),
       (
         measured_at c.args.children.now c.loop-child.child-index _ c.requires.measured c.loop-child-test.true c.child-item.is,
-        omega (arith, rest, c.requires.room),
+        omega (arith, rest, c.requires.within),
       ),
     )
 
@@ -227,7 +227,7 @@ shift_copies_of-shift-flag-requires t c =
       search (rules, the_lemmas),
       (
         c.requires.measured,
-        omega (arith, rest, c.requires.room),
+        omega (arith, rest, c.requires.within),
       ),
     )
 
@@ -235,7 +235,7 @@ pub shift_copies_of-overflow_add-place : goal.shift_copies_of-overflow_add-place
 shift_copies_of-overflow_add-place t c =
     let more = copies_more (core_of c.args.child.now) c.args.count c.loop.counter c.loop-test.true in
     let rest = rw more at c.loop.invariant.rest in
-    omega (arith, rest, c.requires.room, c.weight-weight.ensures, c.len-room.ensures)
+    omega (arith, rest, c.requires.within, c.weight-weight.ensures, c.len-room.ensures)
 
 pub shift_copies_of-loop-preserved : goal.shift_copies_of-loop-preserved
 shift_copies_of-loop-preserved t c =
@@ -265,19 +265,19 @@ shift_copies_of-returns t c =
 
 pub shift_repeat-overflow_mul-place : goal.shift_repeat-overflow_mul-place
 shift_repeat-overflow_mul-place t c =
-    let room = rw c.in-Bounded.is at c.requires.room in
+    let room = rw c.in-Bounded.is at c.requires.within in
     rw c.weight.ensures (omega (arith, room, c.len-room.ensures, weight-copies_of (core_of c.args.child.now) c.in-Bounded.needed))
 
 pub shift_repeat-overflow_add-place : goal.shift_repeat-overflow_add-place
 shift_repeat-overflow_add-place t c =
-    let room = rw c.in-Bounded.is at c.requires.room in
+    let room = rw c.in-Bounded.is at c.requires.within in
     rw c.weight.ensures (omega (arith, room, c.len-room.ensures, weight-copies_of (core_of c.args.child.now) c.in-Bounded.needed))
 
 pub shift_repeat-shift_copies_of-out-requires : goal.shift_repeat-shift_copies_of-out-requires
 shift_repeat-shift_copies_of-out-requires t c =
     let next = place_past (core_of c.args.child.now) c.in-Bounded.needed c.args.at _ c.weight.ensures in
     let same = weight-same (core_of c.args.child.now) c.in-Bounded.more in
-    let room = rw c.in-Bounded.is at c.requires.room in (
+    let room = rw c.in-Bounded.is at c.requires.within in (
       search (rules, the_lemmas),
       (
         c.requires.measured,
@@ -288,7 +288,7 @@ shift_repeat-shift_copies_of-out-requires t c =
 pub shift_repeat-returns-in-Bounded : goal.shift_repeat-returns-in-Bounded
 shift_repeat-returns-in-Bounded t c =
     let next = place_past (core_of c.args.child.now) c.in-Bounded.needed c.args.at _ c.weight.ensures in
-    let room = rw c.in-Bounded.is at c.requires.room in
+    let room = rw c.in-Bounded.is at c.requires.within in
     let shifts = rw next at c.shift_copies_of-out.ensures.any in
     record {
       shifts = rw c.in-Bounded.is (Shifts-cat _ _ _ _ _ _ _ _ _ _ _ (omega (arith, room)) c.shift_copies_of-past.ensures.all shifts);
@@ -297,18 +297,18 @@ shift_repeat-returns-in-Bounded t c =
 
 pub shift_repeat-overflow_mul-place-in-Unbounded : goal.shift_repeat-overflow_mul-place-in-Unbounded
 shift_repeat-overflow_mul-place-in-Unbounded t c =
-    let room = rw c.in-Unbounded.is at c.requires.room in
+    let room = rw c.in-Unbounded.is at c.requires.within in
     rw c.weight-in-Unbounded.ensures (omega (arith, room, c.len-room.ensures, weight-copies_of (core_of c.args.child.now) c.in-Unbounded.before))
 
 pub shift_repeat-overflow_add-place-in-Unbounded : goal.shift_repeat-overflow_add-place-in-Unbounded
 shift_repeat-overflow_add-place-in-Unbounded t c =
-    let room = rw c.in-Unbounded.is at c.requires.room in
+    let room = rw c.in-Unbounded.is at c.requires.within in
     rw c.weight-in-Unbounded.ensures (omega (arith, room, c.len-room.ensures, weight-copies_of (core_of c.args.child.now) c.in-Unbounded.before))
 
 pub shift_repeat-shift_plus-requires : goal.shift_repeat-shift_plus-requires
 shift_repeat-shift_plus-requires t c =
     let next = place_past (core_of c.args.child.now) c.in-Unbounded.before c.args.at _ c.weight-in-Unbounded.ensures in
-    let room = rw c.in-Unbounded.is at c.requires.room in (
+    let room = rw c.in-Unbounded.is at c.requires.within in (
       search (rules, the_lemmas),
       (
         c.requires.measured,
@@ -319,7 +319,7 @@ shift_repeat-shift_plus-requires t c =
 pub shift_repeat-returns-in-Unbounded : goal.shift_repeat-returns-in-Unbounded
 shift_repeat-returns-in-Unbounded t c =
     let next = place_past (core_of c.args.child.now) c.in-Unbounded.before c.args.at _ c.weight-in-Unbounded.ensures in
-    let room = rw c.in-Unbounded.is at c.requires.room in
+    let room = rw c.in-Unbounded.is at c.requires.within in
     let shifts = rw next at c.shift_plus.ensures.shifts in
     record {
       shifts = rw c.in-Unbounded.is (Shifts-cat _ _ _ _ _ _ _ _ _ _ _ (omega (arith, room)) c.shift_copies_of-past-in-Unbounded.ensures.all shifts);

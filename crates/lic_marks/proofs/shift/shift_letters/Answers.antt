@@ -1,5 +1,5 @@
 use Rattle.std.proofs.Common.{arith}
-use Rattle.lic_marks.proofs.LetterWalks.{weight-letters}
+use Rattle.lic_marks.proofs.LetterSteps.{weight-letters}
 use Rattle.lic_marks.proofs.Moving.{Shifts-letters}
 use Rattle.lic_marks.proofs.shift.shift_letters.Goals as goal
 

@@ -1,6 +1,6 @@
 use Rattle.std.proofs.Common.{◌||◌, ◌&&◌, false, set, length, ap, ◌∙◌, arith}
 use Rattle.std.proofs.lemmas.List.{length-set}
-use Rattle.lic_marks.proofs.RowWalks.{Leaves-one, Shifts-one, Shifts-plus}
+use Rattle.lic_marks.proofs.RowSteps.{Leaves-one, Shifts-one, Shifts-plus}
 use Rattle.lic_marks.proofs.shift.shift_letters_of.Goals as goal
 
 pub returns : goal.returns

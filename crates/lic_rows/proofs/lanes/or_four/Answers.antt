@@ -7,7 +7,7 @@ pub returns-clause-below : goal.returns-clause-below
 returns-clause-below c = λ k low. get_or-put_chunk_below _ _ _ k 0 low
 
 pub returns-clause-here : goal.returns-clause-here
-returns-clause-here c = λ k low high. both_here bit_or c.args.into.now c.args.from.now c.args.at k c.requires.room c.requires.from_room low high
+returns-clause-here c = λ k low high. both_here bit_or c.args.into.now c.args.from.now c.args.at k c.requires.within c.requires.from_within low high
 
 pub returns-clause-above : goal.returns-clause-above
-returns-clause-above c = λ k high. both_above bit_or c.args.into.now c.args.from.now c.args.at k c.requires.room c.requires.from_room high
+returns-clause-above c = λ k high. both_above bit_or c.args.into.now c.args.from.now c.args.at k c.requires.within c.requires.from_within high

@@ -13,19 +13,19 @@ returns-clause-kept c =
     let first : ℕ = c.args.from / 64 in
     let last : ℕ = c.args.to / 64 in
     let len : length c.clear_from.new.row ≡ last + 1 - first =
-    c.clear_from.auto.row ∙ length-between c.args.row.now first (last + 1) (omega (arith, c.requires.room)) in
+    c.clear_from.auto.row ∙ length-between c.args.row.now first (last + 1) (omega (arith, c.requires.within)) in
     c.put_back.ensures.kept c.args.row.now refl refl
-    (below_mid c.args.row.now first last (omega (arith, c.requires.order)) c.requires.room c.clear_from.new.row len)
-    (above_mid c.args.row.now first last (omega (arith, c.requires.order)) c.requires.room c.clear_from.new.row len)
+    (below_mid c.args.row.now first last (omega (arith, c.requires.order)) c.requires.within c.clear_from.new.row len)
+    (above_mid c.args.row.now first last (omega (arith, c.requires.order)) c.requires.within c.clear_from.new.row len)
 
 pub returns-clause-inside : goal.returns-clause-inside
 returns-clause-inside c = λ b low high.
     let first : ℕ = c.args.from / 64 in
     let last : ℕ = c.args.to / 64 in
     let len : length c.clear_from.new.row ≡ last + 1 - first =
-    c.clear_from.auto.row ∙ length-between c.args.row.now first (last + 1) (omega (arith, c.requires.room)) in
+    c.clear_from.auto.row ∙ length-between c.args.row.now first (last + 1) (omega (arith, c.requires.within)) in
     c.put_back.ensures.inside b low high
-    ∙ has_mid c.args.row.now first last (omega (arith, c.requires.order)) c.requires.room c.clear_from.new.row len b (omega (arith, low)) (omega (arith, high))
+    ∙ has_mid c.args.row.now first last (omega (arith, c.requires.order)) c.requires.within c.clear_from.new.row len b (omega (arith, low)) (omega (arith, high))
     ∙ c.clear_from.ensures (b - first * 64)
     ∙ ap (λ t. has (slice_range c.args.row.now first (last + 1)) (b - first * 64) && t)
     (le-ltb (b - first * 64) 0 (omega arith))

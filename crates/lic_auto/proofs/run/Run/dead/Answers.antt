@@ -1,7 +1,7 @@
 use Rattle.std.proofs.Common.{◌≡◌, not, sym, ap, ◌∙◌}
 use Rattle.std.specs.List.{list_all}
 use Rattle.lic_auto.specs.Runs.{is_dead}
-use Rattle.lic_auto.specs.declared.walk.TemplateRun.{TemplateRun}
+use Rattle.lic_auto.specs.declared.template_runs.TemplateRun.{TemplateRun}
 use Rattle.lic_auto.proofs.Accepting.{dead_described}
 use Rattle.lic_auto.proofs.run.Run.dead.Goals as goal
 

@@ -2,8 +2,8 @@ use Rattle.std.proofs.Common.{◌≡◌, ◌∷◌, ◌++◌, [], Some, get_or, 
 use Rattle.std.proofs.lemmas.List.{map-append, take_more}
 use Rattle.std.specs.List.{slice_get}
 use Rattle.lic_set.specs.Sets.{Known, words_of}
-use Rattle.lic_auto.specs.Walks.{AreFollowing, AreOver, Follows, IsOver, run_numbers}
-use Rattle.lic_auto.specs.declared.walk.TemplateRun.{TemplateRun}
+use Rattle.lic_auto.specs.TemplateRuns.{AreFollowing, AreOver, Follows, IsOver, run_numbers}
+use Rattle.lic_auto.specs.declared.template_runs.TemplateRun.{TemplateRun}
 use Rattle.lic_auto.proofs.Following.{AreOver-push, AreFollowing-push}
 use Rattle.lic_auto.proofs.run.Run.over.Goals as goal
 

@@ -1,5 +1,5 @@
 use Rattle.std.proofs.Common.{◌≡◌, take, []}
-use Rattle.lic_auto.specs.Walks.{AreFollowing, AreOver, run_numbers}
+use Rattle.lic_auto.specs.TemplateRuns.{AreFollowing, AreOver, run_numbers}
 use Rattle.lic_auto.proofs.run.Run.over.Given as goal
 
 abbrev pub invariant-loop-number : goal.invariant-loop-number

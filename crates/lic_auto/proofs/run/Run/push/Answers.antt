@@ -4,7 +4,7 @@ use Rattle.std.specs.Str.{chars}
 use Rattle.std.specs.Vec.{with_items}
 use Rattle.std.proofs.lemmas.List.{with_items_is}
 use Rattle.lic_set.specs.Rising.{IsRising}
-use Rattle.lic_auto.specs.Walks.{AreFollowing, AreOver, Takes, run_numbers}
+use Rattle.lic_auto.specs.TemplateRuns.{AreFollowing, AreOver, Takes, run_numbers}
 use Rattle.lic_auto.proofs.Following.{AreFollowing-taken, AreOver-changed, taken-numbers}
 use Rattle.lic_auto.proofs.run.Run.push.Goals as goal
 
@@ -46,8 +46,8 @@ returns-clause-among c = λ numbers ts s.
           (AreFollowing-taken set old new numbers token ts c.push_to_all.ensures before);
     }
 
-pub returns-clause-stands : goal.returns-clause-stands
-returns-clause-stands c = λ ts s.
+pub returns-clause-taken : goal.returns-clause-taken
+returns-clause-taken c = λ ts s.
     let self = c.args.self.now in
     record {
       some = λ k h. h;

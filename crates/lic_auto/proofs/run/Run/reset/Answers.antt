@@ -1,7 +1,7 @@
 use Rattle.std.proofs.Common.{[], length, sym, ap, ◌∙◌, subst, arith}
 use Rattle.std.proofs.lemmas.List.{with_items_is}
 use Rattle.lic_set.specs.Rising.{IsRising}
-use Rattle.lic_auto.specs.Walks.{AreFollowing, AreOver, BeginsAmong, run_numbers}
+use Rattle.lic_auto.specs.TemplateRuns.{AreFollowing, AreOver, BeginsAmong, run_numbers}
 use Rattle.lic_auto.proofs.Following.{AreFollowing-begun, AreOver-changed, begun-numbers}
 use Rattle.lic_auto.proofs.run.Run.reset.Goals as goal
 
@@ -26,8 +26,8 @@ invariant_of-self c =
           c.begin_all.ensures (subst (AreOver set) (sym c.deref_mut.ensures.value) self.over));
     }
 
-pub returns-clause-stands : goal.returns-clause-stands
-returns-clause-stands c =
+pub returns-clause-taken : goal.returns-clause-taken
+returns-clause-taken c =
     let self = c.args.self.now in
     let set = self.set.now in
     let old = c.deref_mut.result.now in

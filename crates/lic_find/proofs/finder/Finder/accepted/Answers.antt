@@ -1,9 +1,9 @@
 use Rattle.std.proofs.Common.{◌≡◌, ◌+◌, refl, sym, subst, arith}
 use Rattle.lic_auto.specs.Runs.{numbers_of}
-use Rattle.lic_find.specs.Rest.{place_of}
+use Rattle.lic_find.specs.Remaining.{place_of}
 use Rattle.lic_find.specs.Starts.{starts_in}
-use Rattle.lic_find.specs.Walks.{letters_up_to, IsNextOfRange}
-use Rattle.lic_find.proofs.Walking.{NoneHasRange-before, NoneHasRange-least, IsNext-least}
+use Rattle.lic_find.specs.Scans.{letters_up_to, IsNextOfRange}
+use Rattle.lic_find.proofs.Scanning.{NoneHasRange-before, NoneHasRange-least, IsNext-least}
 use Rattle.lic_find.proofs.finder.Finder.accepted.Goals as goal
 
 pub returns-in_err-from : goal.returns-in_err-from
@@ -22,7 +22,7 @@ returns-in_err-template c = λ come.
     subst (IsNextOfRange f.set.now tokens (numbers_of f.run) (place_of f) f.first f.end) (sym c.from_residual-in_err-template.ensures)
     (NoneHasRange-least f.set.now tokens (place_of f) f.run
     (starts_in f.starts) f.first f.end come c.in_ok-last.last ends c.in_ok-from.from c.in_ok-from.ensures.some
-    (c.in_err-template.ensures.among come.numbers (letters_up_to tokens f.first f.end) come.stands))
+    (c.in_err-template.ensures.among come.numbers (letters_up_to tokens f.first f.end) come.taken))
 
 pub returns : goal.returns
 returns c = λ come.
@@ -33,5 +33,5 @@ returns c = λ come.
       ends,
       IsNext-least f.set.now tokens (place_of f) f.run
           (starts_in f.starts) f.first f.end come c.in_ok-last.last ends c.in_ok-from.from c.in_ok-from.ensures.some
-          c.in_ok-template.template (c.in_ok-template.ensures.among come.numbers (letters_up_to tokens f.first f.end) come.stands),
+          c.in_ok-template.template (c.in_ok-template.ensures.among come.numbers (letters_up_to tokens f.first f.end) come.taken),
     )

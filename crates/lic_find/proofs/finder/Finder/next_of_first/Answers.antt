@@ -5,16 +5,16 @@ use Rattle.std.proofs.lemmas.Grind.{not_there}
 use Rattle.std.specs.Str.{chars}
 use Rattle.lic_norm.specs.Tokens.{TokenValue}
 use Rattle.lic_words.specs.Letters.{letters_in}
-use Rattle.lic_auto.specs.Runs.{StandsAmong, numbers_of, steps_of}
+use Rattle.lic_auto.specs.Runs.{RunHasTakenAmong, numbers_of, steps_of}
 use Rattle.lic_find.specs.Counts.{AreCounted}
 use Rattle.lic_find.specs.Listing.{matches_among}
-use Rattle.lic_find.specs.Rest.{place_of}
+use Rattle.lic_find.specs.Remaining.{place_of}
 use Rattle.lic_find.specs.Starts.{starts_in}
-use Rattle.lic_find.specs.Walks.{letters_up_to}
+use Rattle.lic_find.specs.Scans.{letters_up_to}
 use Rattle.lic_find.proofs.LetterLemmas.{letters_of-drop, letters_of-drop_le}
 use Rattle.lic_find.proofs.Matching.{matches_among-next, same_list}
 use Rattle.lic_find.proofs.StepLemmas.{AreCounted-push}
-use Rattle.lic_find.proofs.Walking.{HasCome-found, HasCome-push, AllEndBy-at_end, AllEndBy-dead, NoneBegins-ended}
+use Rattle.lic_find.proofs.Scanning.{HasCome-found, HasCome-push, AllEndBy-at_end, AllEndBy-dead, NoneBegins-ended}
 use Rattle.lic_find.proofs.finder.Finder.next_of_first.Goals as goal
 use Rattle.lic_find.proofs.finder.Finder.next_of_first.Goals.{then-self-len-via-then-self-len, then-self-len-via-else-self-len+then-dead}
 
@@ -88,8 +88,8 @@ invariant_of-self-in-loop-triple c =
           HasCome-push f.set.now tokens (place_of f) f.run
           (starts_in f.starts) f.first f.end come c.push.new.self token
           (c.in_default.ensures come) room c.push.ensures.set c.push.ensures.numbers
-          (subst (λ text. StandsAmong c.push.new.self come.numbers (letters_up_to tokens f.first f.end ++ chars text ∷ [])) text
-          (c.push.ensures.among come.numbers (letters_up_to tokens f.first f.end) come.stands)));
+          (subst (λ text. RunHasTakenAmong c.push.new.self come.numbers (letters_up_to tokens f.first f.end ++ chars text ∷ [])) text
+          (c.push.ensures.among come.numbers (letters_up_to tokens f.first f.end) come.taken)));
       order = let order = f.order in omega arith;
       counted = subst (λ ns. AreCounted f.set.now tokens ns f.began f.noting (steps_of c.push.new.self) f.first (f.end + 1)) (sym c.push.ensures.numbers)
           (AreCounted-push f.set.now tokens (numbers_of f.run) f.began f.noting (steps_of f.run) f.first f.end f.counted token

@@ -6,7 +6,7 @@ use Rattle.lic_find.specs.Counts.{AreCounted}
 use Rattle.lic_find.specs.Firsts.{AreFirstsFrom}
 use Rattle.lic_find.specs.Listing.{matches_among}
 use Rattle.lic_find.specs.Starts.{starts_in}
-use Rattle.lic_find.specs.Walks.{HasCome}
+use Rattle.lic_find.specs.Scans.{HasCome}
 use Rattle.lic_find.proofs.AmongLemmas.{AreMatchesAmong-listed}
 use Rattle.lic_find.proofs.BeginningLemmas.{HasBegun, HasBegun-told, HasCome-begun, AreCounted-begun, begins_whole, IfNone-map}
 use Rattle.lic_find.proofs.finder.Finder.over.Goals as goal
@@ -45,7 +45,7 @@ invariant_of-result c =
     record {
       come = ∣ subst (λ n. HasCome set tokens c.args.after new left n n) (sym first)
           (HasCome-begun set tokens c.args.after from run new c.begin_next.ensures.numbers starts left firsts begin c.first_token.ensures low high
-          (c.begin_next.ensures.set ∙ c.in_ok-run.ensures.set) c.in_ok-run.ensures.stands r begun) ∣₁;
+          (c.begin_next.ensures.set ∙ c.in_ok-run.ensures.set) c.in_ok-run.ensures.taken r begun) ∣₁;
       order = omega arith;
       counted = subst (λ n. AreCounted set tokens (numbers_of new) c.args.after c.in_ok-starts.noting (steps_of new) n n) (sym first)
           (AreCounted-begun set tokens c.args.after from run new c.begin_next.ensures.numbers starts left firsts (λ after. c.matches_are_listed.ensures set tokens after)

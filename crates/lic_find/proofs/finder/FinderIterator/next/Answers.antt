@@ -10,13 +10,13 @@ use Rattle.lic_find.specs.Listing.{matches_among}
 use Rattle.lic_set.specs.Matches.{IsMatch}
 use Rattle.lic_find.specs.Bounds.{letters_of, letters_of_matches}
 use Rattle.lic_find.specs.Firsts.{AreFirstsFrom, NoneBeginFrom}
-use Rattle.lic_find.specs.Rest.{place_of, rest_of}
+use Rattle.lic_find.specs.Remaining.{place_of, remaining_matches}
 use Rattle.lic_find.specs.Starts.{starts_in}
-use Rattle.lic_find.specs.Walks.{HasCome, NoneBegins}
+use Rattle.lic_find.specs.Scans.{HasCome, NoneBegins}
 use Rattle.lic_find.proofs.GivingLemmas.{YieldsFirst-given, IfNone-never, capped-le, capped-most, capped-below}
 use Rattle.lic_find.proofs.Matching.{matches_among-none, same_list}
 use Rattle.lic_find.proofs.StepLemmas.{AreCounted-next, walked-all}
-use Rattle.lic_find.proofs.Walking.{HasCome-next_first, next_first, none_behind, some_begins, there}
+use Rattle.lic_find.proofs.Scanning.{HasCome-next_first, next_first, none_behind, some_begins, there}
 use Rattle.lic_find.proofs.finder.FinderIterator.next.Goals as goal
 
 pub begin_next-requires : goal.begin_next-requires
@@ -33,8 +33,8 @@ returns-in_err-first-clause-steps c =
     let tokens = f.text.now.tokens in
     let same = c.in_default.ensures.same in
     let still = c.in_err-first.ensures.none in
-    let empty : rest_of f ≡ [] =
-    same_list (rest_of f) [] (∥∥₁_map f.come (λ come.
+    let empty : remaining_matches f ≡ [] =
+    same_list (remaining_matches f) [] (∥∥₁_map f.come (λ come.
     matches_among-none set tokens (λ after. c.matches_are_listed.ensures set tokens after) (numbers_of f.run) (place_of f)
     (none_behind set tokens (place_of f) f.run (starts_in f.starts) f.first f.end come c.in_default.ensures.none still.0))) in
     let left : matches_among set tokens (numbers_of c.begin_next.new.run) (place_of f) ≡ [] =
@@ -48,8 +48,8 @@ returns-in_err-first-clause-steps c =
     let same_tokens : tokens ≡ old.text.now.tokens = ap (λ t. t.now.tokens) same.text in
     let same_set : set ≡ old.set.now = ap (λ s. s.now) same.set in
     record {
-      first = subst (λ r. MatchOption r ((rest_of old ≡ []) × (matches_among set tokens (numbers_of c.begin_next.new.run) (place_of f) ≡ []))
-          (λ triple. rest_of old ≡ triple ∷ matches_among set tokens (numbers_of c.begin_next.new.run) (place_of f))) (sym c.from_residual.ensures)
+      first = subst (λ r. MatchOption r ((remaining_matches old ≡ []) × (matches_among set tokens (numbers_of c.begin_next.new.run) (place_of f) ≡ []))
+          (λ triple. remaining_matches old ≡ triple ∷ matches_among set tokens (numbers_of c.begin_next.new.run) (place_of f))) (sym c.from_residual.ensures)
           (sym c.in_default.ensures.rest ∙ empty, left);
       templates = same_set;
       text = same_tokens;
@@ -82,12 +82,12 @@ invariant_of-self-2 c =
     let tokens = f.text.now.tokens in
     let new = c.begin_next.new.run in
     let left = starts_in c.begin_next.new.starts in
-    let (noted, is, here, stands) = c.in_ok-first.ensures.some in
+    let (noted, is, here, taken) = c.in_ok-first.ensures.some in
     record {
       come = ∥∥₁_map f.come (λ come.
           subst (λ n. HasCome set tokens (place_of f) new left n n) here
           (HasCome-next_first set tokens (place_of f) f.run (starts_in f.starts) f.first f.end come noted left is new c.in_default.ensures.none
-          c.begin_next.ensures.set c.begin_next.ensures.numbers stands));
+          c.begin_next.ensures.set c.begin_next.ensures.numbers taken));
       order = omega arith;
       counted = ∥∥₁_elim f.come (hlevel (le_prop)) (λ come.
           subst (λ ns. AreCounted set tokens ns f.began f.noting (steps_of new) c.in_ok-first.first c.in_ok-first.first) (sym c.begin_next.ensures.numbers)
@@ -107,7 +107,7 @@ returns-clause-steps c =
     let r = c.next_of_first-2.result in
     let first = c.in_default.ensures in
     let second = c.next_of_first-2.ensures in
-    let (noted, is, here, stands) = c.in_ok-first.ensures.some in
+    let (noted, is, here, taken) = c.in_ok-first.ensures.some in
     let never : r ≡ None → ⊥ =
     IfNone-never r
     (λ nothing none. not_there f.come (λ come.

@@ -5,7 +5,7 @@ use Rattle.lic_find.specs.Starts.{starts_in, noted_in, few_of}
 use Rattle.lic_find.specs.declared.starts.Entry.{Entry}
 use Rattle.lic_find.proofs.StartLemmas.{noted_in-more}
 use Rattle.lic_find.proofs.starts.Starts.add.Goals as goal
-use Rattle.lic_find.proofs.starts.Starts.add.Goals.{then-numbers-le4, else-numbers-le4}
+use Rattle.lic_find.proofs.starts.Starts.add.Goals.{then-numbers-le-MOST_NUMBERS, else-numbers-le-MOST_NUMBERS}
 
 few : (numbers : List ℕ) → length numbers ≤ 4 → numbers ≡ few_of numbers
 few numbers h = sym (cond-true (nat_le (length numbers) 4) numbers [] (le-leb (length numbers) 4 h))
@@ -17,12 +17,12 @@ pub returns-clause-noted : goal.returns-clause-noted
 unfolding starts_in
 returns-clause-noted c =
     let numbers = c.args.numbers.now in
-    let kept = c.if-numbers-le4.few.now in
+    let kept = c.if-numbers-le-MOST_NUMBERS.few.now in
     let entries = c.args.self.now.entries.items in
     let is : kept ≡ few_of numbers =
-    elim c.if-numbers-le4.branch [
-      | then-numbers-le4 w ↦ ap (λ b. b.now) w.few-is ∙ few numbers w.if-numbers-le4.true
-      | else-numbers-le4 w ↦ ap (λ b. b.now) w.few-is ∙ many numbers w.if-numbers-le4.false
+    elim c.if-numbers-le-MOST_NUMBERS.branch [
+      | then-numbers-le-MOST_NUMBERS w ↦ ap (λ b. b.now) w.few-is ∙ few numbers w.if-numbers-le-MOST_NUMBERS.true
+      | else-numbers-le-MOST_NUMBERS w ↦ ap (λ b. b.now) w.few-is ∙ many numbers w.if-numbers-le-MOST_NUMBERS.false
     ] in
     let one : Entry = record { first = c.args.first; count = length kept } in
     ap (λ l. noted_in (reverse l) c.extend_from_slice.new.self.items) c.in_ok-push.ensures.items

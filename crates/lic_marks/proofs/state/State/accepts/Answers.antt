@@ -3,8 +3,8 @@ use Rattle.lic_marks.specs.Cores.{WordsOf}
 use Rattle.lic_marks.specs.Marks.{can_leave}
 use Rattle.lic_marks.specs.Rows.{marks_of}
 use Rattle.lic_marks.specs.Nodes.{core_of}
-use Rattle.lic_marks.specs.Standing.{AfterAny}
-use Rattle.lic_marks.proofs.Standing.{leaving_sound, leaving_complete}
+use Rattle.lic_marks.specs.Representing.{AfterAny}
+use Rattle.lic_marks.proofs.Representing.{leaving_sound, leaving_complete}
 use Rattle.lic_marks.proofs.state.State.accepts.Goals as goal
 
 pub returns : goal.returns

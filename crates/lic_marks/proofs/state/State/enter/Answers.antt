@@ -5,8 +5,8 @@ use Rattle.lic_marks.specs.Cores.{WordsOf}
 use Rattle.lic_marks.specs.Marks.{Marks, join, shift}
 use Rattle.lic_marks.specs.Rows.{marks_of}
 use Rattle.lic_marks.specs.Nodes.{core_of}
-use Rattle.lic_marks.specs.Standing.{AfterAny, Leads}
-use Rattle.lic_marks.proofs.RowWalks.{marks_of-replicate}
+use Rattle.lic_marks.specs.Representing.{AfterAny, Leads}
+use Rattle.lic_marks.proofs.RowSteps.{marks_of-replicate}
 use Rattle.lic_marks.proofs.StateLemmas.{without_gap}
 use Rattle.lic_marks.proofs.Entering.{Entered, begun, Leads-entered, entered_lists, first_marks, first_sound, first_complete}
 use Rattle.lic_marks.proofs.state.State.enter.Goals as goal

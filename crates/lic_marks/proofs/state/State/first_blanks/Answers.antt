@@ -2,7 +2,7 @@ use Rattle.std.proofs.Common.{true, ap, ◌∙◌}
 use Rattle.lic_marks.specs.Rows.{flags_of, marks_of}
 use Rattle.lic_marks.specs.Nodes.{core_of}
 use Rattle.lic_marks.specs.Deciding.{over_blanks}
-use Rattle.lic_marks.proofs.RowWalks.{marks_of-replicate}
+use Rattle.lic_marks.proofs.RowSteps.{marks_of-replicate}
 use Rattle.lic_marks.proofs.state.State.first_blanks.Goals as goal
 
 pub returns-clause-first : goal.returns-clause-first

@@ -1,6 +1,6 @@
 use Rattle.std.proofs.Common.{inl, [], ◌∷◌}
 use Rattle.lic_marks.specs.Cores.{WordsOf}
-use Rattle.lic_marks.specs.Standing.{After}
+use Rattle.lic_marks.specs.Representing.{After}
 use Rattle.lic_marks.proofs.StateLemmas.{nothing_left}
 use Rattle.lic_marks.proofs.state.State.is_clear.Goals as goal
 

@@ -2,11 +2,11 @@ use Rattle.std.proofs.Common.{false, sym, subst}
 use Rattle.lic_marks.specs.Cores.{WordsOf}
 use Rattle.lic_marks.specs.Rows.{marks_of}
 use Rattle.lic_marks.specs.Nodes.{core_of}
-use Rattle.lic_marks.specs.Standing.{AfterAny, LeadsSoFar}
+use Rattle.lic_marks.specs.Representing.{AfterAny, LeadsSoFar}
 use Rattle.lic_marks.specs.declared.state.State.{State}
 use Rattle.lic_marks.proofs.Lists.{AfterAny-snoc, snoc-AfterAny}
 use Rattle.lic_marks.proofs.StateLemmas.{without_gap, gap_used}
-use Rattle.lic_marks.proofs.Standing.{Leads-same, LeadsSoFar-letter}
+use Rattle.lic_marks.proofs.Representing.{Leads-same, LeadsSoFar-letter}
 use Rattle.lic_marks.proofs.state.State.letter.Goals as goal
 use Rattle.lic_marks.proofs.state.State.letter.Goals.{then-letter, else-letter}
 

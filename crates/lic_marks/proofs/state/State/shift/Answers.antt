@@ -2,7 +2,7 @@ use Rattle.std.proofs.Common.{◌≡◌, Bool, not, true, false, refl, sym, ap, 
 use Rattle.lic_marks.specs.Marks.{shift}
 use Rattle.lic_marks.specs.Rows.{marks_of}
 use Rattle.lic_marks.specs.Nodes.{core_of}
-use Rattle.lic_marks.proofs.Standing.{shift_over-joined, shift_over-needed, shift_over-free}
+use Rattle.lic_marks.proofs.Representing.{shift_over-joined, shift_over-needed, shift_over-free}
 use Rattle.lic_marks.proofs.state.State.shift.Goals as goal
 
 not_so : (b : Bool) → not b ≡ true → b ≡ false

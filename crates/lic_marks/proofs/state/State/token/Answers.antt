@@ -19,7 +19,7 @@ loop-letter-preserved c =
     let more : List (Gap × ℕ) = inv.taken.0 in
     let one : Gap × ℕ = gapped_letter c.in-Some.letter in
     record {
-      room = c.letter.ensures.room ∙ inv.room;
+      room = c.letter.ensures.positions ∙ inv.room;
       taken = (
         more ++ one ∷ [],
         inv.taken.1 ∙ ap (λ x. more ++ x) given.first ∙ sym (append_assoc more (one ∷ []) (letters_left c.next.new.self)),

@@ -1,4 +1,4 @@
-use Rattle.std.proofs.Common.{◌≡◌, ◌<◌, ◌+◌, ◌++◌, ◌∷◌, [], codes, length, drop, refl, sym, ap, subst, ◌∙◌, append_assoc, append-nil, arith}
+use Rattle.std.proofs.Common.{◌≡◌, ◌<◌, ◌+◌, ◌++◌, ◌∷◌, [], codes, length, take, drop, refl, sym, ap, subst, ◌∙◌, append_assoc, append-nil, arith}
 use Rattle.std.proofs.lemmas.List.{drop_all}
 use Rattle.std.proofs.lemmas.List.Elements.{All-get_or}
 use Rattle.lic_lines.specs.Tokens.{Token, single_signs}
@@ -77,16 +77,21 @@ loop-i-preserved-then-is_sign c =
       emptied = done.emptied;
     }
 
-pub take_text-requires-else-is_sign-clause-before : goal.take_text-requires-else-is_sign-clause-before
-take_text-requires-else-is_sign-clause-before c = record { taken = _; has = (c.loop-i.invariant.taken c.requires.before.taken c.requires.before.has).1 }
+pub take_letters-requires-clause-before : goal.take_letters-requires-clause-before
+take_letters-requires-clause-before c = record { taken = _; has = (c.loop-i.invariant.taken c.requires.before.taken c.requires.before.has).1 }
 
-pub take_text-requires-else-is_sign-clause-text : goal.take_text-requires-else-is_sign-clause-text
-take_text-requires-else-is_sign-clause-text c =
+pub take_letters-requires-clause-text : goal.take_letters-requires-clause-text
+take_letters-requires-clause-text c =
     let tokens = c.args.stretch.now in
     let i = c.loop-i.i in
     let lt : i < length tokens = omega (arith, c.loop-i-test.true, c.len-in-loop-i.ensures) in
     subst IsTokenText (sym (c.text-text.ensures.text no_token))
     (All-get_or (λ t. IsTokenText t.text) tokens i no_token lt c.requires.texts)
+
+pub take_letters-requires-clause-front : goal.take_letters-requires-clause-front
+take_letters-requires-clause-front c =
+    let texts = c.text-text.ensures.text no_token in
+    texts ∙ c.letters_from-letters.ensures.front no_token ∙ ap (λ l. take (length l) c.letters_from-letters.result.now) (sym texts)
 
 pub loop-i-preserved : goal.loop-i-preserved
 loop-i-preserved c =
@@ -101,13 +106,13 @@ loop-i-preserved c =
       after_blank = c.after_blank-blank.result;
     } in
     let rest = single_signs (drop (i + 1) tokens) in
-    let done = c.in_ok-take_text-2.ensures in
+    let done = c.in_ok-take_letters.ensures in
     record {
       within = omega (arith, lt);
       taken = λ taken has.
           let before = known.taken taken has in (
             before.0 ++ token ∷ [],
-            subst (HasTaken c.take_text-else-is_sign.new.self) (append_assoc taken before.0 (token ∷ [])) (done.taken (taken ++ before.0) before.1),
+            subst (HasTaken c.take_letters.new.self) (append_assoc taken before.0 (token ∷ [])) (done.taken (taken ++ before.0) before.1),
             append_assoc before.0 (token ∷ []) rest
                 ∙ ap (λ l. before.0 ++ l)
                 (token_taken tokens i token.text token.start token.end token.after_blank lt (sym c.is_sign.ensures ∙ c.if-is_sign.false)
@@ -115,7 +120,7 @@ loop-i-preserved c =
                 (c.end-else-is_sign.ensures no_token) (c.after_blank-blank.ensures no_token))
                 ∙ before.2,
           );
-      phrases = c.take_text-else-is_sign.ensures.phrases ∙ known.phrases;
+      phrases = c.take_letters.ensures.phrases ∙ known.phrases;
       emptied = done.emptied;
     }
 

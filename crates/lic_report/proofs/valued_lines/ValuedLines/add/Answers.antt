@@ -4,7 +4,7 @@ use Rattle.lic_norm.specs.Tokens.{TokenValue}
 use Rattle.lic_norm.specs.declared.token.Span.{Span}
 use Rattle.lic_vars.specs.Values.{AreValues}
 use Rattle.lic_vars.specs.Views.{value_of}
-use Rattle.lic_report.specs.Fronts.{Named}
+use Rattle.lic_report.specs.Prefixes.{Named}
 use Rattle.lic_report.specs.Report.{match_line}
 use Rattle.lic_report.proofs.ValueLemmas.{Fits, values_fit, valued_line}
 use Rattle.lic_report.proofs.valued_lines.ValuedLines.add.Goals as goal

@@ -1,4 +1,4 @@
--- The sweep went on to where it is; each active span that left has paid for one that was added.
+-- The sweep continued to where it is; each active span that left has paid for one that was added.
 use Rattle.std.proofs.Common.{◌≡◌, ◌+◌, ◌≤◌, length}
 use Rattle.std.specs.BinaryHeap.{heap_items, heap_len}
 use Rattle.lic_spans.specs.Sweeps.{Advances}

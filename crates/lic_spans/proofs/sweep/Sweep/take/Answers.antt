@@ -1,4 +1,4 @@
--- The sweep goes on to where the span begins, and the span is active from there on.
+-- The sweep continues to where the span begins, and the span is active from there on.
 use Rattle.std.proofs.Common.{◌≡◌, ℕ, List, [], ◌∷◌, ◌++◌, sym, ◌∙◌, subst, arith, length, ◌+◌, ◌<◌, ◌^◌}
 use Rattle.std.proofs.lemmas.List.Sorted.{length_permutation}
 use Rattle.std.specs.BinaryHeap.{heap_items}

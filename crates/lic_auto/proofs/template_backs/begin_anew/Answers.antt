@@ -1,0 +1,16 @@
+use Rattle.std.proofs.Common.{get_or, refl, arith}
+use Rattle.std.proofs.lemmas.Option.{slice_get-get_or}
+use Rattle.lic_auto.specs.TemplateBacks.{BeginsAnew}
+use Rattle.lic_auto.specs.declared.template_backs.TemplateBack.{TemplateBack}
+use Rattle.lic_auto.proofs.Changing.{Changed-more}
+use Rattle.lic_auto.proofs.template_backs.begin_anew.Goals as goal
+
+pub loop-one-preserved : goal.loop-one-preserved
+loop-one-preserved c =
+    let i = c.loop-one.one-index in
+    let backs = c.loop-one.backs in
+    let one : TemplateBack = get_or backs i c.one-item.result in
+    let here = slice_get-get_or backs i c.one-item.result (omega (arith, c.loop-one-test.true)) in
+    let begins : BeginsAnew one (record one { matcher = c.reset.new.self }) =
+    record { number = refl; tree = c.reset.ensures.tree; seeks = c.reset.ensures.taken } in
+    Changed-more BeginsAnew i c.args.backs.now backs one _ c.loop-one.invariant here begins

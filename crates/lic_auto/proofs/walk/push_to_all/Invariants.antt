@@ -1,7 +1,0 @@
-use Rattle.std.specs.Str.{chars}
-use Rattle.lic_auto.specs.Changes.{AreChangedBefore}
-use Rattle.lic_auto.specs.Walks.{Takes}
-use Rattle.lic_auto.proofs.walk.push_to_all.Given as goal
-
-abbrev pub invariant-loop-run : goal.invariant-loop-run
-invariant-loop-run l = AreChangedBefore (Takes (chars l.token)) l.run-index l.initial.runs l.runs

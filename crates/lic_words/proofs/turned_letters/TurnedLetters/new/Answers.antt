@@ -1,5 +1,0 @@
-use Rattle.std.proofs.lemmas.Str.{is_utf8-from_IsUtf8}
-use Rattle.lic_words.proofs.turned_letters.TurnedLetters.new.Goals as goal
-
-pub invariant_of-result : goal.invariant_of-result
-invariant_of-result c = record { text = is_utf8-from_IsUtf8 c.args.token.now c.utf8.token }
