@@ -5,7 +5,7 @@ use Rattle.std.proofs.lemmas.List.{get_or_past}
 use Rattle.std.proofs.lemmas.List.FromFn.{get_or-map-range_with_len, length-map-range_with_len}
 use Rattle.lic_columns.specs.Masks.{flag_at, flag_before}
 use Rattle.lic_columns.specs.Places.{places}
-use Rattle.lic_columns.specs.Cells.{Cell, Blank, Word, Mark, Joined, cell_of, cells_of, is_blank, goes_on, Span, from_here, next_cell, with_cell, spans, starts_of, ends_of, is_first, is_last, firsts, lasts, AreCells}
+use Rattle.lic_columns.specs.Cells.{Cell, Blank, Word, Mark, Joined, cell_of, cells_of, is_blank, continues, Span, from_here, next_cell, with_cell, spans, starts_of, ends_of, is_first, is_last, firsts, lasts, AreCells}
 
 -- ---- where tokens end
 
@@ -22,7 +22,7 @@ ends_with at false false ss flags rest = ap (λ l. suc at ∷ l) rest
 -- the places after those at which tokens end
 pub ends_are : (at : ℕ) (cells : List Cell) → places (suc at) (lasts cells) ≡ ends_of (spans at cells)
 ends_are at [] = refl
-ends_are at (c ∷ cells) = ends_with at (is_blank c) (goes_on c (next_cell cells)) (spans (suc at) cells) (lasts cells) (ends_are (suc at) cells)
+ends_are at (c ∷ cells) = ends_with at (is_blank c) (continues c (next_cell cells)) (spans (suc at) cells) (lasts cells) (ends_are (suc at) cells)
 
 -- ---- where tokens begin
 
@@ -41,7 +41,7 @@ starts_with at false false true ss flags h k rest = starts_from_here at (suc at)
 starts_with at false true false ss flags h k rest = ap (λ l. at ∷ l) rest
 starts_with at false false false ss flags h k rest = ap (λ l. at ∷ l) rest
 
-blank_before : (c d : Cell) → is_blank c ≡ true → goes_on c d ≡ false
+blank_before : (c d : Cell) → is_blank c ≡ true → continues c d ≡ false
 blank_before Blank Blank e = refl
 blank_before Blank Word e = refl
 blank_before Blank Mark e = refl
@@ -50,17 +50,17 @@ blank_before Word d e = absurd cc
 blank_before Mark d e = absurd cc
 blank_before Joined d e = absurd cc
 
-blank_after : (before c : Cell) → is_blank c ≡ true → goes_on before c ≡ false
+blank_after : (before c : Cell) → is_blank c ≡ true → continues before c ≡ false
 blank_after before Blank e = refl
 blank_after before Word e = absurd cc
 blank_after before Mark e = refl
 blank_after before Joined e = absurd cc
 
 starts_after : (before : Cell) (at : ℕ) (cells : List Cell)
-    → starts_of (spans at cells) ≡ cond (goes_on before (next_cell cells)) (at ∷ places at (firsts before cells)) (places at (firsts before cells))
+    → starts_of (spans at cells) ≡ cond (continues before (next_cell cells)) (at ∷ places at (firsts before cells)) (places at (firsts before cells))
 starts_after before at [] = refl
 starts_after before at (c ∷ cells) =
-    starts_with at (is_blank c) (goes_on before c) (goes_on c (next_cell cells)) (spans (suc at) cells) (firsts c cells)
+    starts_with at (is_blank c) (continues before c) (continues c (next_cell cells)) (spans (suc at) cells) (firsts c cells)
     (blank_after before c) (blank_before c (next_cell cells)) (starts_after c (suc at) cells)
 
 -- the places at which tokens begin

@@ -203,7 +203,7 @@ module _ (cut : LineCut) (line : List SourceChar) (within : cut.lead + cut.item 
 abbrev pub found : LineRules → List Cell → List Token
 found rules cells = first_tokens (runs_joined rules cells)
 
--- the one list gives what the other gives, wherever they stand
+-- the one list gives what the other gives, wherever they are
 pub record SameIn (rules : LineRules) (one two : List Cell) : Type 0 where
   pub same : (xs ys : List Cell) → found rules (xs ++ (one ++ ys)) ≡ found rules (xs ++ (two ++ ys))
 

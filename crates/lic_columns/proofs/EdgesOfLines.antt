@@ -37,7 +37,7 @@ use Rattle.lic_columns.proofs.TextLemmas.{IsText-blanked}
 abbrev joined : List (List ℕ) → List ℕ
 joined = flat_map (λ line. line)
 
--- the characters of lines, of which the first stands at this byte
+-- the characters of lines, of which the first occurs at this byte
 abbrev placed_lines : ℕ → List (List ℕ) → List (List SourceChar)
 placed_lines at [] = []
 placed_lines at (line ∷ lines) = placed at line ∷ placed_lines (at + length line) lines
@@ -257,7 +257,7 @@ module _ (text : List ℕ) (feed : List Bool) (at end : ℕ) (is : feed ≡ map 
             ∙ ap₂ (λ n l. take n (drop at text) ∷ byte_lines l) size (drop-drop (suc count) at text ∙ ap (λ n. drop n text) sum);
       }
 
--- the edges of the lines before this place are cleared, and what clears those behind it clears all
+-- the edges of the lines before this place are cleared, and what clears those after it clears all
 pub record AreCleared (rules : LineRules) (text : List ℕ) (at : ℕ) (known : Known) : Type 0 where
   pub within : at ≤ length text
   pub feed : known.feed ≡ map is_feed text

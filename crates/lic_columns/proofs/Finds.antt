@@ -109,7 +109,7 @@ pub record LooksDown (wanted : ℕ → Bool) (from to k mask : ℕ) : Type 0 whe
   pub passed : (b : ℕ) → suc k * 64 ≤ b → b < to → wanted b ≡ false
   pub bits : (i : ℕ) → i < 64 → has_bit mask i ≡ (wanted (k * 64 + i) && ltb (k * 64 + i) to)
 
--- what stands above the highest bit, and that bit
+-- what is above the highest bit, and that bit
 quotient_one : (mask j : ℕ) → 2 ^ j ≤ mask → mask < 2 ^ suc j → mask / 2 ^ j ≡ 1
 quotient_one mask j low high =
     let rest : 1 * 2 ^ j + (mask - 2 ^ j) ≡ mask = omega arith in

@@ -14,7 +14,7 @@ use Rattle.lic_lines.specs.Tokens.{Token, both_words, letters_of, token_of, toke
 use Rattle.lic_lines.proofs.GroupLemmas.{join_alone, groups_head}
 use Rattle.lic_lines.proofs.Gaps.{is_word, with_joined-at}
 
--- the tokens of cells, where a blank stands before them or does not
+-- the tokens of cells, where a blank comes before them or does not
 abbrev pub cell_tokens : Bool → List Cell → List Token
 cell_tokens after_blank cells = tokens_from after_blank (groups both_words (with_joined cells))
 
@@ -152,7 +152,7 @@ tokens-merged b (Word s) (Word t ∷ cells) h =
     ∙ plain-words b s t (with_joined cells)
     ∙ ap (λ l. merged (Word s) (plain_tokens b l)) (sym (with_joined-at [] (Word t) cells refl))
 
--- ---- lists of cells that have the same tokens wherever they stand
+-- ---- lists of cells that have the same tokens wherever they are
 
 pub record Alike (one two : List Cell) : Type 0 where
   pub first : next one ≡ next two

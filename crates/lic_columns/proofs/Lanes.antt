@@ -50,7 +50,7 @@ low_ok v fits =
     SwzOk-from_below w8 16 4 64 0 (zip2 bit_and v (replicate 64 15)) refl (omega (arith, length-zip2 bit_and v (replicate 64 15) fits.0))
     (Each1-zip2 bit_and (λ j. j < 16) v (replicate 64 15) (Each2-splat (λ a b. bit_and a b < 16) v 64 15 small))
 
--- in each quarter of the table stand the first sixteen entries
+-- in each quarter of the table are the first sixteen entries
 abbrev four_alike : List ℕ → ℕ → ℕ → Bool
 four_alike t i j = eqb (get_or t (16 * ((0 + i) / 16) + j) 0) (get_or t j 0)
 

@@ -34,13 +34,13 @@ use Rattle.lic_columns.proofs.SpanLemmas.{column_cells, IsByte, CellFits, Fit, t
 use Rattle.lic_columns.proofs.Separators.{parted, parted-alike}
 use Rattle.lic_columns.proofs.FlagCells.{words, marks, Fit-parted, words-parted, kept_are, cells_are}
 
--- ---- a text by the cells that stand in it
+-- ---- a text by the cells that are in it
 
 same_cells : {w w' m m' : List Bool} {l l' : List ℕ} → w ≡ w' → m ≡ m' → l ≡ l' → cells_of w m (joined_marks l m) ≡ cells_of w' m' (joined_marks l' m')
 same_cells {w = w} {w' = w'} {m = m} {m' = m'} {l = l} {l' = l'} e f g =
     ap (λ x. cells_of x m (joined_marks l m)) e ∙ ap (λ x. cells_of w' x (joined_marks l x)) f ∙ ap (λ x. cells_of w' m' (joined_marks x m')) g
 
--- the flags of a text are those of cells that stand one byte after another
+-- the flags of a text are those of cells that are one byte after another
 pub record IsOfCells (at : ℕ) (text : List ℕ) (cells : List Cell) (known : Known) : Type 0 where
   pub fit : Fit at text cells
   pub letters : known.letters ≡ map letter text

@@ -26,7 +26,7 @@ unmarked gone (Mark s) = if gone then Blank else Mark s
 abbrev pub is_gone : Bool → Bool → Bool → Bool → Bool
 is_gone two one here after = (one && here) || ((two && one) || (here && after))
 
--- the cells without separators, behind two such tests
+-- the cells without separators, after two such tests
 abbrev pub parted : Bool → Bool → List Cell → List Cell
 parted two one [] = []
 parted two one (x ∷ cells) =
@@ -51,7 +51,7 @@ long_is (x ∷ y ∷ cells) = go (length cells)
     go : (n : ℕ) → nat_le 2 (suc (suc n)) ≡ true
     go n = le-leb 2 (suc (suc n)) (omega arith)
 
--- a run of a mark, whose first cell is behind two such tests, is taken out
+-- a run of a mark, whose first cell is after two such tests, is taken out
 abbrev run_gone : Bool → Bool → List Cell → Bool
 run_gone two one run = (two && one) || ((one && is_some run) || is_long run)
 
@@ -88,7 +88,7 @@ group_shape y (z ∷ zs) =
     (λ miss. ([], (z ∷ g.0) ∷ g.1, ap (join_group same_mark y) g.2 ∙ cond-false (same_mark y z) _ _ miss, sym miss))
     (cases_Bool (same_mark y z))
 
--- one mark more in front of a run
+-- one mark more before a run
 mark_more : (two one : Bool) (s t : SourceChar) (g rest : List Cell)
     → unmarked (is_gone two one true (is_some g)) (Mark s) ∷ (laid_run (run_gone one true g) (Mark t ∷ g) ++ rest)
     ≡ laid_run (run_gone two one (Mark t ∷ g)) (Mark s ∷ Mark t ∷ g) ++ rest
@@ -111,13 +111,13 @@ cell_alone true false after (Mark s) rest = refl
 cell_alone false true after (Mark s) rest = refl
 cell_alone false false after (Mark s) rest = refl
 
--- what stands before a run without being of it has no effect
+-- what comes before a run without being of it has no effect
 laid_out-other : (two : Bool) (gs : List (List Cell)) → laid_out two false gs ≡ laid_out false false gs
 laid_out-other two [] = refl
 laid_out-other true (run ∷ gs) = refl
 laid_out-other false (run ∷ gs) = refl
 
--- the cells as they are told by their groups, wherever they stand
+-- the cells as they are given by their groups, wherever they are
 abbrev AreLaidOut : List Cell → Type 0
 AreLaidOut cells = (two one : Bool) → parted two one cells ≡ laid_out two one (groups same_mark cells)
 

@@ -1,4 +1,4 @@
--- The tokens of spans are the tokens of cells that stand one byte after another.
+-- The tokens of spans are the tokens of cells that are one byte after another.
 use Rattle.std.proofs.Common.{◌≡◌, ℕ, suc, ◌+◌, ◌-◌, ◌<◌, ◌≤◌, Bool, true, false, ◌&&◌, ◌||◌, ◌==◌, if◌then◌else◌, List, [], ◌∷◌, ◌++◌, take, drop, map, refl, sym, ap, ap₂, ◌∙◌, ⊎_elim, arith}
 use Rattle.std.specs.Prelude.{encode_utf8_all, slice_range, nat_lt}
 use Rattle.std.proofs.lemmas.Bool.{cases_Bool, cond-true, cond-false, lt-ltb, le-ltb}
@@ -10,13 +10,13 @@ use Rattle.lic_lines.specs.declared.cell.Cell.TheVariants.{Blank, Mark, Word}
 use Rattle.lic_lines.specs.Runs.{same_family}
 use Rattle.lic_lines.specs.Tokens.{Token}
 use Rattle.lic_columns.specs.Cells as columns
-use Rattle.lic_columns.specs.Cells.{Span, from_here, next_cell, with_cell, spans, goes_on, is_blank}
+use Rattle.lic_columns.specs.Cells.{Span, from_here, next_cell, with_cell, spans, continues, is_blank}
 use Rattle.lic_columns.specs.Bytes.{letter}
 use Rattle.lic_columns.specs.Marks.{is_joining}
 use Rattle.lic_columns.specs.SpanTokens.{token_text, span_token, span_tokens}
 use Rattle.lic_columns.proofs.FirstTokens.{cell_tokens, next, blank_cell, on, own, merged, tokens-blank, tokens-own, tokens-merged}
 
--- the cell in columns, where a cell stands before it
+-- the cell in columns, where a cell comes before it
 abbrev pub column_cell : Cell → Cell → columns.Cell
 column_cell before Blank = columns.Blank
 column_cell before (Word s) = columns.Word
@@ -35,16 +35,16 @@ blank_is before Blank = refl
 blank_is before (Word s) = refl
 blank_is before (Mark s) = mark_is_no_blank (same_family before (Mark s))
 
-mark_to_word : (t : Bool) → goes_on (if t then columns.Joined else columns.Mark) columns.Word ≡ false
+mark_to_word : (t : Bool) → continues (if t then columns.Joined else columns.Mark) columns.Word ≡ false
 mark_to_word true = refl
 mark_to_word false = refl
 
-mark_to_mark : (t u : Bool) → goes_on (if t then columns.Joined else columns.Mark) (if u then columns.Joined else columns.Mark) ≡ u
+mark_to_mark : (t u : Bool) → continues (if t then columns.Joined else columns.Mark) (if u then columns.Joined else columns.Mark) ≡ u
 mark_to_mark true true = refl
 mark_to_mark false true = refl
 mark_to_mark t false = refl
 
-on_is : (before x : Cell) (cells : List Cell) → goes_on (column_cell before x) (next_cell (column_cells x cells)) ≡ on x (next cells)
+on_is : (before x : Cell) (cells : List Cell) → continues (column_cell before x) (next_cell (column_cells x cells)) ≡ on x (next cells)
 on_is before Blank [] = refl
 on_is before Blank (Blank ∷ cells) = refl
 on_is before Blank (Word t ∷ cells) = refl
@@ -60,7 +60,7 @@ on_is before (Mark s) (Mark t ∷ cells) = mark_to_mark (same_family before (Mar
 
 -- ---- the first span
 
-goes_to : (c d : columns.Cell) → goes_on c d ≡ true → is_blank d ≡ false
+goes_to : (c d : columns.Cell) → continues c d ≡ true → is_blank d ≡ false
 goes_to c columns.Blank h = absurd cc
 goes_to c columns.Word h = refl
 goes_to c columns.Mark h = refl
@@ -69,7 +69,7 @@ goes_to c columns.Joined h = refl
 first_span : (at : ℕ) (c : columns.Cell) (cells : List columns.Cell) → is_blank c ≡ false
     → (s : Span) × (rest : List Span) × (spans at (c ∷ cells) ≡ s ∷ rest) × (s.start ≡ at) × (at < s.end)
 first_span at c [] h =
-    (record { start = at; end = suc at }, [], ap (λ t. with_cell at t (goes_on c columns.Blank) []) h, refl, omega arith)
+    (record { start = at; end = suc at }, [], ap (λ t. with_cell at t (continues c columns.Blank) []) h, refl, omega arith)
 first_span at c (d ∷ cells) h =
     ⊎_elim
     (λ hit.
@@ -79,7 +79,7 @@ first_span at c (d ∷ cells) h =
     (record f.0 { start = at }, f.1, e, refl, omega (arith, f.4)))
     (λ miss.
     (record { start = at; end = suc at }, spans (suc at) (d ∷ cells), ap₂ (λ t u. with_cell at t u (spans (suc at) (d ∷ cells))) h miss, refl, omega arith))
-    (cases_Bool (goes_on c d))
+    (cases_Bool (continues c d))
 
 -- ---- cells of bytes
 
@@ -104,7 +104,7 @@ CellFits at b Blank = Unit {0}
 CellFits at b (Mark s) = IsMarkByte at b s
 CellFits at b (Word s) = IsWordByte at b s
 
--- a cell for each of these bytes, of which the first stands at this place
+-- a cell for each of these bytes, of which the first occurs at this place
 abbrev pub Fit : ℕ → List ℕ → List Cell → Type 0
 Fit at [] [] = Unit {0}
 Fit at [] (x ∷ cells) = ⊥
@@ -201,7 +201,7 @@ module _ (at : ℕ) (full : List ℕ) where
   own_token p b bytes (Word s) before blank ts low e fits h =
       ap (λ t. t ∷ ts) (same_token (single_text p b bytes low e ∙ byte_text p b s fits.byte) (sym fits.byte.start) (sym fits.byte.end) refl)
 
-  -- no blank stands before the next byte
+  -- no blank comes before the next byte
   not_after : (p before : ℕ) (s : Span) (blank : Bool) → s.start ≡ suc p → (blank || nat_lt before p) ≡ ((blank || nat_lt before p) || nat_lt (suc p) s.start)
   not_after p before s blank start =
       sym (ap (λ n. (blank || nat_lt before p) || nat_lt (suc p) n) start
@@ -257,7 +257,7 @@ module _ (at : ℕ) (full : List ℕ) where
   on_next (Mark s) (Blank ∷ cells) h = absurd cc
   on_next (Word s) (Blank ∷ cells) h = absurd cc
 
-  -- the tokens of cells that begin at a place, behind what ends before
+  -- the tokens of cells that begin at a place, after what ends before
   abbrev AreTokens : ℕ → Cell → List Cell → Type 0
   AreTokens p prev cells = (blank : Bool) (before : ℕ) → before ≤ p
       → span_tokens blank at before full (spans p (column_cells prev cells)) ≡ cell_tokens (blank || nat_lt before p) cells

@@ -1,7 +1,7 @@
 -- Spans that are given by where they begin and where they end.
 use Rattle.std.proofs.Common.{◌≡◌, ℕ, zero, suc, ◌+◌, ◌<◌, ◌≤◌, Bool, true, false, List, [], ◌∷◌, length, drop, get_or, refl, ap, ◌∙◌, arith, subst}
 use Rattle.lic_columns.specs.Cells as columns
-use Rattle.lic_columns.specs.Cells.{Span, from_here, next_cell, with_cell, spans, goes_on, is_blank, starts_of, ends_of}
+use Rattle.lic_columns.specs.Cells.{Span, from_here, next_cell, with_cell, spans, continues, is_blank, starts_of, ends_of}
 use Rattle.lic_columns.specs.SpanTokens.{spans_by}
 
 pub spans_by-own : (ss : List Span) → spans_by (starts_of ss) (ends_of ss) ≡ ss
@@ -45,7 +45,7 @@ pub spans_bounded : (at : ℕ) (cells : List columns.Cell) → Bounded at (at + 
 spans_bounded at [] = tt
 spans_bounded at (c ∷ cells) =
     let high : suc at + length cells ≡ at + length (c ∷ cells) = omega arith in
-    bounded_with at (at + length (c ∷ cells)) (is_blank c) (goes_on c (next_cell cells)) (spans (suc at) cells) (omega arith)
+    bounded_with at (at + length (c ∷ cells)) (is_blank c) (continues c (next_cell cells)) (spans (suc at) cells) (omega arith)
     (subst (λ n. Bounded (suc at) n (spans (suc at) cells)) high (spans_bounded (suc at) cells))
 
 pub bounded_at : (low high : ℕ) (ss : List Span) → Bounded low high ss → (i : ℕ) → i < length (starts_of ss)

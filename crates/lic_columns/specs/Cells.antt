@@ -1,4 +1,4 @@
--- Cells: what stands at each place of a text, and the tokens that they make.
+-- Cells: what is at each place of a text, and the tokens that they make.
 use Rattle.std.specs.Prelude.{◌≡◌, ℕ, suc, Bool, true, false, not, ◌&&◌, List, [], ◌∷◌, map, length}
 use Rattle.std.specs.List.{range_with_len}
 use Rattle.lic_columns.specs.Masks.{flag_at}
@@ -41,12 +41,12 @@ is_mark_cell Word = false
 is_mark_cell Mark = true
 is_mark_cell Joined = true
 
--- whether the second cell is of the token of the first, which stands before it
-abbrev pub goes_on : Cell → Cell → Bool
-goes_on before Blank = false
-goes_on before Word = is_word_cell before
-goes_on before Mark = false
-goes_on before Joined = is_mark_cell before
+-- whether the second cell is of the token of the first, which comes before it
+abbrev pub continues : Cell → Cell → Bool
+continues before Blank = false
+continues before Word = is_word_cell before
+continues before Mark = false
+continues before Joined = is_mark_cell before
 
 -- from the place where a token begins to the one after it
 pub record Span : Type 0 where
@@ -69,10 +69,10 @@ with_cell at true more spans = spans
 with_cell at false true spans = from_here at spans
 with_cell at false false spans = record { start = at; end = suc at } ∷ spans
 
--- the tokens of these cells, of which the first stands at this place: each longest run of cells of which each goes on with the one before it
+-- the tokens of these cells, of which the first occurs at this place: each longest run of cells of which each continues with the one before it
 abbrev pub spans : ℕ → List Cell → List Span
 spans at [] = []
-spans at (c ∷ cells) = with_cell at (is_blank c) (goes_on c (next_cell cells)) (spans (suc at) cells)
+spans at (c ∷ cells) = with_cell at (is_blank c) (continues c (next_cell cells)) (spans (suc at) cells)
 
 abbrev pub starts_of : List Span → List ℕ
 starts_of = map (λ s. s.start)
@@ -83,12 +83,12 @@ ends_of = map (λ s. s.end)
 -- ---- where tokens begin and end
 
 abbrev pub is_first : Cell → Cell → Bool
-is_first before c = not (is_blank c) && not (goes_on before c)
+is_first before c = not (is_blank c) && not (continues before c)
 
 abbrev pub is_last : Cell → Cell → Bool
-is_last c next = not (is_blank c) && not (goes_on c next)
+is_last c next = not (is_blank c) && not (continues c next)
 
--- which cells are the first of a token, where this cell stands before them
+-- which cells are the first of a token, where this cell comes before them
 abbrev pub firsts : Cell → List Cell → List Bool
 firsts before [] = []
 firsts before (c ∷ cells) = is_first before c ∷ firsts c cells
@@ -100,7 +100,7 @@ lasts (c ∷ cells) = is_last c (next_cell cells) ∷ lasts cells
 
 -- ---- what the flags of a text are to each other
 
--- no byte is both, and a joined mark is a mark that stands right after one
+-- no byte is both, and a joined mark is a mark that comes right after one
 pub record AreCells (word mark joined : List Bool) : Type 0 where
   pub within : length mark ≡ length word
   pub apart : (k : ℕ) → (flag_at word k && flag_at mark k) ≡ false

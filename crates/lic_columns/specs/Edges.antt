@@ -15,7 +15,7 @@ edges_blanked cut at end known = blanked (end - cut.tail) end (blanked at (at + 
 abbrev pub byte_lines : List ℕ → List (List ℕ)
 byte_lines = cut_after is_feed
 
--- without lead, item and tail of each of these lines, of which the first stands at this place
+-- without lead, item and tail of each of these lines, of which the first occurs at this place
 abbrev pub lines_blanked : LineRules → ℕ → List (List ℕ) → Known → Known
 lines_blanked rules at [] known = known
 lines_blanked rules at (line ∷ lines) known =

@@ -3,7 +3,7 @@ use Rattle.std.specs.Prelude.{ℕ, suc, Bool, not, ◌&&◌, ◌||◌, ◌==◌,
 use Rattle.std.specs.List.{range_with_len}
 use Rattle.lic_columns.specs.Masks.{flag_at, flag_before}
 
--- a mark stands at this place and at the next, with one same byte of the text
+-- a mark is at this place and at the next, with one same byte of the text
 abbrev pub is_same_as_next : List ℕ → List Bool → ℕ → Bool
 is_same_as_next text marks k = (flag_at marks k && flag_at marks (suc k)) && (slice_index text k == slice_index text (suc k))
 
@@ -17,7 +17,7 @@ is_middle same k = flag_before same k && flag_at same k
 abbrev pub middles : List Bool → List Bool
 middles same = map (is_middle same) (range_with_len 0 (length same))
 
--- the mark is one of three same marks side by side: it is the middle one, or stands beside one
+-- the mark is one of three same marks side by side: it is the middle one, or is beside one
 abbrev pub is_in_separator : List Bool → ℕ → Bool
 is_in_separator middle k = flag_at middle k || (flag_before middle k || flag_at middle (suc k))
 

@@ -8,7 +8,7 @@ use Rattle.lic_columns.specs.Marks.{without_separators, joined_marks}
 abbrev pub kept_marks : Bool → List ℕ → Known → List Bool
 kept_marks separators bytes known = if separators then without_separators bytes known.mark else known.mark
 
--- what stands at each place once separators are taken out, and quotes and dashes joined
+-- what is at each place once separators are taken out, and quotes and dashes joined
 abbrev pub text_cells : Bool → List ℕ → Known → List Cell
 text_cells separators bytes known =
     let kept = kept_marks separators bytes known in

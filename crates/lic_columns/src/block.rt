@@ -129,7 +129,7 @@ pub(crate) fn padded(bytes: &[u8]) -> u8x64
     u8x64::from_array(block)
 }
 
-/// 64 bytes from a place on; after the end of the bytes stand blanks.
+/// 64 bytes from a place on; after the end of the bytes there are blanks.
 #[inline(always)]
 fn load(bytes: &[u8], at: usize) -> u8x64
     requires { at ≤ length bytes.now }

@@ -103,7 +103,7 @@ impl Columns {
         self.high.reset();
     }
 
-    /// Adds some bytes, after whole blocks; blanks stand after them.
+    /// Adds some bytes, after whole blocks; blanks come after them.
     #[inline(always)]
     fn push_block(&mut self, bytes: u8x64, count: usize) -> Result<(), AllocError>
         requires whole { HasLength (length self.old.letters) self.old }

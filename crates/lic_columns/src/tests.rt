@@ -85,7 +85,7 @@ fn lists_the_tokens_of_a_text(rt: HostRuntime) -> Result<(), Fail> {
     Ok(())
 }
 
-/// The first tokens of lines that begin at this place, by the profile's rules; `_` stands for a blank before.
+/// The first tokens of lines that begin at this place, by the profile's rules; `_` denotes a blank before.
 fn tokens_of(alloc: Global, lines: &mut Lines, at: u32, text: &str) -> Result<String, Fail>
     requires ascii { IsAscii text.now }
     requires small { at + length text.now ≤ 1000 }

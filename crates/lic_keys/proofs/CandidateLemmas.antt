@@ -18,7 +18,7 @@ use Rattle.lic_literals.specs.Ends.{EndsAt}
 use Rattle.lic_literals.specs.Kept.{MayEndAt, ends_of}
 use Rattle.lic_literals.specs.declared.kept.Kept.{Kept}
 use Rattle.lic_literals.proofs.KeptLemmas.{Contains-filter}
-use Rattle.lic_literals.proofs.Standing.{EndsAt-range}
+use Rattle.lic_literals.proofs.Occurring.{EndsAt-range}
 use Rattle.lic_keys.specs.Candidates.{IsCandidateIn, KeepsEnds, ends_at}
 use Rattle.lic_keys.specs.Keys.{KeysValue, letters_of}
 use Rattle.lic_keys.specs.declared.candidate.Candidate.{Candidate}

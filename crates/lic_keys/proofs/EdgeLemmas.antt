@@ -8,7 +8,7 @@ use Rattle.std.proofs.lemmas.Str.{IsCharBoundary-before_ascii, IsUtf8-drop, IsUt
 use Rattle.lic_kind.specs.Kinds.{is_word_kind, kind_of}
 use Rattle.lic_phrases.specs.Spelling.{begins_in_word, blank_if, ends_in_word, first_is_word}
 use Rattle.lic_norm.specs.PieceTexts.{IsPieceText}
-use Rattle.lic_places.specs.Places.{IsBehindBlank, is_blank_at}
+use Rattle.lic_places.specs.Places.{IsAfterBlank, is_blank_at}
 use Rattle.lic_places.proofs.Spelled.{begins_no_word, blank_if-utf8, chars-blank}
 use Rattle.lic_keys.specs.Texts.{AreEdges}
 
@@ -22,7 +22,7 @@ boundary front after =
     let within : length front < length text = omega (arith, length-append front (0x20 ∷ after)) in
     IsCharBoundary-before_ascii text (length front) within (omega (arith, here))
 
--- so what is in front of it is in UTF-8
+-- so what is before it is in UTF-8
 front-utf8 : (front after : List ℕ) → IsUtf8 (front ++ 0x20 ∷ after) → IsUtf8 front
 front-utf8 front after utf8 =
     let text = front ++ 0x20 ∷ after in
@@ -59,7 +59,7 @@ chars-some text utf8 some = by_chars (chars text) refl
     by_chars [] e = absurd (omega (arith, some, ap length (sym (encodes-chars text utf8) ∙ ap encodes e)))
     by_chars (c ∷ cs) e = omega arith
 
--- a blank in front of a text does not change its last letter
+-- a blank before a text does not change its last letter
 ends-after_blank : (has_blank : Bool) (text : List ℕ) → IsUtf8 text → 0 < length text →
     ends_in_word (blank_if has_blank ++ text) ≡ ends_in_word text
 ends-after_blank has_blank text utf8 some =
@@ -86,7 +86,7 @@ ends_no_word = ap (λ l. first_is_word (reverse l)) chars-blank ∙ blank_no_wor
 
 -- ---- blanks within the letters
 
--- a blank within the letters is one within the text, beside the same letters: without the blank in front of the text
+-- a blank within the letters is one within the text, beside the same letters: without the blank before the text
 without_front-piece : (has_blank : Bool) (after : List ℕ) → IsUtf8 after → IsPieceText (blank_if has_blank ++ after) →
     IsPieceText after
 without_front-piece has_blank after utf8 piece left right is some more =
@@ -114,7 +114,7 @@ two_first after piece some = true≢false (sym (piece (0x20 ∷ []) after refl (
 two_last : (front : List ℕ) → IsPieceText (front ++ 0x20 ∷ 0x20 ∷ []) → 0 < length front → ⊥
 two_last front piece some = true≢false (sym (piece front (0x20 ∷ []) refl some (omega arith)).1 ∙ begins_no_word [])
 
--- the letters in front of a blank that is last
+-- the letters before a blank that is last
 ends_blank : (letters : List ℕ) (p : ℕ) → length letters ≡ suc p → IsTrue (is_blank_at letters p) →
     letters ≡ take p letters ++ 0x20 ∷ []
 ends_blank letters p end is =
@@ -122,7 +122,7 @@ ends_blank letters p end is =
     ∙ take_more letters p 0 (omega (arith, end))
     ∙ ap (λ c. take p letters ++ c ∷ []) (eqb-true (get_or letters p 0) 0x20 is)
 
--- no letters end with a blank where another one follows, unless they are that blank alone and none is in front of it
+-- no letters end with a blank where another one follows, unless they are that blank alone and none is before it
 ends_twice : (has_front : Bool) (letters : List ℕ) (p : ℕ) → IsPieceText (blank_if has_front ++ (letters ++ 0x20 ∷ [])) →
     length letters ≡ suc p → IsTrue (is_blank_at letters p) → 0 < length (blank_if has_front) + p → ⊥
 ends_twice has_front letters p piece end is some =
@@ -135,13 +135,13 @@ ends_twice has_front letters p piece end is some =
     two_last (blank_if has_front ++ front) (subst IsPieceText cut piece)
     (omega (arith, length-append (blank_if has_front) front, many, some))
 
--- the text begins with no blank but the one in front of the letters
+-- the text begins with no blank but the one before the letters
 abbrev pub HasNoFront : List ℕ → Bool → Type 0
 HasNoFront text has_front = has_front ≡ false → ¬ (IsTrue (is_blank_at text 0))
 
 -- and ends with none but the one after them
 abbrev pub HasNoEnd : List ℕ → Bool → Type 0
-HasNoEnd text has_end = has_end ≡ false → ¬ (IsBehindBlank text (length text))
+HasNoEnd text has_end = has_end ≡ false → ¬ (IsAfterBlank text (length text))
 
 -- the letters do not begin with a blank
 letters-front : (has_front has_end : Bool) (letters : List ℕ) →
@@ -163,9 +163,9 @@ letters-front true true (c ∷ letters) piece front end is =
 letters-end : (has_front has_end : Bool) (letters : List ℕ) →
     IsPieceText (blank_if has_front ++ (letters ++ blank_if has_end)) →
     HasNoFront (blank_if has_front ++ (letters ++ blank_if has_end)) has_front →
-    HasNoEnd (letters ++ blank_if has_end) has_end → ¬ (IsBehindBlank letters (length letters))
+    HasNoEnd (letters ++ blank_if has_end) has_end → ¬ (IsAfterBlank letters (length letters))
 letters-end has_front false letters piece front end is =
-    subst (λ l. ¬ (IsBehindBlank l (length l))) (append-nil letters) (end refl) is
+    subst (λ l. ¬ (IsAfterBlank l (length l))) (append-nil letters) (end refl) is
 letters-end has_front true [] piece front end is = absurd (omega (arith, is.1))
 letters-end true true (c ∷ letters) piece front end is =
     ends_twice true (c ∷ letters) is.0 piece is.1 is.2 (omega arith)

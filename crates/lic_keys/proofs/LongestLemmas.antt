@@ -149,13 +149,13 @@ longest-alike parts n m xs ys one other =
 
 -- ---- the longest so far
 
--- of the first so many parts none has more letters than this text, and none before it as many
+-- of the first n parts none has more letters than this text, and none before it as many
 pub record IsLongestBelow (parts : List Part) (count number : ℕ) (letters : List ℕ) : Type 0 where
   pub has : HasLetters parts number letters
   pub longest : (n : ℕ) (l : List ℕ) → n < count → HasLetters parts n l → length l ≤ length letters
   pub first : (n : ℕ) (l : List ℕ) → HasLetters parts n l → n < number → length l < length letters
 
--- of the first so many parts none has letters, or the text is the longest of them
+-- of the first n parts none has letters, or the text is the longest of them
 abbrev pub IsLongest : List Part → ℕ → Option LongestText → Type 0
 IsLongest parts count longest =
     MatchOption longest ((number : ℕ) (letters : List ℕ) → number < count → HasLetters parts number letters → ⊥)

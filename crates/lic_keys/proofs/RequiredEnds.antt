@@ -16,7 +16,7 @@ use Rattle.lic_markup.specs.Parts.{Node, part_of}
 use Rattle.lic_norm.specs.Tokens.{TokenValue}
 use Rattle.lic_norm.specs.Places.{place_end, texts_of}
 use Rattle.lic_norm.specs.PieceTexts.{IsPieceText}
-use Rattle.lic_places.specs.Places.{AreTexts, IsBehindBlank, Stands, is_blank_at, spelling_of}
+use Rattle.lic_places.specs.Places.{AreTexts, IsAfterBlank, Occurs, is_blank_at, spelling_of}
 use Rattle.lic_places.specs.Reads.{Reads, Takes}
 use Rattle.lic_places.proofs.Reading.{Reads-cut, Reads-order}
 use Rattle.lic_places.proofs.Spelled.{spelled-front}
@@ -28,7 +28,7 @@ use Rattle.lic_keys.specs.Required.{HasLetters, HoldEnds}
 use Rattle.lic_keys.proofs.TextWords.{text-words}
 
 pub text-read : (tokens : List TokenValue) (text : List ℕ) (p q : ℕ) → AreTexts tokens → IsUtf8 text → IsPieceText text → 0 < length text →
-    ¬ (IsTrue (is_blank_at text 0)) → ¬ (IsBehindBlank text (length text)) → Reads tokens p (chars text) q ↔ Stands (spelling_of tokens) p text q
+    ¬ (IsTrue (is_blank_at text 0)) → ¬ (IsAfterBlank text (length text)) → Reads tokens p (chars text) q ↔ Occurs (spelling_of tokens) p text q
 text-read tokens text p q texts utf8 piece some front end =
     (text_stands tokens text p q texts utf8 piece some front end, text_read tokens text p q utf8)
 

@@ -2,7 +2,7 @@
 use Rattle.std.proofs.Common.{◌≡◌, ℕ, ◌+◌, ◌<◌, Bool, true, false, List, [], ◌∷◌, ◌++◌, length, get_or, refl, sym, ◌∙◌, subst, arith, append-nil, length-append, eq-eqb, IsTrue}
 use Rattle.std.proofs.lemmas.List.{append_cancel_right, get_or_at}
 use Rattle.lic_phrases.specs.Spelling.{blank_if}
-use Rattle.lic_places.specs.Places.{IsBehindBlank, is_blank_at}
+use Rattle.lic_places.specs.Places.{IsAfterBlank, is_blank_at}
 use Rattle.lic_keys.specs.Texts.{AreEdges}
 
 -- what comes after the first blank, where it does not begin with another
@@ -14,18 +14,18 @@ after-same true false xs ys same begins other = absurd (other (subst (λ l. IsTr
 after-same false true xs ys same begins other = absurd (begins (subst (λ l. IsTrue (is_blank_at l 0)) (sym same) refl))
 
 -- a blank at the end
-blank-last : (xs : List ℕ) → IsBehindBlank (xs ++ 0x20 ∷ []) (length (xs ++ 0x20 ∷ []))
+blank-last : (xs : List ℕ) → IsAfterBlank (xs ++ 0x20 ∷ []) (length (xs ++ 0x20 ∷ []))
 blank-last xs =
     let size : length (xs ++ 0x20 ∷ []) ≡ length xs + 1 = length-append xs (0x20 ∷ []) in
     (length xs, omega arith, eq-eqb (get_or (xs ++ 0x20 ∷ []) (length xs) 0) 0x20 (get_or_at xs 0x20 [] 0 (length xs) refl))
 
--- what stands before the blank at the end, where it does not end with another
-before-same : (e h : Bool) (xs ys : List ℕ) → xs ++ blank_if e ≡ ys ++ blank_if h → ¬ (IsBehindBlank xs (length xs)) →
-    ¬ (IsBehindBlank ys (length ys)) → xs ≡ ys
+-- what comes before the blank at the end, where it does not end with another
+before-same : (e h : Bool) (xs ys : List ℕ) → xs ++ blank_if e ≡ ys ++ blank_if h → ¬ (IsAfterBlank xs (length xs)) →
+    ¬ (IsAfterBlank ys (length ys)) → xs ≡ ys
 before-same true true xs ys same ends other = append_cancel_right xs ys (0x20 ∷ []) same
 before-same false false xs ys same ends other = sym (append-nil xs) ∙ same ∙ append-nil ys
-before-same true false xs ys same ends other = absurd (other (subst (λ l. IsBehindBlank l (length l)) (same ∙ append-nil ys) (blank-last xs)))
-before-same false true xs ys same ends other = absurd (ends (subst (λ l. IsBehindBlank l (length l)) (sym same ∙ append-nil xs) (blank-last ys)))
+before-same true false xs ys same ends other = absurd (other (subst (λ l. IsAfterBlank l (length l)) (same ∙ append-nil ys) (blank-last xs)))
+before-same false true xs ys same ends other = absurd (ends (subst (λ l. IsAfterBlank l (length l)) (sym same ∙ append-nil xs) (blank-last ys)))
 
 -- letters begin with no blank, whatever comes after them
 begins-same : (xs ys : List ℕ) → 0 < length xs → is_blank_at (xs ++ ys) 0 ≡ is_blank_at xs 0

@@ -1,4 +1,4 @@
--- Texts of a template that stand in whatever it describes, and where they end in bytes.
+-- Texts of a template that are in whatever it describes, and where they end in bytes.
 use Rattle.std.specs.Prelude.{◌≡◌, ℕ, ◌<◌, ◌≤◌, Bool, List, length, map, Contains, Some, slice_get}
 use Rattle.lic_markup.specs.declared.part.Part.{Part}
 use Rattle.lic_markup.specs.Parts as nodes

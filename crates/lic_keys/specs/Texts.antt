@@ -4,15 +4,15 @@ use Rattle.std.specs.Str.{IsUtf8}
 use Rattle.lic_words.specs.Words.{Word}
 use Rattle.lic_phrases.specs.Spelling.{blank_if}
 use Rattle.lic_norm.specs.PieceTexts.{IsPieceText}
-use Rattle.lic_places.specs.Places.{IsBehindBlank, is_blank_at}
+use Rattle.lic_places.specs.Places.{IsAfterBlank, is_blank_at}
 
--- letters in UTF-8 that begin with no blank and end with none, and within which blanks stand between letters of words
+-- letters in UTF-8 that begin with no blank and end with none, and within which blanks are between letters of words
 pub record AreLetters (letters : List ℕ) : Type 0 where
   pub utf8 : IsUtf8 letters
   pub piece : IsPieceText letters
   pub some : 0 < length letters
   pub front : ¬ (IsTrue (is_blank_at letters 0))
-  pub end : ¬ (IsBehindBlank letters (length letters))
+  pub end : ¬ (IsAfterBlank letters (length letters))
 
 -- such letters, or none
 abbrev pub AreLettersIfAny : List ℕ → Type 0

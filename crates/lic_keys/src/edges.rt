@@ -3,7 +3,7 @@
 ghost use Rattle.std.specs.Prelude.{◌≡◌, ◌<◌, ◌++◌, false, length, IsTrue};
 ghost use Rattle.lic_phrases.specs.Spelling.{blank_if};
 ghost use Rattle.lic_norm.specs.PieceTexts.{IsPieceText};
-ghost use Rattle.lic_places.specs.Places.{IsBehindBlank, is_blank_at};
+ghost use Rattle.lic_places.specs.Places.{IsAfterBlank, is_blank_at};
 ghost use Rattle.lic_keys.specs.Texts.{AreEdges};
 
 /// Whether there are blanks at the edges of a text, and the letters between them.
@@ -42,7 +42,7 @@ fn without_front(bytes: &[u8]) -> (bool, &[u8])
 // Whether bytes end with a blank, and those before it.
 fn without_end(bytes: &[u8]) -> (bool, &[u8])
     ensures parts { bytes.now ≡ result.1.now ++ blank_if result.0 }
-    ensures none { result.0 ≡ false → ¬ (IsBehindBlank bytes.now (length bytes.now)) }
+    ensures none { result.0 ≡ false → ¬ (IsAfterBlank bytes.now (length bytes.now)) }
 {
     if bytes.is_empty() || bytes[bytes.len() - 1] != b' ' {
         return (false, bytes);

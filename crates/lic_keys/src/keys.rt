@@ -20,7 +20,7 @@ use std::marker::Model;
 #[derive(Drop)]
 pub struct Keys {
     // the letters of the longest text of each template, or none
-    literals: lic_literals::keys::Keys,
+    literals: lic_literals::prefilter::Prefilter,
     // the number of this text among the parts, if there is one
     texts: Vec<Option<usize>>,
 }
@@ -51,7 +51,7 @@ impl Keys {
             texts.push(text)?;
             letters.push(own)?;
         }
-        let literals = lic_literals::keys::Keys::build(alloc, &letters)?;
+        let literals = lic_literals::prefilter::Prefilter::build(alloc, &letters)?;
         Ok(Keys { literals, texts })
     }
 

@@ -13,7 +13,7 @@ use Rattle.lic_kind.proofs.FoldingLemmas.{default_case_fold-one}
 use Rattle.lic_kind.proofs.KindLemmas.{is_word_kind-true}
 use Rattle.lic_kind.proofs.WordFoldings.{spell-folding}
 
--- nothing is said of a character, or it is a word character with this letter alone
+-- nothing is known of a character, or it is a word character with this letter alone
 abbrev has_letter : ℕ → List ℕ → ℕ → Bool
 has_letter c folding letter = (letter == 0) || (is_word_kind (kind_of c) && same_string (or_itself c folding) (letter ∷ []))
 

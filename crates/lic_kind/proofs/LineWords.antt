@@ -33,7 +33,7 @@ white_alone (c ∷ gap) none =
     ap (filter is_some) (slice_split-cons_yes is_whitespace c gap (not_false (is_whitespace c) none.0))
     ∙ white_alone gap none.1
 
--- a word, and behind it a text whose first part is empty
+-- a word, and after it a text whose first part is empty
 parted : (word text : List ℕ) (parts : List (List ℕ)) → NonePass is_whitespace word → slice_split is_whitespace text ≡ [] ∷ parts
     → slice_split is_whitespace (word ++ text) ≡ word ∷ parts
 parted [] text parts none split = split
@@ -51,7 +51,7 @@ word_first word text parts some none split =
 
 -- ---- of texts in UTF-8
 
--- characters in front of a text
+-- characters before a text
 front : (cs rest text : List ℕ) → IsUtf8 text → text ≡ encode_utf8_all cs ++ rest → (chars text ≡ cs ++ chars rest) × IsUtf8 rest
 front [] rest text utf8 is = (ap chars is, subst IsUtf8 is utf8)
 front (c ∷ cs) rest text utf8 is =
@@ -90,7 +90,7 @@ some_chars : (cs : List ℕ) → 0 < length (encode_utf8_all cs) → 0 < length 
 some_chars [] some = some
 some_chars (c ∷ cs) some = omega arith
 
--- a word that stands behind white space, and before white space or the end
+-- a word that comes after white space, and before white space or the end
 pub next_word : (text word rest : List ℕ) → IsUtf8 text
     → ((gap : List ℕ) × (text ≡ gap ++ (word ++ rest)) × (0 < length word) × NoCharPasses is_not_whitespace gap
     × NoCharPasses is_whitespace word × ((more : List ℕ) × EmptyOrStartsWithPassing is_whitespace rest more))

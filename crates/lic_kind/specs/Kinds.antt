@@ -1,4 +1,4 @@
--- The kinds of characters, and the letters that a character stands for.
+-- The kinds of characters, and the letters that a character denotes.
 use Rattle.std.specs.Prelude.{ℕ, Bool, true, false, ◌||◌, ◌==◌, if◌then◌else◌, List, [], ◌∷◌}
 use Rattle.std.specs.List.{list_all}
 use Rattle.std.specs.Int.{is_in_range}
@@ -36,7 +36,7 @@ ascii_punctuation = range 0x21 0x2F ∷ range 0x3A 0x40 ∷ range 0x5B 0x60 ∷ 
 abbrev pub dashes : List Entry
 dashes = one 0x2D ∷ range 0x2010 0x2015 ∷ one 0x2212 ∷ one 0xFE58 ∷ one 0xFE63 ∷ one 0xFF0D ∷ []
 
--- quotation marks, apostrophes and accents that stand for them
+-- quotation marks, apostrophes and accents used for them
 abbrev pub quotes : List Entry
 quotes =
     one 0x22 ∷ one 0x27 ∷ one 0x60 ∷ one 0xB4 ∷ one 0xAB ∷ one 0xBB ∷ range 0x2018 0x201F ∷ one 0x2039 ∷ one 0x203A ∷ []
@@ -80,7 +80,7 @@ abbrev pub is_mark : ℕ → Bool
 is_mark c =
     is_listed ascii_punctuation c || is_dash c || is_quote c || is_bullet c || is_box_drawing c || is_other_mark c
 
--- the kind, decided on the character as it stands in the text; unfolding it opens the tables too
+-- the kind, decided on the character as it is in the text; unfolding it opens the tables too
 unfoldable pub kind_of : ℕ → Kind
 unfolding is_dash is_quote is_bullet is_box_drawing is_other_mark
 kind_of c =
@@ -120,6 +120,6 @@ letters Dropped c = []
 letters Mark c = letter_of c ∷ []
 letters Word c = folded_word c (default_case_fold (c ∷ []))
 
--- the letters that a character stands for
+-- the letters that a character denotes
 unfoldable pub spell : ℕ → List ℕ
 spell c = letters (kind_of c) c

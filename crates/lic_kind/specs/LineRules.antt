@@ -10,13 +10,13 @@ pub use Rattle.lic_kind.specs.declared.rule_kind.RuleKind.TheVariants.{Lead, Lea
 pub record LineRules : Type 0 where
   -- a piece of a lead
   pub lead : List (List ℕ)
-  -- a piece of a lead with one white space character behind it
+  -- a piece of a lead with one white space character after it
   pub lead_space : List (List ℕ)
   -- a piece of a tail
   pub tail : List (List ℕ)
-  -- a piece of a tail behind one white space character
+  -- a piece of a tail after one white space character
   pub tail_space : List (List ℕ)
-  -- a piece of a tail, its first character standing once or more
+  -- a piece of a tail, its first character once or more
   pub tail_repeat : List (List ℕ)
   pub items : Bool
   pub separators : Bool

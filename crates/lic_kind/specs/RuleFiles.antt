@@ -12,7 +12,7 @@ use Rattle.lic_kind.specs.declared.rules_fault.RulesFault.{RulesFault}
 
 -- ---- lines
 
--- What a line says: nothing, as a comment; a text of a kind, none where no single word stands behind the kind; whether items are taken;
+-- What a line says: nothing, as a comment; a text of a kind, none where no single word comes after the kind; whether items are taken;
 -- whether separators are; or nothing that is known.
 pub data Line : Type 0 where
   comment : Line
@@ -25,7 +25,7 @@ pub data Line : Type 0 where
 abbrev pub words_of : List ℕ → List (List ℕ)
 words_of cs = filter (λ word. nat_lt 0 (length word)) (slice_split is_whitespace cs)
 
--- the one word that stands behind the first
+-- the one word that is after the first
 abbrev pub single : List (List ℕ) → Option (List ℕ)
 single [] = None
 single (word ∷ []) = Some word
@@ -48,12 +48,12 @@ kind_named word =
 abbrev pub switched : List ℕ → Option Bool
 switched word = if is_word (codes "on") word then Some true else (if is_word (codes "off") word then Some false else None)
 
--- what a switch is set to, if one of the two words stands behind it
+-- what a switch is set to, if one of the two words comes after it
 abbrev pub switch : Option (List ℕ) → Option Bool
 switch None = None
 switch (Some word) = switched word
 
--- the rule of this word and what stands behind it
+-- the rule of this word and what comes after it
 abbrev pub rule_line : List ℕ → Option (List ℕ) → Line
 rule_line word behind =
     if is_word (codes "items") word then option_map_or items (switch behind) unknown
@@ -95,13 +95,13 @@ abbrev pub texts_before : List Line → ℕ
 texts_before [] = 0
 texts_before (line ∷ lines) = text_count line + texts_before lines
 
--- what is wrong with a text of which so many stand before it
+-- what is wrong with a text of which so many come before it
 abbrev pub cause_of_text : ℕ → Option (List ℕ) → Option RulesCause
 cause_of_text before None = if nat_le 256 before then Some TooManyTexts else Some BadText
 cause_of_text before (Some cs) =
     if nat_le 256 before then Some TooManyTexts else (if is_text cs then None else Some BadText)
 
--- what is wrong with a line, where so many texts stand before it
+-- what is wrong with a line, where so many texts come before it
 abbrev pub cause_of : ℕ → Line → Option RulesCause
 cause_of before comment = None
 cause_of before (text kind behind) = cause_of_text before behind

@@ -46,7 +46,7 @@ static TAIL_SPACE: [FixedText; 3] = [("*", &['*']), ("#", &['#']), ("|", &['|'])
 
 static TAIL_REPEAT: [FixedText; 1] = [("*/", &['*', '/'])];
 
-/// The line rules: what is taken from the front and the end of a line, and whether separators become blanks.
+/// The line rules: what is taken from the start and the end of a line, and whether separators become blanks.
 #[derive(Drop)]
 pub struct Rules {
     pub(crate) lead: Texts,

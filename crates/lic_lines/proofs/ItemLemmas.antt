@@ -142,7 +142,7 @@ numbers_step n text i lt = ap (λ l. numbers_after n (chars_of l)) (rest text i 
     rest : (xs : List SourceChar) (i : ℕ) → i < length xs → drop i xs ≡ get_or xs i none ∷ drop (i + 1) xs
     rest xs i lt = rw (add-one, drop-cons xs i none) refl
 
--- ---- what stands behind an item form
+-- ---- what comes after an item form
 
 prefix_append : (p : ℕ → Bool) (xs ys : List ℕ) → prefix_len p xs < length xs → prefix_len p (xs ++ ys) ≡ prefix_len p xs
 prefix_append p [] ys lt = absurd (omega arith)
@@ -168,7 +168,7 @@ prefix_all p (x ∷ xs) ys all =
     (λ no'. absurd (omega (arith, cond-false (p x) (1 + prefix_len p xs) 0 no')))
     (cases_Bool (p x))
 
--- the test of what comes first behind the white space
+-- the test of what comes first after the white space
 abbrev pub lets : List ℕ → List ℕ → Bool
 lets form text = option_map_or (λ d. not (is_copyright_sign form && is_ascii_digit d)) (find (λ d. not (is_whitespace d)) text) false
 

@@ -1,4 +1,4 @@
--- A row of characters of one kind in front of a text gives its tokens by itself, since no run and no token has two kinds.
+-- A row of characters of one kind at the start of a text gives its tokens by itself, since no run and no token has two kinds.
 use Rattle.std.proofs.Common.{◌≡◌, ◌≢◌, ℕ, zero, suc, ◌+◌, ◌-◌, ◌<◌, ◌≤◌, Bool, true, false, not, cond, List, [], ◌∷◌, ◌++◌, All, length, take, drop, map, get_or, refl, sym, ap, ap₂, ◌∙◌, subst, ⊎_elim, append_assoc, arith}
 use Rattle.std.specs.Prelude.{nat_le, ◌&&◌, ◌||◌, ◌==◌}
 use Rattle.std.specs.List.{list_all, flat_map}
@@ -12,7 +12,7 @@ use Rattle.lic_lines.specs.Sources.{SourceChar}
 use Rattle.lic_lines.specs.LineRules.{LineRules}
 use Rattle.lic_lines.specs.Lines.{Cell, Blank, Mark, Word, cell_of}
 use Rattle.lic_lines.specs.Runs.{may_join, same_mark, same_family, without_separator, without_separators, joined, with_joined, runs_joined}
-use Rattle.lic_lines.specs.Tokens.{both_words, token_of, tokens_from, blank_behind, tokens_after}
+use Rattle.lic_lines.specs.Tokens.{both_words, token_of, tokens_from, blank_after, tokens_after}
 use Rattle.lic_lines.proofs.GroupLemmas.{join_alone, groups_head}
 use Rattle.lic_lines.proofs.Gaps.{is_word, is_mark, no_family_before, no_mark_before, no_runs, without_separators-at, with_joined-at, runs_joined-at}
 use Rattle.lic_lines.proofs.ItemLemmas.{none}
@@ -85,7 +85,7 @@ no_parts false false h = (refl, refl)
 no_parts false true h = cc
 no_parts true b h = cc
 
--- behind a mark, what is no mark or may not be joined
+-- after a mark, what is no mark or may not be joined
 apart : (s t : SourceChar) → kind_of s.char ≡ kind.Mark → (kind_of t.char ≡ kind.Mark → may_join s.char t.char ≡ false)
     → (same_mark (cell_of s) (cell_of t) ≡ false) × (same_family (cell_of s) (cell_of t) ≡ false)
 apart s t mark stop = at (kind_of t.char) refl
@@ -259,7 +259,7 @@ groups_words w [] (z ∷ zs) h =
 groups_words w (v ∷ ws) zs h = ap (join_group both_words (Word w)) (groups_words v ws zs h)
 
 tokens_from-append : (after_blank : Bool) (gs hs : List (List Cell))
-    → tokens_from after_blank (gs ++ hs) ≡ tokens_from after_blank gs ++ tokens_from (blank_behind after_blank gs) hs
+    → tokens_from after_blank (gs ++ hs) ≡ tokens_from after_blank gs ++ tokens_from (blank_after after_blank gs) hs
 tokens_from-append after_blank [] hs = refl
 tokens_from-append after_blank ([] ∷ gs) hs = tokens_from-append after_blank gs hs
 tokens_from-append after_blank ((Blank ∷ cells) ∷ gs) hs = tokens_from-append true gs hs
@@ -298,7 +298,7 @@ module _ (rules : LineRules) (after_blank : Bool) (text : List SourceChar) (n : 
       → ((d : SourceChar) → n < length text → kind_of (get_or text n d).char ≡ kind.Mark
       → may_join (get_or text (n - 1) d).char (get_or text n d).char ≡ false)
       → tokens_from after_blank (groups both_words (runs_joined rules (map cell_of (take n text))))
-      ++ tokens_after rules (blank_behind after_blank
+      ++ tokens_after rules (blank_after after_blank
       (groups both_words (runs_joined rules (map cell_of (take n text))))) (drop n text)
       ≡ tokens_after rules after_blank text
   marks_row some all stop =

@@ -11,7 +11,7 @@ pub mod SideEnds
 pub mod TailRows
 pub mod Stops
 pub mod SpaceRows
-pub mod StandingTexts
+pub mod BeginningTexts
 pub mod PieceLengths
 pub mod RowPlaces
 pub mod ItemLemmas
@@ -23,7 +23,7 @@ pub mod CutLemmas
 pub mod TokenLemmas
 pub mod AsciiLemmas
 pub mod PlainSigns
-pub mod TextFronts
+pub mod TextStarts
 pub mod LineByLine
 mod examples
 pub mod ItemFronts

@@ -216,7 +216,7 @@ filter_append keeps (x ∷ xs) ys =
     ∙ ap (λ l. l ++ filter keeps ys) (sym (cond-false (keeps x) (x ∷ filter keeps xs) (filter keeps xs) none)))
     (cases_Bool (keeps x))
 
--- the cells of a text up to a line end, and those behind it
+-- the cells of a text up to a line end, and those after it
 pub cells_of-line : (rules : LineRules) (front : List SourceChar) (nl : SourceChar) (rest : List SourceChar)
     → nl.char ≡ 0x0A → (cells : List Cell) × (cells_of rules (front ++ nl ∷ []) ≡ cells ++ Blank ∷ [])
     × (cells_of rules (front ++ nl ∷ rest) ≡ cells ++ Blank ∷ cells_of rules rest)
@@ -249,7 +249,7 @@ cells_of-line rules front nl rest is_end =
           ∙ append_assoc cells (Blank ∷ []) (cells_of rules rest),
     )
 
--- The first tokens of a text up to a line end, and those behind it.
+-- The first tokens of a text up to a line end, and those after it.
 pub first_tokens-line : (rules : LineRules) (front : List SourceChar) (nl : SourceChar) (rest : List SourceChar)
     → nl.char ≡ 0x0A → first_tokens (runs_joined rules (cells_of rules (front ++ nl ∷ rest)))
     ≡ first_tokens (runs_joined rules (cells_of rules (front ++ nl ∷ [])))
@@ -267,7 +267,7 @@ first_tokens-line rules front nl rest is_end =
 
 -- ---- tokens, signs too
 
--- nothing stands here, or a token behind a blank
+-- nothing is here, or a token after a blank
 abbrev pub BeginsAfterBlank : List Token → Type 0
 BeginsAfterBlank [] = Unit {0}
 BeginsAfterBlank (t ∷ ts) = t.after_blank ≡ true
@@ -311,7 +311,7 @@ single_signs-append (a ∷ b ∷ c ∷ xs) ys h =
     (as_sign a ∷ single_signs (b ∷ c ∷ xs)) none)))
     (cases_Bool (is_sign_in_parentheses a b c))
 
--- The tokens of cells up to a blank, and those behind it.
+-- The tokens of cells up to a blank, and those after it.
 pub tokens_of_cells-blank : (rules : LineRules) (xs ys : List Cell)
     → tokens_of_cells rules (xs ++ Blank ∷ ys) ≡ tokens_of_cells rules (xs ++ Blank ∷ []) ++ tokens_of_cells rules ys
 tokens_of_cells-blank rules xs ys =
@@ -324,7 +324,7 @@ tokens_of_cells-blank rules xs ys =
     ∙ single_signs-append front rest (begins_after_blank (groups both_words (runs_joined rules ys)))
     ∙ ap (λ l. single_signs l ++ single_signs rest) (sym alone)
 
--- The tokens of a text up to a line end, and those behind it.
+-- The tokens of a text up to a line end, and those after it.
 pub text_tokens-line : (rules : LineRules) (front : List SourceChar) (nl : SourceChar) (rest : List SourceChar)
     → nl.char ≡ 0x0A → text_tokens rules (front ++ nl ∷ rest)
     ≡ text_tokens rules (front ++ nl ∷ []) ++ text_tokens rules rest

@@ -27,14 +27,14 @@ any_below-from test (suc n) j lt h =
     (λ last. let e : j ≡ n = omega arith in or_left (test n) _ (subst (λ i. test i ≡ true) e h))
     (cases_lt j n)
 
--- a piece that ends here, behind a flagged place
+-- a piece that ends here, after a flagged place
 pub record Ends (p : List ℕ → Bool) (flags : List Bool) (line : List ℕ) (end : ℕ) : Type 0 where
   pub from : ℕ
   pub below : from < end
   pub flagged : slice_index_or flags from false ≡ true
   pub piece : p (slice_range line from end) ≡ true
 
--- a part of a line, and the character behind it
+-- a part of a line, and the character after it
 pub slice_snoc : (line : List ℕ) (j before : ℕ) → j ≤ before → before < length line
     → slice_range line j (before + 1) ≡ slice_range line j before ++ slice_index line before ∷ []
 slice_snoc line j before h within =
@@ -124,7 +124,7 @@ module _ (flags : List Bool) (line : List ℕ) (end : ℕ) where
   pub length_part : (from : ℕ) → end ≤ length line → length (slice_range line from end) ≡ end - from
   length_part from within = length-take-le (end - from) (drop from line) (omega (arith, length-drop from line))
 
-  -- a text ends here where it stands before this place, behind a flagged one
+  -- a text ends here where it comes before this place, after a flagged one
   pub text_ends : (t : List ℕ) → 0 < length t → length t ≤ end → slice_index_or flags (end - length t) false ≡ true
       → slice_range line (end - length t) end ≡ t → ends_piece (bytes_eq t) flags line end ≡ true
   text_ends t some fits flag text =

@@ -1,4 +1,4 @@
--- How long the pieces are that stand in front of a way.
+-- How long the pieces are that a way begins with.
 use Rattle.std.proofs.Common.{◌≡◌, ◌≢◌, ℕ, zero, suc, ◌+◌, ◌*◌, ◌/◌, ◌%◌, ◌^◌, ◌<◌, ◌≤◌, max, w64, Bool, true, false, ◌&&◌, ◌||◌, ◌==◌, ◌⊎◌, inl, inr, List, [], ◌∷◌, ◌++◌, length, take, drop, get_or, reverse, refl, sym, ap, ap₂, ◌∙◌, append_assoc, length-append, ⊎_elim, arith}
 use Rattle.std.specs.Prelude.{bytes_eq, bit_or, nat_lt}
 use Rattle.std.specs.List.{list_any}
@@ -13,9 +13,9 @@ use Rattle.lic_kind.specs.Kinds.{kind_of, is_mark_kind}
 use Rattle.lic_kind.proofs.KindLemmas.{kind_of-white}
 use Rattle.lic_lines.specs.LineRules.{LineRules}
 use Rattle.lic_lines.specs.Lines.{is_space, is_separator, repeats}
-use Rattle.lic_lines.specs.PieceLengths.{has_bit, stands_with, stands_spaced, goes_on, AreLengths}
+use Rattle.lic_lines.specs.PieceLengths.{has_bit, begins_with_length, begins_with_spaced, goes_on, AreLengths}
 use Rattle.lic_lines.specs.Texts.{ends_in}
-use Rattle.lic_lines.specs.Walks.{Side, Front, End, walked, is_walked_piece, side_texts, side_spaced, side_repeated, stands_in, opens_in, may_open}
+use Rattle.lic_lines.specs.Walks.{Side, Front, End, walked, is_walked_piece, side_texts, side_spaced, side_repeated, begins_with_text, opens_in, may_open}
 use Rattle.lic_lines.proofs.PieceEnds.{ends_in-snoc, separator_parts}
 use Rattle.lic_lines.proofs.SideEnds.{walked_piece}
 use Rattle.lic_lines.proofs.TextLemmas.{same_truth}
@@ -55,40 +55,40 @@ no_any f (t ∷ ts) none = ap₂ (λ a b. a || b) (none t) (no_any f ts none)
 apart : (a b : ℕ) → (a ≡ b → ⊥) → (a == b) ≡ false
 apart a b other = ⊎_elim (λ yes. absurd (other (eqb-true a b yes))) (λ no. no) (cases_Bool (a == b))
 
--- ---- a text in front of a way
+-- ---- a text at the start of a way
 
-stands_is : (way t : List ℕ) → stands_in way t ≡ true → (length t ≤ length way) × (take (length t) way ≡ t)
+stands_is : (way t : List ℕ) → begins_with_text way t ≡ true → (length t ≤ length way) × (take (length t) way ≡ t)
 stands_is way [] h = (omega arith, refl)
 stands_is [] (c ∷ t) h = absurd (false≢true h)
 stands_is (d ∷ way) (c ∷ t) h =
-    let parts = and_parts (d == c) (stands_in way t) h in
+    let parts = and_parts (d == c) (begins_with_text way t) h in
     let rest = stands_is way t parts.1 in
     (omega (arith, rest.0), ap₂ (λ a l. a ∷ l) (eqb-true d c parts.0) rest.1)
 
-stands_take : (way : List ℕ) (n : ℕ) → stands_in way (take n way) ≡ true
+stands_take : (way : List ℕ) (n : ℕ) → begins_with_text way (take n way) ≡ true
 stands_take way zero = refl
 stands_take [] (suc n) = refl
-stands_take (d ∷ way) (suc n) = and_from (d == d) (stands_in way (take n way)) (eq-eqb d d refl) (stands_take way n)
+stands_take (d ∷ way) (suc n) = and_from (d == d) (begins_with_text way (take n way)) (eq-eqb d d refl) (stands_take way n)
 
-stands_front : (t more : List ℕ) → stands_in (t ++ more) t ≡ true
+stands_front : (t more : List ℕ) → begins_with_text (t ++ more) t ≡ true
 stands_front [] more = refl
-stands_front (c ∷ t) more = and_from (c == c) (stands_in (t ++ more) t) (eq-eqb c c refl) (stands_front t more)
+stands_front (c ∷ t) more = and_from (c == c) (begins_with_text (t ++ more) t) (eq-eqb c c refl) (stands_front t more)
 
 -- every character is the same
-pub stands_each : (way t : List ℕ) → length t ≤ length way → ((k : ℕ) → k < length t → get_or way k 0 ≡ get_or t k 0) → stands_in way t ≡ true
+pub stands_each : (way t : List ℕ) → length t ≤ length way → ((k : ℕ) → k < length t → get_or way k 0 ≡ get_or t k 0) → begins_with_text way t ≡ true
 stands_each way [] long each = refl
 stands_each [] (c ∷ t) long each = absurd (omega arith)
 stands_each (d ∷ way) (c ∷ t) long each =
-    and_from (d == c) (stands_in way t) (eq-eqb d c (each 0 (omega arith))) (stands_each way t (omega arith) (λ k lt. each (suc k) (omega arith)))
+    and_from (d == c) (begins_with_text way t) (eq-eqb d c (each 0 (omega arith))) (stands_each way t (omega arith) (λ k lt. each (suc k) (omega arith)))
 
-text_is : (way t : List ℕ) (n : ℕ) → n ≤ length way → bytes_eq t (take n way) ≡ stands_with n way t
+text_is : (way t : List ℕ) (n : ℕ) → n ≤ length way → bytes_eq t (take n way) ≡ begins_with_length n way t
 text_is way t n le = same_truth _ _
     (λ h. let same : t ≡ take n way = (bytes_eq-Decides t (take n way)).0 h in
-    and_from (stands_in way t) (length t == n) (ap (stands_in way) same ∙ stands_take way n) (eq-eqb (length t) n (ap length same ∙ length-take-le n way le)))
-    (λ h. let parts = and_parts (stands_in way t) (length t == n) h in
+    and_from (begins_with_text way t) (length t == n) (ap (begins_with_text way) same ∙ stands_take way n) (eq-eqb (length t) n (ap length same ∙ length-take-le n way le)))
+    (λ h. let parts = and_parts (begins_with_text way t) (length t == n) h in
     (bytes_eq-Decides t (take n way)).1 (sym (stands_is way t parts.0).1 ∙ ap (λ k. take k way) (eqb-true (length t) n parts.1)))
 
-spaced_is : (way t : List ℕ) (n : ℕ) → 0 < n → n ≤ length way → ends_in is_whitespace (bytes_eq t) (take n way) ≡ stands_spaced n way t
+spaced_is : (way t : List ℕ) (n : ℕ) → 0 < n → n ≤ length way → ends_in is_whitespace (bytes_eq t) (take n way) ≡ begins_with_spaced n way t
 spaced_is way t zero some le = absurd (omega arith)
 spaced_is way t (suc k) some le =
     let last = get_or way k 0 in
@@ -96,19 +96,19 @@ spaced_is way t (suc k) some le =
     ap (ends_in is_whitespace (bytes_eq t)) (take-suc way k 0 (omega arith)) ∙ ends_in-snoc is_whitespace (bytes_eq t) front last
     ∙ same_truth _ _
     (λ h. let parts = and_parts (is_whitespace last) (bytes_eq t front) h in
-    let stands = and_parts (stands_in way t) (length t == k) (sym (text_is way t k (omega arith)) ∙ parts.1) in
+    let stands = and_parts (begins_with_text way t) (length t == k) (sym (text_is way t k (omega arith)) ∙ parts.1) in
     let long : length t ≡ k = eqb-true (length t) k stands.1 in
-    and_from (stands_in way t) (is_whitespace (get_or way (length t) 0) && (suc (length t) == suc k)) stands.0
+    and_from (begins_with_text way t) (is_whitespace (get_or way (length t) 0) && (suc (length t) == suc k)) stands.0
     (and_from (is_whitespace (get_or way (length t) 0)) (suc (length t) == suc k)
     (ap (λ i. is_whitespace (get_or way i 0)) long ∙ parts.0) (eq-eqb (suc (length t)) (suc k) (ap suc long))))
-    (λ h. let parts = and_parts (stands_in way t) (is_whitespace (get_or way (length t) 0) && (suc (length t) == suc k)) h in
+    (λ h. let parts = and_parts (begins_with_text way t) (is_whitespace (get_or way (length t) 0) && (suc (length t) == suc k)) h in
     let more = and_parts (is_whitespace (get_or way (length t) 0)) (suc (length t) == suc k) parts.1 in
     let next : suc (length t) ≡ suc k = eqb-true (suc (length t)) (suc k) more.1 in
     let long : length t ≡ k = omega arith in
     and_from (is_whitespace last) (bytes_eq t front) (ap (λ i. is_whitespace (get_or way i 0)) (sym long) ∙ more.0)
-    (text_is way t k (omega arith) ∙ and_from (stands_in way t) (length t == k) parts.0 (eq-eqb (length t) k long)))
+    (text_is way t k (omega arith) ∙ and_from (begins_with_text way t) (length t == k) parts.0 (eq-eqb (length t) k long)))
 
--- a text with its first character standing once or more is the text, or has it twice at least
+-- a text with its first character once or more is the text, or has it twice at least
 repeats_parts : (c : ℕ) (rest x : List ℕ) → repeats (c ∷ rest) x ≡ true → (x ≡ c ∷ rest) ⊎ ((front : List ℕ) × (x ≡ front ++ (c ∷ c ∷ rest)))
 repeats_parts c rest [] h = absurd (false≢true h)
 repeats_parts c rest (d ∷ x) h =
@@ -129,10 +129,10 @@ module _ (way : List ℕ) (c : ℕ) (rest : List ℕ) (n : ℕ) (le : n ≤ leng
   abbrev x : List ℕ
   x = take n way
 
-  repeats_once : reverse x ≡ t → stands_with n way (reverse t) ≡ true
+  repeats_once : reverse x ≡ t → begins_with_length n way (reverse t) ≡ true
   repeats_once e =
       let same : x ≡ reverse t = sym (reverse-reverse x) ∙ ap reverse e in
-      and_from (stands_in way (reverse t)) (length (reverse t) == n) (ap (stands_in way) (sym same) ∙ stands_take way n)
+      and_from (begins_with_text way (reverse t)) (length (reverse t) == n) (ap (begins_with_text way) (sym same) ∙ stands_take way n)
       (eq-eqb (length (reverse t)) n (ap length (sym same) ∙ length-take-le n way le))
 
   repeats_more : (front : List ℕ) → reverse x ≡ front ++ (c ∷ t) → goes_on way t ≡ true
@@ -147,19 +147,19 @@ module _ (way : List ℕ) (c : ℕ) (rest : List ℕ) (n : ℕ) (le : n ≤ leng
       let more : suc (length rest) < length way = omega (arith, ap length whole, length-append (reverse t) (c ∷ behind), long) in
       let next : get_or way (suc (length rest)) 0 ≡ c =
       ap (λ l. get_or l (suc (length rest)) 0) whole ∙ ap (λ k. get_or (reverse t ++ c ∷ behind) k 0) (sym long) ∙ get_or-append_seam (reverse t) c behind 0 in
-      and_from (stands_in way (reverse t)) (nat_lt (suc (length rest)) (length way) && (get_or way (suc (length rest)) 0 == c))
-      (ap (λ l. stands_in l (reverse t)) whole ∙ stands_front (reverse t) (c ∷ behind))
+      and_from (begins_with_text way (reverse t)) (nat_lt (suc (length rest)) (length way) && (get_or way (suc (length rest)) 0 == c))
+      (ap (λ l. begins_with_text l (reverse t)) whole ∙ stands_front (reverse t) (c ∷ behind))
       (and_from (nat_lt (suc (length rest)) (length way)) (get_or way (suc (length rest)) 0 == c)
       (lt-ltb (suc (length rest)) (length way) more) (eq-eqb (get_or way (suc (length rest)) 0) c next))
 
-  repeats_here : stands_with n way (reverse t) ≡ true → repeats t (reverse x) ≡ true
+  repeats_here : begins_with_length n way (reverse t) ≡ true → repeats t (reverse x) ≡ true
   repeats_here h =
-      let parts = and_parts (stands_in way (reverse t)) (length (reverse t) == n) h in
+      let parts = and_parts (begins_with_text way (reverse t)) (length (reverse t) == n) h in
       let same : x ≡ reverse t = ap (λ k. take k way) (sym (eqb-true (length (reverse t)) n parts.1)) ∙ (stands_is way (reverse t) parts.0).1 in
       ap (repeats t) (ap reverse same ∙ reverse-reverse t)
       ∙ and_from (c == c) (bytes_eq rest rest || repeats t rest) (eq-eqb c c refl) (or_left (bytes_eq rest rest) (repeats t rest) ((bytes_eq-Decides rest rest).1 refl))
 
-repeated_is : (way t : List ℕ) (n : ℕ) → 0 < n → n ≤ length way → goes_on way t ≡ false → repeats t (reverse (take n way)) ≡ stands_with n way (reverse t)
+repeated_is : (way t : List ℕ) (n : ℕ) → 0 < n → n ≤ length way → goes_on way t ≡ false → repeats t (reverse (take n way)) ≡ begins_with_length n way (reverse t)
 repeated_is way [] zero some le off = absurd (omega arith)
 repeated_is way [] (suc n) some le off = sym (apart 0 (suc n) (λ e. omega arith))
 repeated_is way (c ∷ rest) n some le off = same_truth _ _
@@ -179,7 +179,7 @@ space_is (c ∷ []) (suc (suc n)) some le = absurd (omega arith)
 space_is (c ∷ d ∷ way) (suc (suc n)) some le =
     sym (ap (λ b. is_whitespace c && b) (apart (suc (suc n)) 1 (λ e. omega arith)) ∙ and-false (is_whitespace c))
 
--- white space stands first, or no three of one same character
+-- white space comes first, or no three of one same character
 abbrev pub NoRun : List ℕ → Type 0
 NoRun way = (is_whitespace (get_or way 0 0) ≡ true) ⊎ (2 < length way → get_or way 1 0 ≡ get_or way 0 0 → get_or way 2 0 ≢ get_or way 0 0)
 
@@ -216,8 +216,8 @@ no_run_at line place how =
 -- which lengths the pieces have, kind by kind
 abbrev pub lengths : LineRules → Side → List ℕ → ℕ → Bool
 lengths rules side way n =
-    ((is_whitespace (get_or way 0 0) && (n == 1)) || list_any (λ t. stands_with n way (walked side t)) (side_texts rules side))
-    || (list_any (λ t. stands_spaced n way (walked side t)) (side_spaced rules side) || list_any (λ t. stands_with n way (reverse t)) (side_repeated rules side))
+    ((is_whitespace (get_or way 0 0) && (n == 1)) || list_any (λ t. begins_with_length n way (walked side t)) (side_texts rules side))
+    || (list_any (λ t. begins_with_spaced n way (walked side t)) (side_spaced rules side) || list_any (λ t. begins_with_length n way (reverse t)) (side_repeated rules side))
 
 piece_is : (rules : LineRules) (side : Side) (way : List ℕ) (n : ℕ) → 0 < n → n ≤ length way → NoRun way
     → list_any (goes_on way) (side_repeated rules side) ≡ false → is_walked_piece rules side (take n way) ≡ lengths rules side way n
@@ -233,21 +233,21 @@ piece_is rules side way n some le apart off =
     (same_any_where _ _ (goes_on way) (side_repeated rules side) off (λ t none. repeated_is way t n some le none)))
 
 -- nothing of them is longer than the way
-no_text_beyond : (n : ℕ) (way t : List ℕ) → length way < n → stands_with n way t ≡ false
+no_text_beyond : (n : ℕ) (way t : List ℕ) → length way < n → begins_with_length n way t ≡ false
 no_text_beyond n way t far = ⊎_elim
-    (λ h. let parts = and_parts (stands_in way t) (length t == n) h in
+    (λ h. let parts = and_parts (begins_with_text way t) (length t == n) h in
     absurd (omega (arith, (stands_is way t parts.0).0, eqb-true (length t) n parts.1)))
     (λ none. none)
-    (cases_Bool (stands_with n way t))
+    (cases_Bool (begins_with_length n way t))
 
-no_spaced_beyond : (n : ℕ) (way t : List ℕ) → length way < n → stands_spaced n way t ≡ false
+no_spaced_beyond : (n : ℕ) (way t : List ℕ) → length way < n → begins_with_spaced n way t ≡ false
 no_spaced_beyond n way t far = ⊎_elim
-    (λ h. let parts = and_parts (stands_in way t) (is_whitespace (get_or way (length t) 0) && (suc (length t) == n)) h in
+    (λ h. let parts = and_parts (begins_with_text way t) (is_whitespace (get_or way (length t) 0) && (suc (length t) == n)) h in
     let more = and_parts (is_whitespace (get_or way (length t) 0)) (suc (length t) == n) parts.1 in
     let long : suc (length t) ≡ n = eqb-true (suc (length t)) n more.1 in
     absurd (false≢true (ap is_whitespace (sym (get_or_past way (length t) 0 (omega arith))) ∙ more.0)))
     (λ none. none)
-    (cases_Bool (stands_spaced n way t))
+    (cases_Bool (begins_with_spaced n way t))
 
 no_space_beyond : (n : ℕ) (way : List ℕ) → 0 < length way → length way < n → (is_whitespace (get_or way 0 0) && (n == 1)) ≡ false
 no_space_beyond n way some far = ⊎_elim
@@ -274,29 +274,29 @@ all_lengths rules side way mask long apart off is = record {
 
 -- ---- where no text opens
 
-not_opened : (n : ℕ) (way t : List ℕ) → 0 < n → 0 < length way → opens_in (get_or way 0 0) t ≡ false → stands_with n way t ≡ false
+not_opened : (n : ℕ) (way t : List ℕ) → 0 < n → 0 < length way → opens_in (get_or way 0 0) t ≡ false → begins_with_length n way t ≡ false
 not_opened zero way t some long none = absurd (omega arith)
 not_opened (suc n) way [] some long none = apart 0 (suc n) (λ e. omega arith)
 not_opened (suc n) [] (c ∷ t) some long none = absurd (omega arith)
 not_opened (suc n) (d ∷ way) (c ∷ t) some long none =
     let other : (c == d) ≡ false = (or_none (is_whitespace c) (c == d) none).1 in
     let differs : (d == c) ≡ false = same_truth (d == c) false (λ h. sym other ∙ eq-eqb c d (sym (eqb-true d c h))) (λ h. absurd (false≢true h)) in
-    ap (λ b. (b && stands_in way t) && (suc (length t) == suc n)) differs
+    ap (λ b. (b && begins_with_text way t) && (suc (length t) == suc n)) differs
 
 not_opened_spaced : (n : ℕ) (way t : List ℕ) → 0 < length way → opens_in (get_or way 0 0) t ≡ false
-    → stands_spaced n way t ≡ true → (is_whitespace (get_or way 0 0) && (n == 1)) ≡ true
+    → begins_with_spaced n way t ≡ true → (is_whitespace (get_or way 0 0) && (n == 1)) ≡ true
 not_opened_spaced n way [] long none h =
     let more = and_parts (is_whitespace (get_or way 0 0)) (1 == n) h in
     and_from (is_whitespace (get_or way 0 0)) (n == 1) more.0 (eq-eqb n 1 (sym (eqb-true 1 n more.1)))
 not_opened_spaced n [] (c ∷ t) long none h = absurd (omega arith)
 not_opened_spaced n (d ∷ way) (c ∷ t) long none h =
-    let stands = and_parts (d == c) (stands_in way t) (and_parts (stands_in (d ∷ way) (c ∷ t)) _ h).0 in
+    let stands = and_parts (d == c) (begins_with_text way t) (and_parts (begins_with_text (d ∷ way) (c ∷ t)) _ h).0 in
     let other : (c == d) ≡ false = (or_none (is_whitespace c) (c == d) none).1 in
     absurd (false≢true (sym other ∙ eq-eqb c d (sym (eqb-true d c stands.0))))
 
 any_not_opened : (n : ℕ) (way : List ℕ) (f : List ℕ → List ℕ) (ts : List (List ℕ)) → 0 < n → 0 < length way
     → list_any (λ t. opens_in (get_or way 0 0) (f t)) ts ≡ false
-    → list_any (λ t. stands_with n way (f t)) ts ≡ false
+    → list_any (λ t. begins_with_length n way (f t)) ts ≡ false
 any_not_opened n way f [] some long none = refl
 any_not_opened n way f (t ∷ ts) some long none =
     let parts = or_none (opens_in (get_or way 0 0) (f t)) (list_any (λ u. opens_in (get_or way 0 0) (f u)) ts) none in
@@ -304,24 +304,24 @@ any_not_opened n way f (t ∷ ts) some long none =
 
 any_not_opened_spaced : (n : ℕ) (way : List ℕ) (f : List ℕ → List ℕ) (ts : List (List ℕ)) → 0 < length way
     → list_any (λ t. opens_in (get_or way 0 0) (f t)) ts ≡ false
-    → list_any (λ t. stands_spaced n way (f t)) ts ≡ true → (is_whitespace (get_or way 0 0) && (n == 1)) ≡ true
+    → list_any (λ t. begins_with_spaced n way (f t)) ts ≡ true → (is_whitespace (get_or way 0 0) && (n == 1)) ≡ true
 any_not_opened_spaced n way f [] long none h = absurd (false≢true h)
 any_not_opened_spaced n way f (t ∷ ts) long none h =
     let parts = or_none (opens_in (get_or way 0 0) (f t)) (list_any (λ u. opens_in (get_or way 0 0) (f u)) ts) none in
     ⊎_elim
     (not_opened_spaced n way (f t) long parts.0)
     (any_not_opened_spaced n way f ts long parts.1)
-    (or_cases (stands_spaced n way (f t)) (list_any (λ u. stands_spaced n way (f u)) ts) h)
+    (or_cases (begins_with_spaced n way (f t)) (list_any (λ u. begins_with_spaced n way (f u)) ts) h)
 
 goes_off : (way t : List ℕ) → 0 < length way → opens_in (get_or way 0 0) (reverse t) ≡ false → goes_on way t ≡ false
 goes_off way [] long none = refl
 goes_off way (c ∷ rest) long none =
     let t = c ∷ rest in
     let n = length (reverse t) in
-    let off : stands_with n way (reverse t) ≡ false = not_opened n way (reverse t) (omega (arith, length-reverse t)) long none in
+    let off : begins_with_length n way (reverse t) ≡ false = not_opened n way (reverse t) (omega (arith, length-reverse t)) long none in
     ⊎_elim
-    (λ h. let parts = and_parts (stands_in way (reverse t)) (nat_lt (suc (length rest)) (length way) && (get_or way (suc (length rest)) 0 == c)) h in
-    absurd (false≢true (sym off ∙ and_from (stands_in way (reverse t)) (n == n) parts.0 (eq-eqb n n refl))))
+    (λ h. let parts = and_parts (begins_with_text way (reverse t)) (nat_lt (suc (length rest)) (length way) && (get_or way (suc (length rest)) 0 == c)) h in
+    absurd (false≢true (sym off ∙ and_from (begins_with_text way (reverse t)) (n == n) parts.0 (eq-eqb n n refl))))
     (λ no. no)
     (cases_Bool (goes_on way t))
 
@@ -364,32 +364,32 @@ space_lengths rules side way mask long apart closed is =
     none_goes_on End none = any_goes_off way rules.tail_repeat long none
 
     none_repeated : (n : ℕ) → 0 < n → (s : Side) → list_any (λ t. opens_in (get_or way 0 0) (walked s t)) (side_repeated rules s) ≡ false
-        → list_any (λ t. stands_with n way (reverse t)) (side_repeated rules s) ≡ false
+        → list_any (λ t. begins_with_length n way (reverse t)) (side_repeated rules s) ≡ false
     none_repeated n some Front none = refl
     none_repeated n some End none = any_not_opened n way reverse rules.tail_repeat some long none
 
--- ---- a repeated text that does not go on
+-- ---- a repeated text that does not continue
 
 pub goes_on_empty : (way t : List ℕ) → length t ≡ 0 → goes_on way t ≡ false
 goes_on_empty way [] none = refl
 goes_on_empty way (c ∷ t) none = absurd (omega arith)
 
-pub goes_on_apart : (way t : List ℕ) → stands_in way (reverse t) ≡ false → goes_on way t ≡ false
+pub goes_on_apart : (way t : List ℕ) → begins_with_text way (reverse t) ≡ false → goes_on way t ≡ false
 goes_on_apart way [] off = refl
 goes_on_apart way (c ∷ t) off = ap (λ b. b && (nat_lt (suc (length t)) (length way) && (get_or way (suc (length t)) 0 == c))) off
 
 pub goes_on_short : (way t : List ℕ) → length way ≤ length t → goes_on way t ≡ false
 goes_on_short way [] short = refl
 goes_on_short way (c ∷ t) short =
-    ap (λ b. stands_in way (reverse (c ∷ t)) && (b && (get_or way (suc (length t)) 0 == c))) (le-ltb (suc (length t)) (length way) short)
-    ∙ and-false (stands_in way (reverse (c ∷ t)))
+    ap (λ b. begins_with_text way (reverse (c ∷ t)) && (b && (get_or way (suc (length t)) 0 == c))) (le-ltb (suc (length t)) (length way) short)
+    ∙ and-false (begins_with_text way (reverse (c ∷ t)))
 
 pub goes_on_other : (way t : List ℕ) (d : ℕ) → (get_or way (length t) 0 == get_or t 0 d) ≡ false → goes_on way t ≡ false
 goes_on_other way [] d other = refl
 goes_on_other way (c ∷ t) d other =
-    ap (λ b. stands_in way (reverse (c ∷ t)) && (nat_lt (suc (length t)) (length way) && b)) other
-    ∙ ap (λ b. stands_in way (reverse (c ∷ t)) && b) (and-false (nat_lt (suc (length t)) (length way)))
-    ∙ and-false (stands_in way (reverse (c ∷ t)))
+    ap (λ b. begins_with_text way (reverse (c ∷ t)) && (nat_lt (suc (length t)) (length way) && b)) other
+    ∙ ap (λ b. begins_with_text way (reverse (c ∷ t)) && b) (and-false (nat_lt (suc (length t)) (length way)))
+    ∙ and-false (begins_with_text way (reverse (c ∷ t)))
 
 -- ---- bits
 

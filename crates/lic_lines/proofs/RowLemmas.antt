@@ -7,7 +7,7 @@ use Rattle.std.proofs.lemmas.List.{take_at, drop_at, append-nil, length-append, 
 use Rattle.lic_lines.specs.Texts.{IsRow, is_row_after, is_row}
 
 module _ {A : Type 0} (p : List A → Bool) where
-  -- a piece in front of a row
+  -- a piece before a row
   row_cons : (first rest : List A) → p first ≡ true → IsRow p rest → IsRow p (first ++ rest)
   row_cons first rest h row = (first ∷ row.0, and_from _ _ h row.1, ap (λ l. first ++ l) row.2)
 
@@ -41,7 +41,7 @@ module _ {A : Type 0} (p : List A → Bool) where
   pub is_row-complete : (text : List A) → IsRow p text → is_row p text ≡ true
   is_row-complete text row = subst (λ l. is_row p l ≡ true) row.2 (row_complete row.0 row.1)
 
-  -- a text ends in a piece, behind a row
+  -- a text ends in a piece, after a row
   pub record EndsInPiece (text : List A) : Type 0 where
     pub front : List A
     pub last : List A
@@ -79,17 +79,17 @@ module _ {A : Type 0} (p : List A → Bool) where
       let parts = and_parts (p first) (list_all p pieces) h in
       subst (IsRow p) (sym (append_assoc first (flat_map (λ piece. piece) pieces) last)) (row_cons first _ parts.0 (row_push_pieces pieces last parts.1 e))
 
-  -- a piece behind a row
+  -- a piece after a row
   pub row_push : (front last : List A) → IsRow p front → p last ≡ true → IsRow p (front ++ last)
   row_push front last row h = subst (λ l. IsRow p (l ++ last)) row.2 (row_push_pieces row.0 last row.1 h)
 
-  -- a front of a line, cut at j
+  -- a prefix of a line, cut at j
   cut_front : (line : List A) (j n : ℕ) → j ≤ n → take j line ++ slice_range line j n ≡ take n line
   cut_front line j n h =
       let e : j + (n - j) ≡ n = omega arith in
       ap₂ (λ a b. a ++ b) (sym (take-take j n line h)) (sym (drop-take j (n - j) line) ∙ ap (λ m. drop j (take m line)) e) ∙ take-append-drop j (take n line)
 
-  -- a front that is a row ends in a piece behind a shorter one
+  -- a prefix that is a row ends in a piece after a shorter one
   pub row_ends : (line : List A) (n : ℕ) → 0 < n → n ≤ length line → is_row p (take n line) ≡ true
       → (j : ℕ) × (j < n) × (is_row p (take j line) ≡ true) × (p (slice_range line j n) ≡ true)
   row_ends line n some within h =
@@ -109,7 +109,7 @@ module _ {A : Type 0} (p : List A → Bool) where
       (j, below, subst (λ l. is_row p l ≡ true) (sym front) (is_row-complete e.front e.row), subst (λ l. p l ≡ true) (sym last) e.piece))
       (ends_pieces row.0 row.1)
 
-  -- a row and a piece behind it are a row
+  -- a row and a piece after it are a row
   pub row_goes_on : (line : List A) (j n : ℕ) → j ≤ n → is_row p (take j line) ≡ true → p (slice_range line j n) ≡ true → is_row p (take n line) ≡ true
   row_goes_on line j n h row piece =
       subst (λ l. is_row p l ≡ true) (cut_front line j n h)

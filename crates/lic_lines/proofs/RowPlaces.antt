@@ -19,7 +19,7 @@ pub record AreEnds (p : List ℕ → Bool) (way : List ℕ) (at ends longest : �
   pub within : longest ≤ length way
   pub behind : longest ≤ at
 
--- the ends one place on: those that were known, and where a row ends here those of the pieces that stand here
+-- the ends one place on: those that were known, and where a row ends here those of the pieces that are here
 abbrev pub next_ends : (List ℕ → Bool) → List ℕ → ℕ → ℕ → ℕ → Bool
 next_ends p way at ends d = has_bit ends (suc d) || (has_bit ends 0 && (nat_le (suc d) (length (drop at way)) && p (take (suc d) (drop at way))))
 

@@ -8,7 +8,7 @@ use Rattle.std.proofs.lemmas.List.{reverse-append, reverse-reverse, length-rever
 use Rattle.std.proofs.lemmas.Slice.Eq.{bytes_eq-Decides}
 use Rattle.lic_lines.specs.Texts.{ends_in}
 use Rattle.lic_lines.specs.LineRules.{LineRules}
-use Rattle.lic_lines.specs.Lines.{is_space, is_separator, is_one_of, is_behind_space, repeats}
+use Rattle.lic_lines.specs.Lines.{is_space, is_separator, is_one_of, is_after_space, repeats}
 use Rattle.lic_lines.specs.Walks.{Side, Front, End, walked, is_walked_piece, side_texts, side_spaced, side_repeated, ends_piece, spaced_text_ends, repeat_ends}
 use Rattle.lic_lines.proofs.TextLemmas.{same_truth, bytes_eq-reverses}
 use Rattle.lic_lines.proofs.PieceEnds.{ends-true, ends-from, ends_piece-or, ends_piece-none, slice_snoc, length_part, separator_parts, separator_from}
@@ -40,7 +40,7 @@ ends_in-any : (last : ℕ → Bool) (test : List ℕ → List ℕ → Bool) (ts 
     → ends_in last (λ front. list_any (λ t. test t front) ts) text ≡ list_any (λ t. ends_in last (test t) text) ts
 ends_in-any last test ts text = at ts (reverse text)
   where
-    -- whether the first element passes, and what is behind it
+    -- whether the first element passes, and what is after it
     begins : (List ℕ → Bool) → List ℕ → Bool
     begins q backwards = elim backwards as (λ _. Bool) [ [] ↦ false | c ∷ rest ↦ last c && q (reverse rest) ]
 
@@ -80,12 +80,12 @@ list_any-map f test [] = refl
 list_any-map f test (x ∷ xs) = ap (λ b. test (f x) || b) (list_any-map f test xs)
 
 -- a white space character and a text, met from the end
-is_behind_space-reverse : (ts : List (List ℕ)) (text : List ℕ)
-    → is_behind_space ts (reverse text) ≡ list_any (λ t. ends_in is_whitespace (bytes_eq (reverse t)) text) ts
-is_behind_space-reverse ts text =
+is_after_space-reverse : (ts : List (List ℕ)) (text : List ℕ)
+    → is_after_space ts (reverse text) ≡ list_any (λ t. ends_in is_whitespace (bytes_eq (reverse t)) text) ts
+is_after_space-reverse ts text =
     at (reverse text) ∙ ends_in-any is_whitespace (λ t front. bytes_eq (reverse t) front) ts text
   where
-    at : (backwards : List ℕ) → is_behind_space ts backwards
+    at : (backwards : List ℕ) → is_after_space ts backwards
         ≡ elim backwards as (λ _. Bool) [
           | [] ↦ false
           | c ∷ rest ↦ is_whitespace c
@@ -129,11 +129,11 @@ walked_piece rules Front text =
     || (d || false)) (ends_in-any is_whitespace (λ t front. bytes_eq t front) rules.lead_space text)
 walked_piece rules End text =
     five (is_space (reverse text)) (rules.separators && is_separator (reverse text))
-    (is_one_of rules.tail (reverse text)) (is_behind_space rules.tail_space (reverse text))
+    (is_one_of rules.tail (reverse text)) (is_after_space rules.tail_space (reverse text))
     (list_any (λ t. repeats t (reverse text)) rules.tail_repeat)
     ∙ (λ i. ((is_space-reverse text i || (rules.separators && is_separator-reverse text i))
     || list_any-same (λ t. bytes_eq t (reverse text)) (λ t. bytes_eq (reverse t) text) (λ t. bytes_eq-reverse t text) rules.tail i)
-    || (is_behind_space-reverse rules.tail_space text i || list_any (λ t. repeats t (reverse text)) rules.tail_repeat))
+    || (is_after_space-reverse rules.tail_space text i || list_any (λ t. repeats t (reverse text)) rules.tail_repeat))
 
 module _ (flags : List Bool) (line : List ℕ) (end : ℕ) where
   -- two kinds with the same pieces
@@ -184,7 +184,7 @@ module _ (flags : List Bool) (line : List ℕ) (end : ℕ) where
       (ends_piece-any (λ t x. ends_in is_whitespace (bytes_eq (walked side t)) x) (side_spaced rules side))
       (ends_piece-any (λ t x. repeats t (reverse x)) (side_repeated rules side)))
 
-  -- one more flag at or behind this place changes nothing
+  -- one more flag at or after this place changes nothing
   pub ends_piece-push : (p : List ℕ → Bool) (b : Bool) → end ≤ length flags → ends_piece p (flags ++ b ∷ []) line end ≡ ends_piece p flags line end
   ends_piece-push p b within = same_truth _ _
       (λ h.
@@ -225,7 +225,7 @@ unfolding repeat_ends
 repeat_ends-start flags line t = refl
 
 module _ (flags : List Bool) (line : List ℕ) (k c : ℕ) (rest : List ℕ) (within : k < length line) where
-  -- the rest of the text ends here, behind a row
+  -- the rest of the text ends here, after a row
   pub record RestEnds : Type 0 where
     pub fits : length rest ≤ k
     pub flagged : slice_index_or flags (k - length rest) false ≡ true
@@ -330,7 +330,7 @@ module _ (flags : List Bool) (line : List ℕ) (k : ℕ) (within : k < length li
         ∙ repeat_from_repeat flags line k c (drop 1 t) within same
         (ap (repeat_ends flags line k) (sym whole) ∙ before))
 
-    -- the rest of the text must end here, behind a row
+    -- the rest of the text must end here, after a row
     only_rest : repeat_ends flags line k t ≡ false → repeat_ends flags line (k + 1) t ≡ true → RestEnds flags line k c (drop 1 t) within
     only_rest before h =
         ⊎_elim

@@ -1,4 +1,4 @@
--- Where white space stands at a side, and behind it a character that no other piece begins in, the longest row is the white space.
+-- Where white space is at a side, and after it a character that no other piece begins in, the longest row is the white space.
 use Rattle.std.proofs.Common.{◌≡◌, ◌≢◌, ℕ, zero, suc, ◌+◌, ◌-◌, ◌<◌, ◌≤◌, Bool, true, false, ◌&&◌, ◌||◌, ◌==◌, List, [], ◌∷◌, ◌++◌, ◌⊎◌, inl, inr, length, take, drop, get_or, reverse, refl, sym, ap, ap₂, ◌∙◌, append_assoc, append-nil, ⊎_elim, arith}
 use Rattle.std.specs.Prelude.{slice_range, slice_index, slice_index_or, bytes_eq}
 use Rattle.std.specs.List.{list_any}
@@ -11,7 +11,7 @@ use Rattle.lic_kind.proofs.KindLemmas.{kind_of-white}
 use Rattle.lic_lines.specs.Texts.{is_row, ends_in, greatest, longest_front}
 use Rattle.lic_lines.specs.LineRules.{LineRules}
 use Rattle.lic_lines.specs.Lines.{is_space, is_separator, repeats}
-use Rattle.lic_lines.specs.Walks.{Side, Front, End, walked, is_walked_piece, side_texts, side_spaced, side_repeated, opens_in, may_open, stands_in, may_stand, may_stand_at}
+use Rattle.lic_lines.specs.Walks.{Side, Front, End, walked, is_walked_piece, side_texts, side_spaced, side_repeated, opens_in, may_open, begins_with_text, may_begin_with, may_begin_with_any}
 use Rattle.lic_lines.proofs.PieceEnds.{length_part, slice_at, separator_parts}
 use Rattle.lic_lines.proofs.KindEnds.{space_parts, slice_one}
 use Rattle.lic_lines.proofs.SideEnds.{walked_piece}
@@ -30,28 +30,28 @@ or_off a b h k = ap₂ (λ x y. x || y) h k
 eqb-sym : (a b : ℕ) → (a == b) ≡ (b == a)
 eqb-sym a b = same_truth (a == b) (b == a) (λ h. eq-eqb b a (sym (eqb-true a b h))) (λ h. eq-eqb a b (sym (eqb-true b a h)))
 
--- ---- a text in front of another
+-- ---- a text at the start of another
 
-stands_front : (t more : List ℕ) → stands_in (t ++ more) t ≡ true
+stands_front : (t more : List ℕ) → begins_with_text (t ++ more) t ≡ true
 stands_front [] more = refl
-stands_front (c ∷ t) more = and_from (c == c) (stands_in (t ++ more) t) (eq-eqb c c refl) (stands_front t more)
+stands_front (c ∷ t) more = and_from (c == c) (begins_with_text (t ++ more) t) (eq-eqb c c refl) (stands_front t more)
 
--- a text with a character may stand where it does, and where it begins in white space
-may_stand_there : (way t more : List ℕ) → 0 < length t → (is_whitespace (get_or t 0 0) ≡ true) ⊎ (way ≡ t ++ more) → may_stand way t ≡ true
+-- a text with a character may occur where it does, and where it begins in white space
+may_stand_there : (way t more : List ℕ) → 0 < length t → (is_whitespace (get_or t 0 0) ≡ true) ⊎ (way ≡ t ++ more) → may_begin_with way t ≡ true
 may_stand_there way [] more some how = absurd (omega arith)
-may_stand_there way (c ∷ t) more some (inl white) = or_left (is_whitespace c) (stands_in way (c ∷ t)) white
+may_stand_there way (c ∷ t) more some (inl white) = or_left (is_whitespace c) (begins_with_text way (c ∷ t)) white
 may_stand_there way (c ∷ t) more some (inr is) =
-    or_right (is_whitespace c) (stands_in way (c ∷ t)) (ap (λ l. stands_in l (c ∷ t)) is ∙ stands_front (c ∷ t) more)
+    or_right (is_whitespace c) (begins_with_text way (c ∷ t)) (ap (λ l. begins_with_text l (c ∷ t)) is ∙ stands_front (c ∷ t) more)
 
--- a text that may stand begins in white space or as the way does
-stands_first : (way t : List ℕ) → opens_in (get_or way 0 0) t ≡ false → may_stand way t ≡ false
+-- a text that may occur begins in white space or as the way does
+stands_first : (way t : List ℕ) → opens_in (get_or way 0 0) t ≡ false → may_begin_with way t ≡ false
 stands_first way [] none = refl
 stands_first [] (c ∷ t) none = or_off (is_whitespace c) false (or_none (is_whitespace c) (c == 0) none).0 refl
 stands_first (d ∷ way) (c ∷ t) none =
     let parts = or_none (is_whitespace c) (c == d) none in
-    or_off (is_whitespace c) ((d == c) && stands_in way t) parts.0 (ap (λ b. b && stands_in way t) (eqb-sym d c ∙ parts.1))
+    or_off (is_whitespace c) ((d == c) && begins_with_text way t) parts.0 (ap (λ b. b && begins_with_text way t) (eqb-sym d c ∙ parts.1))
 
--- what is a text with its first character standing once or more ends in the text
+-- what is a text with its first character once or more ends in the text
 repeats_end : (t x : List ℕ) → repeats t x ≡ true → (0 < length t) × ((front : List ℕ) × (x ≡ front ++ t))
 repeats_end [] x h = absurd (false≢true h)
 repeats_end (c ∷ rest) [] h = absurd (false≢true h)
@@ -77,7 +77,7 @@ greatest_itself test (suc k) h = search h
 
 module _ (rules : LineRules) (side : Side) (line : List ℕ) (n : ℕ) (inside : n < length line)
     (white : (i : ℕ) → i < n → is_whitespace (slice_index line i) ≡ true) (dark : is_whitespace (slice_index line n) ≡ false)
-    (closed : may_stand_at rules side (drop n line) ≡ false)
+    (closed : may_begin_with_any rules side (drop n line) ≡ false)
     (apart : n + 2 < length line → slice_index line (n + 1) ≡ slice_index line n → slice_index line (n + 2) ≢ slice_index line n) where
   abbrev p : List ℕ → Bool
   p = is_walked_piece rules side
@@ -94,13 +94,13 @@ module _ (rules : LineRules) (side : Side) (line : List ℕ) (n : ℕ) (inside :
       row_goes_on p line m (suc m) (omega arith) (is_space_row m (omega arith))
       (ap p one ∙ space_is_piece rules side (slice_index line m) (white m (omega arith)))
 
-  no_texts : list_any (λ t. may_stand (drop n line) (walked side t)) (side_texts rules side) ≡ false
+  no_texts : list_any (λ t. may_begin_with (drop n line) (walked side t)) (side_texts rules side) ≡ false
   no_texts = (or_none _ _ closed).0
 
-  no_spaced : list_any (λ t. may_stand (drop n line) (walked side t)) (side_spaced rules side) ≡ false
+  no_spaced : list_any (λ t. may_begin_with (drop n line) (walked side t)) (side_spaced rules side) ≡ false
   no_spaced = (or_none _ _ (or_none _ _ closed).1).0
 
-  no_repeated : list_any (λ t. may_stand (drop n line) (walked side t)) (side_repeated rules side) ≡ false
+  no_repeated : list_any (λ t. may_begin_with (drop n line) (walked side t)) (side_repeated rules side) ≡ false
   no_repeated = (or_none _ _ (or_none _ _ closed).1).1
 
   module _ (m j : ℕ) (low : j ≤ n) (high : n < m) (within : m ≤ length line) where
@@ -122,14 +122,14 @@ module _ (rules : LineRules) (side : Side) (line : List ℕ) (n : ℕ) (inside :
         (λ behind. let same : j ≡ n = omega arith in inr (is ∙ ap (slice_index line) same))
         (cases_lt j n)
 
-    -- no text of the side stands in front of a part that begins in the white space, or behind it
+    -- no part that begins in the white space, or after it, begins with a text of the side
     never_stands : (ts : List (List ℕ)) (k : ℕ) (more : List ℕ)
-        → list_any (λ t. may_stand (drop n line) (walked side t)) ts ≡ false → k < length ts
+        → list_any (λ t. may_begin_with (drop n line) (walked side t)) ts ≡ false → k < length ts
         → 0 < length (walked side (slice_index_or ts k [])) → x ≡ walked side (slice_index_or ts k []) ++ more → ⊥
     never_stands ts k more none lt some is =
         let t = walked side (slice_index_or ts k []) in
         let begins : get_or x 0 0 ≡ get_or t 0 0 = ap (λ l. get_or l 0 0) is ∙ first_of t more some in
-        false≢true (sym none ∙ any_from (λ u. may_stand (drop n line) (walked side u)) ts k [] lt
+        false≢true (sym none ∙ any_from (λ u. may_begin_with (drop n line) (walked side u)) ts k [] lt
         (may_stand_there (drop n line) t (more ++ drop (m - j) (drop j line)) some
         (⊎_elim
         (λ before. let start : j + 0 ≡ j = omega arith in
@@ -212,9 +212,9 @@ module _ (rules : LineRules) (side : Side) (line : List ℕ) (n : ℕ) (inside :
     no_repeated_text h = by side (λ ts k more. never_stands ts k more) no_repeated h
       where
         by : (s : Side) → ((ts : List (List ℕ)) (k : ℕ) (more : List ℕ)
-            → list_any (λ t. may_stand (drop n line) (walked s t)) ts ≡ false → k < length ts
+            → list_any (λ t. may_begin_with (drop n line) (walked s t)) ts ≡ false → k < length ts
             → 0 < length (walked s (slice_index_or ts k [])) → x ≡ walked s (slice_index_or ts k []) ++ more → ⊥)
-            → list_any (λ t. may_stand (drop n line) (walked s t)) (side_repeated rules s) ≡ false
+            → list_any (λ t. may_begin_with (drop n line) (walked s t)) (side_repeated rules s) ≡ false
             → list_any (λ t. repeats t (reverse x)) (side_repeated rules s) ≡ true → ⊥
         by Front never none h = false≢true h
         by End never none h =
@@ -260,11 +260,11 @@ module _ (rules : LineRules) (side : Side) (line : List ℕ) (n : ℕ) (inside :
 -- the same where no text begins in that character
 closed_first : (side : Side) (way : List ℕ) (ts : List (List ℕ))
     → list_any (λ t. opens_in (get_or way 0 0) (walked side t)) ts ≡ false
-    → list_any (λ t. may_stand way (walked side t)) ts ≡ false
+    → list_any (λ t. may_begin_with way (walked side t)) ts ≡ false
 closed_first side way [] none = refl
 closed_first side way (t ∷ ts) none =
     let parts = or_none (opens_in (get_or way 0 0) (walked side t)) _ none in
-    or_off (may_stand way (walked side t)) _ (stands_first way (walked side t) parts.0) (closed_first side way ts parts.1)
+    or_off (may_begin_with way (walked side t)) _ (stands_first way (walked side t) parts.0) (closed_first side way ts parts.1)
 
 pub longest_spaces : (rules : LineRules) (side : Side) (line : List ℕ) (n : ℕ) → n < length line
     → ((i : ℕ) → i < n → is_whitespace (slice_index line i) ≡ true) → is_whitespace (slice_index line n) ≡ false

@@ -102,7 +102,7 @@ pub IfOk-map : {T E : Type 0} {P Q : T → Type 0} (r : Result T E) → ((x : T)
 IfOk-map (Ok x) f h = f x h
 IfOk-map (Err e) f h = h
 
--- tokens behind those that were there
+-- tokens after those that were there
 pub tokens_behind : (old pushed : List FirstToken) (more : List Token) → tokens_in pushed ≡ tokens_in old ++ more → length old ≤ length pushed
 tokens_behind old pushed more e = omega (arith, ap length e, length-append (tokens_in old) more, length-map pushed token_in, length-map old token_in)
 
@@ -147,7 +147,7 @@ module _ (xs : List FirstToken) (kept at : ℕ) (order : kept ≤ at) (within : 
   pub length-moved : length (swap xs kept at) ≡ length xs
   length-moved = ap length moved ∙ length-set (set xs kept (get_or xs at d)) at (get_or xs kept d) ∙ length-set xs kept (get_or xs at d)
 
-  -- the tokens that are kept, with t behind them, and what is left
+  -- the tokens that are kept, with t after them, and what is left
   kept_front : (t : FirstToken) → take (kept + 1) (set (swap xs kept at) kept t) ≡ take kept xs ++ t ∷ []
   kept_front t =
       let items = set (swap xs kept at) kept t in

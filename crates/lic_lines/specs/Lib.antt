@@ -8,4 +8,4 @@ pub mod Tokens
 pub mod Groupings
 pub mod Walks
 pub mod PieceLengths
-pub mod TextFronts
+pub mod TextStarts

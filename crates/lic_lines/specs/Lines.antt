@@ -29,16 +29,16 @@ abbrev pub is_separator : List ℕ → Bool
 is_separator [] = false
 is_separator (c ∷ text) = is_mark_kind (kind_of c) && nat_le 2 (length text) && list_all (λ d. d == c) text
 
--- whether `text` is the first text with its first character standing once or more
+-- whether `text` is the first text with its first character once or more
 abbrev pub repeats : List ℕ → List ℕ → Bool
 repeats [] text = false
 repeats (c ∷ rest) [] = false
 repeats (c ∷ rest) (d ∷ text) = (d == c) && (bytes_eq rest text || repeats (c ∷ rest) text)
 
 -- one white space character, and then one of these texts
-abbrev pub is_behind_space : List (List ℕ) → List ℕ → Bool
-is_behind_space texts [] = false
-is_behind_space texts (c ∷ text) = is_whitespace c && is_one_of texts text
+abbrev pub is_after_space : List (List ℕ) → List ℕ → Bool
+is_after_space texts [] = false
+is_after_space texts (c ∷ text) = is_whitespace c && is_one_of texts text
 
 abbrev pub is_lead_piece : LineRules → List ℕ → Bool
 is_lead_piece rules text = is_space text || (rules.separators && is_separator text) || is_one_of rules.lead text
@@ -46,7 +46,7 @@ is_lead_piece rules text = is_space text || (rules.separators && is_separator te
 
 abbrev pub is_tail_piece : LineRules → List ℕ → Bool
 is_tail_piece rules text = is_space text || (rules.separators && is_separator text) || is_one_of rules.tail text
-    || is_behind_space rules.tail_space text || list_any (λ t. repeats t text) rules.tail_repeat
+    || is_after_space rules.tail_space text || list_any (λ t. repeats t text) rules.tail_repeat
 
 -- ---- items
 
@@ -93,7 +93,7 @@ is_item_form text = is_bullet_item text || is_number_item text || is_letter_item
 abbrev pub is_copyright_sign : List ℕ → Bool
 is_copyright_sign text = bytes_eq text (codes "(c)") || bytes_eq text (codes "(C)")
 
--- Whether the text behind an item form lets it be an item: white space, and then another character;
+-- Whether the text after an item form lets it be an item: white space, and then another character;
 -- this is no digit where the form could be the copyright sign of a year.
 abbrev pub lets_item : List ℕ → List ℕ → Bool
 lets_item form [] = false
@@ -101,7 +101,7 @@ lets_item form (c ∷ text) = is_whitespace c
     && option_map_or (λ d. not (is_copyright_sign form && is_ascii_digit d))
     (find (λ d. not (is_whitespace d)) text) false
 
--- how long the item at the front of a text is, or 0
+-- how long the item at the start of a text is, or 0
 abbrev pub item_length : LineRules → List ℕ → ℕ
 item_length rules text =
     let form = before_first is_whitespace text in
@@ -116,7 +116,7 @@ whole_line = record { has_front = true; has_end = true; behind = None }
 abbrev pub lead_length : LineRules → LinePart → List ℕ → ℕ
 lead_length rules part text = if part.has_front then longest_front (is_row (is_lead_piece rules)) text else 0
 
--- the item in front of what the lead left
+-- the item at the start of what the lead left
 abbrev pub item_after_lead : LineRules → LinePart → List ℕ → ℕ
 item_after_lead rules part rest = if part.has_front then item_length rules (rest ++ option_to_list part.behind) else 0
 

@@ -16,7 +16,7 @@ abbrev pub same_family : Cell → Cell → Bool
 same_family (Mark s) (Mark t) = (is_quote s.char && is_quote t.char) || (is_dash s.char && is_dash t.char)
 same_family _ _ = false
 
--- marks that may be joined where one stands before the other, or be of one separator
+-- marks that may be joined where one comes before the other, or be of one separator
 abbrev pub may_join : ℕ → ℕ → Bool
 may_join a b = (a == b) || ((is_quote a && is_quote b) || (is_dash a && is_dash b))
 

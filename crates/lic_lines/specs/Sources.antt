@@ -9,7 +9,7 @@ pub use Rattle.lic_lines.specs.declared.source.SourceChar.{SourceChar}
 abbrev pub chars_of : List SourceChar → List ℕ
 chars_of = map (λ s. s.char)
 
--- characters that stand in UTF-8 one behind the other, the first of them at this byte
+-- characters that are in UTF-8 one after the other, the first of them at this byte
 abbrev pub placed : ℕ → List ℕ → List SourceChar
 placed at [] = []
 placed at (c ∷ cs) = record { char = c; start = at; end = at + len_utf8 c } ∷ placed (at + len_utf8 c) cs
@@ -18,7 +18,7 @@ placed at (c ∷ cs) = record { char = c; start = at; end = at + len_utf8 c } �
 abbrev pub source_of : ℕ → List ℕ → List SourceChar
 source_of at bytes = placed at (chars bytes)
 
--- the characters of a text that is no source: where they stand has no effect
+-- the characters of a text that is no source: where they are has no effect
 abbrev pub unplaced : List ℕ → List SourceChar
 unplaced = map (λ c. record { char = c; start = 0; end = 0 })
 

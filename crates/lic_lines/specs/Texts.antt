@@ -1,4 +1,4 @@
--- Words on texts, as lists of any kind: rows of pieces, the longest front and end that pass, parts and groups.
+-- Words on texts, as lists of any kind: rows of pieces, the longest prefix and end that pass, parts and groups.
 use Rattle.std.specs.Prelude.{◌≡◌, ℕ, zero, suc, ◌-◌, Bool, true, false, ◌&&◌, ◌||◌, if◌then◌else◌, List, [], ◌∷◌, ◌++◌, length, take, drop, reverse, IsTrue}
 use Rattle.std.specs.List.{list_all, flat_map, onto_first}
 
@@ -26,7 +26,7 @@ abbrev pub greatest : (ℕ → Bool) → ℕ → ℕ
 greatest test zero = zero
 greatest test (suc n) = if test (suc n) then suc n else greatest test n
 
--- how long the longest front is that passes, or 0
+-- how long the longest prefix is that passes, or 0
 abbrev pub longest_front : {A : Type 0} → (List A → Bool) → List A → ℕ
 longest_front test text = greatest (λ n. test (take n text)) (length text)
 

@@ -11,7 +11,7 @@ use Rattle.lic_lines.specs.SmallStrings.{bytes_at}
 use Rattle.lic_lines.specs.declared.small_string.SmallString.{SmallString}
 use Rattle.lic_lines.specs.declared.tokens.FirstToken.{FirstToken}
 
--- a token: its text in UTF-8, its span in bytes, and whether a blank stands before it
+-- a token: its text in UTF-8, its span in bytes, and whether a blank comes before it
 pub record Token : Type 0 where
   pub text : List ℕ
   pub start : ℕ
@@ -22,7 +22,7 @@ abbrev pub both_words : Cell → Cell → Bool
 both_words (Word s) (Word t) = true
 both_words _ _ = false
 
--- the letters that a cell stands for
+-- the letters that a cell denotes
 abbrev pub cell_letters : Cell → List ℕ
 cell_letters Blank = []
 cell_letters (Mark s) = spell s.char
@@ -43,7 +43,7 @@ token_of after_blank s group =
           after_blank;
     }
 
--- the tokens of these groups, where a blank stands before the first or does not
+-- the tokens of these groups, where a blank comes before the first or does not
 abbrev pub tokens_from : Bool → List (List Cell) → List Token
 tokens_from after_blank [] = []
 tokens_from after_blank ([] ∷ groups) = tokens_from after_blank groups
@@ -51,13 +51,13 @@ tokens_from after_blank ((Blank ∷ cells) ∷ groups) = tokens_from true groups
 tokens_from after_blank ((Mark s ∷ cells) ∷ groups) = token_of after_blank s (Mark s ∷ cells) ∷ tokens_from false groups
 tokens_from after_blank ((Word s ∷ cells) ∷ groups) = token_of after_blank s (Word s ∷ cells) ∷ tokens_from false groups
 
--- whether a blank stands behind the last token of these groups, where one stands before the first or does not
-abbrev pub blank_behind : Bool → List (List Cell) → Bool
-blank_behind after_blank [] = after_blank
-blank_behind after_blank ([] ∷ groups) = blank_behind after_blank groups
-blank_behind after_blank ((Blank ∷ cells) ∷ groups) = blank_behind true groups
-blank_behind after_blank ((Mark s ∷ cells) ∷ groups) = blank_behind false groups
-blank_behind after_blank ((Word s ∷ cells) ∷ groups) = blank_behind false groups
+-- whether a blank comes after the last token of these groups, where one comes before the first or does not
+abbrev pub blank_after : Bool → List (List Cell) → Bool
+blank_after after_blank [] = after_blank
+blank_after after_blank ([] ∷ groups) = blank_after after_blank groups
+blank_after after_blank ((Blank ∷ cells) ∷ groups) = blank_after true groups
+blank_after after_blank ((Mark s ∷ cells) ∷ groups) = blank_after false groups
+blank_after after_blank ((Word s ∷ cells) ∷ groups) = blank_after false groups
 
 -- each longest run of word characters, and each mark
 abbrev pub first_tokens : List Cell → List Token
@@ -102,7 +102,7 @@ line_tokens rules part line = tokens_of_cells rules (line_cells rules part line)
 abbrev pub text_tokens : LineRules → List SourceChar → List Token
 text_tokens rules text = tokens_of_cells rules (cells_of rules text)
 
--- the first tokens of characters of which nothing is taken, where a blank stands before them or does not
+-- the first tokens of characters of which nothing is taken, where a blank comes before them or does not
 abbrev pub tokens_after : LineRules → Bool → List SourceChar → List Token
 tokens_after rules after_blank text = tokens_from after_blank (groups both_words (runs_joined rules (map cell_of text)))
 

@@ -6,8 +6,8 @@ use Rattle.lic_lines.specs.Texts.{is_row, ends_in}
 use Rattle.lic_lines.specs.LineRules.{LineRules}
 use Rattle.lic_lines.specs.Lines.{is_lead_piece, is_tail_piece, repeats}
 pub use Rattle.lic_kind.specs.Openers.{opens_in}
-pub use Rattle.lic_lines.specs.declared.walk.Side.{Side}
-pub use Rattle.lic_lines.specs.declared.walk.Side.TheVariants.{Front, End}
+pub use Rattle.lic_lines.specs.declared.side.Side.{Side}
+pub use Rattle.lic_lines.specs.declared.side.Side.TheVariants.{Front, End}
 
 -- a text as it is met on the way from a side
 abbrev pub walked : Side → List ℕ → List ℕ
@@ -29,7 +29,7 @@ abbrev pub side_spaced : LineRules → Side → List (List ℕ)
 side_spaced rules Front = rules.lead_space
 side_spaced rules End = rules.tail_space
 
--- the texts that are pieces with their first character standing once or more
+-- the texts that are pieces with their first character once or more
 abbrev pub side_repeated : LineRules → Side → List (List ℕ)
 side_repeated rules Front = []
 side_repeated rules End = rules.tail_repeat
@@ -40,22 +40,22 @@ may_open rules side c = list_any (λ t. opens_in c (walked side t)) (side_texts 
     || (list_any (λ t. opens_in c (walked side t)) (side_spaced rules side)
     || list_any (λ t. opens_in c (walked side t)) (side_repeated rules side))
 
--- whether a text stands in front of this way
-abbrev pub stands_in : List ℕ → List ℕ → Bool
-stands_in way [] = true
-stands_in [] (c ∷ text) = false
-stands_in (d ∷ way) (c ∷ text) = (d == c) && stands_in way text
+-- whether this way begins with a text
+abbrev pub begins_with_text : List ℕ → List ℕ → Bool
+begins_with_text way [] = true
+begins_with_text [] (c ∷ text) = false
+begins_with_text (d ∷ way) (c ∷ text) = (d == c) && begins_with_text way text
 
--- whether a text begins in white space, or stands in front of this way
-abbrev pub may_stand : List ℕ → List ℕ → Bool
-may_stand way [] = false
-may_stand way (c ∷ text) = is_whitespace c || stands_in way (c ∷ text)
+-- whether a text begins in white space, or this way begins with it
+abbrev pub may_begin_with : List ℕ → List ℕ → Bool
+may_begin_with way [] = false
+may_begin_with way (c ∷ text) = is_whitespace c || begins_with_text way (c ∷ text)
 
 -- whether one of the texts of this side does, on the way
-abbrev pub may_stand_at : LineRules → Side → List ℕ → Bool
-may_stand_at rules side way = list_any (λ t. may_stand way (walked side t)) (side_texts rules side)
-    || (list_any (λ t. may_stand way (walked side t)) (side_spaced rules side)
-    || list_any (λ t. may_stand way (walked side t)) (side_repeated rules side))
+abbrev pub may_begin_with_any : LineRules → Side → List ℕ → Bool
+may_begin_with_any rules side way = list_any (λ t. may_begin_with way (walked side t)) (side_texts rules side)
+    || (list_any (λ t. may_begin_with way (walked side t)) (side_spaced rules side)
+    || list_any (λ t. may_begin_with way (walked side t)) (side_repeated rules side))
 
 -- whether some number below n passes
 abbrev pub any_below : (ℕ → Bool) → ℕ → Bool
@@ -79,10 +79,10 @@ pub record IsRunFront (flags : List Bool) (line : List ℕ) (end first : ℕ) : 
   pub least : (j : ℕ) → j < first → j < end → slice_index_or flags j false ≡ true
       → (i : ℕ) × (j ≤ i) × (i < end) × (slice_index line i ≢ slice_index line (end - 1))
 
--- whether this text and a white space character end here, behind one of the flagged places
+-- whether this text and a white space character end here, after one of the flagged places
 unfoldable pub spaced_text_ends : List Bool → List ℕ → ℕ → List ℕ → Bool
 spaced_text_ends flags line end text = ends_piece (ends_in is_whitespace (bytes_eq text)) flags line end
 
--- whether this text, met from its end on, its first character standing once or more, ends here behind one of the flagged places
+-- whether this text, met from its end on, its first character once or more, ends here after one of the flagged places
 unfoldable pub repeat_ends : List Bool → List ℕ → ℕ → List ℕ → Bool
 repeat_ends flags line end text = ends_piece (λ part. repeats text (reverse part)) flags line end

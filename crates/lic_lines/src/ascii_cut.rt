@@ -11,9 +11,9 @@ use crate::ascii_rows::row_by_places;
 use crate::cut::LineCut;
 use crate::item::item_length;
 use crate::rows::longest_row;
+use crate::side::Side;
 use crate::source::{SourceChar, place};
-use crate::space_rows::quick_look;
-use crate::walk::Side;
+use crate::space_rows::quick_table;
 use lic_kind::Rules;
 use std::alloc::{AllocError, Global};
 
@@ -45,7 +45,7 @@ fn spaces(side: Side, line: &[u8]) -> usize
     count
 }
 
-/// Whether three of one same byte stand at this place of the way.
+/// Whether three of one same byte are at this place of the way.
 #[inline(always)]
 pub(crate) fn three_alike(side: Side, line: &[u8], place: usize) -> bool
     requires { place < length line.now }
@@ -60,7 +60,7 @@ pub(crate) fn three_alike(side: Side, line: &[u8], place: usize) -> bool
         && byte_at(line, side, place + 2) == byte
 }
 
-/// How long the longest row of pieces is where it is white space alone, as far as the byte behind that shows.
+/// How long the longest row of pieces is where it is white space alone, as far as the byte after that shows.
 #[inline(always)]
 fn space_row(rules: &Rules, side: Side, line: &[u8]) -> Option<usize>
     ensures row { IfSome result (λ n. n
@@ -75,7 +75,7 @@ fn space_row(rules: &Rules, side: Side, line: &[u8]) -> Option<usize>
     if three_alike(side, line, count) {
         return None;
     }
-    if quick_look(rules, side, byte_at(line, side, count) as char) {
+    if quick_table(rules, side, byte_at(line, side, count) as char) {
         return None;
     }
     Some(count)
@@ -135,7 +135,7 @@ fn has_no_item(line: &[u8]) -> bool
     end >= line.len() || !may_be_item(&line[..end])
 }
 
-/// How long the longest row of pieces is that stands at this side of a line: mostly it is white space alone, or a few texts
+/// How long the longest row of pieces is that is at this side of a line: mostly it is white space alone, or a few texts
 /// and white space. The characters are room for those of the line, whatever they hold.
 #[inline(always)]
 fn row_of_ascii(
@@ -162,7 +162,7 @@ fn row_of_ascii(
     longest_row(alloc, rules, side, characters)
 }
 
-/// How long the list item is in front of a line, whose lead is taken already: mostly there is none. The characters are
+/// How long the list item is at the start of a line, whose lead is taken already: mostly there is none. The characters are
 /// room for those of the line, whatever they hold.
 #[inline(always)]
 fn item_of_ascii(

@@ -4,7 +4,7 @@ ghost use Rattle.std.specs.Prelude.{nat_le, length, take, drop, reverse, slice_i
 ghost use Rattle.std.specs.Char.{is_whitespace};
 ghost use Rattle.std.specs.List.{list_any};
 ghost use Rattle.lic_lines.specs.LineRules.{texts_of, rules_of};
-ghost use Rattle.lic_lines.specs.PieceLengths.{has_bit, stands_with, stands_spaced, goes_on, AreLengths};
+ghost use Rattle.lic_lines.specs.PieceLengths.{has_bit, begins_with_length, begins_with_spaced, goes_on, AreLengths};
 ghost use Rattle.lic_lines.specs.Texts.{is_row, longest_front};
 ghost use Rattle.lic_lines.specs.Walks.{walked, is_walked_piece, side_repeated};
 ghost use Rattle.lic_lines.specs.Walks.{End};
@@ -12,11 +12,11 @@ ghost use Rattle.lic_lines.specs.Walks.{End};
 use crate::ascii_cut::{byte_at, three_alike};
 use crate::ascii_texts::stands;
 use crate::rows::{side_spaced, side_texts};
-use crate::space_rows::quick_look;
-use crate::walk::Side;
+use crate::side::Side;
+use crate::space_rows::quick_table;
 use lic_kind::{RuleKind, Rules, Texts};
 
-/// The longest text whose length is told by a bit.
+/// The longest text whose length is given by a bit.
 const LONGEST: usize = 62;
 
 /// Bit 1 where the character is white space, which is a piece by itself.
@@ -27,12 +27,12 @@ fn space_length(c: char) -> u64
     if c.is_whitespace() { 2 } else { 0 }
 }
 
-/// Adds bit n where this text of n characters stands behind this place of the way. Nothing is said where it is very long.
+/// Adds bit n where this text of n characters comes after this place of the way. Nothing is said where it is very long.
 #[inline(always)]
 fn with_text(mask: u64, side: Side, text: &[char], line: &[u8], place: usize) -> Option<u64>
     requires { place ≤ length line.now }
     ensures { IfSome result (λ new. (n : ℕ) → has_bit new n
-        ≡ (has_bit mask n || stands_with n (drop place (walked side line.now)) (walked side text.now))) }
+        ≡ (has_bit mask n || begins_with_length n (drop place (walked side line.now)) (walked side text.now))) }
 {
     if !stands(side, text, line, place) {
         return Some(mask);
@@ -43,11 +43,11 @@ fn with_text(mask: u64, side: Side, text: &[char], line: &[u8], place: usize) ->
     Some(mask | 1 << text.len())
 }
 
-/// The lengths of the texts that stand behind this place of the way.
+/// The lengths of the texts that come after this place of the way.
 fn text_lengths(side: Side, texts: &Texts, line: &[u8], place: usize) -> Option<u64>
     requires { place ≤ length line.now }
     ensures { IfSome result (λ mask. (n : ℕ) → has_bit mask n
-        ≡ list_any (λ t. stands_with n (drop place (walked side line.now)) (walked side t)) (texts_of texts.now)) }
+        ≡ list_any (λ t. begins_with_length n (drop place (walked side line.now)) (walked side t)) (texts_of texts.now)) }
 {
     let mut mask = 0u64;
     for i in 0..texts.len() {
@@ -56,7 +56,7 @@ fn text_lengths(side: Side, texts: &Texts, line: &[u8], place: usize) -> Option<
     Some(mask)
 }
 
-/// Whether white space stands at this place of the way.
+/// Whether white space is at this place of the way.
 #[inline(always)]
 fn is_space_at(side: Side, line: &[u8], place: usize) -> bool
     ensures { result ≡ is_whitespace (slice_index (walked side line.now) place) }
@@ -67,13 +67,13 @@ fn is_space_at(side: Side, line: &[u8], place: usize) -> bool
     (byte_at(line, side, place) as char).is_whitespace()
 }
 
-/// Adds bit n where this text and a white space character, n characters in all, stand behind this place of the way. Nothing
+/// Adds bit n where this text and a white space character, n characters in all, come after this place of the way. Nothing
 /// is said where the text is very long.
 #[inline(always)]
 fn with_spaced(mask: u64, side: Side, text: &[char], line: &[u8], place: usize) -> Option<u64>
     requires { place ≤ length line.now }
     ensures { IfSome result (λ new. (n : ℕ) → has_bit new n
-        ≡ (has_bit mask n || stands_spaced n (drop place (walked side line.now)) (walked side text.now))) }
+        ≡ (has_bit mask n || begins_with_spaced n (drop place (walked side line.now)) (walked side text.now))) }
 {
     if !stands(side, text, line, place) {
         return Some(mask);
@@ -87,11 +87,11 @@ fn with_spaced(mask: u64, side: Side, text: &[char], line: &[u8], place: usize) 
     Some(mask | 1 << (text.len() + 1))
 }
 
-/// The lengths of the texts that stand behind this place of the way with one white space character behind them.
+/// The lengths of the texts that come after this place of the way with one white space character after them.
 fn spaced_lengths(side: Side, texts: &Texts, line: &[u8], place: usize) -> Option<u64>
     requires { place ≤ length line.now }
     ensures { IfSome result (λ mask. (n : ℕ) → has_bit mask n
-        ≡ list_any (λ t. stands_spaced n (drop place (walked side line.now)) (walked side t)) (texts_of texts.now)) }
+        ≡ list_any (λ t. begins_with_spaced n (drop place (walked side line.now)) (walked side t)) (texts_of texts.now)) }
 {
     let mut mask = 0u64;
     for i in 0..texts.len() {
@@ -100,7 +100,7 @@ fn spaced_lengths(side: Side, texts: &Texts, line: &[u8], place: usize) -> Optio
     Some(mask)
 }
 
-/// Whether a text stands behind this place on the way from a line's end, and its first character once more.
+/// Whether a text comes after this place on the way from a line's end, and its first character once more.
 fn goes_on(text: &[char], line: &[u8], place: usize) -> bool
     requires { place ≤ length line.now }
     ensures { result ≡ false → goes_on (drop place (walked End line.now)) text.now ≡ false }
@@ -130,11 +130,11 @@ fn any_goes_on(texts: &Texts, line: &[u8], place: usize) -> bool
     false
 }
 
-/// The lengths of the texts that repeat their first character and stand here once. Nothing is said where one repeats it.
+/// The lengths of the texts that repeat their first character and are here once. Nothing is said where one repeats it.
 fn repeated_lengths(rules: &Rules, side: Side, line: &[u8], place: usize) -> Option<u64>
     requires { place ≤ length line.now }
     ensures mask { IfSome result (λ mask. (n : ℕ) → has_bit mask n
-        ≡ list_any (λ t. stands_with n (drop place (walked side line.now)) (reverse t))
+        ≡ list_any (λ t. begins_with_length n (drop place (walked side line.now)) (reverse t))
         (side_repeated (rules_of rules.now) side)) }
     ensures once { IfSome result (λ _. list_any (goes_on (drop place (walked side line.now)))
         (side_repeated (rules_of rules.now) side) ≡ false) }
@@ -151,7 +151,7 @@ fn repeated_lengths(rules: &Rules, side: Side, line: &[u8], place: usize) -> Opt
     }
 }
 
-/// Whether three of one same byte that is no white space stand at this place of the way.
+/// Whether three of one same byte that is no white space are at this place of the way.
 #[inline(always)]
 fn is_run(side: Side, line: &[u8], place: usize) -> bool
     requires { place < length line.now }
@@ -166,7 +166,7 @@ fn is_run(side: Side, line: &[u8], place: usize) -> bool
     three_alike(side, line, place)
 }
 
-/// The lengths of the pieces that stand behind this place of the way. Nothing is said where that takes more than a look.
+/// The lengths of the pieces that come after this place of the way. Nothing is said where that takes more than a look.
 fn piece_lengths(rules: &Rules, side: Side, line: &[u8], place: usize) -> Option<u64>
     requires { place < length line.now }
     ensures { IfSome result (λ mask. AreLengths (rules_of rules.now) side (drop place (walked side line.now)) mask) }
@@ -176,7 +176,7 @@ fn piece_lengths(rules: &Rules, side: Side, line: &[u8], place: usize) -> Option
     }
     let c = byte_at(line, side, place) as char;
     let space = space_length(c);
-    if !quick_look(rules, side, c) {
+    if !quick_table(rules, side, c) {
         return Some(space);
     }
     let texts = text_lengths(side, side_texts(rules, side), line, place)?;

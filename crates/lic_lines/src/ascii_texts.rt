@@ -1,9 +1,9 @@
-//! Whether a text of the line rules stands at a place of a line of ASCII.
+//! Whether a text of the line rules is at a place of a line of ASCII.
 ghost use Rattle.std.specs.Prelude.{◌≡◌, ◌<◌, ◌≤◌, true, false, length, drop, slice_index};
-ghost use Rattle.lic_lines.specs.Walks.{walked, stands_in};
+ghost use Rattle.lic_lines.specs.Walks.{walked, begins_with_text};
 
 use crate::ascii_cut::byte_at;
-use crate::walk::Side;
+use crate::side::Side;
 
 /// The character of a text at this place of the way.
 #[inline(always)]
@@ -21,7 +21,7 @@ fn text_at(text: &[char], side: Side, place: usize) -> char
 #[inline(never)]
 fn stands_whole(side: Side, text: &[char], line: &[u8], place: usize) -> bool
     requires { place ≤ length line.now }
-    ensures { result ≡ stands_in (drop place (walked side line.now)) (walked side text.now) }
+    ensures { result ≡ begins_with_text (drop place (walked side line.now)) (walked side text.now) }
 {
     if text.len() > line.len() - place {
         return false;
@@ -38,7 +38,7 @@ fn stands_whole(side: Side, text: &[char], line: &[u8], place: usize) -> bool
 #[inline(always)]
 fn begins_otherwise(side: Side, text: &[char], line: &[u8], place: usize) -> bool
     requires { place ≤ length line.now }
-    ensures { result ≡ true → stands_in (drop place (walked side line.now)) (walked side text.now) ≡ false }
+    ensures { result ≡ true → begins_with_text (drop place (walked side line.now)) (walked side text.now) ≡ false }
 {
     if text.is_empty() || place >= line.len() {
         return false;
@@ -50,7 +50,7 @@ fn begins_otherwise(side: Side, text: &[char], line: &[u8], place: usize) -> boo
 #[inline(always)]
 pub(crate) fn stands(side: Side, text: &[char], line: &[u8], place: usize) -> bool
     requires { place ≤ length line.now }
-    ensures { result ≡ stands_in (drop place (walked side line.now)) (walked side text.now) }
+    ensures { result ≡ begins_with_text (drop place (walked side line.now)) (walked side text.now) }
 {
     if begins_otherwise(side, text, line, place) {
         return false;

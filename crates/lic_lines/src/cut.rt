@@ -6,9 +6,9 @@ ghost use Rattle.lic_lines.specs.Lines.{cut_of};
 
 use crate::item::item_length;
 use crate::line_part::LinePart;
+use crate::side::Side;
 use crate::source::SourceChar;
 use crate::space_rows::row_length;
-use crate::walk::Side;
 use lic_kind::Rules;
 use std::alloc::{AllocError, Global};
 

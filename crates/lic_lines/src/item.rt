@@ -1,4 +1,4 @@
-//! List items at the front of a line.
+//! List items at the start of a line.
 ghost use Rattle.std.specs.Prelude.{◌≡◌, ◌≤◌, ◌++◌, ◌==◌, ◌&&◌, ◌||◌, ℕ, List, IsTrue, not, false, find, length, option_to_list};
 ghost use Rattle.std.specs.List.{list_all, position_or_len, slice_split};
 ghost use Rattle.std.specs.Option.{option_map_or};
@@ -9,8 +9,8 @@ ghost use Rattle.lic_lines.specs.Sources.{chars_of};
 ghost use Rattle.lic_lines.specs.LineRules.{LineRules, rules_of};
 ghost use Rattle.lic_lines.specs.Lines.{is_bullet_sign, is_roman_digit, is_number, is_letter, is_roman, is_bullet_item, is_number_item, is_letter_item, is_item_in_parentheses, is_item_form, is_copyright_sign, item_length};
 
+use crate::side::is_text;
 use crate::source::SourceChar;
-use crate::walk::is_text;
 use lic_kind::{Rules, is_bullet, is_dash};
 
 fn is_roman_digit(c: char) -> bool
@@ -209,7 +209,7 @@ fn begins_as_no_item(line: &[SourceChar]) -> bool
     !line.is_empty() && !may_begin_item(line[0].char)
 }
 
-/// How long the item at the front of a line is, whose lead is taken already, or 0.
+/// How long the item at the start of a line is, whose lead is taken already, or 0.
 pub fn item_length(rules: &Rules, line: &[SourceChar], behind: Option<char>) -> usize
     ensures item { result ≡ item_length (rules_of rules.now)
         (chars_of line.now ++ option_to_list behind) }

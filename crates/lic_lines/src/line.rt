@@ -5,10 +5,10 @@ ghost use Rattle.lic_lines.specs.Lines.{cell_of, blank_for, line_cells};
 ghost use Rattle.lic_lines.specs.Runs.{runs_joined};
 ghost use Rattle.lic_lines.specs.Tokens.{line_tokens, text_tokens_after, tokens_in};
 
+use crate::buffers::Buffers;
 use crate::cell::Cell;
 use crate::cut::cut_line;
 use crate::line_part::LinePart;
-use crate::room::Room;
 use crate::runs::Runs;
 use crate::signs::join_single_signs;
 use crate::source::SourceChar;
@@ -101,7 +101,7 @@ pub fn push_tokens_of_line(
     rules: &Rules,
     part: LinePart,
     line: &[SourceChar],
-    room: &mut Room,
+    room: &mut Buffers,
     out: &mut Vec<FirstToken>,
 ) -> Result<(), AllocError>
     ensures { OnOk result (tokens_in out.new.items

@@ -1,4 +1,4 @@
-//! Rows of marks in front of a text, of which each may be joined to the next.
+//! Rows of marks at the start of a text, of which each may be joined to the next.
 ghost use Rattle.std.specs.Prelude.{◌≡◌, ◌<◌, ◌≤◌, ◌-◌, ℕ, false, length, slice_index_or, IsTrue};
 ghost use Rattle.lic_kind.specs.Kinds.{kind_of};
 ghost use Rattle.lic_lines.specs.Runs.{may_join};
@@ -23,7 +23,7 @@ pub(crate) fn goes_on(mark: char, next: char) -> bool
     kind_of(next) == Kind::Mark && may_join(mark, next)
 }
 
-/// How many characters in front of a text are a row of marks across whose end nothing is joined.
+/// How many characters at the start of a text are a row of marks across whose end nothing is joined.
 pub(crate) fn mark_count(text: &[SourceChar]) -> usize
     requires some { 0 < length text.now }
     requires mark { (d : SourceChar) → kind_of (slice_index_or text.now 0 d).char ≡ Kind.Mark }

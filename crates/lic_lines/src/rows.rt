@@ -8,8 +8,8 @@ ghost use Rattle.lic_lines.specs.Texts.{is_row, longest_front};
 ghost use Rattle.lic_lines.specs.Lines.{is_space, is_separator};
 ghost use Rattle.lic_lines.specs.Walks.{walked, is_walked_piece, side_texts, side_spaced, side_repeated, ends_piece, IsRunFront, spaced_text_ends, repeat_ends};
 
+use crate::side::{Side, char_at, is_text, part};
 use crate::source::SourceChar;
-use crate::walk::{Side, char_at, is_text, part};
 use lic_kind::{Kind, RuleKind, Rules, Texts, kind_of};
 use std::alloc::{AllocError, Global};
 

@@ -88,12 +88,12 @@ fn first_sign(tokens: &[FirstToken], from: usize) -> usize
 
 /// Whether no sign that begins in these tokens can continue after them, with a blank there or not.
 #[inline(always)]
-pub(crate) fn signs_end(tokens: &[FirstToken], blank_behind: bool) -> bool
+pub(crate) fn signs_end(tokens: &[FirstToken], blank_after: bool) -> bool
     ensures { IsTrue result → (gs : List (List Cell))
-        → single_signs (tokens_in tokens.now ++ tokens_from blank_behind gs)
-        ≡ single_signs (tokens_in tokens.now) ++ single_signs (tokens_from blank_behind gs) }
+        → single_signs (tokens_in tokens.now ++ tokens_from blank_after gs)
+        ≡ single_signs (tokens_in tokens.now) ++ single_signs (tokens_from blank_after gs) }
 {
-    if blank_behind {
+    if blank_after {
         return true;
     }
     match tokens {

@@ -5,18 +5,18 @@ ghost use Rattle.std.specs.List.{list_any};
 ghost use Rattle.lic_lines.specs.Sources.{chars_of};
 ghost use Rattle.lic_lines.specs.LineRules.{texts_of, rules_of};
 ghost use Rattle.lic_lines.specs.Texts.{is_row, longest_front};
-ghost use Rattle.lic_lines.specs.Walks.{walked, is_walked_piece, may_open, stands_in, may_stand, may_stand_at};
+ghost use Rattle.lic_lines.specs.Walks.{walked, is_walked_piece, may_open, begins_with_text, may_begin_with, may_begin_with_any};
 
 use crate::rows::{longest_row, side_spaced, side_texts};
+use crate::side::{Side, char_at, is_text, part};
 use crate::source::SourceChar;
-use crate::walk::{Side, char_at, is_text, part};
 use lic_kind::{RuleKind, Rules, Texts};
 use std::alloc::{AllocError, Global};
 
 /// Whether a line has a text from this place of the way on.
 fn stands(side: Side, text: &[char], line: &[SourceChar], place: usize) -> bool
     requires { place ≤ length line.now }
-    ensures { result ≡ stands_in (drop place (walked side (chars_of line.now))) (walked side text.now) }
+    ensures { result ≡ begins_with_text (drop place (walked side (chars_of line.now))) (walked side text.now) }
 {
     let len = text.len();
     if len > line.len() - place {
@@ -26,9 +26,9 @@ fn stands(side: Side, text: &[char], line: &[SourceChar], place: usize) -> bool
 }
 
 /// Whether a text begins, on the way from this side, in white space, or a line has it from this place on.
-fn may_stand(side: Side, text: &[char], line: &[SourceChar], place: usize) -> bool
+fn may_begin_with(side: Side, text: &[char], line: &[SourceChar], place: usize) -> bool
     requires { place ≤ length line.now }
-    ensures { result ≡ may_stand (drop place (walked side (chars_of line.now))) (walked side text.now) }
+    ensures { result ≡ may_begin_with (drop place (walked side (chars_of line.now))) (walked side text.now) }
 {
     if text.is_empty() {
         return false;
@@ -44,11 +44,11 @@ fn may_stand(side: Side, text: &[char], line: &[SourceChar], place: usize) -> bo
 fn any_may_stand(side: Side, texts: &Texts, line: &[SourceChar], place: usize) -> bool
     requires { place ≤ length line.now }
     ensures { result ≡ list_any
-        (λ t. may_stand (drop place (walked side (chars_of line.now))) (walked side t))
+        (λ t. may_begin_with (drop place (walked side (chars_of line.now))) (walked side t))
         (texts_of texts.now) }
 {
     for i in 0..texts.len() {
-        if may_stand(side, texts.characters(i), line, place) {
+        if may_begin_with(side, texts.characters(i), line, place) {
             return true;
         }
     }
@@ -57,7 +57,7 @@ fn any_may_stand(side: Side, texts: &Texts, line: &[SourceChar], place: usize) -
 
 /// A prefilter: false only if no text of a side begins in white space or in this character.
 #[inline(always)]
-pub(crate) fn quick_look(rules: &Rules, side: Side, c: char) -> bool
+pub(crate) fn quick_table(rules: &Rules, side: Side, c: char) -> bool
     ensures { result ≡ false → may_open (rules_of rules.now) side c ≡ false }
 {
     match side {
@@ -67,9 +67,9 @@ pub(crate) fn quick_look(rules: &Rules, side: Side, c: char) -> bool
 }
 
 /// Whether one of the texts of a side begins in white space, or a line has it from this place of the way on.
-fn may_stand_at(rules: &Rules, side: Side, line: &[SourceChar], place: usize) -> bool
+fn may_begin_with_any(rules: &Rules, side: Side, line: &[SourceChar], place: usize) -> bool
     requires { place ≤ length line.now }
-    ensures { result ≡ may_stand_at (rules_of rules.now) side
+    ensures { result ≡ may_begin_with_any (rules_of rules.now) side
         (drop place (walked side (chars_of line.now))) }
 {
     let texts = any_may_stand(side, side_texts(rules, side), line, place);
@@ -96,7 +96,7 @@ fn spaces(side: Side, line: &[SourceChar]) -> usize
     count
 }
 
-/// Whether three of one same character stand at this place of the way.
+/// Whether three of one same character are at this place of the way.
 fn three_alike(side: Side, line: &[SourceChar], place: usize) -> bool
     requires { place < length line.now }
     ensures { result ≡ false → place + 2 < length line.now
@@ -125,10 +125,10 @@ fn space_row(rules: &Rules, side: Side, line: &[SourceChar]) -> Option<usize>
     if three_alike(side, line, count) {
         return None;
     }
-    if !quick_look(rules, side, char_at(line, side, count)) {
+    if !quick_table(rules, side, char_at(line, side, count)) {
         return Some(count);
     }
-    if may_stand_at(rules, side, line, count) {
+    if may_begin_with_any(rules, side, line, count) {
         return None;
     }
     Some(count)

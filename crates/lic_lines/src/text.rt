@@ -5,25 +5,25 @@ ghost use Rattle.lic_lines.specs.Texts.{groups};
 ghost use Rattle.lic_lines.specs.LineRules.{rules_of};
 ghost use Rattle.lic_lines.specs.Lines.{cell_of};
 ghost use Rattle.lic_lines.specs.Runs.{runs_joined};
-ghost use Rattle.lic_lines.specs.Tokens.{both_words, tokens_from, blank_behind, single_signs, text_tokens_after, tokens_after, stretch_tokens, tokens_in};
+ghost use Rattle.lic_lines.specs.Tokens.{both_words, tokens_from, blank_after, single_signs, text_tokens_after, tokens_after, stretch_tokens, tokens_in};
 
+use crate::buffers::Buffers;
 use crate::cell::Cell;
 use crate::line::push_cells;
 use crate::mark_rows::mark_count;
-use crate::room::Room;
 use crate::signs::{join_single_signs, signs_end};
 use crate::source::SourceChar;
 use crate::tokens::{FirstToken, mark_token, push_first_tokens, spell_word, word_token};
 use lic_kind::{Kind, Rules, kind_of};
 use std::alloc::{AllocError, Global};
 
-/// A part in front of a text across whose end nothing is joined.
+/// A part at the start of a text across whose end nothing is joined.
 #[derive(Clone, Copy)]
 pub struct FrontPart {
     /// How many characters it has.
     pub length: usize,
     /// Whether a blank is between its last token and what follows.
-    pub blank_behind: bool,
+    pub blank_after: bool,
 }
 
 /// Adds the tokens of a row of marks, which a blank precedes or not, and says whether a blank
@@ -33,7 +33,7 @@ fn push_marks(
     rules: &Rules,
     after_blank: bool,
     marks: &[SourceChar],
-    room: &mut Room,
+    room: &mut Buffers,
     out: &mut Vec<FirstToken>,
 ) -> Result<bool, AllocError>
     requires { All (λ s. kind_of s.char ≡ Kind.Mark) marks.now }
@@ -43,7 +43,7 @@ fn push_marks(
         ++ tokens_from after_blank
         (groups both_words (runs_joined (rules_of rules.now) (map cell_of marks.now)))) }
     ensures blank { IfOk result (λ blank. blank
-        ≡ blank_behind after_blank
+        ≡ blank_after after_blank
         (groups both_words (runs_joined (rules_of rules.now) (map cell_of marks.now)))) }
 {
     if let [mark] = marks {
@@ -56,26 +56,26 @@ fn push_marks(
     push_first_tokens(alloc, after_blank, out, joined, &mut room.letters)
 }
 
-/// Adds the tokens of the longest row of characters of one kind in front of a text.
+/// Adds the tokens of the longest row of characters of one kind at the start of a text.
 fn push_front(
     alloc: Global,
     rules: &Rules,
     after_blank: bool,
     text: &[SourceChar],
-    room: &mut Room,
+    room: &mut Buffers,
     out: &mut Vec<FirstToken>,
 ) -> Result<FrontPart, AllocError>
     requires { 0 < length text.now }
     ensures some { IfOk result (λ row. 0 < row.length) }
     ensures within { IfOk result (λ row. row.length ≤ length text.now) }
     ensures tokens { IfOk result (λ row. tokens_in out.new.items
-        ++ tokens_after (rules_of rules.now) row.blank_behind (drop row.length text.now)
+        ++ tokens_after (rules_of rules.now) row.blank_after (drop row.length text.now)
         ≡ tokens_in out.old.items ++ tokens_after (rules_of rules.now) after_blank text.now) }
 {
     match kind_of(text[0].char) {
         Kind::Blank | Kind::Dropped => Ok(FrontPart {
             length: 1,
-            blank_behind: true,
+            blank_after: true,
         }),
         Kind::Word => {
             let length = spell_word(alloc, text, &mut room.letters)?;
@@ -83,15 +83,15 @@ fn push_front(
             out.push(word_token(alloc, after_blank, &text[..length], letters)?)?;
             Ok(FrontPart {
                 length,
-                blank_behind: false,
+                blank_after: false,
             })
         }
         Kind::Mark => {
             let length = mark_count(text);
-            let blank_behind = push_marks(alloc, rules, after_blank, &text[..length], room, out)?;
+            let blank_after = push_marks(alloc, rules, after_blank, &text[..length], room, out)?;
             Ok(FrontPart {
                 length,
-                blank_behind,
+                blank_after,
             })
         }
     }
@@ -103,7 +103,7 @@ pub(crate) fn push_text(
     alloc: Global,
     rules: &Rules,
     text: &[SourceChar],
-    room: &mut Room,
+    room: &mut Buffers,
     out: &mut Vec<FirstToken>,
 ) -> Result<(), AllocError>
     ensures { OnOk result (tokens_in out.new.items
@@ -113,46 +113,46 @@ pub(crate) fn push_text(
     let mut at = 0;
     while at < text.len() {
         let row = push_front(alloc, rules, after_blank, &text[at..], room, out)?;
-        after_blank = row.blank_behind;
+        after_blank = row.blank_after;
         at += row.length;
     }
     Ok(())
 }
 
-/// Adds the first tokens in front of a text of which nothing is taken, up to a place that no copyright sign reaches over.
+/// Adds the first tokens at the start of a text of which nothing is taken, up to a place that no copyright sign reaches over.
 fn push_rows(
     alloc: Global,
     rules: &Rules,
     after_blank: bool,
     text: &[SourceChar],
-    room: &mut Room,
+    room: &mut Buffers,
     out: &mut Vec<FirstToken>,
 ) -> Result<FrontPart, AllocError>
     requires some { 0 < length text.now }
     ensures some { IfOk result (λ part. 0 < part.length) }
     ensures within { IfOk result (λ part. part.length ≤ length text.now) }
     ensures tokens { IfOk result (λ part. tokens_in out.new.items
-        ++ tokens_after (rules_of rules.now) part.blank_behind (drop part.length text.now)
+        ++ tokens_after (rules_of rules.now) part.blank_after (drop part.length text.now)
         ≡ tokens_in out.old.items ++ tokens_after (rules_of rules.now) after_blank text.now) }
     ensures apart { IfOk result (λ part. single_signs (tokens_in out.new.items
-        ++ tokens_after (rules_of rules.now) part.blank_behind (drop part.length text.now))
+        ++ tokens_after (rules_of rules.now) part.blank_after (drop part.length text.now))
         ≡ single_signs (tokens_in out.new.items)
-        ++ single_signs (tokens_after (rules_of rules.now) part.blank_behind
+        ++ single_signs (tokens_after (rules_of rules.now) part.blank_after
         (drop part.length text.now))) }
 {
-    let mut blank_behind = after_blank;
+    let mut blank_after = after_blank;
     let mut length = 0;
     while length < text.len() {
-        let row = push_front(alloc, rules, blank_behind, &text[length..], room, out)?;
-        blank_behind = row.blank_behind;
+        let row = push_front(alloc, rules, blank_after, &text[length..], room, out)?;
+        blank_after = row.blank_after;
         length += row.length;
-        if signs_end(out, blank_behind) {
+        if signs_end(out, blank_after) {
             break;
         }
     }
     Ok(FrontPart {
         length,
-        blank_behind,
+        blank_after,
     })
 }
 
@@ -165,14 +165,14 @@ pub fn front_part(
     rules: &Rules,
     after_blank: bool,
     text: &[SourceChar],
-    room: &mut Room,
+    room: &mut Buffers,
     out: &mut Vec<FirstToken>,
 ) -> Result<FrontPart, AllocError>
     requires some { 0 < length text.now }
     ensures some { IfOk result (λ part. 0 < part.length) }
     ensures within { IfOk result (λ part. part.length ≤ length text.now) }
     ensures tokens { IfOk result (λ part. tokens_in out.new.items
-        ++ text_tokens_after (rules_of rules.now) part.blank_behind (drop part.length text.now)
+        ++ text_tokens_after (rules_of rules.now) part.blank_after (drop part.length text.now)
         ≡ text_tokens_after (rules_of rules.now) after_blank text.now) }
 {
     out.clear();

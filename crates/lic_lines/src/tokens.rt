@@ -3,7 +3,7 @@ ghost use Rattle.std.specs.Prelude.{◌≡◌, ◌≢◌, ◌++◌, ◌∷◌, �
 ghost use Rattle.lic_kind.specs.Kinds.{kind_of, is_word_kind, spell};
 ghost use Rattle.lic_lines.specs.Texts.{groups};
 ghost use Rattle.lic_lines.specs.Lines.{Mark, Word};
-ghost use Rattle.lic_lines.specs.Tokens.{both_words, cell_letters, letters_of, token_of, tokens_from, blank_behind, token_in, tokens_in};
+ghost use Rattle.lic_lines.specs.Tokens.{both_words, cell_letters, letters_of, token_of, tokens_from, blank_after, token_in, tokens_in};
 
 use crate::cell::Cell;
 use crate::runs::{Grouping, end_after, group_end};
@@ -95,7 +95,7 @@ fn token_of(
     })
 }
 
-/// Puts the letters of the word characters in front of a text in the place of those that are there, and says
+/// Puts the letters of the word characters at the start of a text in the place of those that are there, and says
 /// how many characters these are.
 pub(crate) fn spell_word(
     alloc: Global,
@@ -173,7 +173,7 @@ pub(crate) fn push_first_tokens(
         (tokens_in out.new.items
         ≡ tokens_in out.old.items ++ tokens_from after_blank (groups both_words cells.now)) }
     ensures blank { IfOk result (λ blank. blank
-        ≡ blank_behind after_blank (groups both_words cells.now)) }
+        ≡ blank_after after_blank (groups both_words cells.now)) }
 {
     let mut at = 0;
     while at < cells.len() {

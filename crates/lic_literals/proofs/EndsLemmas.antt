@@ -1,4 +1,4 @@
--- The ends that were found so far, as a search goes on from occurrence to occurrence.
+-- The ends that were found so far, as a search continues from occurrence to occurrence.
 use Rattle.std.proofs.Common.{◌≡◌, ℕ, ◌+◌, ◌-◌, ◌<◌, ◌≤◌, List, [], ◌∷◌, ◌++◌, length, sym, subst, arith}
 use Rattle.std.specs.Prelude.{◌↔◌, slice_range}
 use Rattle.std.specs.List.{Contains}
@@ -7,7 +7,7 @@ use Rattle.std.proofs.lemmas.List.Elements.{Contains-append_left, Contains-push,
 use Rattle.std.proofs.Math.Logic.{⊎_elim}
 use Rattle.memchr.specs.Find.{NoneBefore, Nowhere, OccursAt}
 use Rattle.lic_literals.specs.Ends.{EndsAt}
-use Rattle.lic_literals.proofs.Standing.{EndsAt-from_occurrence, OccursAt-from_end, occurs_in_part, occurs_within, part_length}
+use Rattle.lic_literals.proofs.Occurring.{EndsAt-from_occurrence, OccursAt-from_end, occurs_in_part, occurs_within, part_length}
 
 -- an end in the window, and below n
 abbrev pub IsEnd : List ℕ → List ℕ → ℕ → ℕ → ℕ → ℕ → Type 0

@@ -1,4 +1,4 @@
--- The grams of a window, where it stands in bytes.
+-- The grams of a window, where it is in bytes.
 use Rattle.std.proofs.Common.{◌≡◌, ℕ, ◌+◌, ◌-◌, ◌≤◌, List, length, take, drop, sym, ap, ◌∙◌, arith}
 use Rattle.std.specs.Prelude.{slice_range}
 use Rattle.std.proofs.lemmas.List.{drop-drop, drop-take, take-take}
@@ -19,7 +19,7 @@ part_within bytes from n d size room =
     ∙ ap (take size) (drop-drop d from bytes)
     ∙ ap (λ m. take m (drop (from + d) bytes)) there
 
--- a part of what stands at a place stands as much later
+-- a part of what is at a place occurs as much later
 pub part_of_occurrence : (bytes window : List ℕ) (p d size : ℕ) → OccursAt bytes window p → d + size ≤ length window →
     slice_range window d (d + size) ≡ slice_range bytes (p + d) (p + d + size)
 part_of_occurrence bytes window p d size occurs room =

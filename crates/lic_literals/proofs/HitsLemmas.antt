@@ -82,11 +82,11 @@ places_rise_at : (hits : Hits) (window : ℕ) (o : Option ℕ) → slot_of hits 
     IsStrictlyIncreasing (option_map_or (λ slot. get_or (lists_of hits) slot []) o [])
 places_rise_at hits window None at = λ k h. absurd (omega arith)
 places_rise_at hits window (Some slot) at =
-    let inside : slot < length (map (λ s. s.window) hits.standing.items) =
-    slice_get_within (map (λ s. s.window) hits.standing.items) slot window (hits.placed window slot at) in
+    let inside : slot < length (map (λ s. s.window) hits.occurrences.items) =
+    slice_get_within (map (λ s. s.window) hits.occurrences.items) slot window (hits.placed window slot at) in
     let within : slot < length (lists_of hits) =
-    omega (arith, length-map hits.standing.items (λ s. s.window), length-map hits.standing.items (λ s. s.places.items)) in
-    All-get_or IsStrictlyIncreasing (lists_of hits) slot [] within (All-map IsStrictlyIncreasing (λ s. s.places.items) hits.standing.items hits.rising)
+    omega (arith, length-map hits.occurrences.items (λ s. s.window), length-map hits.occurrences.items (λ s. s.places.items)) in
+    All-get_or IsStrictlyIncreasing (lists_of hits) slot [] within (All-map IsStrictlyIncreasing (λ s. s.places.items) hits.occurrences.items hits.rising)
 
 pub places_rise : (hits : Hits) (window : ℕ) → IsStrictlyIncreasing (places_of hits window)
 places_rise hits window = places_rise_at hits window (slot_of hits window) refl

@@ -1,4 +1,4 @@
-pub mod Standing
+pub mod Occurring
 pub mod Rising
 pub mod Lists
 pub mod GroupLemmas

@@ -63,7 +63,7 @@ module _ {LENGTH GRAM STEP : ℕ} (window : List ℕ) (given : ℕ) (old new : T
   }
 
 module _ {LENGTH GRAM STEP : ℕ} (table : Table LENGTH GRAM STEP) (bytes : List ℕ) (sizes : AreSizes LENGTH GRAM STEP) where
-  -- of the first grams of a window that stands in the bytes, the one at this place is marked
+  -- of the first grams of a window that is in the bytes, the one at this place is marked
   pub gram_marked : (w : List ℕ) (i p place : ℕ) → HasWindow table w i → OccursAt bytes w p → p ≤ place → place < p + STEP →
       IsMarked table (gram_at GRAM bytes place) (place - p)
   gram_marked w i p place has occurs begins late =

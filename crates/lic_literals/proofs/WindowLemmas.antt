@@ -1,4 +1,4 @@
--- Windows of literals, in the bytes in which the literals stand.
+-- Windows of literals, in the bytes in which the literals occur.
 use Rattle.std.proofs.Common.{◌≡◌, ◌⊎◌, ℕ, ◌+◌, ◌-◌, ◌<◌, ◌≤◌, List, Option, None, Some, inl, inr, length, drop, arith}
 use Rattle.std.specs.Prelude.{slice_range}
 use Rattle.std.proofs.lemmas.List.{length-drop, length-take}
@@ -12,7 +12,7 @@ use Rattle.lic_literals.specs.declared.hits.Hits.{Hits}
 use Rattle.lic_literals.specs.declared.table.Table.{Table}
 use Rattle.lic_literals.specs.declared.tables.Key.{Key}
 use Rattle.lic_literals.specs.declared.tables.Tables.{Tables}
-use Rattle.lic_literals.proofs.Standing.{OccursAt-from_end, occurs_part}
+use Rattle.lic_literals.proofs.Occurring.{OccursAt-from_end, occurs_part}
 
 module _ {LENGTH GRAM STEP : ℕ} (table : Table LENGTH GRAM STEP) (bytes literal : List ℕ) (key : Key) (is : IsWindowOf table literal key) where
   -- a window lies within its literal
@@ -21,7 +21,7 @@ module _ {LENGTH GRAM STEP : ℕ} (table : Table LENGTH GRAM STEP) (bytes litera
       let size : length (slice_range literal is.start (is.start + LENGTH)) ≡ LENGTH = is.window.size in
       omega (arith, is.end, size, length-take (is.start + LENGTH - is.start) (drop is.start literal), length-drop is.start literal)
 
-  -- where the literal ends, its window stands as much before as the key says, and is noted
+  -- where the literal ends, its window occurs as much before as the key says, and is noted
   pub key_noted : (old new : Hits) (e : ℕ) → NotesWhere table bytes (λ _. Unit {0}) old new → EndsAt bytes literal e →
       (p : ℕ) × (p + key.to_end ≡ e) × IsNoted new key.window p
   key_noted old new e notes ends =

@@ -14,11 +14,11 @@ pub record AreGroupsOf (keys : List (Option Key)) (groups : Groups) : Type 0 whe
   pub short : (k : ℕ) → slice_get keys k ≡ Some None → Contains groups.short.items k
   pub sharing : (k : ℕ) (key : Key) → slice_get keys k ≡ Some (Some key) → Contains (sharing_of groups key.window) k
 
--- the numbers of the windows that stand somewhere
+-- the numbers of the windows that occur somewhere
 abbrev pub windows_of : Hits → List ℕ
-windows_of hits = map (λ s. s.window) hits.standing.items
+windows_of hits = map (λ s. s.window) hits.occurrences.items
 
--- an occurrence of the literal cannot be ruled out: it has no window, or one that stands somewhere
+-- an occurrence of the literal cannot be ruled out: it has no window, or one that occurs somewhere
 abbrev pub IsCandidate : Groups → Hits → ℕ → Type 0
 IsCandidate groups hits k =
     Contains groups.short.items k ⊎ ((window : ℕ) × Contains (windows_of hits) window × Contains (sharing_of groups window) k)

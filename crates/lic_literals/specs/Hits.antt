@@ -1,4 +1,4 @@
--- Where windows stand, as far as it was noted.
+-- Where windows occur, as far as it was noted.
 use Rattle.std.specs.Prelude.{◌≡◌, ◌⊎◌, ℕ, ◌≤◌, nat_eq, List, [], Option, Some, map, Contains, slice_index_or}
 use Rattle.std.specs.HashMap.{get}
 use Rattle.std.specs.Option.{option_map_or}
@@ -6,9 +6,9 @@ use Rattle.lic_literals.specs.declared.hits.Hits.{Hits}
 
 -- the places that are listed, by slots
 abbrev pub lists_of : Hits → List (List ℕ)
-lists_of hits = map (λ s. s.places.items) hits.standing.items
+lists_of hits = map (λ s. s.places.items) hits.occurrences.items
 
--- the slot of a window, if it stands somewhere
+-- the slot of a window, if it occurs somewhere
 abbrev pub slot_of : Hits → ℕ → Option ℕ
 slot_of hits window = get nat_eq hits.slots window
 

@@ -47,7 +47,7 @@ impl Groups {
             → Contains numbers.items k) }
     {
         let mut numbers = Vec::from_slice(alloc, &self.short)?;
-        for one in hits.standing() {
+        for one in hits.occurrences() {
             if let Some(literals) = self.sharing.get(one.window) {
                 numbers.extend_from_slice(literals)?;
             }

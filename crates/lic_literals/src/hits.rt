@@ -14,7 +14,7 @@ const MOST_PLACES: usize = 262_144;
 
 /// A window that occurs, by its number, and its places in rising order.
 #[derive(Debug, Drop)]
-pub struct Standing {
+pub struct Occurrence {
     pub window: usize,
     pub places: Vec<usize>,
 }
@@ -22,14 +22,14 @@ pub struct Standing {
 /// Where windows occur.
 #[derive(Drop)]
 pub struct Hits {
-    standing: Vec<Standing>,
+    occurrences: Vec<Occurrence>,
     // where each window is among them
     slots: HashMap<usize, usize>,
     // how many places were listed
     count: usize,
-    ghost rising: { All (λ s. IsStrictlyIncreasing s.places.items) standing.items },
+    ghost rising: { All (λ s. IsStrictlyIncreasing s.places.items) occurrences.items },
     ghost placed: { (i slot : ℕ) → get nat_eq slots i ≡ Some slot
-        → slice_get (map (λ s. s.window) standing.items) slot ≡ Some i },
+        → slice_get (map (λ s. s.window) occurrences.items) slot ≡ Some i },
 }
 
 impl Hits {
@@ -37,10 +37,10 @@ impl Hits {
 
     /// No windows.
     pub fn new(alloc: Global) -> Hits
-        ensures { result.standing.items ≡ [] }
+        ensures { result.occurrences.items ≡ [] }
     {
         Hits {
-            standing: Vec::new(alloc),
+            occurrences: Vec::new(alloc),
             slots: HashMap::new(alloc),
             count: 0,
         }
@@ -61,9 +61,9 @@ impl Hits {
         requires { get nat_eq self.old.slots window ≡ None }
         ensures { OnOk result (NotesPlace window place self.old self.new) }
     {
-        let slot = self.standing.len();
-        let places = Vec::from_array(*self.standing.allocator(), [place])?;
-        self.standing.push(Standing { window, places })?;
+        let slot = self.occurrences.len();
+        let places = Vec::from_array(*self.occurrences.allocator(), [place])?;
+        self.occurrences.push(Occurrence { window, places })?;
         self.slots.insert(window, slot)?;
         self.count = self.count.saturating_add(1);
         Ok(())
@@ -71,14 +71,14 @@ impl Hits {
 
     // Notes another place of the window in this slot, unless there are too many.
     fn note_more(&mut self, slot: usize, place: usize) -> Result<(), AllocError>
-        requires { slot < length self.old.standing.items }
+        requires { slot < length self.old.occurrences.items }
         ensures { OnOk result ((window : ℕ) → get nat_eq self.old.slots window ≡ Some slot
             → NotesPlace window place self.old self.new) }
     {
         if self.is_full() {
             return Ok(());
         }
-        let one = &mut self.standing[slot];
+        let one = &mut self.occurrences[slot];
         insert(&mut one.places, place)?;
         self.count = self.count.saturating_add(1);
         Ok(())
@@ -92,10 +92,10 @@ impl Hits {
     }
 
     /// The windows that occur.
-    pub fn standing(&self) -> &[Standing]
-        ensures { result.now ≡ self.now.standing.items }
+    pub fn occurrences(&self) -> &[Occurrence]
+        ensures { result.now ≡ self.now.occurrences.items }
     {
-        &self.standing
+        &self.occurrences
     }
 
     /// The places that are listed for a window.
@@ -110,11 +110,11 @@ impl Hits {
     }
 
     fn places_in(&self, slot: usize) -> &[usize]
-        requires { slot < length self.now.standing.items }
+        requires { slot < length self.now.occurrences.items }
         ensures value { result.now ≡ slice_index_or (lists_of self.now) slot [] }
         ensures rising { IsStrictlyIncreasing result.now }
     {
-        let one = &self.standing[slot];
+        let one = &self.occurrences[slot];
         &one.places
     }
 }

@@ -4,7 +4,7 @@ ghost use Rattle.std.specs.Prelude.{◌≡◌, ◌<◌, ◌+◌, ℕ, List, leng
 ghost use Rattle.lic_literals.specs.Ends.{EndsAt};
 
 /// A literal ends at a place exactly if its bytes are right before that place.
-pub fn a_literal_ends_where_its_bytes_stand()
+pub fn a_literal_ends_where_its_bytes_occur()
     ensures from_range { (bytes literal : List ℕ) (p q : ℕ) → 0 < length literal
         → q ≡ p + length literal → slice_range bytes p q ≡ literal → EndsAt bytes literal q }
     ensures range { (bytes literal : List ℕ) (p q : ℕ) → EndsAt bytes literal q

@@ -7,9 +7,9 @@ mod grams;
 mod groups;
 mod hits;
 pub mod kept;
-pub mod keys;
 pub mod laws;
 mod marks;
+pub mod prefilter;
 mod table;
 mod tables;
 #[cfg(test)]

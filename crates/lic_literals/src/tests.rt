@@ -2,7 +2,7 @@
 
 use crate::ends::ends_within;
 use crate::kept::Kept;
-use crate::keys::Keys;
+use crate::prefilter::Prefilter;
 use std::alloc::{AllocError, Global};
 use std::fmt::Write;
 use std::test::Fail;
@@ -52,7 +52,7 @@ fn shown_kept(alloc: Global, kept: &Kept) -> Result<String, Fail> {
     Ok(text)
 }
 
-fn all_kept(alloc: Global, keys: &Keys, bytes: &[u8]) -> Result<String, Fail> {
+fn all_kept(alloc: Global, keys: &Prefilter, bytes: &[u8]) -> Result<String, Fail> {
     let mut shown = String::new(alloc);
     for kept in &keys.kept(alloc, bytes)? {
         shown.push_str(shown_kept(alloc, kept)?.as_str())?;
@@ -61,7 +61,7 @@ fn all_kept(alloc: Global, keys: &Keys, bytes: &[u8]) -> Result<String, Fail> {
 }
 
 #[test]
-fn keeps_the_literals_that_may_stand(rt: HostRuntime) -> Result<(), Fail> {
+fn keeps_the_literals_that_may_occur(rt: HostRuntime) -> Result<(), Fail> {
     let alloc = rt.alloc();
     let literals = [
         "permission is hereby granted".as_bytes(),
@@ -69,7 +69,7 @@ fn keeps_the_literals_that_may_stand(rt: HostRuntime) -> Result<(), Fail> {
         "gpl".as_bytes(),
         "license".as_bytes(),
     ];
-    let keys = Keys::build(alloc, &literals)?;
+    let keys = Prefilter::build(alloc, &literals)?;
     let table: &[(&str, &str)] = &[
         // a literal of fewer than four bytes is always among them, and may end anywhere
         ("", "2: ? "),

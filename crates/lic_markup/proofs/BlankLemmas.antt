@@ -1,4 +1,4 @@
--- Where blanks stand in the letters of a piece.
+-- Where blanks are in the letters of a piece.
 use Rattle.std.proofs.Common.{◌≡◌, ℕ, ◌+◌, ◌<◌, Bool, true, false, List, [], ◌∷◌, ◌++◌, length, drop, get_or, reverse, refl, sym, ap, ap₂, subst, ◌∙◌, arith, append-nil, append_assoc, length-append, All, IsTrue, ◌⊎◌, inl, inr}
 use Rattle.std.specs.List.{list_all}
 use Rattle.std.specs.Str.{chars, IsUtf8, IsCharBoundary}
@@ -44,7 +44,7 @@ utf8_after front after utf8 =
     ap (drop (length front + 1)) parts ∙ drop_at (front ++ 0x20 ∷ []) after (length front + 1) (length-append front (0x20 ∷ [])) in
     subst IsUtf8 left (IsUtf8-drop text (length front + 1) utf8 cut)
 
--- each blank of a text stands between two letters of kind Word
+-- each blank of a text is between two letters of kind Word
 abbrev HasBlanksInside : List ℕ → Type 0
 HasBlanksInside text = (front after : List ℕ) → text ≡ front ++ 0x20 ∷ after → IsTrue (ends_in_word front) × IsTrue (begins_in_word after)
 
@@ -119,7 +119,7 @@ spelled_blanks (text ∷ next ∷ texts) utf8 token front after same =
 
 -- ---- the edges
 
--- a blank before these letters, or none: each other one still stands inside
+-- a blank before these letters, or none: each other one still is inside
 edge_before : (edge : Bool) (text front after : List ℕ) → HasBlanksInside text
     → blank_if edge ++ text ≡ front ++ 0x20 ∷ after → 0 < length front
     → IsTrue (ends_in_word front) × IsTrue (begins_in_word after)

@@ -49,7 +49,7 @@ no_rule-cons x piece behind never more (z ∷ before) y after e begins = more be
 no_rule-tail : (x : Located) (piece behind : List Located) → HasNoRule (x ∷ piece) behind → HasNoRule piece behind
 no_rule-tail x piece behind none before y after e = none (x ∷ before) y after (ap (λ l. x ∷ l) e)
 
--- ---- a piece that grows at its front
+-- ---- a piece that grows at its start
 
 onto : List Located → List Element → List Element
 onto front [] = []
@@ -90,7 +90,7 @@ grow x never (one_further {piece = piece} {behind = behind} is none r others) =
 grow x never (unreadable {piece = piece} {behind = behind} is none fault) =
     unreadable (ap (λ l. x ∷ l) is) (no_rule-cons x piece behind (λ begins. never (subst (λ l. BeginsRule (x ∷ l)) (sym is) begins)) none) fault
 
--- the rules and pieces that are cut, from behind some characters
+-- the rules and pieces that are cut, from after some characters
 abbrev Cut : List Located → Type 0
 Cut xs = (n : ℕ) → AreCut (drop n xs) (elements [] n xs)
 

@@ -9,7 +9,7 @@ use Rattle.lic_markup.specs.declared.fault.MarkupCause.{MarkupCause}
 use Rattle.lic_markup.specs.declared.fault.MarkupCause.TheVariants.{OutOfMemory}
 use Rattle.lic_markup.specs.Faults.{fault_at, map_ok, Fails}
 use Rattle.lic_markup.specs.Rules.{Rule, tag_at, rule_at}
-use Rattle.lic_markup.specs.Elements.{Element, text, rule, rule_behind, and_then, elements, element_read, behind_rule}
+use Rattle.lic_markup.specs.Elements.{Element, text, rule, rule_after, and_then, elements, element_read, after_rule}
 
 -- a fault that is not lack of memory is what reading meets
 pub Fails-lasting : {A : Type 0} (cause : MarkupCause) (place : ℕ) (r : Result A MarkupFault)
@@ -23,7 +23,7 @@ elements-skipped piece zero xs = refl
 elements-skipped piece (suc n) [] = refl
 elements-skipped piece (suc n) (x ∷ xs) = elements-skipped piece n xs
 
--- what an answer of the code that is no `Some`, or one that is, says of what it stands for
+-- what an answer of the code that is no `Some`, or one that is, says of what it represents
 pub none_there : {A B : Type 0} (f : A → B) (o : Option A) (t : Option B) → ((x : A) → o ≡ Some x → ⊥) → option_map f o ≡ t → t ≡ None
 none_there f None t never is = sym is
 none_there f (Some x) t never is = absurd (never x refl)
@@ -35,14 +35,14 @@ some_there f o x t here is = sym (ap (option_map f) here) ∙ is
 abbrev pub step : List Located → Located → List Located → Option (Tag × ℕ) → List Element
 step piece x after t = elim t [
   | None ↦ elements (piece ++ x ∷ []) 0 after
-  | Some tag ↦ text piece ∷ and_then (rule_behind x after tag) (λ taken. elements [] taken after)
+  | Some tag ↦ text piece ∷ and_then (rule_after x after tag) (λ taken. elements [] taken after)
 ]
 
 pub elements-step : (piece : List Located) (x : Located) (after : List Located) → elements piece 0 (x ∷ after) ≡ step piece x after (tag_at x after)
 unfolding elements
 elements-step piece x after = refl
 
--- what comes behind a rule that was read
+-- what comes after a rule that was read
 abbrev pub others : List Located → Result (Rule × ℕ) MarkupFault → List Element
 others rest (Ok read) = elements [] 0 (drop read.1 rest)
 others rest (Err e) = []
@@ -76,7 +76,7 @@ cut_plain found total piece pushed x after rest is more none so_far =
     ∙ ap (λ es. found ++ es) (sym (elements-step piece x after ∙ step-plain piece x after (tag_at x after) none))
     ∙ ap (λ (l : List Located). found ++ elements piece 0 l) (sym is) ∙ so_far
 
--- a piece and the rule behind it
+-- a piece and the rule after it
 pub cut_rule : (found now total : List Element) (piece : List Located) (x : Located) (after rest : List Located)
     (tag : Tag) (behind : List Located) → rest ≡ x ∷ after
     → Some (tag, behind) ≡ option_map (with_remaining after) (tag_at x after)
@@ -90,11 +90,11 @@ cut_rule found now total piece x after rest tag behind is tagged pushed so_far =
     ∙ ap (λ es. found ++ es) (sym (elements-step piece x after ∙ step-tagged piece x after tag behind (tag_at x after) tagged))
     ∙ ap (λ (l : List Located). found ++ elements piece 0 l) (sym is) ∙ so_far
 
-pub others-none : (rest : List Located) (r : Result (Rule × ℕ) MarkupFault) → behind_rule rest r ≡ None → others rest r ≡ []
+pub others-none : (rest : List Located) (r : Result (Rule × ℕ) MarkupFault) → after_rule rest r ≡ None → others rest r ≡ []
 others-none rest (Ok y) is = absurd cc
 others-none rest (Err e) is = refl
 
-pub others-some : (rest next : List Located) (r : Result (Rule × ℕ) MarkupFault) → Some next ≡ behind_rule rest r → others rest r ≡ elements [] 0 next
+pub others-some : (rest next : List Located) (r : Result (Rule × ℕ) MarkupFault) → Some next ≡ after_rule rest r → others rest r ≡ elements [] 0 next
 others-some rest next (Ok y) is = ap (λ (o : Option (List Located)). elements [] 0 (elim o [ Some l ↦ l | None ↦ next ])) (sym is)
 others-some rest next (Err e) is = absurd cc
 

@@ -6,7 +6,7 @@ use Rattle.lic_markup.specs.declared.fault.MarkupFault.{MarkupFault}
 use Rattle.lic_markup.specs.declared.fault.MarkupCause.{MarkupCause}
 use Rattle.lic_markup.specs.declared.fault.MarkupCause.TheVariants.{OutOfMemory}
 use Rattle.lic_ere.specs.Located.{Located, further, with_remaining}
-use Rattle.lic_markup.specs.Faults.{fault_at, told, told_cause, Fails, Gives, map_ok}
+use Rattle.lic_markup.specs.Faults.{fault_at, reported, reported_cause, Fails, Gives, map_ok}
 
 -- a reading that fails wherever another does fails with it
 pub Fails-with : {A B : Type 0} (cause : MarkupCause) (place : ℕ) (r : Result A MarkupFault) (s : Result B MarkupFault)
@@ -35,7 +35,7 @@ with_remaining-further n rest x = ap (λ l. (x.0, l)) (sym (drop-drop x.1 n rest
 pub Gives-same : {X A : Type 0} (view : X → A) (result : Result X MarkupFault) (r s : Result A MarkupFault) → r ≡ s → Gives view result r → Gives view result s
 Gives-same view result r s same h = subst (Gives view result) same h
 
--- what is read of the rest, behind what was read before
+-- what is read of the rest, after what was read before
 abbrev pub behind : {A B : Type 0} → List A → Result (List A × B) MarkupFault → Result (List A × B) MarkupFault
 behind front r = map_ok (λ x. (front ++ x.0, x.1)) r
 
@@ -43,12 +43,12 @@ pub behind-behind : {A B : Type 0} (front more : List A) (r : Result (List A × 
 behind-behind front more (Ok x) = ap (λ l. Ok (l, x.1)) (append_assoc front more x.0)
 behind-behind front more (Err e) = refl
 
-Fails-told_cause : (A : Type 0) (cause : MarkupCause) (place : ℕ)
-    → Fails {Y = A} (told_cause cause (fault_at place cause)).cause (told_cause cause (fault_at place cause)).place
+Fails-reported_cause : (A : Type 0) (cause : MarkupCause) (place : ℕ)
+    → Fails {Y = A} (reported_cause cause (fault_at place cause)).cause (reported_cause cause (fault_at place cause)).place
     (Err (fault_at place cause))
-Fails-told_cause A OutOfMemory place = refl
-Fails-told_cause A _ place = refl
+Fails-reported_cause A OutOfMemory place = refl
+Fails-reported_cause A _ place = refl
 
 -- a fault that is reported is that of a reading that fails with it
-pub Fails-told : (A : Type 0) (e f : MarkupFault) → f ≡ told e → Fails {Y = A} f.cause f.place (Err e)
-Fails-told A e f is = subst (λ (g : MarkupFault). Fails {Y = A} g.cause g.place (Err e)) (sym is) (Fails-told_cause A e.cause e.place)
+pub Fails-reported : (A : Type 0) (e f : MarkupFault) → f ≡ reported e → Fails {Y = A} f.cause f.place (Err e)
+Fails-reported A e f is = subst (λ (g : MarkupFault). Fails {Y = A} g.cause g.place (Err e)) (sym is) (Fails-reported_cause A e.cause e.place)

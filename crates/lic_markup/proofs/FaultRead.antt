@@ -26,7 +26,7 @@ use Rattle.lic_markup.proofs.CutSpelled.{cut_elements}
 use Rattle.lic_markup.proofs.TemplateSpelled.{items_read, behind_variable, behind_begin, behind_finish, then}
 use Rattle.lic_markup.proofs.FaultSpelled.{reading-IsFaultOf, with_letters-place}
 
--- so many levels out stands one that begins at this place
+-- so many levels out is one that begins at this place
 abbrev Begins : ℕ → ℕ → List Level → Type 0
 Begins place k [] = ⊥
 Begins place zero (l ∷ ls) = l.place ≡ place
@@ -116,7 +116,7 @@ module _ (line_rules : LineRules) (words : List Phrase) where
   sound-split (rule (rules.finish place) ∷ before) (faults.finish h) = let more = sound-split before h in (more.0, faults.finish more.1, more.2)
   sound-split (refused e ∷ before) h = elim h [ ]
 
-  -- elements behind which the part that is so many levels out has become the one that is so many levels out
+  -- elements after which the part that is so many levels out has become the one that is so many levels out
   abbrev Leads : ℕ → ℕ → State → List Element → ℕ → Type 0
   Leads place j s es depth =
       (t : State) × (length t.outer ≡ depth) × Begins place j (t.level ∷ t.outer)

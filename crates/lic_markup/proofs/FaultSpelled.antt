@@ -18,7 +18,7 @@ use Rattle.lic_markup.specs.Elements.{Element, text, rule, refused, elements}
 use Rattle.lic_markup.specs.Lines.{with_next, next_of}
 use Rattle.lic_markup.specs.Parts.{Node, Reading, row, row_weight, row_has_token}
 use Rattle.lic_markup.specs.Reading as reading
-use Rattle.lic_markup.specs.Reading.{Level, State, meet, meet_text, meet_variable, meet_end, finish, read_on, read_elements, start, whole, told, max_depth, max_length, max_weight}
+use Rattle.lic_markup.specs.Reading.{Level, State, meet, meet_text, meet_variable, meet_end, finish, read_on, read_elements, start, whole, reported, max_depth, max_length, max_weight}
 use Rattle.lic_markup.specs.Templates as templates
 use Rattle.lic_markup.specs.Templates.{Item, letters, opens_line, is_piece, is_variable, is_begin, is_finish, AreItems, no_item, one_item}
 use Rattle.lic_markup.specs.FirstFaults as faults
@@ -40,7 +40,7 @@ not_failed r e h = absurd (never h)
     never : Ok r ≡ failed e → ⊥
     never h = cc
 
--- ---- elements one behind the other
+-- ---- elements one after the other
 
 sound-append : {a b c : ℕ} {es : List Element} (fs : List Element) → AreSound a es b → AreSound b fs c → AreSound a (es ++ fs) c
 sound-append fs faults.none more = more
@@ -63,7 +63,7 @@ lead-deeper (over h) = over (lead-deeper h)
 lead-deeper (into h) = into (lead-deeper h)
 lead-deeper (out h) = out (lead-deeper h)
 
--- Before here the innermost open part begins where its level says, and each part that begins behind that is ended; so do those
+-- Before here the innermost open part begins where its level says, and each part that begins after that is ended; so do those
 -- round it.
 abbrev Open : List Element → Level → List Level → Type 0
 Open before level [] = Lead 0 before 0
@@ -96,7 +96,7 @@ open-end before place level o m outer same h =
     (open-on h.0 more o m outer same leads h.4)
 
 module _ (line_rules : LineRules) (words : List Phrase) where
-  -- the fault of the elements behind some, from a state on
+  -- the fault of the elements after some, from a state on
   data Fault (before es : List Element) (s : State) (e : MarkupFault) : Type 0 where
     early : {front : List Element} (after : List Element) {x : Element} {depth : ℕ} → before ++ es ≡ front ++ x ∷ after
         → AreSound 0 front depth → IsAtFault depth x e → Fault before es s e
@@ -140,7 +140,7 @@ module _ (line_rules : LineRules) (words : List Phrase) where
       → Fault before (rule (rules.variable name original place pattern) ∷ es) s e
   variable_by es before s e name original place pattern others sound opens (Err d) was is =
       early es refl sound (subst (IsAtFault (length s.outer) (rule (rules.variable name original place pattern)))
-      (same_fault (told place d) e is) (bad_pattern was))
+      (same_fault (reported place d) e is) (bad_pattern was))
   variable_by es before s e name original place pattern others sound opens (Ok tree) was is =
       let x : Element = rule (rules.variable name original place pattern) in
       let spelled : IsPattern pattern tree = reading-IsPattern pattern tree was in

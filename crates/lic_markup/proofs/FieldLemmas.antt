@@ -6,13 +6,13 @@ use Rattle.lic_markup.specs.declared.tag.Tag.{Tag}
 use Rattle.lic_markup.specs.declared.fault.MarkupFault.{MarkupFault}
 use Rattle.lic_markup.specs.declared.fault.MarkupCause.TheVariants.{NotClosed}
 use Rattle.lic_markup.specs.Signs.{semicolon, greater}
-use Rattle.lic_markup.specs.Texts.{begins_with, begins_with_two, spaces, trim_front}
+use Rattle.lic_markup.specs.Texts.{begins_with, begins_with_two, spaces, trim_start}
 use Rattle.lic_markup.specs.Faults.{fault_at, map_ok, ◌>>=◌}
 use Rattle.lic_markup.specs.Rules.{Values, field_or_none, fields_at}
 use Rattle.lic_markup.proofs.FaultLemmas.{map_ok-same, map_ok-map_ok, with_remaining-further}
 use Rattle.lic_markup.proofs.RuleLemmas.{read}
 
--- what stands behind a reading is no longer than what it was read from
+-- what comes after a reading is no longer than what it was read from
 pub read-shorter : {A : Type 0} (rest : List Located) (r : Result (A × ℕ) MarkupFault) (a : A) (after : List Located)
     → read rest r ≡ Ok (a, after) → length after ≤ length rest
 read-shorter {A = A} rest (Ok y) a after is =
@@ -46,33 +46,33 @@ module _ (rule : ℕ) (tag : Tag) where
     next r = map_ok (further 1) (r >>= λ y. fields_at rule tag y.0 (spaces after + y.1) after)
 
     fields-next : begins_with_two greater (x ∷ after) ≡ false → begins_with semicolon (x ∷ after) ≡ true
-        → fields_at rule tag values 0 (x ∷ after) ≡ next (field_or_none rule tag values (trim_front after))
+        → fields_at rule tag values 0 (x ∷ after) ≡ next (field_or_none rule tag values (trim_start after))
     unfolding fields_at
     fields-next one two =
         ap (λ b. cond b (Ok (values, 2))
-        (cond (begins_with semicolon (x ∷ after)) (next (field_or_none rule tag values (trim_front after)))
+        (cond (begins_with semicolon (x ∷ after)) (next (field_or_none rule tag values (trim_start after)))
         (Err (fault_at rule NotClosed)))) one
-        ∙ ap (λ b. cond b (next (field_or_none rule tag values (trim_front after))) (Err (fault_at rule NotClosed))) two
+        ∙ ap (λ b. cond b (next (field_or_none rule tag values (trim_start after))) (Err (fault_at rule NotClosed))) two
 
     next_turn : (r : Result (Values × ℕ) MarkupFault) (more : Values) (behind : List Located)
-        → read (trim_front after) r ≡ Ok (more, behind) → read (x ∷ after) (next r) ≡ fields_of more behind
+        → read (trim_start after) r ≡ Ok (more, behind) → read (x ∷ after) (next r) ≡ fields_of more behind
     next_turn (Err e) more behind is = absurd cc
     next_turn (Ok y) more behind is =
         let one : y.0 ≡ more = ap (λ (r : Result (Values × List Located) MarkupFault). elim r [ Ok z ↦ z.0 | Err e ↦ more ]) is in
-        let two : drop y.1 (trim_front after) ≡ behind = ap (λ (r : Result (Values × List Located) MarkupFault). elim r [ Ok z ↦ z.1 | Err e ↦ behind ]) is in
+        let two : drop y.1 (trim_start after) ≡ behind = ap (λ (r : Result (Values × List Located) MarkupFault). elim r [ Ok z ↦ z.1 | Err e ↦ behind ]) is in
         let all : Result (Values × ℕ) MarkupFault = fields_at rule tag y.0 (spaces after + y.1) after in
         map_ok-map_ok (with_remaining (x ∷ after)) (further 1) all
         ∙ map_ok-same (λ z. with_remaining (x ∷ after) (further 1 z)) (with_remaining after) all (λ z. with_remaining-further 1 (x ∷ after) z)
         ∙ fields-skipped y.0 (spaces after + y.1) after
         ∙ (λ i. fields_of (one i) ((sym (drop-drop y.1 (spaces after) after) ∙ two) i))
 
-    next_fails : (r : Result (Values × ℕ) MarkupFault) (e : MarkupFault) → read (trim_front after) r ≡ Err e → read (x ∷ after) (next r) ≡ Err e
+    next_fails : (r : Result (Values × ℕ) MarkupFault) (e : MarkupFault) → read (trim_start after) r ≡ Err e → read (x ∷ after) (next r) ≡ Err e
     next_fails (Ok y) e is = absurd cc
     next_fails (Err d) e is = ap (λ (r : Result (Values × List Located) MarkupFault). elim r [ Ok z ↦ Err e | Err f ↦ Err f ]) is
 
     -- one more field
     pub fields_turn : (rest front : List Located) (more : Values) (behind : List Located)
-        (total : Result (Values × List Located) MarkupFault) → rest ≡ x ∷ after → front ≡ trim_front after
+        (total : Result (Values × List Located) MarkupFault) → rest ≡ x ∷ after → front ≡ trim_start after
         → begins_with_two greater rest ≡ false → begins_with semicolon rest ≡ true
         → read front (field_or_none rule tag values front) ≡ Ok (more, behind) → fields_of values rest ≡ total
         → fields_of more behind ≡ total
@@ -84,7 +84,7 @@ module _ (rule : ℕ) (tag : Tag) where
         ∙ ap (fields_of values) (sym is) ∙ so_far
 
     -- a fault in a field
-    pub fields_fail : (rest front : List Located) (e : MarkupFault) → rest ≡ x ∷ after → front ≡ trim_front after
+    pub fields_fail : (rest front : List Located) (e : MarkupFault) → rest ≡ x ∷ after → front ≡ trim_start after
         → begins_with_two greater rest ≡ false → begins_with semicolon rest ≡ true
         → read front (field_or_none rule tag values front) ≡ Err e → fields_of values rest ≡ Err e
     fields_fail rest front e is trimmed one two got =
@@ -103,14 +103,14 @@ module _ (rule : ℕ) (tag : Tag) where
       ap (fields_of values) is
       ∙ ap (λ b. read (x ∷ after) (cond b (Ok (values, 2))
       (cond (begins_with semicolon (x ∷ after))
-      (next values x after (field_or_none rule tag values (trim_front after)))
+      (next values x after (field_or_none rule tag values (trim_start after)))
       (Err (fault_at rule NotClosed))))) first
-      ∙ ap (λ b. read (x ∷ after) (cond b (next values x after (field_or_none rule tag values (trim_front after))) (Err (fault_at rule NotClosed)))) second
+      ∙ ap (λ b. read (x ∷ after) (cond b (next values x after (field_or_none rule tag values (trim_start after))) (Err (fault_at rule NotClosed)))) second
 
   pub fields-open : (values : Values) (rest : List Located) → length rest ≡ 0 → fields_of values rest ≡ Err (fault_at rule NotClosed)
   unfolding fields_at
   fields-open values [] none = refl
   fields-open values (x ∷ rest) none = absurd (omega arith)
 
-pub trim_front-shorter : (all front : List Located) → front ≡ trim_front all → length front ≤ length all
-trim_front-shorter all front is = omega (arith, ap length is, length-drop (spaces all) all)
+pub trim_start-shorter : (all front : List Located) → front ≡ trim_start all → length front ≤ length all
+trim_start-shorter all front is = omega (arith, ap length is, length-drop (spaces all) all)

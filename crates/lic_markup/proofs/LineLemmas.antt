@@ -17,7 +17,7 @@ ends_line-last (y ∷ z ∷ zs) x = ends_line-last (z ∷ zs) x
 
 -- ---- the start of a line, from its end on
 
--- one character behind others
+-- one character after others
 at_line_start-last : (so_far : Bool) (before : List Located) (x : Located)
     → at_line_start so_far (before ++ x ∷ []) ≡ (eqb x.1 new_line || (at_line_start so_far before && is_space x.1))
 at_line_start-last so_far [] x = refl

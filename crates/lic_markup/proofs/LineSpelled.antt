@@ -1,4 +1,4 @@
--- What stands round a piece in its lines is what the markup says.
+-- What is round a piece in its lines is what the markup says.
 use Rattle.std.proofs.Common.{◌≡◌, ℕ, Bool, true, false, cond, ◌==◌, ◌&&◌, ◌||◌, List, [], ◌∷◌, ◌++◌, map, reverse, refl, sym, ap, ◌∙◌, append_assoc, append-nil}
 use Rattle.std.proofs.lemmas.List.{reverse-append}
 use Rattle.lic_ere.specs.Located.{Located}
@@ -6,7 +6,7 @@ use Rattle.lic_norm.specs.declared.pieces.Next.TheVariants as next
 use Rattle.lic_markup.specs.Signs.{new_line}
 use Rattle.lic_markup.specs.Rules as rules
 use Rattle.lic_markup.specs.Elements.{Element, text, rule, refused}
-use Rattle.lic_markup.specs.Lines.{is_space, at_line_start, line_ends, line_ends_in, counts_as, next_of, ends_line, next_behind}
+use Rattle.lic_markup.specs.Lines.{is_space, at_line_start, line_ends, line_ends_in, counts_as, next_of, ends_line, next_after}
 use Rattle.lic_markup.specs.Templates.{Sign, character, signs_in, signs_of, is_clear, opens_line, first_rule, follows}
 
 -- ---- to the end of the line
@@ -37,7 +37,7 @@ next_of-signs (e ∷ es) = ap (λ b. cond b next.LineEnd (counts_as e)) (line_en
     ∙ ap (λ n. cond (is_clear (signs_of (e ∷ es))) next.LineEnd n) (counts_as-first e es)
 
 -- what follows a piece
-pub follows-is : (piece : List Located) (after : List Element) → next_behind piece (next_of after) ≡ follows piece after
+pub follows-is : (piece : List Located) (after : List Element) → next_after piece (next_of after) ≡ follows piece after
 follows-is piece after = by_end (ends_line piece)
   where
     by_end : (b : Bool) → cond b next.LineEnd (next_of after) ≡ cond (b || is_clear (signs_of after)) next.LineEnd (first_rule after)

@@ -15,7 +15,7 @@ abbrev pub ended : List Node → List (List Node) → Option (List Node)
 ended ps [] = Some ps
 ended ps (o ∷ outer) = None
 
--- the parts of items, behind the parts so far, innermost first
+-- the parts of items, after the parts so far, innermost first
 unfoldable pub run : List Node → List (List Node) → List Item → Option (List Node)
 run ps outer [] = ended ps outer
 run ps outer (letters text ∷ is) = run (with_letters text ps) outer is
@@ -32,7 +32,7 @@ same ps qs e = ap (λ o. elim o [ Some x ↦ x | None ↦ ps ]) e
 
 -- ---- what is read is spelled
 
--- the rest of the items: of the innermost optional part, and behind its end of those round it
+-- the rest of the items: of the innermost optional part, and after its end of those round it
 abbrev Completes : List Node → List (List Node) → List Item → List Node → Type 0
 Completes ps [] is all = (ns : List Node) × AreParts 0 is ns × (all ≡ ps ++ ns)
 Completes ps (o ∷ outer) is all =

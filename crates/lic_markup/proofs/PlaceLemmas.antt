@@ -1,4 +1,4 @@
--- Where characters stand in their source has no effect on the texts of tokens.
+-- Where characters are in their source has no effect on the texts of tokens.
 use Rattle.std.proofs.Common.{◌≡◌, ℕ, zero, suc, ◌+◌, ◌-◌, Bool, true, false, not, ◌==◌, ◌&&◌, List, [], ◌∷◌, ◌++◌, map, length, take, drop, Option, Some, None, refl, sym, ap, ap₂, ◌∙◌}
 use Rattle.std.specs.Prelude.{codes, encode_utf8_all, if◌then◌else◌, nat_le}
 use Rattle.std.specs.Char.{len_utf8}
@@ -17,7 +17,7 @@ use Rattle.lic_lines.specs.LineRules.{LineRules}
 use Rattle.lic_lines.specs.Lines.{whole_line, blank_for, cell_of, cells_of_cut, cut_of, left_of, line_cells, cells_of}
 use Rattle.lic_lines.specs.Runs.{end_after, joined, runs_joined, same_family, same_mark, with_joined, without_separator, without_separators}
 use Rattle.lic_lines.specs.Tokens.{Token, as_sign, both_words, first_tokens, is_sign_in_parentheses, is_text, letters_of, sign_from, single_signs, text_tokens, token_of, tokens_from}
-use Rattle.lic_phrases.specs.Rewriting.{Phrase, SpannedText, begins_authority, both_signs, count_behind, end_of_last, first_as, https_as_http, longer, longest_phrase, phrases_behind, phrases_joined, rewritten, sign_of_row, sign_rows, spanned, stands, without_secure}
+use Rattle.lic_phrases.specs.Rewriting.{Phrase, SpannedText, begins_authority, both_signs, count_after, end_of_last, first_as, https_as_http, longer, longest_phrase, phrases_after, phrases_joined, rewritten, sign_of_row, sign_rows, spanned, begin_with_texts, without_secure}
 use Rattle.lic_norm.proofs.AnyBytes.{source_of-utf8}
 use Rattle.lic_norm.specs.Pieces.{cells_of_lines, ends_in_feed, part_of, piece_cells, piece_tokens}
 use Rattle.lic_norm.specs.Tokens.{first_tokens_of, reported, tokens_of}
@@ -50,7 +50,7 @@ flat-map f g k each (run ∷ runs) = ap₂ (λ xs ys. xs ++ ys) (each run) (flat
 
 -- ---- characters
 
--- a character that stands nowhere
+-- a character that occurs nowhere
 abbrev bare : SourceChar → SourceChar
 bare s = record { char = s.char; start = 0; end = 0 }
 
@@ -179,7 +179,7 @@ bare-runs rules cells =
 
 -- ---- first tokens
 
--- a token that stands nowhere
+-- a token that occurs nowhere
 abbrev bare_token : Token → Token
 bare_token t = record { text = t.text; start = 0; end = 0; after_blank = t.after_blank }
 
@@ -254,14 +254,14 @@ bare-https : (ts : List Token) → https_as_http (map bare_token ts) ≡ map bar
 bare-https [] = refl
 bare-https (t ∷ ts) = ap₂ (λ u us. u ∷ us) (bare-secure t ts) (bare-https ts)
 
-bare-stands : (texts : List (List ℕ)) (ts : List Token) → stands texts (map bare_token ts) ≡ stands texts ts
-bare-stands [] ts = refl
-bare-stands (text ∷ texts) [] = refl
-bare-stands (text ∷ texts) (t ∷ ts) = ap (λ b. is_text text t && b) (bare-stands texts ts)
+bare-begin_with_texts : (texts : List (List ℕ)) (ts : List Token) → begin_with_texts texts (map bare_token ts) ≡ begin_with_texts texts ts
+bare-begin_with_texts [] ts = refl
+bare-begin_with_texts (text ∷ texts) [] = refl
+bare-begin_with_texts (text ∷ texts) (t ∷ ts) = ap (λ b. is_text text t && b) (bare-begin_with_texts texts ts)
 
 bare-longest : (words : List Phrase) (ts : List Token) → longest_phrase words (map bare_token ts) ≡ longest_phrase words ts
 bare-longest [] ts = refl
-bare-longest (p ∷ words) ts = ap₂ (λ b others. if b then Some (longer p others) else others) (bare-stands p.texts ts) (bare-longest words ts)
+bare-longest (p ∷ words) ts = ap₂ (λ b others. if b then Some (longer p others) else others) (bare-begin_with_texts p.texts ts) (bare-longest words ts)
 
 bare-phrase : (phrase : Option Phrase) (t : Token) (ts : List Token) → first_as phrase (bare_token t) (map bare_token ts) ≡ bare_token (first_as phrase t ts)
 bare-phrase None t ts = refl
@@ -269,13 +269,13 @@ bare-phrase (Some p) t ts =
     ap (λ n. let u : Token = record { text = p.spelling; start = 0; end = n; after_blank = t.after_blank } in u)
     (ap (end_of_last (bare_token t)) (take-map bare_token (length p.texts - 1) ts) ∙ bare-last t (take (length p.texts - 1) ts))
 
-bare-phrases : (words : List Phrase) (n : ℕ) (ts : List Token) → phrases_behind words n (map bare_token ts) ≡ map bare_token (phrases_behind words n ts)
+bare-phrases : (words : List Phrase) (n : ℕ) (ts : List Token) → phrases_after words n (map bare_token ts) ≡ map bare_token (phrases_after words n ts)
 bare-phrases words n [] = refl
 bare-phrases words (suc n) (t ∷ ts) = bare-phrases words n ts
 bare-phrases words zero (t ∷ ts) =
     let phrase = longest_phrase words (t ∷ ts) in
-    ap (λ o. first_as o (bare_token t) (map bare_token ts) ∷ phrases_behind words (count_behind o) (map bare_token ts)) (bare-longest words (t ∷ ts))
-    ∙ ap₂ (λ u us. u ∷ us) (bare-phrase phrase t ts) (bare-phrases words (count_behind phrase) ts)
+    ap (λ o. first_as o (bare_token t) (map bare_token ts) ∷ phrases_after words (count_after o) (map bare_token ts)) (bare-longest words (t ∷ ts))
+    ∙ ap₂ (λ u us. u ∷ us) (bare-phrase phrase t ts) (bare-phrases words (count_after phrase) ts)
 
 -- the texts of tokens after the rewriting
 abbrev texts_after : List Phrase → List Token → List (List ℕ)

@@ -48,7 +48,7 @@ one_piece piece place (c ∷ cs) none =
     ∙ one_piece (piece ++ x ∷ []) (place + len_utf8 c) cs two.1
     ∙ ap (λ l. text l ∷ []) (append_assoc piece (x ∷ []) rest)
 
--- so many characters in front of which none is a `<`
+-- so many characters before which none is a `<`
 plain_front : (piece rest : List Located) (n : ℕ) → n ≤ length rest → ((i : ℕ) (d : Located) → i < n → (get_or rest i d).1 ≢ less)
     → elements (piece ++ take n rest) 0 (drop n rest) ≡ elements piece 0 rest
 plain_front piece rest zero within plain = ap (λ p. elements p 0 rest) (append-nil piece)
@@ -60,7 +60,7 @@ plain_front piece (x ∷ xs) (suc n) within plain =
     ∙ cut_plain [] (elements piece 0 (x ∷ xs)) piece (piece ++ x ∷ []) x xs (x ∷ xs) refl refl
     (ap (option_map (with_remaining xs)) (no_tag x xs first)) refl
 
--- a character at which no rule begins, and those behind it of which none is a `<`
+-- a character at which no rule begins, and those after it of which none is a `<`
 pub cut_plain_row : (found total : List Element) (piece pushed : List Located) (x : Located) (after rest left : List Located) (n : ℕ)
     → rest ≡ x ∷ after → pushed ≡ piece ++ take (suc n) rest → left ≡ drop (suc n) rest → n ≤ length after
     → ((i : ℕ) (d : Located) → i < n → (get_or after i d).1 ≢ less) → option_map (with_remaining after) (tag_at x after) ≡ None

@@ -7,11 +7,11 @@ use Rattle.lic_markup.specs.declared.tag.Tag.{Tag}
 use Rattle.lic_markup.specs.declared.fault.MarkupFault.{MarkupFault}
 use Rattle.lic_markup.specs.declared.fault.MarkupCause.TheVariants.{NotClosed, FieldMissing, NoEquals}
 use Rattle.lic_markup.specs.Signs.{double_quote, semicolon, equals, greater, backslash}
-use Rattle.lic_markup.specs.Texts.{text_of, place_of, begins_with, begins_with_two, spaces, trim_end, trim_front}
+use Rattle.lic_markup.specs.Texts.{text_of, place_of, begins_with, begins_with_two, spaces, trim_end, trim_start}
 use Rattle.lic_markup.specs.Faults.{fault_at, map_ok, ◌>>=◌}
 use Rattle.lic_markup.specs.Rules.{Values, no_values, field_of, has_value, with_value, one_more, name_at, quoted_at, plain_at, value_at, field_at, fields_at, Rule, rule_of, rule_at}
 use Rattle.lic_markup.specs.Markup.{UpTo, IsTag, ends_field, ends_name, ends_quote}
-use Rattle.lic_markup.specs.RuleFaults.{Nowhere, is_second, AreSoundFields, none, empty, further as one_further, IsOpenValue, quoted, plain, IsFieldFault, open_name, no_equals, twice, open_value, IsFaultBehind, not_closed, in_field, missing, IsRuleFault, at_fault}
+use Rattle.lic_markup.specs.RuleFaults.{Nowhere, is_second, AreSoundFields, none, empty, further as one_further, IsOpenValue, quoted, plain, IsFieldFault, open_name, no_equals, twice, open_value, IsFaultAfter, not_closed, in_field, missing, IsRuleFault, at_fault}
 use Rattle.lic_markup.proofs.RuleLemmas.{read, name-refused, name-goes_on, name-open, quoted-goes_on, quoted-open, plain-goes_on, plain-open}
 use Rattle.lic_markup.proofs.FieldLemmas.{fields_of, fields-end, fields_turn, fields_fail, fields-refused, fields-open}
 use Rattle.lic_markup.proofs.Spelled.{got, not_here, past, ends_from, value_by, value_is, name_read, neither, read_was}
@@ -104,12 +104,12 @@ module _ (rule : ℕ) (tag : Tag) (values : Values) (names : List (List ℕ)) (h
       ∙ ap (map_ok {A = List Located × ℕ} (λ value. (
         with_value (meaning rule (place_of cs) tag values (name, was.0)) value.0 values,
         was.0 + (spaces (drop was.0 cs) + value.1),
-      ))) (ap (λ (l : List Located). value_at rule (trim_front l)) was.1 ∙ value_open rule value)
+      ))) (ap (λ (l : List Located). value_at rule (trim_start l)) was.1 ∙ value_open rule value)
 
 -- ---- all fields of a rule
 
 module _ (rule : ℕ) (tag : Tag) where
-  -- behind sound fields the values are those of these fields
+  -- after sound fields the values are those of these fields
   sound_read : (start : List Located) {here : List Located} {names : List (List ℕ)} → AreSoundFields tag start here names
       → (values : Values) × HeldFor tag values names × (fields_of rule tag no_values start ≡ fields_of rule tag values here)
   sound_read start none = (no_values, held_none tag, refl)
@@ -117,18 +117,18 @@ module _ (rule : ℕ) (tag : Tag) where
       let was = sound_read start sound in (
         was.0,
         was.1,
-        was.2 ∙ sym (fields_turn rule tag was.0 x rest (x ∷ rest) (trim_front rest) was.0 (trim_front rest)
+        was.2 ∙ sym (fields_turn rule tag was.0 x rest (x ∷ rest) (trim_start rest) was.0 (trim_start rest)
             (fields_of rule tag was.0 (x ∷ rest)) refl refl (not_two_signs rule tag x rest is) (eq-eqb x.1 semicolon is)
-            (none_read rule tag was.0 (trim_front rest) ends) refl),
+            (none_read rule tag was.0 (trim_start rest) ends) refl),
       )
   sound_read start (one_further {x = x} {rest = rest} {more = more} {value = value} {name = name} {names = names} sound is goes_on spelled second) =
       let was = sound_read start sound in
       let now : Values = with_value (field_of tag name) value was.0 in (
         now,
         held_on was.0 name value names tag was.1,
-        was.2 ∙ sym (fields_turn rule tag was.0 x rest (x ∷ rest) (trim_front rest) now more
+        was.2 ∙ sym (fields_turn rule tag was.0 x rest (x ∷ rest) (trim_start rest) now more
             (fields_of rule tag was.0 (x ∷ rest)) refl refl (not_two_signs rule tag x rest is) (eq-eqb x.1 semicolon is)
-            (some_read rule tag was.0 (trim_front rest) more value name goes_on spelled
+            (some_read rule tag was.0 (trim_start rest) more value name goes_on spelled
             (second_is was.0 name names tag was.1 ∙ second)) refl),
       )
 
@@ -139,16 +139,16 @@ abbrev made : ℕ → Tag → Result (Values × List Located) MarkupFault → Re
 made place tag r = r >>= λ y. map_ok (λ rule. (rule, y.1)) (rule_of place tag y.0)
 
 made_is : (place : ℕ) (tag : Tag) (behind : List Located)
-    → read behind (rule_at place tag behind) ≡ made place tag (fields_of place tag no_values (trim_front behind))
-made_is place tag behind = ap (read behind) (rule_is place tag behind) ∙ by (fields_at place tag no_values 0 (trim_front behind))
+    → read behind (rule_at place tag behind) ≡ made place tag (fields_of place tag no_values (trim_start behind))
+made_is place tag behind = ap (read behind) (rule_is place tag behind) ∙ by (fields_at place tag no_values 0 (trim_start behind))
   where
     of_rule : (y : Values × ℕ) (m : Result Rule MarkupFault)
-        → read behind (map_ok (λ rule. (rule, spaces behind + y.1)) m) ≡ map_ok (λ rule. (rule, drop y.1 (trim_front behind))) m
+        → read behind (map_ok (λ rule. (rule, spaces behind + y.1)) m) ≡ map_ok (λ rule. (rule, drop y.1 (trim_start behind))) m
     of_rule y (Ok r) = ap (λ (l : List Located). got r l) (sym (drop-drop y.1 (spaces behind) behind))
     of_rule y (Err e) = refl
 
     by : (r : Result (Values × ℕ) MarkupFault)
-        → read behind (r >>= rule_then place tag behind) ≡ made place tag (read (trim_front behind) r)
+        → read behind (r >>= rule_then place tag behind) ≡ made place tag (read (trim_start behind) r)
     by (Ok y) = of_rule y (rule_of place tag y.0)
     by (Err e) = refl
 
@@ -160,7 +160,7 @@ module _ (place : ℕ) (tag : Tag) (values : Values) (names : List (List ℕ)) (
       fields-refused place tag values (x ∷ cs) x cs refl no.1 no.0
 
   field_here : (x : Located) (cs : List Located) {e : MarkupFault} → x.1 ≡ semicolon → (front : List Located)
-      → front ≡ trim_front cs → ends_field front ≡ false → IsFieldFault place tag names front e
+      → front ≡ trim_start cs → ends_field front ≡ false → IsFieldFault place tag names front e
       → fields_of place tag values (x ∷ cs) ≡ Err e
   field_here x cs {e = e} is [] at goes_on fault =
       let only : fault_at place NotClosed ≡ e =
@@ -189,10 +189,10 @@ module _ (place : ℕ) (tag : Tag) (values : Values) (names : List (List ℕ)) (
       ap (made place tag) (fields-end place tag values (x ∷ cs) x cs refl ends)
       ∙ ap (map_ok {A = Rule} (λ rule. (rule, drop 2 (x ∷ cs)))) lacking
 
-  fault_refused : {cs : List Located} {e : MarkupFault} → IsFaultBehind place tag names cs e
+  fault_refused : {cs : List Located} {e : MarkupFault} → IsFaultAfter place tag names cs e
       → made place tag (fields_of place tag values cs) ≡ Err e
   fault_refused (not_closed {cs = cs} h) = ap (made place tag) (not_closed_here cs h)
-  fault_refused (in_field {x = x} {cs = cs} is goes_on fault) = ap (made place tag) (field_here x cs is (trim_front cs) refl goes_on fault)
+  fault_refused (in_field {x = x} {cs = cs} is goes_on fault) = ap (made place tag) (field_here x cs is (trim_start cs) refl goes_on fault)
   fault_refused (missing {cs = cs} name ends some absent) = missing_here cs ends (lacks place names tag values name held some absent)
 
 -- a rule at fault, and where it is refused
@@ -205,7 +205,7 @@ pub record WasRefused (cs : List Located) (e : MarkupFault) : Type 0 where
 -- a rule at fault is refused by its fault
 pub rule_refused : {cs : List Located} {e : MarkupFault} → IsRuleFault cs e → WasRefused cs e
 rule_refused {cs = cs} {e = e} (at_fault {behind = behind} {rest = rest} {tag = tag} {names = names} is sound fault) =
-    let was = sound_read (place_of cs) tag (trim_front behind) sound in
+    let was = sound_read (place_of cs) tag (trim_start behind) sound in
     record {
       tag = tag;
       behind = behind;

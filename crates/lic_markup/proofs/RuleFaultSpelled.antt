@@ -11,13 +11,13 @@ use Rattle.lic_markup.specs.declared.tag.Tag.TheVariants.{Var, BeginOptional, En
 use Rattle.lic_markup.specs.declared.fault.MarkupFault.{MarkupFault}
 use Rattle.lic_markup.specs.declared.fault.MarkupCause.TheVariants.{NotClosed, FieldMissing, NoEquals}
 use Rattle.lic_markup.specs.Signs.{double_quote, semicolon, equals, greater, backslash}
-use Rattle.lic_markup.specs.Texts.{text_of, place_of, begins_with, begins_with_two, spaces, trim_end, trim_front}
+use Rattle.lic_markup.specs.Texts.{text_of, place_of, begins_with, begins_with_two, spaces, trim_end, trim_start}
 use Rattle.lic_markup.specs.Faults.{fault_at, map_ok, ◌>>=◌}
 use Rattle.lic_markup.specs.Rules.{Values, no_values, field_of, has_value, with_value, at_end, ends_quoted, ends_plain, one_more, name_at, quoted_at, plain_at, value_at, field_at, field_or_none, fields_at, variable, begin, finish, complete, rule_of, rule_at}
 use Rattle.lic_markup.specs.Markup.{UpTo, IsTag, IsField, ends_field, ends_name, ends_quote}
-use Rattle.lic_markup.specs.RuleFaults.{Nowhere, needed, is_among, is_second, AreSoundFields, none, empty, further as one_further, IsOpenValue, quoted, plain, IsFieldFault, open_name, no_equals, twice, open_value, IsFaultBehind, not_closed, in_field, missing, IsRuleFault, at_fault}
+use Rattle.lic_markup.specs.RuleFaults.{Nowhere, needed, is_among, is_second, AreSoundFields, none, empty, further as one_further, IsOpenValue, quoted, plain, IsFieldFault, open_name, no_equals, twice, open_value, IsFaultAfter, not_closed, in_field, missing, IsRuleFault, at_fault}
 use Rattle.lic_markup.proofs.RuleLemmas.{read, name-ends, name-refused, name-goes_on, name-open, quoted-ends, quoted-goes_on, quoted-open, plain-ends, plain-goes_on, plain-open}
-use Rattle.lic_markup.proofs.FieldLemmas.{read-shorter, fields_of, fields-end, fields_turn, fields_fail, fields-refused, fields-open, trim_front-shorter}
+use Rattle.lic_markup.proofs.FieldLemmas.{read-shorter, fields_of, fields-end, fields_turn, fields_fail, fields-refused, fields-open, trim_start-shorter}
 use Rattle.lic_markup.proofs.Spelled.{empty_no, head_same, tail_same, here_at, later, ends_from, value_by, value_is, name_spelled}
 use Rattle.lic_markup.proofs.RuleSpelled.{value_then, meaning, field_is, field_spelled, other_word, meant_by, none_read, rule_then, rule_is}
 
@@ -40,7 +40,7 @@ pub view_failed : {A B : Type 0} (f : A → B) (r : Result A MarkupFault) (e : M
 view_failed f (Ok x) e h = not_failed (f x) e h
 view_failed f (Err d) e h = ap (λ (d : MarkupFault). failed d) (same_fault d e h)
 
--- ---- what stands nowhere
+-- ---- what occurs nowhere
 
 pub nowhere-nil : (stands : List Located → List Located → Bool) → Nowhere stands []
 nowhere-nil stands = record { never = λ before x after e. absurd (empty_no before x after e) }
@@ -241,11 +241,11 @@ module _ (rule : ℕ) (tag : Tag) (values : Values) (names : List (List ℕ)) (h
   twice_by cs e name sign up is true t h =
       subst (Faulty cs) (same_fault _ e h) (twice up is (sym (second_is values (text_of (trim_end name.0)) names tag held) ∙ t))
   twice_by cs e name sign up is false t h =
-      let more = value_faulty rule e (trim_front (drop name.1 cs))
+      let more = value_faulty rule e (trim_start (drop name.1 cs))
       (view_failed (λ value. (
         with_value (meaning rule (place_of cs) tag values name) value.0 values,
         name.1 + (spaces (drop name.1 cs) + value.1),
-      )) (value_at rule (trim_front (drop name.1 cs))) e h) in
+      )) (value_at rule (trim_start (drop name.1 cs))) e h) in
       subst (Faulty cs) more.0
       (open_value up is (sym (second_is values (text_of (trim_end name.0)) names tag held) ∙ t) more.1)
 
@@ -267,14 +267,14 @@ module _ (rule : ℕ) (tag : Tag) (values : Values) (names : List (List ℕ)) (h
 -- ---- all fields of a rule
 
 module _ (rule : ℕ) (tag : Tag) (start : List Located) where
-  -- the fields that were read, behind which the rule ends or is at fault
+  -- the fields that were read, after which the rule ends or is at fault
   abbrev pub Outcome : Result (Values × List Located) MarkupFault → Type 0
   Outcome (Ok y) =
       (here : List Located) × (names : List (List ℕ)) × AreSoundFields tag start here names
       × (begins_with_two greater here ≡ true) × HeldFor tag y.0 names
   Outcome (Err e) =
       (here : List Located) × (names : List (List ℕ)) × AreSoundFields tag start here names
-      × IsFaultBehind rule tag names here e
+      × IsFaultAfter rule tag names here e
 
   abbrev Spelled : ℕ → Type 0
   Spelled n = (values : Values) (names : List (List ℕ)) (cs : List Located) → length cs ≤ n
@@ -285,18 +285,18 @@ module _ (rule : ℕ) (tag : Tag) (start : List Located) where
       (held : HeldFor tag values names) (one : begins_with_two greater (x ∷ after) ≡ false)
       (two : begins_with semicolon (x ∷ after) ≡ true) where
     -- a field, or none, was read
-    go_on : (front : List Located) → trim_front after ≡ front → (more : Values) (behind : List Located)
+    go_on : (front : List Located) → trim_start after ≡ front → (more : Values) (behind : List Located)
         (now : List (List ℕ)) → read front (field_or_none rule tag values front) ≡ Ok (more, behind)
         → length behind ≤ length front
         → AreSoundFields tag start behind now → HeldFor tag more now → Outcome (fields_of rule tag values (x ∷ after))
     go_on front at more behind now gave shorter sound held =
-        let front_shorter : length front ≤ length after = trim_front-shorter after front (sym at) in
+        let front_shorter : length front ≤ length after = trim_start-shorter after front (sym at) in
         subst Outcome (fields_turn rule tag values x after (x ∷ after) front more behind
         (fields_of rule tag values (x ∷ after)) refl (sym at) one two gave refl)
         (others more now behind (omega (arith, long, shorter, front_shorter)) sound held)
 
     -- the field is at fault
-    stop : (front : List Located) → trim_front after ≡ front → (e : MarkupFault)
+    stop : (front : List Located) → trim_start after ≡ front → (e : MarkupFault)
         → read front (field_or_none rule tag values front) ≡ Err e → ends_field front ≡ false
         → IsFieldFault rule tag names front e → Outcome (fields_of rule tag values (x ∷ after))
     stop front at e gave goes_on fault =
@@ -307,7 +307,7 @@ module _ (rule : ℕ) (tag : Tag) (start : List Located) where
           in_field (eqb-true _ _ two) (ap ends_field at ∙ goes_on) (subst (λ l. IsFieldFault rule tag names l e) (sym at) fault),
         )
 
-    field_by_reading : (z : Located) (zs : List Located) → trim_front after ≡ z ∷ zs → at_end (z ∷ zs) ≡ false
+    field_by_reading : (z : Located) (zs : List Located) → trim_start after ≡ z ∷ zs → at_end (z ∷ zs) ≡ false
         → (r : Result (Values × ℕ) MarkupFault) → field_at rule z.0 tag values (z ∷ zs) ≡ r
         → Outcome (fields_of rule tag values (x ∷ after))
     field_by_reading z zs at goes_on r was = by r was gave
@@ -328,7 +328,7 @@ module _ (rule : ℕ) (tag : Tag) (start : List Located) where
             (subst (λ l. IsField l behind w.name w.value) (sym at) w.is) (sym (second_is values w.name names tag held) ∙ w.once))
             (subst (λ m. HeldFor tag m (w.name ∷ names)) w.gives (held_on values w.name w.value names tag held))
 
-    field_outcome : (z : Located) (zs : List Located) → trim_front after ≡ z ∷ zs → (t : Bool) → at_end (z ∷ zs) ≡ t
+    field_outcome : (z : Located) (zs : List Located) → trim_start after ≡ z ∷ zs → (t : Bool) → at_end (z ∷ zs) ≡ t
         → Outcome (fields_of rule tag values (x ∷ after))
     field_outcome z zs at true ends =
         let as_long : length (z ∷ zs) ≤ length (z ∷ zs) = omega arith in
@@ -336,7 +336,7 @@ module _ (rule : ℕ) (tag : Tag) (start : List Located) where
         (subst (λ l. AreSoundFields tag start l names) at (empty sound (eqb-true _ _ two) (ap ends_field at ∙ ends))) held
     field_outcome z zs at false goes_on = field_by_reading z zs at goes_on (field_at rule z.0 tag values (z ∷ zs)) refl
 
-    front_outcome : (front : List Located) → trim_front after ≡ front → Outcome (fields_of rule tag values (x ∷ after))
+    front_outcome : (front : List Located) → trim_start after ≡ front → Outcome (fields_of rule tag values (x ∷ after))
     front_outcome [] at =
         subst Outcome (sym (fields-open rule tag values [] refl)
         ∙ fields_turn rule tag values x after (x ∷ after) [] values [] (fields_of rule tag values (x ∷ after)) refl
@@ -358,7 +358,7 @@ module _ (rule : ℕ) (tag : Tag) (start : List Located) where
       subst Outcome (sym (fields-refused rule tag values (x ∷ after) x after refl one two))
       (x ∷ after, names, sound, not_closed (ap₂ (λ (a b : Bool). a || b) two one))
   signs_by n others values names x after long sound held false true one two =
-      front_outcome n others values names x after long sound held one two (trim_front after) refl
+      front_outcome n others values names x after long sound held one two (trim_start after) refl
 
   outcome : (n : ℕ) → Spelled n
   outcome n values names [] long sound held =
@@ -373,18 +373,18 @@ module _ (place : ℕ) (names : List (List ℕ)) where
   lacking_by : (e : MarkupFault) (cs : List Located) → begins_with_two greater cs ≡ true
       → (name original : Option (List ℕ)) (pattern : Option (ℕ × List ℕ)) → is_some name ≡ is_among (codes "name") names
       → is_some original ≡ is_among (codes "original") names → is_some pattern ≡ is_among (codes "match") names
-      → complete place name original pattern ≡ failed e → IsFaultBehind place Var names cs e
+      → complete place name original pattern ≡ failed e → IsFaultAfter place Var names cs e
   lacking_by e cs ends None original pattern h1 h2 h3 h =
-      subst (IsFaultBehind place Var names cs) (same_fault _ e h) (missing (codes "name") ends refl (sym h1))
+      subst (IsFaultAfter place Var names cs) (same_fault _ e h) (missing (codes "name") ends refl (sym h1))
   lacking_by e cs ends (Some n) None pattern h1 h2 h3 h =
-      subst (IsFaultBehind place Var names cs) (same_fault _ e h) (missing (codes "original") ends refl (sym h2))
+      subst (IsFaultAfter place Var names cs) (same_fault _ e h) (missing (codes "original") ends refl (sym h2))
   lacking_by e cs ends (Some n) (Some o) None h1 h2 h3 h =
-      subst (IsFaultBehind place Var names cs) (same_fault _ e h) (missing (codes "match") ends refl (sym h3))
+      subst (IsFaultAfter place Var names cs) (same_fault _ e h) (missing (codes "match") ends refl (sym h3))
   lacking_by e cs ends (Some n) (Some o) (Some p) h1 h2 h3 h = not_failed (variable n o p.0 p.1) e h
 
   -- what is wrong at the end of a rule
   lacking : (tag : Tag) (values : Values) (e : MarkupFault) (cs : List Located) → begins_with_two greater cs ≡ true
-      → HeldFor tag values names → rule_of place tag values ≡ failed e → IsFaultBehind place tag names cs e
+      → HeldFor tag values names → rule_of place tag values ≡ failed e → IsFaultAfter place tag names cs e
   unfolding HeldFor
   lacking Var values e cs ends held h = lacking_by e cs ends values.name values.original values.pattern held.name held.original held.pattern h
   lacking BeginOptional values e cs ends held h = not_failed (begin place) e h
@@ -434,10 +434,10 @@ module _ (place : ℕ) (names : List (List ℕ)) where
 
 rule_by : (cs behind : List Located) (tag : Tag) (e : MarkupFault) → IsTag cs behind tag
     → (r : Result (Values × ℕ) MarkupFault)
-    → Outcome (place_of cs) tag (trim_front behind) (read (trim_front behind) r)
+    → Outcome (place_of cs) tag (trim_start behind) (read (trim_start behind) r)
     → (r >>= rule_then (place_of cs) tag behind) ≡ failed e → IsRuleFault cs e
 rule_by cs behind tag e is (Err d) out h =
-    at_fault is out.2 (subst (IsFaultBehind (place_of cs) tag out.1 out.0) (same_fault d e h) out.3)
+    at_fault is out.2 (subst (IsFaultAfter (place_of cs) tag out.1 out.0) (same_fault d e h) out.3)
 rule_by cs behind tag e is (Ok y) out h =
     at_fault is out.2
     (lacking (place_of cs) out.1 tag y.0 e out.0 out.3 out.4
@@ -446,7 +446,7 @@ rule_by cs behind tag e is (Ok y) out h =
 -- a rule that is refused is at fault so
 pub rule_faulty : (cs behind : List Located) (tag : Tag) (e : MarkupFault) → IsTag cs behind tag → rule_at (place_of cs) tag behind ≡ Err e → IsRuleFault cs e
 rule_faulty cs behind tag e is h =
-    let front : List Located = trim_front behind in
+    let front : List Located = trim_start behind in
     rule_by cs behind tag e is (fields_at (place_of cs) tag no_values 0 front)
     (outcome (place_of cs) tag front (length front) no_values [] front (omega arith) none (held_none tag))
     (sym (rule_is (place_of cs) tag behind) ∙ h)

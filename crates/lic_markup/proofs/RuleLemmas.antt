@@ -37,7 +37,7 @@ drop_within [] (suc n) x after is = absurd cc
 drop_within (y ∷ ys) zero x after is = omega arith
 drop_within (y ∷ ys) (suc n) x after is = let h : n < length ys = drop_within ys n x after is in omega arith
 
--- a reading, with what stands behind the characters that it takes
+-- a reading, with what comes after the characters that it takes
 abbrev pub read : {A : Type 0} → List Located → Result (A × ℕ) MarkupFault → Result (A × List Located) MarkupFault
 read rest r = map_ok (with_remaining rest) r
 

@@ -13,13 +13,13 @@ use Rattle.lic_markup.specs.declared.fields.Field.{Field}
 use Rattle.lic_markup.specs.declared.fields.Field.TheVariants.{Name, Original, Match, Other}
 use Rattle.lic_markup.specs.declared.fault.MarkupFault.{MarkupFault}
 use Rattle.lic_markup.specs.Signs.{semicolon, equals, greater}
-use Rattle.lic_markup.specs.Texts.{text_of, place_of, unescaped, begins_with, begins_with_two, spaces, trim_end, trim_front}
+use Rattle.lic_markup.specs.Texts.{text_of, place_of, unescaped, begins_with, begins_with_two, spaces, trim_end, trim_start}
 use Rattle.lic_markup.specs.Faults.{map_ok, ◌>>=◌}
 use Rattle.lic_markup.specs.Rules as rules
 use Rattle.lic_markup.specs.Rules.{Values, no_values, field_of, has_value, with_value, at_end, second_field, name_at, value_at, field_at, field_or_none, fields_at, Rule, complete, rule_of, tag_at, rule_at}
 use Rattle.lic_markup.specs.Markup.{UpTo, ends_field, ends_name, IsValue, IsField, field, IsFields, closed, empty, further as one_further, values_of, IsTag, IsRule, variable, begin, finish}
 use Rattle.lic_markup.proofs.RuleLemmas.{read}
-use Rattle.lic_markup.proofs.FieldLemmas.{read-shorter, fields_of, fields-end, fields_turn, fields_fail, fields-refused, fields-open, trim_front-shorter}
+use Rattle.lic_markup.proofs.FieldLemmas.{read-shorter, fields_of, fields-end, fields_turn, fields_fail, fields-refused, fields-open, trim_start-shorter}
 use Rattle.lic_markup.proofs.TagSpelled.{both}
 use Rattle.lic_markup.proofs.Spelled.{got, same_value, same_rest, refused, name_spelled, name_read, value_spelled, value_read, empty_no, read_was}
 
@@ -31,7 +31,7 @@ module _ (rule start : ℕ) (tag : Tag) (values : Values) where
   value_then cs twice meant name =
       cond twice (Err (second_field rule start))
       (map_ok (λ value. (with_value meant value.0 values, name.1 + (spaces (drop name.1 cs) + value.1)))
-      (value_at rule (trim_front (drop name.1 cs))))
+      (value_at rule (trim_start (drop name.1 cs))))
 
   abbrev pub meaning : List Located × ℕ → Field
   meaning name = field_of tag (text_of (trim_end name.0))
@@ -50,26 +50,26 @@ module _ (rule start : ℕ) (tag : Tag) (values : Values) where
     pub once : has_value (field_of tag name) values ≡ false
     pub gives : with_value (field_of tag name) value values ≡ v
 
-  drops : (cs : List Located) (n k : ℕ) → drop k (trim_front (drop n cs)) ≡ drop (n + (spaces (drop n cs) + k)) cs
+  drops : (cs : List Located) (n k : ℕ) → drop k (trim_start (drop n cs)) ≡ drop (n + (spaces (drop n cs) + k)) cs
   drops cs n k = drop-drop k (spaces (drop n cs)) (drop n cs) ∙ drop-drop (spaces (drop n cs) + k) n cs
 
   value_by : (cs rest : List Located) (v : Values) (name : List Located × ℕ) (sign : Located)
       → UpTo ends_name cs name.0 (sign ∷ drop name.1 cs) → sign.1 ≡ equals → has_value (meaning name) values ≡ false
-      → (r : Result (List Located × ℕ) MarkupFault) → value_at rule (trim_front (drop name.1 cs)) ≡ r
+      → (r : Result (List Located × ℕ) MarkupFault) → value_at rule (trim_start (drop name.1 cs)) ≡ r
       → read cs (map_ok (λ value. (with_value (meaning name) value.0 values, name.1 + (spaces (drop name.1 cs) + value.1))) r) ≡ got v rest → WasField cs rest v
   value_by cs rest v name sign up is once (Err d) was e = refused d v rest e
   value_by cs rest v name sign up is once (Ok y) was e =
       let behind : List Located = drop name.1 cs in
-      let spelled : IsValue (trim_front behind) (drop y.1 (trim_front behind)) y.0 =
-      value_spelled rule (trim_front behind) y.0 (drop y.1 (trim_front behind))
-      (ap (read (trim_front behind)) was) in
-      let ends : drop y.1 (trim_front behind) ≡ rest =
+      let spelled : IsValue (trim_start behind) (drop y.1 (trim_start behind)) y.0 =
+      value_spelled rule (trim_start behind) y.0 (drop y.1 (trim_start behind))
+      (ap (read (trim_start behind)) was) in
+      let ends : drop y.1 (trim_start behind) ≡ rest =
       drops cs name.1 y.1 ∙ same_rest (with_value (meaning name) y.0 values) v
       (drop (name.1 + (spaces behind + y.1)) cs) rest e in
       record {
         name = text_of (trim_end name.0);
         value = y.0;
-        is = field up is (subst (λ l. IsValue (trim_front behind) l y.0) ends spelled);
+        is = field up is (subst (λ l. IsValue (trim_start behind) l y.0) ends spelled);
         once = once;
         gives = same_value (with_value (meaning name) y.0 values) v (drop (name.1 + (spaces behind + y.1)) cs) rest e;
       }
@@ -79,7 +79,7 @@ module _ (rule start : ℕ) (tag : Tag) (values : Values) where
       → has_value (meaning name) values ≡ t
       → read cs (value_then cs t (meaning name) name) ≡ got v rest → WasField cs rest v
   twice_by cs rest v name sign up is true h e = refused (second_field rule start) v rest e
-  twice_by cs rest v name sign up is false h e = value_by cs rest v name sign up is h (value_at rule (trim_front (drop name.1 cs))) refl e
+  twice_by cs rest v name sign up is false h e = value_by cs rest v name sign up is h (value_at rule (trim_start (drop name.1 cs))) refl e
 
   name_by : (cs rest : List Located) (v : Values) (r : Result (List Located × ℕ) MarkupFault) → name_at rule start cs ≡ r
       → read cs (r >>= λ name. value_then cs (has_value (meaning name) values) (meaning name) name) ≡ got v rest → WasField cs rest v
@@ -97,16 +97,16 @@ module _ (rule start : ℕ) (tag : Tag) (values : Values) where
       let first = read_was cs (name_at rule start cs) name behind (name_read rule start name sign cs behind up is) in
       let n : ℕ = first.0 in
       let here : drop n cs ≡ behind = first.2 in
-      let second = read_was (trim_front behind) (value_at rule (trim_front behind)) value rest (value_read rule spelled) in
+      let second = read_was (trim_start behind) (value_at rule (trim_start behind)) value rest (value_read rule spelled) in
       let meant : Field = meaning (name, n) in
-      let gives : value_at rule (trim_front (drop n cs)) ≡ Ok (value, second.0) = ap (λ (l : List Located). value_at rule (trim_front l)) here ∙ second.1 in
+      let gives : value_at rule (trim_start (drop n cs)) ≡ Ok (value, second.0) = ap (λ (l : List Located). value_at rule (trim_start l)) here ∙ second.1 in
       ap (read cs) (field_is cs ∙ ap (λ (r : Result (List Located × ℕ) MarkupFault). r >>= λ name.
       value_then cs (has_value (meaning name) values) (meaning name) name) first.1)
       ∙ ap (λ b. read cs (value_then cs b meant (name, n))) once
       ∙ ap (λ (r : Result (List Located × ℕ) MarkupFault). read cs
       (map_ok (λ value. (with_value meant value.0 values, n + (spaces (drop n cs) + value.1))) r)) gives
       ∙ ap (λ (l : List Located). got (with_value meant value values) l)
-      (sym (drops cs n second.0) ∙ ap (λ (l : List Located). drop second.0 (trim_front l)) here ∙ second.2)
+      (sym (drops cs n second.0) ∙ ap (λ (l : List Located). drop second.0 (trim_start l)) here ∙ second.2)
 
 -- ---- the values of fields
 
@@ -288,12 +288,12 @@ pub no_field : {cs rest value : List Located} {name : List ℕ} → IsField cs r
 no_field (field {cs = cs} {behind = behind} {name = name} {sign = sign} up is value) e = empty_no name sign behind (sym e ∙ up.parts)
 
 module _ (rule : ℕ) (tag : Tag) where
-  -- the fields behind a `;`
+  -- the fields after a `;`
   abbrev WereFields : Values → List Located → List Located → Values → Type 0
   WereFields values cs rest v = (fs : List (List ℕ × List Located)) × IsFields cs rest fs × AddsFor tag values fs v
 
-  some_by : (start : ℕ) (values v more : Values) (x : Located) (after rest behind : List Located) → x.1 ≡ semicolon → ends_field (trim_front after) ≡ false
-      → WasField rule start tag values (trim_front after) behind more → WereFields more behind rest v → WereFields values (x ∷ after) rest v
+  some_by : (start : ℕ) (values v more : Values) (x : Located) (after rest behind : List Located) → x.1 ≡ semicolon → ends_field (trim_start after) ≡ false
+      → WasField rule start tag values (trim_start after) behind more → WereFields more behind rest v → WereFields values (x ∷ after) rest v
   some_by start values v more x after rest behind is goes_on was others = (
     (was.name, was.value) ∷ others.0,
     one_further is goes_on was.is others.1,
@@ -301,13 +301,13 @@ module _ (rule : ℕ) (tag : Tag) where
         (subst (λ m. AddsFor tag m others.0 v) (sym was.gives) others.2),
   )
 
-  none_by : (values v more : Values) (x : Located) (after rest behind : List Located) → x.1 ≡ semicolon → ends_field (trim_front after) ≡ true
-      → values ≡ more → trim_front after ≡ behind → WereFields more behind rest v → WereFields values (x ∷ after) rest v
+  none_by : (values v more : Values) (x : Located) (after rest behind : List Located) → x.1 ≡ semicolon → ends_field (trim_start after) ≡ true
+      → values ≡ more → trim_start after ≡ behind → WereFields more behind rest v → WereFields values (x ∷ after) rest v
   none_by values v more x after rest behind is ends same at others =
       (others.0, empty is ends (subst (λ l. IsFields l rest others.0) (sym at) others.1), subst (λ m. AddsFor tag m others.0 v) (sym same) others.2)
 
   end_by : (values v more : Values) (x : Located) (after rest behind : List Located) (z : Located) (zs : List Located)
-      (t : Bool) → x.1 ≡ semicolon → trim_front after ≡ z ∷ zs → at_end (z ∷ zs) ≡ t
+      (t : Bool) → x.1 ≡ semicolon → trim_start after ≡ z ∷ zs → at_end (z ∷ zs) ≡ t
       → read (z ∷ zs) (cond t (Ok (values, 0)) (field_at rule z.0 tag values (z ∷ zs))) ≡ got more behind
       → WereFields more behind rest v → WereFields values (x ∷ after) rest v
   end_by values v more x after rest behind z zs true is at h e others =
@@ -317,7 +317,7 @@ module _ (rule : ℕ) (tag : Tag) where
       some_by z.0 values v more x after rest behind is (ap ends_field at ∙ h)
       (subst (λ l. WasField rule z.0 tag values l behind more) (sym at) (field_spelled rule z.0 tag values (z ∷ zs) behind more e)) others
 
-  turn_by : (values v more : Values) (x : Located) (after rest behind front : List Located) → x.1 ≡ semicolon → trim_front after ≡ front
+  turn_by : (values v more : Values) (x : Located) (after rest behind front : List Located) → x.1 ≡ semicolon → trim_start after ≡ front
       → read front (field_or_none rule tag values front) ≡ got more behind → WereFields more behind rest v → WereFields values (x ∷ after) rest v
   turn_by values v more x after rest behind [] is at e others = absurd (no_fields others.1 (sym (same_rest values more [] behind e)))
   turn_by values v more x after rest behind (z ∷ zs) is at e others = end_by values v more x after rest behind z zs (at_end (z ∷ zs)) is at refl e others
@@ -344,20 +344,20 @@ module _ (rule : ℕ) (tag : Tag) where
   next_by : (n : ℕ) → Spelled n → (values v : Values) (x : Located) (after rest : List Located)
       → length (x ∷ after) ≤ suc n → begins_with_two greater (x ∷ after) ≡ false
       → begins_with semicolon (x ∷ after) ≡ true
-      → (r : Result (Values × ℕ) MarkupFault) → field_or_none rule tag values (trim_front after) ≡ r
+      → (r : Result (Values × ℕ) MarkupFault) → field_or_none rule tag values (trim_start after) ≡ r
       → fields_of rule tag values (x ∷ after) ≡ got v rest → WereFields values (x ∷ after) rest v
   unfolding Spelled
   next_by n others values v x after rest long one two (Err d) was e =
-      refused d v rest (sym (fields_fail rule tag values x after (x ∷ after) (trim_front after) d refl refl one two (ap (read (trim_front after)) was)) ∙ e)
+      refused d v rest (sym (fields_fail rule tag values x after (x ∷ after) (trim_start after) d refl refl one two (ap (read (trim_start after)) was)) ∙ e)
   next_by n others values v x after rest long one two (Ok y) was e =
-      let front : List Located = trim_front after in
+      let front : List Located = trim_start after in
       let behind : List Located = drop y.1 front in
       let gave : read front (field_or_none rule tag values front) ≡ got y.0 behind = ap (read front) was in
       let turned : fields_of rule tag y.0 behind ≡ fields_of rule tag values (x ∷ after) =
       fields_turn rule tag values x after (x ∷ after) front y.0 behind
       (fields_of rule tag values (x ∷ after)) refl refl one two gave refl in
       let shorter : length behind ≤ length front = read-shorter front (field_or_none rule tag values front) y.0 behind gave in
-      let front_shorter : length front ≤ length after = trim_front-shorter after front refl in
+      let front_shorter : length front ≤ length after = trim_start-shorter after front refl in
       turn_by values v y.0 x after rest behind front (eqb-true _ _ two) refl gave
       (others y.0 v behind rest (omega (arith, long, shorter, front_shorter)) (turned ∙ e))
 
@@ -370,7 +370,7 @@ module _ (rule : ℕ) (tag : Tag) where
   signs_by n others values v x after rest long false false one two e =
       refused _ v rest (sym (fields-refused rule tag values (x ∷ after) x after refl one two) ∙ e)
   signs_by n others values v x after rest long false true one two e =
-      next_by n others values v x after rest long one two (field_or_none rule tag values (trim_front after)) refl e
+      next_by n others values v x after rest long one two (field_or_none rule tag values (trim_start after)) refl e
 
   spelled : (n : ℕ) → Spelled n
   unfolding Spelled
@@ -383,7 +383,7 @@ module _ (rule : ℕ) (tag : Tag) where
   unfolding Spelled
   fields_spelled values v cs rest e = spelled (length cs) values v cs rest (omega arith) e
 
-  -- what stands behind a `;`
+  -- what comes after a `;`
   pub none_read : (values : Values) (front : List Located) → at_end front ≡ true → read front (field_or_none rule tag values front) ≡ got values front
   none_read values [] h = absurd (false≢true h)
   none_read values (z ∷ zs) h = ap (λ b. read (z ∷ zs) (cond b (Ok (values, 0)) (field_at rule z.0 tag values (z ∷ zs)))) h
@@ -404,16 +404,16 @@ module _ (rule : ℕ) (tag : Tag) where
       fields-end rule tag values (x ∷ y ∷ rest) x (y ∷ rest) refl (ap₂ (λ p q. p && q) (eq-eqb x.1 greater one) (eq-eqb y.1 greater two))
       ∙ ap (λ w. got w rest) (adds_nothing tag values v a)
   fields_read (empty {x = x} {cs = cs} is ends others) values v a =
-      sym (fields_turn rule tag values x cs (x ∷ cs) (trim_front cs) values (trim_front cs)
+      sym (fields_turn rule tag values x cs (x ∷ cs) (trim_start cs) values (trim_start cs)
       (fields_of rule tag values (x ∷ cs)) refl refl (not_two_signs x cs is) (eq-eqb x.1 semicolon is)
-      (none_read values (trim_front cs) ends) refl)
+      (none_read values (trim_start cs) ends) refl)
       ∙ fields_read others values v a
   fields_read (one_further {x = x} {cs = cs} {more = more} {name = name} {value = value} {fs = fs} is goes_on one others) values v a =
       let now = adds_on values v name value fs tag a in
       let next : Values = with_value (field_of tag name) value values in
-      sym (fields_turn rule tag values x cs (x ∷ cs) (trim_front cs) next more
+      sym (fields_turn rule tag values x cs (x ∷ cs) (trim_start cs) next more
       (fields_of rule tag values (x ∷ cs)) refl refl (not_two_signs x cs is) (eq-eqb x.1 semicolon is)
-      (some_read values (trim_front cs) more value name goes_on one now.0) refl)
+      (some_read values (trim_start cs) more value name goes_on one now.0) refl)
       ∙ fields_read others next v now.1
 
 -- ---- rules
@@ -422,21 +422,21 @@ abbrev pub rule_then : ℕ → Tag → List Located → Values × ℕ → Result
 rule_then place tag rest fields = map_ok (λ rule. (rule, spaces rest + fields.1)) (rule_of place tag fields.0)
 
 pub rule_is : (place : ℕ) (tag : Tag) (rest : List Located)
-    → rule_at place tag rest ≡ (fields_at place tag no_values 0 (trim_front rest) >>= rule_then place tag rest)
+    → rule_at place tag rest ≡ (fields_at place tag no_values 0 (trim_start rest) >>= rule_then place tag rest)
 unfolding rule_at
 rule_is place tag rest = refl
 
 -- the fields of a rule, and the rule that they make
 record WasRule (place : ℕ) (tag : Tag) (behind rest : List Located) (r : Rule) : Type 0 where
   pub values : Values
-  pub fields : fields_of place tag no_values (trim_front behind) ≡ got values rest
+  pub fields : fields_of place tag no_values (trim_start behind) ≡ got values rest
   pub makes : rule_of place tag values ≡ Ok r
 
 abbrev made : Rule → Result Rule MarkupFault
 made r = Ok r
 
 was_by : (place : ℕ) (tag : Tag) (behind rest : List Located) (r : Rule) (f : Result (Values × ℕ) MarkupFault)
-    → fields_at place tag no_values 0 (trim_front behind) ≡ f
+    → fields_at place tag no_values 0 (trim_start behind) ≡ f
     → read behind (f >>= rule_then place tag behind) ≡ got r rest → WasRule place tag behind rest r
 was_by place tag behind rest r (Err d) was e = refused d r rest e
 was_by place tag behind rest r (Ok y) was e = made_by (rule_of place tag y.0) refl e
@@ -447,7 +447,7 @@ was_by place tag behind rest r (Ok y) was e = made_by (rule_of place tag y.0) re
     made_by (Ok s) is e =
         record {
           values = y.0;
-          fields = ap (read (trim_front behind)) was
+          fields = ap (read (trim_start behind)) was
               ∙ ap (λ (l : List Located). got y.0 l)
               (drop-drop y.1 (spaces behind) behind ∙ same_rest s r (drop (spaces behind + y.1) behind) rest e);
           makes = is ∙ ap (λ t. made t) (same_value s r (drop (spaces behind + y.1) behind) rest e);
@@ -466,7 +466,7 @@ same_made r s e = ap (λ (o : Result Rule MarkupFault). elim o [ Ok x ↦ x | Er
 
 variable_by : (place : ℕ) (cs behind rest : List Located) (r : Rule) (name original : Option (List ℕ))
     (pattern : Option (ℕ × List ℕ)) → IsTag cs behind Var → complete place name original pattern ≡ Ok r
-    → (fs : List (List ℕ × List Located)) → IsFields (trim_front behind) rest fs
+    → (fs : List (List ℕ × List Located)) → IsFields (trim_start behind) rest fs
     → Adds no_values fs (record { name = name; original = original; pattern = pattern }) → IsRule cs rest r
 variable_by place cs behind rest r (Some n) (Some o) (Some p) tag is fs fields a =
     let one = one_value bare (values_of (codes "name") fs) n a.name in
@@ -478,37 +478,37 @@ variable_by place cs behind rest r None original pattern tag is fs fields a = ab
 variable_by place cs behind rest r (Some n) None pattern tag is fs fields a = absurd cc
 variable_by place cs behind rest r (Some n) (Some o) None tag is fs fields a = absurd cc
 
--- a rule that is read, behind its tag, is one of the markup
+-- a rule that is read, after its tag, is one of the markup
 pub rule_spelled : (place : ℕ) (tag : Tag) (cs behind rest : List Located) (r : Rule) → place_of cs ≡ place
     → IsTag cs behind tag → read behind (rule_at place tag behind) ≡ got r rest → IsRule cs rest r
 unfolding AddsFor
 rule_spelled place Var cs behind rest r at is e =
-    let was = was_by place Var behind rest r (fields_at place Var no_values 0 (trim_front behind)) refl
+    let was = was_by place Var behind rest r (fields_at place Var no_values 0 (trim_start behind)) refl
     (sym (ap (read behind) (rule_is place Var behind)) ∙ e) in
-    let fields = fields_spelled place Var no_values was.values (trim_front behind) rest was.fields in
+    let fields = fields_spelled place Var no_values was.values (trim_start behind) rest was.fields in
     variable_by place cs behind rest r was.values.name was.values.original was.values.pattern is was.makes fields.0 fields.1 fields.2
 rule_spelled place BeginOptional cs behind rest r at is e =
     let was = was_by place BeginOptional behind rest r
-    (fields_at place BeginOptional no_values 0 (trim_front behind)) refl
+    (fields_at place BeginOptional no_values 0 (trim_start behind)) refl
     (sym (ap (read behind) (rule_is place BeginOptional behind)) ∙ e) in
-    let fields = fields_spelled place BeginOptional no_values was.values (trim_front behind) rest was.fields in
+    let fields = fields_spelled place BeginOptional no_values was.values (trim_start behind) rest was.fields in
     subst (λ s. IsRule cs rest s) (ap (λ p. rules.begin p) at ∙ same_made (rules.begin place) r was.makes) (begin is fields.1)
 rule_spelled place EndOptional cs behind rest r at is e =
-    let was = was_by place EndOptional behind rest r (fields_at place EndOptional no_values 0 (trim_front behind)) refl
+    let was = was_by place EndOptional behind rest r (fields_at place EndOptional no_values 0 (trim_start behind)) refl
     (sym (ap (read behind) (rule_is place EndOptional behind)) ∙ e) in
-    let fields = fields_spelled place EndOptional no_values was.values (trim_front behind) rest was.fields in
+    let fields = fields_spelled place EndOptional no_values was.values (trim_start behind) rest was.fields in
     subst (λ s. IsRule cs rest s) (ap (λ p. rules.finish p) at ∙ same_made (rules.finish place) r was.makes) (finish is fields.1)
 
 read_by : (place : ℕ) (tag : Tag) (behind rest : List Located) (values : Values) (r : Rule)
-    → fields_of place tag no_values (trim_front behind) ≡ got values rest → rule_of place tag values ≡ Ok r
+    → fields_of place tag no_values (trim_start behind) ≡ got values rest → rule_of place tag values ≡ Ok r
     → read behind (rule_at place tag behind) ≡ got r rest
 read_by place tag behind rest values r fields makes =
-    let was = read_was (trim_front behind) (fields_at place tag no_values 0 (trim_front behind)) values rest fields in
+    let was = read_was (trim_start behind) (fields_at place tag no_values 0 (trim_start behind)) values rest fields in
     ap (read behind) (rule_is place tag behind ∙ ap (λ (f : Result (Values × ℕ) MarkupFault). f >>= rule_then place tag behind) was.1)
     ∙ ap (λ (m : Result Rule MarkupFault). read behind (map_ok (λ rule. (rule, spaces behind + was.0)) m)) makes
     ∙ ap (λ (l : List Located). got r l) (sym (drop-drop was.0 (spaces behind) behind) ∙ was.2)
 
--- a rule of the markup, behind its tag
+-- a rule of the markup, after its tag
 pub record WasRead (cs rest : List Located) (r : Rule) : Type 0 where
   pub tag : Tag
   pub behind : List Located

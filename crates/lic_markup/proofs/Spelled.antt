@@ -201,7 +201,7 @@ module _ (rule : ℕ) where
       ∙ one_more-read x l (plain_at rule (eqb x.1 backslash) l)
       ∙ ap (behind (x ∷ [])) (plain_read (eqb x.1 backslash) front l rest (past (ends_from escaped) x cs front rest up))
 
-  -- a value, by whether a `"` stands in front
+  -- a value, by whether a `"` comes first
   abbrev pub value_by : Bool → List Located → Result (List Located × ℕ) MarkupFault
   value_by t cs = cond t (map_ok (further 1) (quoted_at rule (drop 1 cs))) (map_ok (λ v. (trim_end v.0, v.1)) (plain_at rule false cs))
 

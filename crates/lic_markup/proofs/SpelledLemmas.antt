@@ -16,7 +16,7 @@ use Rattle.lic_phrases.specs.TokenTexts.{IsTokenText}
 
 -- ---- letters of tokens
 
--- each blank has a letter of kind Word behind it
+-- each blank has a letter of kind Word after it
 abbrev GoesOn : List ℕ → Type 0
 GoesOn [] = Unit {0}
 GoesOn (c ∷ cs) = (c ≡ blank → first_is_word cs ≡ true) × GoesOn cs
@@ -37,7 +37,7 @@ blank_no_word = refl
 word_no_blank : (c : ℕ) → is_word c ≡ true → (c == blank) ≡ false
 word_no_blank c h = ne_eqb c blank (λ e. true≢false (sym h ∙ ap is_word e ∙ blank_no_word))
 
--- the letters of a token behind a letter, or behind a blank that a word follows
+-- the letters of a token after a letter, or after a blank that a word follows
 letters_spell : (last : ℕ) (apart : Bool) (t v row : List ℕ) → (apart ≡ true → first_is_word t ≡ true) → GoesOn t →
     SpellsGapped v (gapped_from (last_letter last t) false row) → SpellsGapped (blank_if apart ++ (t ++ v)) (gapped_from last apart (t ++ row))
 letters_spell last false [] v row starts on s = s
@@ -66,7 +66,7 @@ letters_spell last apart (c ∷ t) v row starts on s = by_letter (λ l a. letter
         gap true false later = (1, tt, t ++ v, refl, later)
         gap true true later = (1, omega arith, t ++ v, refl, later)
 
--- the first letter of a token behind another token, with a blank where both letters are of kind Word
+-- the first letter of a token after another token, with a blank where both letters are of kind Word
 token_spells : (last d : ℕ) (t v row : List ℕ) → (d == blank) ≡ false → GoesOn t → SpellsGapped v (gapped_from (last_letter d t) false row) →
     SpellsGapped (blank_if (is_word last && is_word d) ++ ((d ∷ t) ++ v)) (gapped_from last true ((d ∷ t) ++ row))
 token_spells last d t v row h on s =

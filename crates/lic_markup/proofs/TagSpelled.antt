@@ -104,7 +104,7 @@ tag_of-was word tag e = name_by word tag (bytes_eq word (codes "var")) (bytes_eq
 
 -- ---- tags
 
--- the tag behind two characters
+-- the tag after two characters
 abbrev tagged : List Located → Option Tag → Option (Tag × ℕ)
 tagged rest o = option_map (λ tag. (tag, 1 + length (word_at (drop 1 rest)))) o
 
@@ -153,7 +153,7 @@ test_by x after tag n false h e = absurd cc
 pub tag_spelled : (x : Located) (after : List Located) (tag : Tag) (n : ℕ) → tag_at x after ≡ Some (tag, n) → IsTag (x ∷ after) (drop n after) tag
 tag_spelled x after tag n e = test_by x after tag n (x.1 == less && begins_with less after) refl (sym (tag_at-is x after) ∙ e)
 
--- a tag, and how many characters it takes behind its first
+-- a tag, and how many characters it takes after its first
 pub record WasTag (cs behind : List Located) (tag : Tag) : Type 0 where
   pub first : Located
   pub after : List Located

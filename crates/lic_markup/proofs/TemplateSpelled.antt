@@ -20,11 +20,11 @@ use Rattle.lic_markup.specs.Texts.{text_of}
 use Rattle.lic_markup.specs.Faults.{fault_at, Gives, ◌>>=◌}
 use Rattle.lic_markup.specs.Rules as rules
 use Rattle.lic_markup.specs.Elements.{Element, text, rule, refused, elements}
-use Rattle.lic_markup.specs.Lines.{with_next, next_of, next_behind}
+use Rattle.lic_markup.specs.Lines.{with_next, next_of, next_after}
 use Rattle.lic_markup.specs.Parts as parts
 use Rattle.lic_markup.specs.Parts.{Node, Reading, TemplateValue, row, row_weight, row_has_token, template_of}
 use Rattle.lic_markup.specs.Reading as reading
-use Rattle.lic_markup.specs.Reading.{Level, State, new_level, with_part, meet, meet_text, meet_variable, meet_begin, meet_end, finish, read_on, read_elements, start, whole, told, max_depth, max_length, max_weight}
+use Rattle.lic_markup.specs.Reading.{Level, State, new_level, with_part, meet, meet_text, meet_variable, meet_begin, meet_end, finish, read_on, read_elements, start, whole, reported, max_depth, max_length, max_weight}
 use Rattle.lic_markup.specs.Templates as templates
 use Rattle.lic_markup.specs.Templates.{Item, letters, variable, begin, original_of, opens_line, follows, IsItem, is_piece, is_variable, is_begin, is_finish, AreItems, no_item, one_item, AreParts, IsTemplate}
 use Rattle.lic_markup.proofs.FaultLemmas.{Gives-same}
@@ -104,7 +104,7 @@ module _ (line_rules : LineRules) (words : List Phrase) where
 
   -- the letters of a piece, as the reader takes them
   abbrev letters_at : State → List Located → List Element → List ℕ
-  letters_at s piece es = piece_of line_rules words s.at_start (next_behind piece (next_of es)) (text_of piece)
+  letters_at s piece es = piece_of line_rules words s.at_start (next_after piece (next_of es)) (text_of piece)
 
   abbrev pub letters_of : List Element → List Located → List Element → List ℕ
   letters_of before piece es = piece_of line_rules words (opens_line before) (follows piece es) (text_of piece)
@@ -141,7 +141,7 @@ module _ (line_rules : LineRules) (words : List Phrase) where
         is_whole = was.is_whole;
       }
 
-  -- a state behind a variable
+  -- a state after a variable
   abbrev pub behind_variable : State → List ℕ → List ℕ → Tree → State
   behind_variable s name original tree =
       record {
@@ -251,7 +251,7 @@ module _ (line_rules : LineRules) (words : List Phrase) where
   variable_by : (es before : List Element) (s : State) (r : Reading) (name original : List ℕ) (place : ℕ)
       (pattern : List ℕ) → Sound es → (p : Result Tree EreFault) → ere.reading pattern ≡ p
       → then (meet_variable name original place p s) es ≡ Ok r → WasRead before (rule (rules.variable name original place pattern) ∷ es) s r
-  variable_by es before s r name original place pattern others (Err d) was e = not_done (told place d) r e
+  variable_by es before s r name original place pattern others (Err d) was e = not_done (reported place d) r e
   variable_by es before s r name original place pattern others (Ok tree) was e =
       variable_was before es s r name original place pattern tree (reading-IsPattern pattern tree was)
       (others (before ++ rule (rules.variable name original place pattern) ∷ [])

@@ -3,14 +3,14 @@ use Rattle.std.proofs.Common.{◌≡◌, ◌+◌, ◌&&◌, Bool, true, false, c
 use Rattle.std.specs.Char.{is_whitespace}
 use Rattle.std.proofs.lemmas.List.{drop-drop}
 use Rattle.lic_ere.specs.Located.{Located}
-use Rattle.lic_markup.specs.Texts.{spaces, trim_front, trim_end, kept_before, are_spaces, begins_in_space, ends_in_space}
+use Rattle.lic_markup.specs.Texts.{spaces, trim_start, trim_end, kept_before, are_spaces, begins_in_space, ends_in_space}
 
-trim_front-space : (x : Located) (after : List Located) → is_whitespace x.1 ≡ true → trim_front (x ∷ after) ≡ trim_front after
-trim_front-space x after h = ap (λ b. drop (cond b (1 + spaces after) 0) (x ∷ after)) h ∙ sym (drop-drop (spaces after) 1 (x ∷ after))
+trim_start-space : (x : Located) (after : List Located) → is_whitespace x.1 ≡ true → trim_start (x ∷ after) ≡ trim_start after
+trim_start-space x after h = ap (λ b. drop (cond b (1 + spaces after) 0) (x ∷ after)) h ∙ sym (drop-drop (spaces after) 1 (x ∷ after))
 
 pub trim_front_turn : (rest : List Located) (x : Located) (after total : List Located) → rest ≡ x ∷ after
-    → is_whitespace x.1 ≡ true → trim_front rest ≡ total → trim_front after ≡ total
-trim_front_turn rest x after total all h so_far = sym (trim_front-space x after h) ∙ ap trim_front (sym all) ∙ so_far
+    → is_whitespace x.1 ≡ true → trim_start rest ≡ total → trim_start after ≡ total
+trim_front_turn rest x after total all h so_far = sym (trim_start-space x after h) ∙ ap trim_start (sym all) ∙ so_far
 
 trim_end-space : (before : List Located) (x : Located) → is_whitespace x.1 ≡ true → trim_end (before ++ x ∷ []) ≡ trim_end before
 trim_end-space [] x h = rw h refl
@@ -41,14 +41,14 @@ abbrev pub EndTrimmed : List Located → List Located → Type 0
 EndTrimmed all front = (space : List Located) × (all ≡ front ++ space) × (are_spaces space ≡ true) × (ends_in_space front ≡ false)
 
 front_by : (x : Located) (after : List Located) (b : Bool) → is_whitespace x.1 ≡ b
-    → FrontTrimmed after (trim_front after) → FrontTrimmed (x ∷ after) (trim_front (x ∷ after))
+    → FrontTrimmed after (trim_start after) → FrontTrimmed (x ∷ after) (trim_start (x ∷ after))
 front_by x after true h more =
-    subst (FrontTrimmed (x ∷ after)) (sym (trim_front-space x after h)) (x ∷ more.0, ap (λ l. x ∷ l) more.1, ap₂ (λ p q. p && q) h more.2, more.3)
+    subst (FrontTrimmed (x ∷ after)) (sym (trim_start-space x after h)) (x ∷ more.0, ap (λ l. x ∷ l) more.1, ap₂ (λ p q. p && q) h more.2, more.3)
 front_by x after false h more =
-    let same : trim_front (x ∷ after) ≡ x ∷ after = ap (λ b. drop (cond b (1 + spaces after) 0) (x ∷ after)) h in
+    let same : trim_start (x ∷ after) ≡ x ∷ after = ap (λ b. drop (cond b (1 + spaces after) 0) (x ∷ after)) h in
     subst (FrontTrimmed (x ∷ after)) (sym same) ([], refl, refl, h)
 
-pub front_trimmed : (all : List Located) → FrontTrimmed all (trim_front all)
+pub front_trimmed : (all : List Located) → FrontTrimmed all (trim_start all)
 front_trimmed [] = ([], refl, refl, refl)
 front_trimmed (x ∷ after) = front_by x after (is_whitespace x.1) refl (front_trimmed after)
 

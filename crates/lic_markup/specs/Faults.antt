@@ -34,9 +34,9 @@ abbrev pub IsLasting : MarkupFault → Type 0
 IsLasting e = e.cause ≢ OutOfMemory
 
 -- a fault as it is reported: lack of memory has no place
-abbrev pub told_cause : MarkupCause → MarkupFault → MarkupFault
-told_cause OutOfMemory e = out_of_memory
-told_cause _ e = e
+abbrev pub reported_cause : MarkupCause → MarkupFault → MarkupFault
+reported_cause OutOfMemory e = out_of_memory
+reported_cause _ e = e
 
-abbrev pub told : MarkupFault → MarkupFault
-told e = told_cause e.cause e
+abbrev pub reported : MarkupFault → MarkupFault
+reported e = reported_cause e.cause e

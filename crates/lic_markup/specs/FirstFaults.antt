@@ -1,4 +1,4 @@
--- Which fault decides where a template is refused: that it is too long; else the first rule at fault, from the left; else, behind
+-- Which fault decides where a template is refused: that it is too long; else the first rule at fault, from the left; else, after
 -- the last rule, that an optional part is open; that no piece gives a token; that the template is too heavy.
 use Rattle.std.specs.Prelude.{◌≡◌, ℕ, suc, ◌<◌, ◌≤◌, true, false, List, [], ◌∷◌, ◌++◌, length, Err}
 use Rattle.lic_ere.specs.Grammar.{IsPattern}
@@ -15,7 +15,7 @@ use Rattle.lic_markup.specs.Rules as rules
 use Rattle.lic_markup.specs.Elements.{Element, text, rule, refused}
 use Rattle.lic_markup.specs.Markup.{IsRule}
 use Rattle.lic_markup.specs.Parts.{Node, row, row_weight, row_has_token}
-use Rattle.lic_markup.specs.Reading.{max_depth, max_length, max_weight, told}
+use Rattle.lic_markup.specs.Reading.{max_depth, max_length, max_weight, reported}
 use Rattle.lic_markup.specs.RuleFaults.{IsRuleFault}
 use Rattle.lic_markup.specs.Templates.{Item, HasNoRule, AreItems, AreParts}
 
@@ -45,7 +45,7 @@ pub data IsAtFault : ℕ → Element → MarkupFault → Type 0 where
   -- a rule that is at fault by itself
   of_rule : {depth : ℕ} {e : MarkupFault} → IsAtFault depth (refused e) e
   bad_pattern : {depth place : ℕ} {name original pattern : List ℕ} {e : EreFault} → ere.reading pattern ≡ Err e
-      → IsAtFault depth (rule (rules.variable name original place pattern)) (told place e)
+      → IsAtFault depth (rule (rules.variable name original place pattern)) (reported place e)
   too_deep : {depth place : ℕ} → max_depth ≤ depth → IsAtFault depth (rule (rules.begin place)) (fault_at place TooDeep)
   no_begin : {place : ℕ} → IsAtFault 0 (rule (rules.finish place)) (fault_at place EndWithoutBegin)
 
@@ -66,7 +66,7 @@ pub data IsFirstFault (line_rules : LineRules) (words : List Phrase) (es : List 
   at_rule : {before : List Element} (after : List Element) {x : Element} {depth : ℕ} {e : MarkupFault}
       → es ≡ before ++ x ∷ after → AreSound 0 before depth → IsAtFault depth x e
       → IsFirstFault line_rules words es e
-  -- the innermost open part: behind its begin each part that begins is ended
+  -- the innermost open part: after its begin each part that begins is ended
   not_ended : (before : List Element) {behind : List Element} {place depth : ℕ}
       → es ≡ before ++ rule (rules.begin place) ∷ behind → AreSound 0 es (suc depth) → Lead 0 behind 0
       → IsFirstFault line_rules words es (fault_at place NotEnded)

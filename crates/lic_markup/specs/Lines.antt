@@ -13,18 +13,18 @@ use Rattle.lic_markup.specs.Elements.{Element, text, rule, refused}
 abbrev pub is_space : ℕ → Bool
 is_space c = is_whitespace c || is_dropped c
 
--- Only white space stands between the start of a line and the end of these characters, where `so_far` says so of
+-- Only white space is between the start of a line and the end of these characters, where `so_far` says so of
 -- what is before them.
 abbrev pub at_line_start : Bool → List Located → Bool
 at_line_start so_far [] = so_far
 at_line_start so_far (x ∷ rest) = at_line_start (x.1 == new_line || (so_far && is_space x.1)) rest
 
--- Only white space stands from here to the end of the line, where `behind` says so of what follows the characters.
+-- Only white space is from here to the end of the line, where `behind` says so of what follows the characters.
 abbrev pub line_ends : Bool → List Located → Bool
 line_ends behind [] = behind
 line_ends behind (x ∷ rest) = x.1 == new_line || (is_space x.1 && line_ends behind rest)
 
--- the same across a piece, or an optional rule; a variable is no white space, and behind a refused rule is nothing
+-- the same across a piece, or an optional rule; a variable is no white space, and after a refused rule is nothing
 abbrev pub line_ends_at : Bool → Element → Bool
 line_ends_at behind (text piece) = line_ends behind piece
 line_ends_at behind (rule (variable name original place pattern)) = false
@@ -32,12 +32,12 @@ line_ends_at behind (rule (begin place)) = behind
 line_ends_at behind (rule (finish place)) = behind
 line_ends_at behind (refused e) = behind
 
--- from these elements on only white space and optional rules stand to the end of the line
+-- from these elements on only white space and optional rules are to the end of the line
 abbrev pub line_ends_in : List Element → Bool
 line_ends_in [] = true
 line_ends_in (e ∷ rest) = line_ends_at (line_ends_in rest) e
 
--- what an element counts as, if the line goes on from it
+-- what an element counts as, if the line continues from it
 abbrev pub counts_as : Element → Next
 counts_as (rule (variable name original place pattern)) = next.Var
 counts_as _ = next.Optional
@@ -59,5 +59,5 @@ ends_line (x ∷ []) = x.1 == new_line
 ends_line (x ∷ y ∷ rest) = ends_line (y ∷ rest)
 
 -- what follows a piece in its last line: nothing where the piece ends that line
-abbrev pub next_behind : List Located → Next → Next
-next_behind piece follows = if ends_line piece then next.LineEnd else follows
+abbrev pub next_after : List Located → Next → Next
+next_after piece follows = if ends_line piece then next.LineEnd else follows

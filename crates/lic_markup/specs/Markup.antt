@@ -1,4 +1,4 @@
--- The rules of a template, apart from how they are read: `.. cs rest ..` says that the characters cs begin so and go on
+-- The rules of a template, apart from how they are read: `.. cs rest ..` says that the characters cs begin so and continue
 -- with rest.
 use Rattle.std.specs.Prelude.{◌≡◌, ℕ, Bool, true, false, ◌||◌, ◌&&◌, ◌==◌, not, List, [], ◌∷◌, ◌++◌, map, codes, if◌then◌else◌}
 use Rattle.std.specs.Char.{is_ascii_alphanumeric}
@@ -7,12 +7,12 @@ use Rattle.lic_ere.specs.Located.{Located}
 use Rattle.lic_markup.specs.declared.tag.Tag.{Tag}
 use Rattle.lic_markup.specs.declared.tag.Tag.TheVariants.{Var, BeginOptional, EndOptional}
 use Rattle.lic_markup.specs.Signs.{double_quote, semicolon, equals, greater, backslash}
-use Rattle.lic_markup.specs.Texts.{text_of, place_of, unescaped, begins_with, begins_with_two, trim_front, trim_end}
+use Rattle.lic_markup.specs.Texts.{text_of, place_of, unescaped, begins_with, begins_with_two, trim_start, trim_end}
 use Rattle.lic_markup.specs.Rules as rules
 use Rattle.lic_markup.specs.Rules.{Rule}
 
 -- The characters cs are those in front and then rest, and that is the first place at which `stands` holds, which is given
--- what is in front of a place and what stands from there on.
+-- what is before a place and what is from there on.
 pub record UpTo (stands : List Located → List Located → Bool) (cs front rest : List Located) : Type 0 where
   pub parts : cs ≡ front ++ rest
   pub here : stands front rest ≡ true
@@ -21,7 +21,7 @@ pub record UpTo (stands : List Located → List Located → Bool) (cs front rest
 
 -- ---- tags
 
--- no ASCII letter or digit stands in front
+-- no ASCII letter or digit comes first
 abbrev pub ends_word : List Located → Bool
 ends_word [] = true
 ends_word (x ∷ rest) = not (is_ascii_alphanumeric x.1)
@@ -32,7 +32,7 @@ tag_name Var = codes "var"
 tag_name BeginOptional = codes "beginOptional"
 tag_name EndOptional = codes "endOptional"
 
--- `<<`, directly behind it a tag, and behind that the end of the text or a character that is no ASCII letter or digit
+-- `<<`, directly after it a tag, and after that the end of the text or a character that is no ASCII letter or digit
 pub record IsTag (cs rest : List Located) (tag : Tag) : Type 0 where
   pub signs : List Located
   pub word : List Located
@@ -43,15 +43,15 @@ pub record IsTag (cs rest : List Located) (tag : Tag) : Type 0 where
 
 -- ---- fields
 
--- `;` or `>>` stands here
+-- `;` or `>>` is here
 abbrev pub ends_field : List Located → Bool
 ends_field here = begins_with semicolon here || begins_with_two greater here
 
--- `=`, `;` or `>>` stands here
+-- `=`, `;` or `>>` is here
 abbrev pub ends_name : List Located → List Located → Bool
 ends_name before here = begins_with equals here || ends_field here
 
--- a `"` stands here, directly before `;` or `>>`
+-- a `"` is here, directly before `;` or `>>`
 abbrev pub ends_quote : List Located → List Located → Bool
 ends_quote before [] = false
 ends_quote before (x ∷ rest) = x.1 == double_quote && ends_field rest
@@ -61,12 +61,12 @@ abbrev pub ends_escaped : Bool → List Located → Bool
 ends_escaped otherwise [] = otherwise
 ends_escaped otherwise (x ∷ rest) = ends_escaped (x.1 == backslash) rest
 
--- `>>` stands here, or a `;` that no backslash stands directly before
+-- `>>` is here, or a `;` that no backslash comes directly before
 abbrev pub ends_value : List Located → List Located → Bool
 ends_value before here = begins_with_two greater here || (begins_with semicolon here && not (ends_escaped false before))
 
 -- a value: between a `"` and the next one directly before `;` or `>>`; or else up to the first `>>`, or the first `;` that no
--- backslash stands directly before, without the white space at its end
+-- backslash comes directly before, without the white space at its end
 pub data IsValue : List Located → List Located → List Located → Type 0 where
   quoted : {quote end : Located} {cs rest value : List Located} → quote.1 ≡ double_quote
       → UpTo ends_quote cs value (end ∷ rest) → IsValue (quote ∷ cs) rest value
@@ -78,17 +78,17 @@ pub data IsValue : List Located → List Located → List Located → Type 0 whe
 pub data IsField : List Located → List Located → List ℕ → List Located → Type 0 where
   field : {cs behind rest name value : List Located} {sign : Located} → UpTo ends_name cs name (sign ∷ behind)
       → sign.1 ≡ equals
-      → IsValue (trim_front behind) rest value → IsField cs rest (text_of (trim_end name)) value
+      → IsValue (trim_start behind) rest value → IsField cs rest (text_of (trim_end name)) value
 
--- the fields of a rule, each behind a `;` and white space, and `>>` behind the last; where `;` or `>>` follows there is none
+-- the fields of a rule, each after a `;` and white space, and `>>` after the last; where `;` or `>>` follows there is none
 pub data IsFields : List Located → List Located → List (List ℕ × List Located) → Type 0 where
   closed : {x y : Located} {rest : List Located} → x.1 ≡ greater → y.1 ≡ greater → IsFields (x ∷ y ∷ rest) rest []
   empty : {x : Located} {cs rest : List Located} {fs : List (List ℕ × List Located)} → x.1 ≡ semicolon
-      → ends_field (trim_front cs) ≡ true
-      → IsFields (trim_front cs) rest fs → IsFields (x ∷ cs) rest fs
+      → ends_field (trim_start cs) ≡ true
+      → IsFields (trim_start cs) rest fs → IsFields (x ∷ cs) rest fs
   further : {x : Located} {cs more rest : List Located} {name : List ℕ} {value : List Located} {fs : List
       (List ℕ × List Located)} → x.1 ≡ semicolon
-      → ends_field (trim_front cs) ≡ false → IsField (trim_front cs) more name value → IsFields more rest fs
+      → ends_field (trim_start cs) ≡ false → IsField (trim_start cs) more name value → IsFields more rest fs
       → IsFields (x ∷ cs) rest ((name, value) ∷ fs)
 
 -- the values of the fields of this name
@@ -103,14 +103,14 @@ values_of name (f ∷ fs) = if bytes_eq f.0 name then f.1 ∷ values_of name fs 
 pub data IsRule : List Located → List Located → Rule → Type 0 where
   variable : {cs behind rest : List Located} {fs : List (List ℕ × List Located)} {name original pattern : List Located}
       → IsTag cs behind Var
-      → IsFields (trim_front behind) rest fs → values_of (codes "name") fs ≡ name ∷ [] → values_of (codes "original") fs ≡ original ∷ []
+      → IsFields (trim_start behind) rest fs → values_of (codes "name") fs ≡ name ∷ [] → values_of (codes "original") fs ≡ original ∷ []
       → values_of (codes "match") fs ≡ pattern ∷ []
       → IsRule cs rest (rules.variable (text_of (unescaped name)) (text_of (unescaped original)) (place_of pattern)
       (text_of pattern))
   begin : {cs behind rest : List Located} {fs : List (List ℕ × List Located)} → IsTag cs behind BeginOptional
-      → IsFields (trim_front behind) rest fs → IsRule cs rest (rules.begin (place_of cs))
+      → IsFields (trim_start behind) rest fs → IsRule cs rest (rules.begin (place_of cs))
   finish : {cs behind rest : List Located} {fs : List (List ℕ × List Located)} → IsTag cs behind EndOptional
-      → IsFields (trim_front behind) rest fs → IsRule cs rest (rules.finish (place_of cs))
+      → IsFields (trim_start behind) rest fs → IsRule cs rest (rules.finish (place_of cs))
 
 -- a rule begins here
 abbrev pub BeginsRule : List Located → Type 0

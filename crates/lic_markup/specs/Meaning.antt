@@ -1,4 +1,4 @@
--- What a template stands for: a set of words over letters and blanks.
+-- What a template denotes: a set of words over letters and blanks.
 use Rattle.std.specs.Prelude.{ℕ, Bool, true, List, map, chars}
 use Rattle.lic_lines.specs.LineRules.{LineRules}
 use Rattle.lic_phrases.specs.Rewriting.{Phrase, rewritten}

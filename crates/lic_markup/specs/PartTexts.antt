@@ -5,7 +5,7 @@ use Rattle.lic_markup.specs.declared.part.Part.{Part}
 use Rattle.lic_markup.specs.Parts.{Node, Nodes, letters, variable, optional, no_node, one_more, row, part_of, weight_of, GiveToken}
 
 abbrev mutual
-  -- each text has a letter and is in UTF-8, and each of its blanks that is neither first nor last stands between two
+  -- each text has a letter and is in UTF-8, and each of its blanks that is neither first nor last is between two
   -- letters of kind Word
   pub HasPieceTexts : Node → Type 0
   HasPieceTexts (letters text) = (0 < length text) × IsUtf8 text × IsPieceText text

@@ -16,7 +16,7 @@ use Rattle.lic_markup.specs.Texts.{text_of}
 use Rattle.lic_markup.specs.Faults.{fault_at, out_of_memory, ◌>>=◌}
 use Rattle.lic_markup.specs.Rules as rules
 use Rattle.lic_markup.specs.Elements.{Element, text, rule, refused, elements}
-use Rattle.lic_markup.specs.Lines.{at_line_start, next_behind, with_next}
+use Rattle.lic_markup.specs.Lines.{at_line_start, next_after, with_next}
 use Rattle.lic_markup.specs.Parts.{Node, letters, variable, optional, row, row_weight, row_has_token, Reading}
 
 -- The template, or an open optional part: where it begins, and its parts so far.
@@ -31,7 +31,7 @@ abbrev pub with_part : Node → Level → Level
 with_part n l = record l { parts = l.parts ++ n ∷ [] }
 
 -- The innermost level, and those round it from the inside out; the original text so far; and whether only white
--- space and optional rules stand between the start of the line and here.
+-- space and optional rules are between the start of the line and here.
 pub record State : Type 0 where
   pub level : Level
   pub outer : List Level
@@ -50,23 +50,23 @@ with_letters (c ∷ cs) l = with_part (letters (c ∷ cs)) l
 abbrev pub meet_text : LineRules → List Phrase → List Located → Next → State → State
 meet_text line_rules words piece follows s =
     record {
-      level = with_letters (piece_of line_rules words s.at_start (next_behind piece follows) (text_of piece)) s.level;
+      level = with_letters (piece_of line_rules words s.at_start (next_after piece follows) (text_of piece)) s.level;
       outer = s.outer;
       original = s.original ++ text_of piece;
       at_start = at_line_start s.at_start piece;
     }
 
 -- how the fault of a pattern is reported, which begins at a place
-abbrev pub told_cause : EreCause → ℕ → EreFault → MarkupFault
-told_cause OutOfMemory place e = out_of_memory
-told_cause cause place e = fault_at place (Pattern e)
+abbrev pub reported_cause : EreCause → ℕ → EreFault → MarkupFault
+reported_cause OutOfMemory place e = out_of_memory
+reported_cause cause place e = fault_at place (Pattern e)
 
-abbrev pub told : ℕ → EreFault → MarkupFault
-told place e = told_cause e.cause place e
+abbrev pub reported : ℕ → EreFault → MarkupFault
+reported place e = reported_cause e.cause place e
 
 -- a variable whose pattern has been read; `place` is that of the pattern
 abbrev pub meet_variable : List ℕ → List ℕ → ℕ → Result Tree EreFault → State → Result State MarkupFault
-meet_variable name original place (Err e) s = Err (told place e)
+meet_variable name original place (Err e) s = Err (reported place e)
 meet_variable name original place (Ok tree) s =
     Ok (record {
       level = with_part (variable name original tree) s.level;
@@ -75,7 +75,7 @@ meet_variable name original place (Ok tree) s =
       at_start = false;
     })
 
--- how deep optional parts may stand in one another
+-- how deep optional parts may be nested
 abbrev pub max_depth : ℕ
 max_depth = 64
 
@@ -109,7 +109,7 @@ whole parts original =
     else (if nat_lt max_weight (row_weight (row parts)) then Err (fault_at 0 TooHeavy)
     else Ok (record { parts = parts; weight = row_weight (row parts); original = original }))
 
--- behind the last element: an optional part that is open is refused, the innermost one
+-- after the last element: an optional part that is open is refused, the innermost one
 abbrev pub finish : Level → List Level → List ℕ → Result Reading MarkupFault
 finish level [] original = whole level.parts original
 finish level (o ∷ outer) original = Err (fault_at level.place NotEnded)

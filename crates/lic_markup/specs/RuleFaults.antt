@@ -1,4 +1,4 @@
--- Which fault a rule is refused by, and where: the first that is met from the left. The fields in front of it are sound.
+-- Which fault a rule is refused by, and where: the first that is met from the left. The fields before it are sound.
 use Rattle.std.specs.Prelude.{◌≡◌, ℕ, Bool, true, false, ◌||◌, ◌&&◌, List, [], ◌∷◌, ◌++◌, codes}
 use Rattle.std.specs.Str.{bytes_eq}
 use Rattle.lic_ere.specs.Located.{Located}
@@ -7,18 +7,18 @@ use Rattle.lic_markup.specs.declared.tag.Tag.TheVariants.{Var, BeginOptional, En
 use Rattle.lic_markup.specs.declared.fault.MarkupFault.{MarkupFault}
 use Rattle.lic_markup.specs.declared.fault.MarkupCause.TheVariants.{NotClosed, FieldMissing, FieldTwice, NoEquals}
 use Rattle.lic_markup.specs.Signs.{double_quote, semicolon, equals, greater}
-use Rattle.lic_markup.specs.Texts.{text_of, place_of, begins_with, begins_with_two, trim_front, trim_end}
+use Rattle.lic_markup.specs.Texts.{text_of, place_of, begins_with, begins_with_two, trim_start, trim_end}
 use Rattle.lic_markup.specs.Faults.{fault_at}
 use Rattle.lic_markup.specs.Markup.{UpTo, IsTag, IsField, ends_field, ends_name, ends_quote, ends_value}
 
--- At none of these characters `stands` holds, which is given what is in front of a place and what stands from there on.
+-- At none of these characters `stands` holds, which is given what is before a place and what is from there on.
 pub record Nowhere (stands : List Located → List Located → Bool) (cs : List Located) : Type 0 where
   pub never : (before : List Located) (x : Located) (after : List Located) → cs ≡ before ++ x ∷ after
       → stands before (x ∷ after) ≡ false
 
 -- ---- the fields that a tag needs
 
--- their names; each stands once
+-- their names; each occurs once
 abbrev pub needed : Tag → List (List ℕ)
 needed Var = codes "name" ∷ codes "original" ∷ codes "match" ∷ []
 needed BeginOptional = []
@@ -29,22 +29,22 @@ abbrev pub is_among : List ℕ → List (List ℕ) → Bool
 is_among name [] = false
 is_among name (n ∷ names) = bytes_eq name n || is_among name names
 
--- a field of this name, behind fields of these names, is the second one where there is to be one
+-- a field of this name, after fields of these names, is the second one where there is to be one
 abbrev pub is_second : Tag → List ℕ → List (List ℕ) → Bool
 is_second tag name names = is_among name (needed tag) && is_among name names
 
--- ---- what is in front of the fault
+-- ---- what is before the fault
 
--- Behind a tag the characters cs begin with sound fields, each behind a `;` and white space, and go on with others, where `;` or
--- `>>` has to stand. The names of these fields, the last one first: none stands twice that is to stand once.
+-- After a tag the characters cs begin with sound fields, each after a `;` and white space, and continue with others, where `;` or
+-- `>>` has to be. The names of these fields, the last one first: none occurs twice that is to occur once.
 pub data AreSoundFields (tag : Tag) (cs : List Located) : List Located → List (List ℕ) → Type 0 where
   none : AreSoundFields tag cs cs []
-  -- behind a `;` that another or `>>` follows there is no field
+  -- after a `;` that another or `>>` follows there is no field
   empty : {x : Located} {rest : List Located} {names : List (List ℕ)} → AreSoundFields tag cs (x ∷ rest) names
-      → x.1 ≡ semicolon → ends_field (trim_front rest) ≡ true → AreSoundFields tag cs (trim_front rest) names
+      → x.1 ≡ semicolon → ends_field (trim_start rest) ≡ true → AreSoundFields tag cs (trim_start rest) names
   further : {x : Located} {rest more value : List Located} {name : List ℕ} {names : List (List ℕ)}
-      → AreSoundFields tag cs (x ∷ rest) names → x.1 ≡ semicolon → ends_field (trim_front rest) ≡ false
-      → IsField (trim_front rest) more name value → is_second tag name names ≡ false
+      → AreSoundFields tag cs (x ∷ rest) names → x.1 ≡ semicolon → ends_field (trim_start rest) ≡ false
+      → IsField (trim_start rest) more name value → is_second tag name names ≡ false
       → AreSoundFields tag cs more (name ∷ names)
 
 -- ---- the fault
@@ -54,7 +54,7 @@ pub data IsOpenValue : List Located → Type 0 where
   quoted : {quote : Located} {cs : List Located} → quote.1 ≡ double_quote → Nowhere ends_quote cs → IsOpenValue (quote ∷ cs)
   plain : {cs : List Located} → begins_with double_quote cs ≡ false → Nowhere ends_value cs → IsOpenValue cs
 
--- The field that the characters cs begin with is at fault, in a rule at this place, behind fields of these names.
+-- The field that the characters cs begin with is at fault, in a rule at this place, after fields of these names.
 pub data IsFieldFault (place : ℕ) (tag : Tag) (names : List (List ℕ)) (cs : List Located) : MarkupFault → Type 0 where
   -- the text ends before `=`, `;` and `>>`: the rule is not closed
   open_name : Nowhere ends_name cs → IsFieldFault place tag names cs (fault_at place NotClosed)
@@ -67,22 +67,22 @@ pub data IsFieldFault (place : ℕ) (tag : Tag) (names : List (List ℕ)) (cs : 
       → IsFieldFault place tag names cs (fault_at (place_of cs) FieldTwice)
   -- the text ends in the value: the rule is not closed
   open_value : {name behind : List Located} {sign : Located} → UpTo ends_name cs name (sign ∷ behind) → sign.1 ≡ equals
-      → is_second tag (text_of (trim_end name)) names ≡ false → IsOpenValue (trim_front behind)
+      → is_second tag (text_of (trim_end name)) names ≡ false → IsOpenValue (trim_start behind)
       → IsFieldFault place tag names cs (fault_at place NotClosed)
 
--- the fault that is met where the characters cs stand behind sound fields of these names, in a rule at this place
-pub data IsFaultBehind (place : ℕ) (tag : Tag) (names : List (List ℕ)) : List Located → MarkupFault → Type 0 where
-  -- neither `;` nor `>>` stands there
-  not_closed : {cs : List Located} → ends_field cs ≡ false → IsFaultBehind place tag names cs (fault_at place NotClosed)
-  -- the field behind a `;` is at fault
-  in_field : {x : Located} {cs : List Located} {e : MarkupFault} → x.1 ≡ semicolon → ends_field (trim_front cs) ≡ false
-      → IsFieldFault place tag names (trim_front cs) e → IsFaultBehind place tag names (x ∷ cs) e
+-- the fault that is met where the characters cs come after sound fields of these names, in a rule at this place
+pub data IsFaultAfter (place : ℕ) (tag : Tag) (names : List (List ℕ)) : List Located → MarkupFault → Type 0 where
+  -- neither `;` nor `>>` is there
+  not_closed : {cs : List Located} → ends_field cs ≡ false → IsFaultAfter place tag names cs (fault_at place NotClosed)
+  -- the field after a `;` is at fault
+  in_field : {x : Located} {cs : List Located} {e : MarkupFault} → x.1 ≡ semicolon → ends_field (trim_start cs) ≡ false
+      → IsFieldFault place tag names (trim_start cs) e → IsFaultAfter place tag names (x ∷ cs) e
   -- at the rule's end a field that it needs was not there
   missing : {cs : List Located} (name : List ℕ) → begins_with_two greater cs ≡ true → is_among name (needed tag) ≡ true
-      → is_among name names ≡ false → IsFaultBehind place tag names cs (fault_at place FieldMissing)
+      → is_among name names ≡ false → IsFaultAfter place tag names cs (fault_at place FieldMissing)
 
 -- the fault of the rule that the characters cs begin with
 pub data IsRuleFault (cs : List Located) : MarkupFault → Type 0 where
   at_fault : {behind rest : List Located} {tag : Tag} {names : List (List ℕ)} {e : MarkupFault} → IsTag cs behind tag
-      → AreSoundFields tag (trim_front behind) rest names → IsFaultBehind (place_of cs) tag names rest e
+      → AreSoundFields tag (trim_start behind) rest names → IsFaultAfter (place_of cs) tag names rest e
       → IsRuleFault cs e

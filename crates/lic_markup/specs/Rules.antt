@@ -1,4 +1,4 @@
--- How one rule is read. What is read stands beside the number of characters that it takes.
+-- How one rule is read. What is read is beside the number of characters that it takes.
 use Rattle.std.specs.Prelude.{ℕ, zero, suc, ◌+◌, ◌==◌, ◌&&◌, ◌||◌, Bool, false, not, List, [], ◌∷◌, length, drop, codes, Option, Some, None, Result, Ok, Err, if◌then◌else◌}
 use Rattle.std.specs.Option.{is_some, option_map}
 use Rattle.std.specs.Char.{is_ascii_alphanumeric}
@@ -11,7 +11,7 @@ use Rattle.lic_markup.specs.declared.fields.Field.TheVariants.{Name, Original, M
 use Rattle.lic_markup.specs.declared.fault.MarkupFault.{MarkupFault}
 use Rattle.lic_markup.specs.declared.fault.MarkupCause.TheVariants.{NotClosed, FieldMissing, FieldTwice, NoEquals}
 use Rattle.lic_markup.specs.Signs.{double_quote, semicolon, less, equals, greater, backslash}
-use Rattle.lic_markup.specs.Texts.{text_of, place_of, unescaped, begins_with, begins_with_two, spaces, trim_front, trim_end}
+use Rattle.lic_markup.specs.Texts.{text_of, place_of, unescaped, begins_with, begins_with_two, spaces, trim_start, trim_end}
 use Rattle.lic_markup.specs.Faults.{fault_at, map_ok, ◌>>=◌}
 
 -- ---- tags
@@ -30,7 +30,7 @@ tag_of word =
     else None))
 
 -- The tag of the rule that begins with a character, and how many further characters it takes: `<<` and directly
--- behind it a tag, after which the text ends or a character follows that is no ASCII letter or digit.
+-- after it a tag, after which the text ends or a character follows that is no ASCII letter or digit.
 unfoldable pub tag_at : Located → List Located → Option (Tag × ℕ)
 tag_at x rest =
     let word : List Located = word_at (drop 1 rest) in
@@ -40,7 +40,7 @@ tag_at x rest =
 -- ---- fields
 
 -- The values of the three fields, as far as they were read: the name and the original value where `\;` means `;`,
--- and the pattern as it stands, behind the byte at which it begins.
+-- and the pattern as it is, after the byte at which it begins.
 pub record Values : Type 0 where
   pub name : Option (List ℕ)
   pub original : Option (List ℕ)
@@ -71,7 +71,7 @@ with_value Original value values = record values { original = Some (text_of (une
 with_value Match value values = record values { pattern = Some (place_of value, text_of value) }
 with_value Other value values = values
 
--- `;` or `>>` stands here
+-- `;` or `>>` is here
 abbrev pub at_end : List Located → Bool
 at_end rest = begins_with semicolon rest || begins_with_two greater rest
 
@@ -89,7 +89,7 @@ without_equals rule start = fault_at start NoEquals
 abbrev pub second_field : ℕ → ℕ → MarkupFault
 second_field rule start = fault_at start FieldTwice
 
--- A field's name with the white space behind it: the characters up to the first `=`, which is taken too.
+-- A field's name with the white space after it: the characters up to the first `=`, which is taken too.
 -- `rule` and `start` are the places of the rule and of the field.
 unfoldable pub name_at : ℕ → ℕ → List Located → Result (List Located × ℕ) MarkupFault
 name_at rule start [] = Err (open_field rule start)
@@ -103,18 +103,18 @@ abbrev pub ends_quoted : List Located → Bool
 ends_quoted [] = false
 ends_quoted (x ∷ rest) = x.1 == double_quote && at_end rest
 
--- a value behind its `"`: the characters up to the next `"` that is directly followed by `;` or `>>`, which is taken too
+-- a value after its `"`: the characters up to the next `"` that is directly followed by `;` or `>>`, which is taken too
 unfoldable pub quoted_at : ℕ → List Located → Result (List Located × ℕ) MarkupFault
 quoted_at rule [] = Err (fault_at rule NotClosed)
 quoted_at rule (x ∷ rest) =
     if ends_quoted (x ∷ rest) then Ok ([], 1)
     else map_ok (one_more x) (quoted_at rule rest)
 
--- `>>`, or a `;` that no backslash stands directly before
+-- `>>`, or a `;` that no backslash comes directly before
 abbrev pub ends_plain : Bool → List Located → Bool
 ends_plain escaped rest = begins_with_two greater rest || (begins_with semicolon rest && not escaped)
 
--- a value without quotes: the characters up to the first `>>`, or the first `;` that no backslash stands directly before
+-- a value without quotes: the characters up to the first `>>`, or the first `;` that no backslash comes directly before
 unfoldable pub plain_at : ℕ → Bool → List Located → Result (List Located × ℕ) MarkupFault
 plain_at rule escaped [] = Err (fault_at rule NotClosed)
 plain_at rule escaped (x ∷ rest) =
@@ -128,7 +128,7 @@ value_at rule rest =
     else map_ok (λ v. (trim_end v.0, v.1)) (plain_at rule false rest)
 
 -- A field that begins here, with a character that is no white space: its name, and unless it is there a second
--- time, its value behind white space.
+-- time, its value after white space.
 unfoldable pub field_at : ℕ → ℕ → Tag → Values → List Located → Result (Values × ℕ) MarkupFault
 field_at rule start tag values rest =
     name_at rule start rest >>= λ name.
@@ -136,15 +136,15 @@ field_at rule start tag values rest =
     let behind : List Located = drop name.1 rest in
     (if has_value field values then Err (second_field rule start)
     else map_ok (λ value. (with_value field value.0 values, name.1 + (spaces behind + value.1)))
-    (value_at rule (trim_front behind)))
+    (value_at rule (trim_start behind)))
 
--- behind a `;`: white space, and then a field, or none where `;`, `>>` or the end of the text follows
+-- after a `;`: white space, and then a field, or none where `;`, `>>` or the end of the text follows
 abbrev pub field_or_none : ℕ → Tag → Values → List Located → Result (Values × ℕ) MarkupFault
 field_or_none rule tag values [] = Ok (values, 0)
 field_or_none rule tag values (x ∷ rest) =
     if at_end (x ∷ rest) then Ok (values, 0) else field_at rule x.0 tag values (x ∷ rest)
 
--- The fields of a rule up to its `>>`, from a place where `;` or `>>` must stand. Each `;` takes the field behind it;
+-- The fields of a rule up to its `>>`, from a place where `;` or `>>` must be. Each `;` takes the field after it;
 -- the characters of that field are skipped.
 unfoldable pub fields_at : ℕ → Tag → Values → ℕ → List Located → Result (Values × ℕ) MarkupFault
 fields_at rule tag values skip [] = Err (fault_at rule NotClosed)
@@ -154,7 +154,7 @@ fields_at rule tag values zero (x ∷ rest) =
     λ read. fields_at rule tag read.0 (spaces rest + read.1) rest in
     if begins_with_two greater (x ∷ rest) then Ok (values, 2)
     else (if begins_with semicolon (x ∷ rest) then map_ok (further 1)
-    (field_or_none rule tag values (trim_front rest) >>= others)
+    (field_or_none rule tag values (trim_start rest) >>= others)
     else Err (fault_at rule NotClosed))
 
 -- ---- rules
@@ -177,8 +177,8 @@ rule_of place Var values = complete place values.name values.original values.pat
 rule_of place BeginOptional values = Ok (begin place)
 rule_of place EndOptional values = Ok (finish place)
 
--- the rule of this tag, from behind the tag on
+-- the rule of this tag, from after the tag on
 unfoldable pub rule_at : ℕ → Tag → List Located → Result (Rule × ℕ) MarkupFault
 rule_at place tag rest =
-    fields_at place tag no_values 0 (trim_front rest) >>= λ fields.
+    fields_at place tag no_values 0 (trim_start rest) >>= λ fields.
     map_ok (λ rule. (rule, spaces rest + fields.1)) (rule_of place tag fields.0)

@@ -1,4 +1,4 @@
--- Templates, apart from how they are read: pieces of text and rules in turn, what stands round a piece in its lines, optional
+-- Templates, apart from how they are read: pieces of text and rules in turn, what is round a piece in its lines, optional
 -- parts in one another, and what all of it says.
 use Rattle.std.specs.Prelude.{◌≡◌, ℕ, suc, ◌<◌, ◌≤◌, Bool, true, false, ◌||◌, ◌&&◌, ◌==◌, IsTrue, List, [], ◌∷◌, ◌++◌, length, map, reverse, if◌then◌else◌}
 use Rattle.lic_ere.specs.Grammar.{IsPattern}
@@ -21,7 +21,7 @@ use Rattle.lic_markup.specs.Markup.{BeginsRule, IsRule}
 
 -- ---- pieces and rules
 
--- at none of these characters a rule begins, where this stands behind them
+-- at none of these characters a rule begins, where this comes after them
 abbrev pub HasNoRule : List Located → List Located → Type 0
 HasNoRule piece behind = (before : List Located) (x : Located) (after : List Located) → piece ≡ before ++ x ∷ after
     → BeginsRule (x ∷ (after ++ behind)) → ⊥
@@ -72,16 +72,16 @@ is_new_line (character c) = c == new_line
 is_new_line optional_rule = false
 is_new_line variable_rule = false
 
--- on the way along these signs only white space and optional rules stand up to a U+000A, or to the end
+-- on the way along these signs only white space and optional rules are up to a U+000A, or to the end
 abbrev pub is_clear : List Sign → Bool
 is_clear [] = true
 is_clear (s ∷ ss) = is_new_line s || (is_blank s && is_clear ss)
 
--- only white space and optional rules stand between the start of the line and here, behind these elements
+-- only white space and optional rules are between the start of the line and here, after these elements
 abbrev pub opens_line : List Element → Bool
 opens_line before = is_clear (reverse (signs_of before))
 
--- what a rule behind a piece counts as, if the line goes on there
+-- what a rule after a piece counts as, if the line continues there
 abbrev pub first_rule : List Element → Next
 first_rule (rule (rules.variable name original place pattern) ∷ es) = next.Var
 first_rule _ = next.Optional
@@ -100,7 +100,7 @@ pub data Item : Type 0 where
   begin : Item
   finish : Item
 
--- an element, behind some and before some
+-- an element, after some and before some
 pub data IsItem (line_rules : LineRules) (words : List Phrase) (before after : List Element) : Element → Item
     → Type 0 where
   is_piece : {cs : List Located}
@@ -112,7 +112,7 @@ pub data IsItem (line_rules : LineRules) (words : List Phrase) (before after : L
   is_begin : {place : ℕ} → IsItem line_rules words before after (rule (rules.begin place)) begin
   is_finish : {place : ℕ} → IsItem line_rules words before after (rule (rules.finish place)) finish
 
--- the elements behind some
+-- the elements after some
 pub data AreItems (line_rules : LineRules) (words : List Phrase) : List Element → List Element → List Item
     → Type 0 where
   no_item : {before : List Element} → AreItems line_rules words before [] []

@@ -14,24 +14,24 @@ abbrev pub place_of : List Located → ℕ
 place_of [] = 0
 place_of (x ∷ rest) = x.0
 
--- this character stands in front
+-- this character comes first
 abbrev pub begins_with : ℕ → List Located → Bool
 begins_with c [] = false
 begins_with c (x ∷ rest) = x.1 == c
 
--- this character stands in front, twice
+-- this character comes first, twice
 abbrev pub begins_with_two : ℕ → List Located → Bool
 begins_with_two c [] = false
 begins_with_two c (x ∷ rest) = x.1 == c && begins_with c rest
 
--- how many white space characters stand in front
+-- how many white space characters come first
 abbrev pub spaces : List Located → ℕ
 spaces [] = 0
 spaces (x ∷ rest) = if is_whitespace x.1 then 1 + spaces rest else 0
 
 -- without the white space in front
-abbrev pub trim_front : List Located → List Located
-trim_front rest = drop (spaces rest) rest
+abbrev pub trim_start : List Located → List Located
+trim_start rest = drop (spaces rest) rest
 
 -- a character before others, or none before none where it is white space
 abbrev pub kept_before : Located → List Located → List Located

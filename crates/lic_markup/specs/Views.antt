@@ -1,4 +1,4 @@
--- What the values of the code stand for.
+-- What the values of the code represent.
 use Rattle.std.specs.Prelude.{List, map, reverse}
 use Rattle.std.specs.Option.{option_map}
 use Rattle.std.specs.String.{string_bytes}

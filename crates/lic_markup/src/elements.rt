@@ -2,7 +2,7 @@
 ghost use Rattle.std.specs.Prelude.{◌≡◌, ◌≢◌, ◌<◌, ◌≤◌, ◌++◌, ◌∷◌, ℕ, IfOk, OnOk, [], length, map, slice_index_or, Some, None};
 ghost use Rattle.std.specs.Option.{option_map};
 ghost use Rattle.lic_ere.specs.Located.{Located, located};
-ghost use Rattle.lic_markup.specs.Elements.{elements, element_read, behind_rule};
+ghost use Rattle.lic_markup.specs.Elements.{elements, element_read, after_rule};
 ghost use Rattle.lic_markup.specs.Rules.{rule_at};
 ghost use Rattle.lic_markup.specs.Faults.{IsLasting};
 ghost use Rattle.lic_markup.specs.Views.{element_of};
@@ -47,7 +47,7 @@ fn push_rule<'a>(
         (map element_of found.new.items
         ≡ map element_of found.old.items ++ element_read (rule_at place tag rest.now) ∷ []) }
     ensures behind { IfOk result (λ behind. option_map (λ x. x.now) behind
-        ≡ behind_rule rest.now (rule_at place tag rest.now)) }
+        ≡ after_rule rest.now (rule_at place tag rest.now)) }
 {
     match read_rule(alloc, place, tag, rest) {
         Ok((rule, behind)) => {

@@ -8,7 +8,7 @@ ghost use Rattle.lic_markup.specs.Views.{values_of};
 use crate::fault::{MarkupCause, MarkupFault};
 use crate::tag::Tag;
 use crate::texts::{
-    begins_with, begins_with_two, place_of, text_of, trim_end, trim_front, unescaped,
+    begins_with, begins_with_two, place_of, text_of, trim_end, trim_start, unescaped,
 };
 use std::alloc::{AllocError, Global};
 
@@ -236,7 +236,7 @@ fn read_field<'a>(
             cause: MarkupCause::FieldTwice,
         });
     }
-    let (value, behind) = value(rule, trim_front(behind))?;
+    let (value, behind) = value(rule, trim_start(behind))?;
     values.set(alloc, field, value)?;
     Ok(behind)
 }
@@ -283,7 +283,7 @@ pub fn fields(
                 cause: MarkupCause::NotClosed,
             });
         }
-        rest = field_or_none(alloc, rule, tag, &mut values, trim_front(after))?;
+        rest = field_or_none(alloc, rule, tag, &mut values, trim_start(after))?;
     }
     Err(MarkupFault {
         place: rule,

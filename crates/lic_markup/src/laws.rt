@@ -24,14 +24,14 @@ ghost use Rattle.lic_markup.specs.Elements.{Element};
 ghost use Rattle.lic_markup.specs.FirstFaults.{IsFaultOf};
 ghost use Rattle.lic_markup.specs.Parts.{Reading, letters, part_of};
 ghost use Rattle.lic_markup.specs.Reading.{reading};
-ghost use Rattle.lic_markup.specs.Texts.{are_spaces, begins_in_space, ends_in_space, trim_end, trim_front};
+ghost use Rattle.lic_markup.specs.Texts.{are_spaces, begins_in_space, ends_in_space, trim_end, trim_start};
 ghost use Rattle.lic_markup.specs.Templates.{AreElements, IsTemplate, original_of};
 ghost use Rattle.lic_markup.specs.Meaning.{parts_words, part_words, piece_texts};
 
 pub use crate::part::{templates_give_a_token, templates_weigh_little, texts_are_those_of_pieces};
 
 /// A word of parts in a row is a word of the first of them and then one of the others.
-pub fn parts_in_a_row_stand_for_both()
+pub fn parts_in_a_row_denote_both()
     ensures { (xs ys : List Part) (w : List ℕ)
         → Language (parts_words (map part_of (xs ++ ys))) w
         ↔ Cat (Language (parts_words (map part_of xs)))
@@ -123,9 +123,9 @@ pub fn the_original_text_is_the_text_without_its_rules()
 {}
 
 /// What is taken off the front of a text is white space, and all of it.
-pub fn white_space_is_taken_off_the_front()
-    ensures { (text : List Located) → (space : List Located) × (text ≡ space ++ trim_front text)
-        × (are_spaces space ≡ true) × (begins_in_space (trim_front text) ≡ false) }
+pub fn white_space_is_taken_off_the_start()
+    ensures { (text : List Located) → (space : List Located) × (text ≡ space ++ trim_start text)
+        × (are_spaces space ≡ true) × (begins_in_space (trim_start text) ≡ false) }
 {}
 
 /// What is taken off the end of a text is white space, and all of it.

@@ -3,7 +3,7 @@ ghost use Rattle.std.specs.Prelude.{◌≡◌, ◌≤◌, IfOk, OnOk, map};
 ghost use Rattle.std.specs.String.{string_bytes};
 ghost use Rattle.lic_ere.specs.Reading as patterns;
 ghost use Rattle.lic_kind.specs.LineRules.{rules_of};
-ghost use Rattle.lic_markup.specs.Faults.{Gives, told};
+ghost use Rattle.lic_markup.specs.Faults.{Gives, reported};
 ghost use Rattle.lic_markup.specs.Parts.{GiveToken, part_of, row, template_of, weight_of};
 ghost use Rattle.lic_markup.specs.PartTexts.{HavePieceTexts};
 ghost use Rattle.lic_markup.specs.ReadTexts.{HasReadTexts};
@@ -74,8 +74,8 @@ pub struct Reader {
 }
 
 /// How the fault of a pattern is reported, which begins at a place.
-fn told(place: usize, fault: EreFault) -> MarkupFault
-    ensures { result ≡ reading.told place fault }
+fn reported(place: usize, fault: EreFault) -> MarkupFault
+    ensures { result ≡ reading.reported place fault }
 {
     match fault.cause {
         EreCause::OutOfMemory => MarkupFault::out_of_memory(),
@@ -87,8 +87,8 @@ fn told(place: usize, fault: EreFault) -> MarkupFault
 }
 
 /// A fault as it is reported: lack of memory has no place.
-fn told_again(fault: MarkupFault) -> MarkupFault
-    ensures { result ≡ told fault }
+fn reported_again(fault: MarkupFault) -> MarkupFault
+    ensures { result ≡ reported fault }
 {
     match fault.cause {
         MarkupCause::OutOfMemory => MarkupFault { place: 0, ..fault },
@@ -153,7 +153,7 @@ impl Reader {
     {
         let ere = match read(alloc, &pattern) {
             Ok(ere) => ere,
-            Err(fault) => return Err(told(place, fault)),
+            Err(fault) => return Err(reported(place, fault)),
         };
         self.original.push_str(&original)?;
         self.level.parts.push(Part::Var {
@@ -226,7 +226,7 @@ impl Reader {
             ) => self.variable(alloc, name, original, place, pattern),
             Element::Rule(Rule::Begin(place)) => self.begin(alloc, place),
             Element::Rule(Rule::End(place)) => self.end(place),
-            Element::Refused(fault) => Err(told_again(fault)),
+            Element::Refused(fault) => Err(reported_again(fault)),
         }
     }
 

@@ -7,7 +7,7 @@ ghost use Rattle.lic_markup.specs.Views.{values_of, rule_of};
 use crate::fault::{MarkupCause, MarkupFault};
 use crate::fields::{Values, fields};
 use crate::tag::Tag;
-use crate::texts::trim_front;
+use crate::texts::trim_start;
 use std::alloc::Global;
 
 /// A rule.
@@ -66,6 +66,6 @@ pub fn read_rule(
     ensures { Gives (λ x. (rule_of x.0, x.1.now)) result
         (map_ok (with_remaining rest.now) (rules.rule_at place tag rest.now)) }
 {
-    let (values, behind) = fields(alloc, place, tag, trim_front(rest))?;
+    let (values, behind) = fields(alloc, place, tag, trim_start(rest))?;
     Ok((complete(place, tag, values)?, behind))
 }

@@ -2,7 +2,7 @@
 ghost use Rattle.std.specs.Prelude.{◌≡◌, IfOk, ◌++◌};
 ghost use Rattle.std.specs.String.{string_bytes};
 ghost use Rattle.lic_ere.specs.Located.{located};
-ghost use Rattle.lic_markup.specs.Texts.{text_of, place_of, begins_with, begins_with_two, trim_front, trim_end, unescaped};
+ghost use Rattle.lic_markup.specs.Texts.{text_of, place_of, begins_with, begins_with_two, trim_start, trim_end, unescaped};
 
 use std::alloc::{AllocError, Global};
 
@@ -44,8 +44,8 @@ pub fn begins_with_two(rest: &[(usize, char)], character: char) -> bool
 }
 
 /// Without the white space in front.
-pub fn trim_front(text: &[(usize, char)]) -> &[(usize, char)]
-    ensures { result.now ≡ trim_front text.now }
+pub fn trim_start(text: &[(usize, char)]) -> &[(usize, char)]
+    ensures { result.now ≡ trim_start text.now }
 {
     let mut rest = text;
     while let Some((first, after)) = rest.split_first() {

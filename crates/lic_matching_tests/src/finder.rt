@@ -47,7 +47,7 @@ fn found_after(alloc: Global, after: &Row) -> Result<String, Fail> {
 }
 
 #[test]
-fn goes_on_after_any_triple(rt: HostRuntime) -> Result<(), Fail> {
+fn continues_after_any_triple(rt: HostRuntime) -> Result<(), Fail> {
     // with numbers that no token and no template has
     let most = usize::MAX;
     let table: &[(Row, &str)] = &[

@@ -48,7 +48,7 @@ const MIT: &str = "Permission is hereby granted, free of charge";
 const BSD: &str = "Redistribution and use in source and binary forms";
 
 #[test]
-fn keeps_the_templates_whose_text_stands(rt: HostRuntime) -> Result<(), Fail> {
+fn keeps_the_templates_whose_text_occurs(rt: HostRuntime) -> Result<(), Fail> {
     // templates, a text, and which templates are kept, with the places at which their texts end
     let table: &[(&[&str], &str, &str)] = &[
         (

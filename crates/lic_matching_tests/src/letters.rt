@@ -7,18 +7,18 @@ use std::test::Fail;
 
 /// The letters of a token as they are given, each with whether it is apart and whether it and the letter before are of words; then
 /// the last letter, and whether a gap follows it.
-fn told(alloc: Global, token: &str, last: char, is_apart: bool) -> Result<String, AllocError> {
+fn reported(alloc: Global, token: &str, last: char, is_apart: bool) -> Result<String, AllocError> {
     let mut letters = Letters::new(token, last, is_apart);
-    let mut told = String::new(alloc);
+    let mut reported = String::new(alloc);
     while let Some(given) = letters.next() {
         write!(
-            told,
+            reported,
             "{} {} {}, ",
             given.letter, given.is_apart, given.are_words
         )?;
     }
-    write!(told, "{} {}", letters.last_letter(), letters.is_apart())?;
-    Ok(told)
+    write!(reported, "{} {}", letters.last_letter(), letters.is_apart())?;
+    Ok(reported)
 }
 
 #[test]
@@ -38,8 +38,8 @@ fn letters_come_one_by_one_with_their_gaps(rt: HostRuntime) -> Result<(), Fail> 
         (" ", 'x', false, "x true"),
     ];
     for (token, last, is_apart, wanted) in table {
-        let told = told(rt.alloc(), token, *last, *is_apart)?;
-        assert_eq!(rt; told.as_str(), *wanted, "{token:?}");
+        let reported = reported(rt.alloc(), token, *last, *is_apart)?;
+        assert_eq!(rt; reported.as_str(), *wanted, "{token:?}");
     }
     Ok(())
 }

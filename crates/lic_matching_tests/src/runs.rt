@@ -37,30 +37,30 @@ const TWO: [&str; 2] = [
 ];
 
 // Tells which template is the least from 0, from 1 and from 2 that describes the tokens, and whether the run is dead.
-fn tell(run: &Run<'_>, told: &mut String) -> Result<(), Fail> {
+fn tell(run: &Run<'_>, reported: &mut String) -> Result<(), Fail> {
     for from in 0..3 {
         match run.accepted(from) {
-            Some(number) => write!(told, "{number} ")?,
-            None => told.push_str("- ")?,
+            Some(number) => write!(reported, "{number} ")?,
+            None => reported.push_str("- ")?,
         }
     }
-    told.push_str(if run.dead() { "dead; " } else { "live; " })?;
+    reported.push_str(if run.dead() { "dead; " } else { "live; " })?;
     Ok(())
 }
 
 /// What a run says of each of these lists of tokens; it begins anew for each but the first.
-fn told(alloc: Global, templates: &[&str], lists: &[&str]) -> Result<String, Fail> {
+fn reported(alloc: Global, templates: &[&str], lists: &[&str]) -> Result<String, Fail> {
     let set = set_of(alloc, templates)?;
     let mut run = Run::new(alloc, &set)?;
-    let mut told = String::new(alloc);
+    let mut reported = String::new(alloc);
     for (k, tokens) in lists.iter().enumerate() {
         if k > 0 {
             run.reset();
         }
         push_all(&mut run, tokens)?;
-        tell(&run, &mut told)?;
+        tell(&run, &mut reported)?;
     }
-    Ok(told)
+    Ok(reported)
 }
 
 /// The steps of a new run, once it has taken the tokens, and once it begins anew.
@@ -94,7 +94,7 @@ const HEADS: [&str; 5] = [
 ];
 
 #[test]
-fn templates_are_told_in_order(rt: HostRuntime) -> Result<(), Fail> {
+fn templates_are_reported_in_order(rt: HostRuntime) -> Result<(), Fail> {
     let table: &[(&[&str], &[&str], &str)] = &[
         (
             &TWO,
@@ -120,36 +120,36 @@ fn templates_are_told_in_order(rt: HostRuntime) -> Result<(), Fail> {
         ),
     ];
     for (templates, lists, expected) in table {
-        let told = told(rt.alloc(), templates, lists)?;
-        assert_eq!(&rt; told.as_str(), *expected);
+        let reported = reported(rt.alloc(), templates, lists)?;
+        assert_eq!(&rt; reported.as_str(), *expected);
     }
     Ok(())
 }
 
 // Tells the live templates of a machine, and whether it has any.
-fn tell_live(back: &Back<'_>, told: &mut String) -> Result<(), Fail> {
+fn tell_live(back: &Back<'_>, reported: &mut String) -> Result<(), Fail> {
     for number in back.live_numbers() {
-        write!(told, "{number} ")?;
+        write!(reported, "{number} ")?;
     }
-    told.push_str(if back.live() { "live; " } else { "dead; " })?;
+    reported.push_str(if back.live() { "live; " } else { "dead; " })?;
     Ok(())
 }
 
 /// What the machine answers after each token, taken from the end, and once it has begun anew.
-fn told_from_the_end(alloc: Global, tokens: &[&str]) -> Result<String, Fail> {
+fn reported_from_the_end(alloc: Global, tokens: &[&str]) -> Result<String, Fail> {
     let set = set_of(alloc, &TWO)?;
     let mut back = Back::new(alloc, &set)?;
-    let mut told = String::new(alloc);
+    let mut reported = String::new(alloc);
     for token in tokens {
         if !is_plain(token) {
             return Err(Fail::from("no token"));
         }
         back.push_front(token);
-        tell_live(&back, &mut told)?;
+        tell_live(&back, &mut reported)?;
     }
     back.reset();
-    tell_live(&back, &mut told)?;
-    Ok(told)
+    tell_live(&back, &mut reported)?;
+    Ok(reported)
 }
 
 #[test]
@@ -166,8 +166,8 @@ fn a_run_from_the_end_tells_what_begins_here(rt: HostRuntime) -> Result<(), Fail
         ),
     ];
     for (tokens, expected) in table {
-        let told = told_from_the_end(rt.alloc(), tokens)?;
-        assert_eq!(&rt; told.as_str(), *expected);
+        let reported = reported_from_the_end(rt.alloc(), tokens)?;
+        assert_eq!(&rt; reported.as_str(), *expected);
     }
     Ok(())
 }

@@ -32,7 +32,7 @@ fn named(alloc: Global, set: &Set) -> Result<String, Fail> {
 }
 
 /// What comes of templates: how they are numbered, or why they are no set. Of many, how many they are.
-fn told(alloc: Global, count: usize, ids: &str) -> Result<String, Fail> {
+fn reported(alloc: Global, count: usize, ids: &str) -> Result<String, Fail> {
     match Set::build(alloc, templates(alloc, count, ids)?) {
         Ok(set) if count > 0 => Ok(format!(in alloc; "{} templates", set.len())?),
         Ok(set) => named(alloc, &set),
@@ -57,8 +57,8 @@ fn templates_are_numbered_or_no_set(rt: HostRuntime) -> Result<(), Fail> {
         (4094, "K L M", "B2: more than 4096 templates"),
     ];
     for (count, ids, expected) in table {
-        let told = told(rt.alloc(), *count, ids)?;
-        assert_eq!(rt; told.as_str(), *expected, "{count} and {ids}");
+        let reported = reported(rt.alloc(), *count, ids)?;
+        assert_eq!(rt; reported.as_str(), *expected, "{count} and {ids}");
     }
     Ok(())
 }

@@ -1,7 +1,7 @@
 //! Compiled patterns: what the tree of each is and weighs, and what a run of it says of tokens.
 
 use lic_auto::compile_pattern;
-use lic_marks::{Node, Run};
+use lic_marks::{AnchoredMatcher, Node};
 use std::alloc::Global;
 use std::test::Fail;
 
@@ -69,7 +69,7 @@ fn a_counted_letter_is_one_node(rt: HostRuntime) -> Result<(), Fail> {
 }
 
 #[test]
-fn what_stands_many_times_is_compiled_once(rt: HostRuntime) -> Result<(), Fail> {
+fn what_occurs_many_times_is_compiled_once(rt: HostRuntime) -> Result<(), Fail> {
     let tree = tree_of(rt.alloc(), "(a|b){60000}")?;
     assert!(rt; matches!(&tree, Node::Repeat { weight: 120000, .. }));
     let tree = tree_of(rt.alloc(), "a||||||")?;
@@ -81,7 +81,7 @@ fn what_stands_many_times_is_compiled_once(rt: HostRuntime) -> Result<(), Fail> 
 fn outcome_of(alloc: Global, pattern: &str, tokens: &str) -> Result<(bool, bool), Fail> {
     let ere = lic_ere::read(alloc, pattern)?;
     let tree = compile_pattern(alloc, &ere)?;
-    let mut run = Run::new(alloc, tree)?;
+    let mut run = AnchoredMatcher::new(alloc, tree)?;
     for token in tokens.split('|') {
         if !token.is_empty() {
             run.push(token);

@@ -1,4 +1,4 @@
--- The source characters of any bytes, read from the front.
+-- The source characters of any bytes, read from the start.
 use Rattle.std.proofs.Common.{◌≡◌, ◌≢◌, ◌⊎◌, ℕ, zero, suc, ◌+◌, ◌-◌, ◌<◌, ◌≤◌, Bool, true, false, List, [], ◌∷◌, ◌++◌, length, take, drop, get_or, Option, Some, None, refl, sym, ap, ap₂, subst, ◌∙◌, append_assoc, append-nil, arith, inl, inr, ⊎_elim, length-append, length-take, true≢false, take-append-drop, take_at, drop_at, All}
 use Rattle.std.specs.Prelude.{find, is_some, unwrap_or, slice_index}
 use Rattle.std.specs.Option.{option_map_or}
@@ -11,7 +11,7 @@ use Rattle.std.proofs.lemmas.List.Elements.{All-nil, All-cons, All-head, All-tai
 use Rattle.std.proofs.Math.Seq.{get_or-append_seam}
 use Rattle.lic_lines.specs.Sources.{placed, chars_of}
 use Rattle.lic_lines.specs.declared.source.SourceChar.{SourceChar}
-use Rattle.lic_norm.specs.Sources.{width_of_first, first_width, first_char, source_behind, source_of, AreSourceChars}
+use Rattle.lic_norm.specs.Sources.{width_of_first, first_width, first_char, source_after, source_of, AreSourceChars}
 
 -- a character begins these bytes
 pub record Begins (bytes : List ℕ) : Type 0 where
@@ -20,7 +20,7 @@ pub record Begins (bytes : List ℕ) : Type 0 where
   pub scalar : IsScalar c
   pub parts : bytes ≡ encode_utf8 c ++ rest
 
--- a character begins a front of bytes that is UTF-8
+-- a character begins a prefix of bytes that is UTF-8
 begins_front : (bytes : List ℕ) (n : ℕ) → 0 < n → 0 < length bytes → IsUtf8 (take n bytes) → (b : Begins bytes) × (len_utf8 b.c ≤ n)
 begins_front bytes n some more u = by u.0 u.1.0 u.1.1
   where
@@ -112,12 +112,12 @@ begins_or_not bytes some = at (width_of_first bytes) refl
 
 -- ---- the first source character and the others
 
--- the source characters behind a character are those of what follows it
-behind_all : (front rest : List ℕ) (at : ℕ) → source_behind (length front) at (front ++ rest) ≡ source_behind 0 (at + length front) rest
-behind_all [] rest at = ap (λ n. source_behind 0 n rest) (let e : at ≡ at + 0 = omega arith in e)
+-- the source characters after a character are those of what follows it
+behind_all : (front rest : List ℕ) (at : ℕ) → source_after (length front) at (front ++ rest) ≡ source_after 0 (at + length front) rest
+behind_all [] rest at = ap (λ n. source_after 0 n rest) (let e : at ≡ at + 0 = omega arith in e)
 behind_all (b ∷ front) rest at =
     behind_all front rest (at + 1)
-    ∙ ap (λ n. source_behind 0 n rest) (let e : at + 1 + length front ≡ at + length (b ∷ front) = omega arith in e)
+    ∙ ap (λ n. source_after 0 n rest) (let e : at + 1 + length front ≡ at + length (b ∷ front) = omega arith in e)
 
 pub source_of-none : (at : ℕ) → source_of at [] ≡ []
 unfolding source_of
@@ -134,8 +134,8 @@ source_of-char at c rest scalar = by (encode_utf8 c) refl
         ∙ chars_past_char (encode_utf8 c) [] c (IsUtf8-encode c scalar) (sym (append-nil (encode_utf8 c))) ∙ ap (λ l. c ∷ l) chars-nil
 
     by : (front : List ℕ) → encode_utf8 c ≡ front
-        → source_behind 0 at (encode_utf8 c ++ rest)
-        ≡ (record { char = c; start = at; end = at + len_utf8 c }) ∷ source_behind 0 (at + len_utf8 c) rest
+        → source_after 0 at (encode_utf8 c ++ rest)
+        ≡ (record { char = c; start = at; end = at + len_utf8 c }) ∷ source_after 0 (at + len_utf8 c) rest
     by [] e = absurd (omega (arith, ap length e, length-encode c, len_utf8_bounds c))
     by (b ∷ front) e =
         let bytes = encode_utf8 c ++ rest in
@@ -146,11 +146,11 @@ source_of-char at c rest scalar = by (encode_utf8 c) refl
         ap (λ o. option_map_or (λ n. slice_index (chars (take n (b ∷ (front ++ rest)))) 0) o 0xFFFD) found
         ∙ ap (λ l. slice_index (chars (take (len_utf8 c) l)) 0) (sym same) ∙ ap (λ l. slice_index l 0) own in
         let long : len_utf8 c - 1 ≡ length front = omega (arith, ap length e, length-encode c) in
-        ap (source_behind 0 at) same
-        ∙ ap₂ (λ d w. (record { char = d; start = at; end = at + w }) ∷ source_behind (w - 1) (at + 1) (front ++ rest)) char width
+        ap (source_after 0 at) same
+        ∙ ap₂ (λ d w. (record { char = d; start = at; end = at + w }) ∷ source_after (w - 1) (at + 1) (front ++ rest)) char width
         ∙ ap (λ l. (record { char = c; start = at; end = at + len_utf8 c }) ∷ l)
-        (ap (λ n. source_behind n (at + 1) (front ++ rest)) long ∙ behind_all front rest (at + 1)
-        ∙ ap (λ n. source_behind 0 n rest) (let e : at + 1 + length front ≡ at + len_utf8 c = omega (arith, long, len_utf8_bounds c) in e))
+        (ap (λ n. source_after n (at + 1) (front ++ rest)) long ∙ behind_all front rest (at + 1)
+        ∙ ap (λ n. source_after 0 n rest) (let e : at + 1 + length front ≡ at + len_utf8 c = omega (arith, long, len_utf8_bounds c) in e))
 
 pub source_of-byte : (at b : ℕ) (rest : List ℕ) → StartsWithNoChar (b ∷ rest)
     → source_of at (b ∷ rest) ≡ (record { char = 0xFFFD; start = at; end = at + 1 }) ∷ source_of (at + 1) rest
@@ -163,7 +163,7 @@ source_of-byte at b rest none =
       start = at;
       end =
           at + unwrap_or o 1;
-    }) ∷ source_behind (unwrap_or o 1 - 1) (at + 1) rest) found
+    }) ∷ source_after (unwrap_or o 1 - 1) (at + 1) rest) found
 
 pub source_of-AreSourceChars : (at : ℕ) (bytes : List ℕ) → AreSourceChars at bytes (source_of at bytes)
 source_of-AreSourceChars at bytes = within (length bytes) at bytes (omega arith)
@@ -221,7 +221,7 @@ source_of-utf8 at text u =
     ap (source_of at) (sym (append-nil text)) ∙ source_of-text at text [] u
     ∙ ap (λ l. placed at (chars text) ++ l) (source_of-none (at + length text)) ∙ append-nil (placed at (chars text))
 
--- where one list goes on behind another
+-- where one list continues after another
 parts_behind : (zs xs ws ys : List ℕ) → xs ++ ys ≡ zs ++ ws → length zs ≤ length xs → (mid : List ℕ) × (xs ≡ zs ++ mid) × (ws ≡ mid ++ ys)
 parts_behind [] xs ws ys e le = (xs, refl, sym e)
 parts_behind (z ∷ zs) [] ws ys e le = absurd (omega arith)
@@ -234,7 +234,7 @@ no_char_sooner : (front rest : List ℕ) → StartsWithNoChar (front ++ rest) �
 no_char_sooner front rest none = λ c behind scalar parts.
     none c (behind ++ rest) scalar (ap (λ l. l ++ rest) parts ∙ append_assoc (encode_utf8 c) behind rest)
 
--- No character goes over an ASCII byte: what stands before it is read by itself.
+-- No character goes over an ASCII byte: what comes before it is read by itself.
 pub source_of-before_ascii : (at : ℕ) (front : List ℕ) (b : ℕ) (rest : List ℕ) → b < 128
     → source_of at (front ++ b ∷ rest) ≡ source_of at front ++ source_of (at + length front) (b ∷ rest)
 source_of-before_ascii at front b rest ascii = by (source_of-AreSourceChars at (front ++ b ∷ rest)) front refl

@@ -1,4 +1,4 @@
--- The source characters of an input lie in it one behind the other, and so do those of its cells.
+-- The source characters of an input lie in it one after the other, and so do those of its cells.
 use Rattle.std.proofs.Common.{◌≡◌, ℕ, zero, suc, ◌+◌, ◌-◌, ◌≤◌, Bool, List, [], ◌∷◌, ◌++◌, map, length, take, drop, refl, sym, ap, subst, ◌∙◌, arith, inl, inr, length-append, append-nil}
 use Rattle.std.specs.Prelude.{nat_le, if◌then◌else◌, Contains}
 use Rattle.std.specs.List.{flat_map, onto_first}

@@ -1,4 +1,4 @@
--- The edges of cells behind which a line's stand.
+-- The edges of cells after which a line's are.
 use Rattle.std.proofs.Common.{◌≡◌, ℕ, Bool, true, false, not, ◌&&◌, ◌==◌, List, [], ◌∷◌, ◌++◌, ◌⊎◌, inl, inr, refl, sym, ap, ◌∙◌, append_assoc}
 use Rattle.std.specs.List.{list_all}
 use Rattle.std.specs.Char.{is_whitespace}
@@ -67,7 +67,7 @@ begins-front : (xs ys : List Cell) → list_all is_blank xs ≡ false → begins
 begins-front [] ys is = absurd (false≢true (sym is))
 begins-front (x ∷ xs) ys is = refl
 
--- behind text, cells that end in a blank change the end alone
+-- after text, cells that end in a blank change the end alone
 pub HasEdges-blank : (edges : Edges) (before more cells : List Cell) → edges.has_text ≡ true → more ≡ cells ++ Blank ∷ [] → HasEdges edges before
     → HasEdges (record edges { ends_in_blank = true }) (before ++ more)
 HasEdges-blank edges before more cells text is has =

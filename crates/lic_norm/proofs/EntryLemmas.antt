@@ -120,7 +120,7 @@ module _ (spelling : List ℕ) (entries : List Entry) (tokens : List TokenValue)
       (λ blank. other (ap₂ (λ l n. get_or l n 0) same is ∙ eqb-true (get_or spelling end 0) 0x20 blank)) in
       is ∙ sym (cond-false (get_or spelling end 0 == 0x20) (suc end) end here) ∙ start_is
 
--- where a text stands, and what it is
+-- where a text is, and what it is
 module _ (spelling : List ℕ) (entries : List Entry) (tokens : List TokenValue) (i : ℕ) (kept : IsKept spelling entries tokens)
     (inside : i < length tokens) where
   pub end_is : (d : Entry) → (get_or entries i d).text_end ≡ place_end tokens i

@@ -1,4 +1,4 @@
--- The source characters at the front of bytes, and those of the rest.
+-- The source characters at the start of bytes, and those of the rest.
 use Rattle.std.proofs.Common.{◌≡◌, ℕ, suc, ◌+◌, ◌<◌, ◌≤◌, List, [], ◌∷◌, ◌++◌, length, take, drop, get_or, refl, sym, ap, subst, ◌∙◌, append_assoc, append-nil, arith, not, take-append-drop, drop-cons}
 use Rattle.std.specs.Str.{IsUtf8, chars, StartsWithNoChar}
 use Rattle.std.proofs.lemmas.Bool.{cond-true}
@@ -10,7 +10,7 @@ use Rattle.lic_lines.specs.declared.source.SourceChar.{SourceChar}
 use Rattle.lic_norm.specs.Sources.{source_of}
 use Rattle.lic_norm.proofs.AnyBytes.{source_of-none, source_of-text, source_of-byte}
 
--- the characters of a text at the front are read, and the rest is left
+-- the characters of a text at the start are read, and the rest is left
 pub text_read : (out out' : List SourceChar) (at : ℕ) (bytes text : List ℕ) → IsUtf8 text → length text ≤ length bytes → text ≡ take (length text) bytes
     → out' ≡ out ++ without_dropped (placed at (chars text))
     → out' ++ without_dropped (source_of (at + length text) (drop (length text) bytes)) ≡ out ++ without_dropped (source_of at bytes)
@@ -43,7 +43,7 @@ byte_read out at n bytes within none =
     ∙ cond-true (not (is_dropped 0xFFFD)) (single ∷ without_dropped (source_of (at + (n + 1)) rest))
     (without_dropped (source_of (at + (n + 1)) rest)) refl))
 
--- behind the last byte nothing is left
+-- after the last byte nothing is left
 pub all_read : (out : List SourceChar) (at n : ℕ) (bytes : List ℕ) → length bytes ≤ n → out ≡ out ++ without_dropped (source_of (at + n) (drop n bytes))
 all_read out at n bytes all = sym
     (ap (λ l. out ++ without_dropped l) (ap (source_of (at + n)) (drop_all n bytes all) ∙ source_of-none (at + n))

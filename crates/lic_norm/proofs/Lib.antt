@@ -1,5 +1,5 @@
 pub mod AnyBytes
-pub mod ValidFronts
+pub mod ValidPrefixes
 pub mod FrontChars
 pub mod Refused
 pub mod EntryLemmas

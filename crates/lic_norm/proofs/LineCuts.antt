@@ -22,7 +22,7 @@ abbrev pub line_end : List ℕ → Option ℕ → ℕ
 line_end bytes (Some place) = place + 1
 line_end bytes None = length bytes
 
--- the first U+000A that was found, and what stands before it
+-- the first U+000A that was found, and what comes before it
 pub found_end : (bytes : List ℕ) (place : ℕ) → IsFirstByte (is_byte 0x0A) bytes (Some place)
     → (take (place + 1) bytes ≡ take place bytes ++ 0x0A ∷ []) × All (λ c. c ≢ 0x0A) (take place bytes)
     × (place < length bytes)
@@ -41,7 +41,7 @@ found_none bytes h =
     let none : HasNoEnd bytes = λ k lt at. h k (omega arith) lt (eq-eqb _ _ at) in
     All-from_get_or (λ c. c ≢ 0x0A) bytes 0 none
 
--- the last U+000A that was found, and what stands before it and after it
+-- the last U+000A that was found, and what comes before it and after it
 pub found_last : (bytes : List ℕ) (place : ℕ) → IsLastByte (is_byte 0x0A) bytes (Some place)
     → (take (place + 1) bytes ≡ take place bytes ++ 0x0A ∷ []) × All (λ c. c ≢ 0x0A) (drop (place + 1) bytes)
     × (place < length bytes) × (get_or bytes place 0 ≡ 0x0A)
@@ -99,7 +99,7 @@ chars-no_end bytes text none =
     let each : HasNoEnd bytes = λ k lt. All-get_or (λ c. c ≢ 0x0A) bytes k 0 lt none in
     encoded-no_end (chars bytes) (subst HasNoEnd (sym (encodes-chars bytes text)) each)
 
--- The first line of the bytes of a text is its first line, and no character is cut behind it.
+-- The first line of the bytes of a text is its first line, and no character is cut after it.
 module _ (bytes : List ℕ) (n : ℕ) (text : IsUtf8 bytes) (within : n ≤ length bytes) (first : IsFirstLine (take n bytes) (drop n bytes)) where
   feed_at : take n bytes ≡ first.front ++ 0x0A ∷ []
       → (length first.front < length bytes) × (get_or bytes (length first.front) 0 ≡ 0x0A)

@@ -1,4 +1,4 @@
--- Things that lie in a source one behind the other, each from its first byte up to the end of its last.
+-- Things that lie in a source one after the other, each from its first byte up to the end of its last.
 use Rattle.std.proofs.Common.{ℕ, zero, suc, ◌<◌, ◌≤◌, Bool, List, [], ◌∷◌, ◌++◌, take, drop, subst, sym, arith, inl, inr}
 use Rattle.std.specs.Prelude.{filter}
 use Rattle.std.proofs.lemmas.Bool.{cases_Bool, cond-true, cond-false}

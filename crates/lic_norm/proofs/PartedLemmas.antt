@@ -1,4 +1,4 @@
--- Where a blank stands between letters of ASCII.
+-- Where a blank is between letters of ASCII.
 use Rattle.std.proofs.Common.{◌≡◌, ℕ, zero, suc, ◌+◌, ◌<◌, ◌&&◌, Bool, true, false, List, [], ◌∷◌, ◌++◌, length, take, reverse, get_or, refl, sym, ap, ap₂, ◌∙◌, arith}
 use Rattle.std.specs.Prelude.{IsAscii}
 use Rattle.std.specs.Str.{chars, IsUtf8}
@@ -12,7 +12,7 @@ and-false : (b : Bool) → (b && false) ≡ false
 and-false true = refl
 and-false false = refl
 
--- nothing stands before the text
+-- nothing comes before the text
 pub none_before : (spelling text : List ℕ) → length spelling < 1 → false ≡ is_parted spelling text
 none_before [] text few = sym (ap (λ b. b && begins_in_word text) no_last_letter)
 none_before (b ∷ spelling) text few = absurd (omega arith)

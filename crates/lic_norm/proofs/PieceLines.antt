@@ -49,7 +49,7 @@ no_cells rules false LineEnd = refl
 no_cells rules false Var = refl
 no_cells rules false Optional = refl
 
--- what is made of cells that a blank parts: of those up to it, and of those behind it
+-- what is made of cells that a blank parts: of those up to it, and of those after it
 module _ (rules : LineRules) {A : Type 0} (made : List Cell → List A) (none : made [] ≡ [])
     (parts : (xs ys : List Cell) → made (xs ++ Blank ∷ ys) ≡ made (xs ++ Blank ∷ []) ++ made ys) (before : Next) where
   first_line_made : (has_front : Bool) (line rest : List SourceChar) (letters behind : List ℕ)
@@ -174,7 +174,7 @@ module _ (rules : LineRules) (part : LinePart) (has_front : Bool) (before : Next
   pub line_tokens-is : line_tokens rules part line' ≡ line_tokens rules (part_of has_front before here) here
   line_tokens-is = let p = parted ∙ ap (part_of has_front before) same in ap₂ (line_tokens rules) p same'
 
--- behind the last line nothing is left
+-- after the last line nothing is left
 pub no_more_cells : (rules : LineRules) (has_front : Bool) (before : Next) (text : List ℕ) (at : ℕ)
     (cells all : List Cell) → length text ≤ at → cells ++ piece_cells rules has_front before (drop at text) ≡ all
     → cells ≡ all

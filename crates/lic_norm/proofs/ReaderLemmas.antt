@@ -20,7 +20,7 @@ use Rattle.lic_norm.proofs.WholeLines.{first_tokens_of-lines, lines_read-is}
 abbrev NoEnd : ℕ → Type 0
 NoEnd b = b ≢ 0x0A
 
--- the rest is a slice and the rest behind it
+-- the rest is a slice and the rest after it
 rest_parts : (source : List ℕ) (at mid : ℕ) → at ≤ mid → drop at source ≡ slice_range source at mid ++ drop mid source
 rest_parts source at mid le =
     sym (take-append-drop (mid - at) (drop at source))
@@ -35,7 +35,7 @@ rest_line source at n first =
     subst (λ l. IsFirstLine l (drop (at + n) source)) (ap (λ k. take k (drop at source)) (let e : n ≡ at + n - at = omega arith in e))
     (subst (λ l. IsFirstLine (take n (drop at source)) l) (drop-drop n at source) first)
 
--- lines behind lines
+-- lines after lines
 pub more_lines : (source : List ℕ) (at n : ℕ) → AreLines (take at source) → AreLines (take n (drop at source)) → AreLines (take (at + n) source)
 more_lines source at n before (inl none) =
     subst AreLines (sym (take-add at n source ∙ ap (λ l. take at source ++ l) none ∙ append-nil (take at source))) before
@@ -65,7 +65,7 @@ module _ (source : List ℕ) (from place : ℕ) (found : IsLastByte (is_byte 0x0
       (get_or-drop at source (from + place - at) 0 ∙ ap (λ k. get_or source k 0) there
       ∙ sym (get_or-drop from source place 0) ∙ (found_last (drop from source) place found).3)
 
-  -- and there is none from each place behind it
+  -- and there is none from each place after it
   pub none_later : (at : ℕ) → from + place < at → All NoEnd (drop at source)
   none_later at behind =
       let there : from + (place + 1) + (at - (from + place + 1)) ≡ at = omega arith in
@@ -74,7 +74,7 @@ module _ (source : List ℕ) (from place : ℕ) (found : IsLastByte (is_byte 0x0
       ∙ drop-drop (at - (from + place + 1)) (from + (place + 1)) source ∙ ap (λ k. drop k source) there)
       (All-drop NoEnd (at - (from + place + 1)) (drop (place + 1) (drop from source)) (found_last (drop from source) place found).1)
 
--- behind the last line that has ended there is no U+000A
+-- after the last line that has ended there is no U+000A
 pub no_more_ends : (source : List ℕ) (at searched : ℕ) → at ≤ searched → All NoEnd (slice_range source at searched)
     → IsLastByte (is_byte 0x0A) (drop searched source) None → All NoEnd (drop at source)
 no_more_ends source at searched order clear none =

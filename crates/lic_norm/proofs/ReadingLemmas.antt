@@ -28,7 +28,7 @@ pub listed-more : (before given : List SpannedText) (tokens tokens' : List Token
     → tokens' ≡ tokens ++ map reported given → tokens' ≡ map reported (before ++ given)
 listed-more before given tokens tokens' listed more = more ∙ ap (λ l. l ++ map reported given) listed ∙ sym (map-append reported before given)
 
--- behind what is settled nothing waits to be listed
+-- after what is settled nothing waits to be listed
 pub nothing_waits : (spellings : List (List ℕ)) (settled : List SpannedText) (output : List FinalToken) → output ≡ []
     → settled ++ map (spanned_in spellings) output ≡ settled
 nothing_waits spellings settled output none = ap (λ l. settled ++ map (spanned_in spellings) l) none ∙ append-nil settled

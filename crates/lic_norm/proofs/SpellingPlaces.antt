@@ -1,4 +1,4 @@
--- Where the texts of tokens stand in their canonical spelling.
+-- Where the texts of tokens are in their canonical spelling.
 use Rattle.std.proofs.Common.{◌≡◌, ℕ, zero, suc, ◌+◌, ◌-◌, ◌≤◌, ◌<◌, ◌==◌, ◌&&◌, Bool, true, false, List, [], ◌∷◌, ◌++◌, length, map, take, drop, reverse, get_or, All, refl, sym, ap, ap₂, subst, ◌∙◌, arith, append_assoc, append-nil, length-append}
 use Rattle.std.specs.List.{slice_range}
 use Rattle.std.specs.Str.{chars, IsUtf8}
@@ -69,7 +69,7 @@ first_of_front : (xs ys : List ℕ) → 0 < length xs → first_is_word (xs ++ y
 first_of_front [] ys some = absurd (omega arith)
 first_of_front (x ∷ xs) ys some = refl
 
--- what stands before a text has no effect on how it ends
+-- what comes before a text has no effect on how it ends
 ends_as : (front text : List ℕ) → IsUtf8 front → IsUtf8 text → 0 < length text → ends_in_word (front ++ text) ≡ ends_in_word text
 ends_as front text front_utf8 utf8 some =
     let some_letters : 0 < length (reverse (chars text)) = omega (arith, length-reverse (chars text), has_letters text utf8 some) in
@@ -150,7 +150,7 @@ after_blank false before (c ∷ text) more is =
     (ap (λ b. b == 0x20) (get_or-append_seam before c (text ++ more) 0) ∙ no_blank_first c text is)
     ∙ sym (ap length (append-nil before))
 
--- a text stands between a front of the spelling and more
+-- a text is between a prefix of the spelling and more
 pub record Stands (before : List (List ℕ)) (text : List ℕ) (after : List (List ℕ)) : Type 0 where
   pub front : List ℕ
   pub more : List ℕ
@@ -181,7 +181,7 @@ stands before text after known utf8 is are =
       order = omega (arith, length-append (spelled before) blank);
     }
 
--- a text is a slice of what it stands in
+-- a text is a slice of what it is in
 pub slice_parts : (whole front text more : List ℕ) (start end : ℕ) → whole ≡ front ++ (text ++ more) → start ≡ length front
     → end ≡ length front + length text → slice_range whole start end ≡ text
 slice_parts whole front text more start end parts starts ends =
@@ -206,7 +206,7 @@ pub length-texts_of : (tokens : List TokenValue) → length (texts_of tokens) �
 length-texts_of [] = refl
 length-texts_of (t ∷ tokens) = ap suc (length-texts_of tokens)
 
--- the text of a token stands between a front of the spelling and more
+-- the text of a token is between a prefix of the spelling and more
 pub record StandsAt (tokens : List TokenValue) (i : ℕ) (whole text : List ℕ) : Type 0 where
   pub front : List ℕ
   pub more : List ℕ

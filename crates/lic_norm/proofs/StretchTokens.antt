@@ -17,7 +17,7 @@ length-span_tokens after_blank at before letters [] ends same = refl
 length-span_tokens after_blank at before letters (s ∷ starts) [] same = absurd (omega arith)
 length-span_tokens after_blank at before letters (s ∷ starts) (e ∷ ends) same = ap suc (length-span_tokens false at e letters starts ends (omega arith))
 
--- whether a blank stands before the token with this number
+-- whether a blank comes before the token with this number
 abbrev pub blank_before : Bool → ℕ → List ℕ → List ℕ → ℕ → Bool
 blank_before after_blank before starts ends zero = after_blank || nat_lt before (get_or starts 0 0)
 blank_before after_blank before starts ends (suc i) = nat_lt (get_or ends i 0) (get_or starts (suc i) 0)

@@ -1,4 +1,4 @@
--- The tokens of an input lie in it one behind the other.
+-- The tokens of an input lie in it one after the other.
 use Rattle.std.proofs.Common.{ℕ, zero, suc, ◌-◌, ◌<◌, ◌≤◌, Bool, true, false, List, [], ◌∷◌, map, length, take, drop, get_or, ◌&&◌, sym, subst, arith, All, inl, inr}
 use Rattle.std.specs.Prelude.{Option, Some, None, codes, encode_utf8_all}
 use Rattle.std.specs.List.{flat_map}
@@ -12,7 +12,7 @@ use Rattle.lic_lines.specs.Tokens.{Token, both_words, tokens_from, first_tokens,
 use Rattle.lic_lines.specs.declared.source.SourceChar.{SourceChar}
 use Rattle.lic_lines.specs.declared.cell.Cell.{Cell}
 use Rattle.lic_lines.specs.declared.cell.Cell.TheVariants.{Blank, Mark, Word}
-use Rattle.lic_phrases.specs.Rewriting.{Phrase, end_of_last, both_signs, sign_of_row, sign_rows, begins_authority, https_as_http, longest_phrase, count_behind, first_as, phrases_behind, phrases_joined, spanned}
+use Rattle.lic_phrases.specs.Rewriting.{Phrase, end_of_last, both_signs, sign_of_row, sign_rows, begins_authority, https_as_http, longest_phrase, count_after, first_as, phrases_after, phrases_joined, spanned}
 use Rattle.lic_norm.specs.Tokens.{TokenValue, reported, first_tokens_of, tokens_of}
 use Rattle.lic_norm.specs.Sources.{source_of}
 use Rattle.lic_norm.specs.Spans.{AreRising, EndsAt, IsOnBoundaries, AreSpans}
@@ -127,22 +127,22 @@ module _ (source : List ℕ) where
 
   -- ---- phrases
 
-  -- the tokens behind some that are joined to the first
+  -- the tokens after some that are joined to the first
   behind-Lie : (n : ℕ) (t : Token) (ts : List Token) (to : ℕ) → TokensLie source t.end ts to → TokensLie source (end_of_last t (take n ts)) (drop n ts) to
   behind-Lie zero t ts to l = l
   behind-Lie (suc n) t [] to l = l
   behind-Lie (suc n) t (u ∷ ts) to l = behind-Lie n u ts to l.4
 
   phrases-Lie : (words : List Phrase) (n : ℕ) (from : ℕ) (ts : List Token) (to : ℕ)
-      → TokensLie source from (drop n ts) to → TokensLie source from (phrases_behind words n ts) to
+      → TokensLie source from (drop n ts) to → TokensLie source from (phrases_after words n ts) to
   phrases-Lie words zero from [] to l = l
   phrases-Lie words (suc n) from [] to l = l
   phrases-Lie words (suc n) from (t ∷ ts) to l = phrases-Lie words n from ts to l
   phrases-Lie words zero from (t ∷ ts) to l = at (longest_phrase words (t ∷ ts)) (λ n low rest. phrases-Lie words n low ts to rest)
     where
       at : (phrase : Option Phrase)
-          → ((n low : ℕ) → TokensLie source low (drop n ts) to → TokensLie source low (phrases_behind words n ts) to)
-          → TokensLie source from (first_as phrase t ts ∷ phrases_behind words (count_behind phrase) ts) to
+          → ((n low : ℕ) → TokensLie source low (drop n ts) to → TokensLie source low (phrases_after words n ts) to)
+          → TokensLie source from (first_as phrase t ts ∷ phrases_after words (count_after phrase) ts) to
       at None more = (l.0, l.1, l.2, l.3, more 0 t.end l.4)
       at (Some p) more =
           let n = length p.texts - 1 in

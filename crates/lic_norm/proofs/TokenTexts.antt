@@ -25,7 +25,7 @@ use Rattle.lic_lines.specs.LineRules.{LineRules}
 use Rattle.lic_lines.specs.Lines.{whole_line, blank_for, cell_of, cut_of, cells_of, line_cells}
 use Rattle.lic_lines.specs.Runs.{same_mark, same_family, without_separator, without_separators, joined, runs_joined}
 use Rattle.lic_lines.specs.Tokens.{Token, both_words, letters_of, tokens_from, first_tokens, is_text, is_sign_in_parentheses, sign_from, as_sign, single_signs, text_tokens_after}
-use Rattle.lic_phrases.specs.Rewriting.{Phrase, both_signs, sign_of_row, sign_rows, begins_authority, https_as_http, stands, longer, longest_phrase, count_behind, first_as, phrases_behind, phrases_joined, spanned, rewritten, SpannedText}
+use Rattle.lic_phrases.specs.Rewriting.{Phrase, both_signs, sign_of_row, sign_rows, begins_authority, https_as_http, begin_with_texts, longer, longest_phrase, count_after, first_as, phrases_after, phrases_joined, spanned, rewritten, SpannedText}
 use Rattle.lic_phrases.specs.Settling.{Kept, Settles, left_of}
 use Rattle.lic_phrases.specs.TokenTexts.{IsTokenText, HaveTokenTexts}
 use Rattle.lic_norm.specs.Sources.{source_of}
@@ -301,27 +301,27 @@ longest-has : (words : List Phrase) (ts : List Token) → HaveTokenTexts words �
 longest-has [] ts h = tt
 longest-has (p ∷ words) ts h =
     let rest = longest-has words ts (All-tail (λ q. IsTokenText q.spelling) p words h) in
-    elim (cases_Bool (stands p.texts ts)) [
+    elim (cases_Bool (begin_with_texts p.texts ts)) [
       | inl here ↦ subst HasSpelling
-          (sym (cond-true (stands p.texts ts) (Some (longer p (longest_phrase words ts)))
+          (sym (cond-true (begin_with_texts p.texts ts) (Some (longer p (longest_phrase words ts)))
           (longest_phrase words ts) here))
           (longer-has p (longest_phrase words ts) (All-head (λ q. IsTokenText q.spelling) p words h) rest)
       | inr no_such ↦ subst HasSpelling
-          (sym (cond-false (stands p.texts ts) (Some (longer p (longest_phrase words ts)))
+          (sym (cond-false (begin_with_texts p.texts ts) (Some (longer p (longest_phrase words ts)))
           (longest_phrase words ts) no_such)) rest
     ]
 
-phrases-texts : (words : List Phrase) (n : ℕ) (ts : List Token) → HaveTokenTexts words → HaveTexts ts → HaveTexts (phrases_behind words n ts)
+phrases-texts : (words : List Phrase) (n : ℕ) (ts : List Token) → HaveTokenTexts words → HaveTexts ts → HaveTexts (phrases_after words n ts)
 phrases-texts words n [] known h = none_have
 phrases-texts words (suc n) (t ∷ ts) known h = phrases-texts words n ts known (rest_have t ts h)
 phrases-texts words zero (t ∷ ts) known h =
     at (longest_phrase words (t ∷ ts))
     (longest-has words (t ∷ ts) known) (λ n. phrases-texts words n ts known (rest_have t ts h))
   where
-    at : (phrase : Option Phrase) → HasSpelling phrase → ((n : ℕ) → HaveTexts (phrases_behind words n ts))
-        → HaveTexts (first_as phrase t ts ∷ phrases_behind words (count_behind phrase) ts)
-    at None g more = more_have t (phrases_behind words 0 ts) (first_has t ts h) (more 0)
-    at (Some p) g more = more_have (first_as (Some p) t ts) (phrases_behind words (length p.texts - 1) ts) g (more (length p.texts - 1))
+    at : (phrase : Option Phrase) → HasSpelling phrase → ((n : ℕ) → HaveTexts (phrases_after words n ts))
+        → HaveTexts (first_as phrase t ts ∷ phrases_after words (count_after phrase) ts)
+    at None g more = more_have t (phrases_after words 0 ts) (first_has t ts h) (more 0)
+    at (Some p) g more = more_have (first_as (Some p) t ts) (phrases_after words (length p.texts - 1) ts) g (more (length p.texts - 1))
 
 reported-texts : (ts : List Token) → HaveTexts ts → AreTokenTexts (map reported (map spanned ts))
 reported-texts [] h = All-nil (λ t. IsTokenText t.text)
@@ -330,7 +330,7 @@ reported-texts (t ∷ ts) h = All-cons (λ u. IsTokenText u.text) (reported (spa
 
 -- ---- of a text
 
--- the texts of the tokens that cells give, where a blank stands before them or does not
+-- the texts of the tokens that cells give, where a blank comes before them or does not
 joined-texts : (rules : LineRules) (after_blank : Bool) (cells : List Cell) → KindsFit cells
     → HaveTexts (tokens_from after_blank (groups both_words (runs_joined rules cells)))
 joined-texts rules after_blank cells fit =

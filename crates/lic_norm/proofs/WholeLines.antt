@@ -1,4 +1,4 @@
--- Whole lines at the front of an input, and what comes behind them.
+-- Whole lines at the start of an input, and what comes after them.
 use Rattle.std.proofs.Common.{◌≡◌, ◌≢◌, ℕ, ◌+◌, ◌-◌, ◌==◌, ◌||◌, ◌≤◌, Bool, true, false, not, List, [], ◌∷◌, ◌++◌, length, take, drop, refl, sym, ap, ap₂, ◌∙◌, append_assoc, append-nil, arith, All, inl, inr, length-append, length-take-le, eqb-true, lit<, take-add}
 use Rattle.std.specs.List.{flat_map, list_any, slice_range}
 use Rattle.std.proofs.lemmas.Bool.{cond-true, cond-false, false_from_ne_true}
@@ -23,7 +23,7 @@ ends s = s.char == 0x0A
 
 -- ---- source characters
 
--- a U+000A in an input is read by itself, and what stands before it and behind it as well
+-- a U+000A in an input is read by itself, and what comes before it and after it as well
 source_of-feed : (at : ℕ) (front behind : List ℕ)
     → source_of at (front ++ 0x0A ∷ behind)
     ≡ source_of at front ++ (record { char = 0x0A; start = at + length front; end = at + length front + 1 })
@@ -42,7 +42,7 @@ kept_feed xs feed ys is =
 
 -- ---- tokens
 
--- the tokens of whole lines come first, and then those of what is behind them
+-- the tokens of whole lines come first, and then those of what is after them
 pub first_tokens_of-lines : (rules : LineRules) (at : ℕ) (lines behind : List ℕ) → AreLines lines
     → first_tokens_of rules at (lines ++ behind)
     ≡ first_tokens_of rules at lines ++ first_tokens_of rules (at + length lines) behind
@@ -90,7 +90,7 @@ first_tokens_of-line rules at line rest first =
 take_more_range : (source : List ℕ) (at end : ℕ) → at ≤ end → take end source ≡ take at source ++ slice_range source at end
 take_more_range source at end le = ap (λ n. take n source) (let e : end ≡ at + (end - at) = omega arith in e) ∙ take-add at (end - at) source
 
--- more bytes are taken behind whole lines
+-- more bytes are taken after whole lines
 pub more_bytes : (rules : LineRules) (source : List ℕ) (at end : ℕ) → AreLines (take at source) → at ≤ end → end ≤ length source
     → first_tokens_of rules 0 (take at source) ++ first_tokens_of rules at (slice_range source at end) ≡ first_tokens_of rules 0 (take end source)
 more_bytes rules source at end lines order within =
@@ -100,7 +100,7 @@ more_bytes rules source at end lines order within =
     ∙ first_tokens_of-lines rules 0 (take at source) more lines
     ∙ ap (λ n. first_tokens_of rules 0 (take at source) ++ first_tokens_of rules n more) long)
 
--- one more line is taken behind whole lines
+-- one more line is taken after whole lines
 pub one_more_line : (rules : LineRules) (source : List ℕ) (at end : ℕ) → AreLines (take at source) → at ≤ end
     → end ≤ length source → IsFirstLine (slice_range source at end) (drop end source)
     → first_tokens_of rules 0 (take at source) ++ line_tokens_of rules at (slice_range source at end) ≡ first_tokens_of rules 0 (take end source)

@@ -31,7 +31,7 @@ is_line_end Optional = false
 abbrev pub ends_in_feed : List SourceChar → Bool
 ends_in_feed line = ends_in (λ c. c == 0x0A) (λ front. true) (chars_of line)
 
--- What is there of a line of a piece. A line that ends in U+000A has its end, and nothing stands behind it; the last one may be cut off by a rule.
+-- What is there of a line of a piece. A line that ends in U+000A has its end, and nothing comes after it; the last one may be cut off by a rule.
 abbrev pub part_of : Bool → Next → List SourceChar → LinePart
 part_of has_front before line =
     if ends_in_feed line then record { has_front = has_front; has_end = true; behind = None }

@@ -1,4 +1,4 @@
--- Where the texts of tokens stand in their canonical spelling. A place is a number of bytes of it.
+-- Where the texts of tokens are in their canonical spelling. A place is a number of bytes of it.
 use Rattle.std.specs.Prelude.{◌≡◌, ℕ, suc, ◌-◌, ◌<◌, List, [], length, map, slice_index_or, take}
 use Rattle.lic_phrases.specs.Spelling.{spelled}
 use Rattle.lic_norm.specs.Tokens.{TokenValue}

@@ -18,19 +18,19 @@ abbrev pub first_char : List ℕ → ℕ
 first_char bytes = option_map_or (λ n. slice_index (chars (take n bytes)) 0) (width_of_first bytes) 0xFFFD
 
 -- the source characters of bytes that begin at this byte of the input, where the first n lie in a character that begins before them
-abbrev pub source_behind : ℕ → ℕ → List ℕ → List SourceChar
-source_behind n at [] = []
-source_behind (suc n) at (byte ∷ bytes) = source_behind n (at + 1) bytes
-source_behind zero at (byte ∷ bytes) =
+abbrev pub source_after : ℕ → ℕ → List ℕ → List SourceChar
+source_after n at [] = []
+source_after (suc n) at (byte ∷ bytes) = source_after n (at + 1) bytes
+source_after zero at (byte ∷ bytes) =
     let width = first_width (byte ∷ bytes) in
-    record { char = first_char (byte ∷ bytes); start = at; end = at + width } ∷ source_behind (width - 1) (at + 1) bytes
+    record { char = first_char (byte ∷ bytes); start = at; end = at + width } ∷ source_after (width - 1) (at + 1) bytes
 
 -- The source characters of bytes that begin at this byte of the input: its characters in UTF-8, and U+FFFD for each byte that lies in no
 -- character begun before it, and at which none begins.
 unfoldable pub source_of : ℕ → List ℕ → List SourceChar
-source_of at bytes = source_behind 0 at bytes
+source_of at bytes = source_after 0 at bytes
 
--- These are the source characters of bytes that begin at this byte of the input, read from the front: a character where one begins, and
+-- These are the source characters of bytes that begin at this byte of the input, read from the start: a character where one begins, and
 -- U+FFFD for one byte where none begins.
 pub data AreSourceChars : ℕ → List ℕ → List SourceChar → Type 0 where
   no_bytes : (at : ℕ) → AreSourceChars at [] []

@@ -52,7 +52,7 @@ fn push_text(characters: &mut Vec<SourceChar>, at: u32, text: &str) -> Result<()
 }
 
 /// The longest front of these bytes that is UTF-8.
-fn valid_front(bytes: &[u8]) -> &str
+fn valid_prefix(bytes: &[u8]) -> &str
     ensures within { length result.now ≤ length bytes.now }
     ensures front { result.now ≡ take (length result.now) bytes.now }
     ensures longest { StartsWithNoChar (drop (length result.now) bytes.now) }
@@ -63,7 +63,7 @@ fn valid_front(bytes: &[u8]) -> &str
     }
 }
 
-/// Adds the source characters at the front of these bytes, which begin at this byte of the input: those of the longest
+/// Adds the source characters at the start of these bytes, which begin at this byte of the input: those of the longest
 /// text, and U+FFFD for the byte after it. The answer is how many bytes were read.
 fn push_front(characters: &mut Vec<SourceChar>, at: u32, bytes: &[u8]) -> Result<usize, AllocError>
     requires some { 0 < length bytes.now }
@@ -74,7 +74,7 @@ fn push_front(characters: &mut Vec<SourceChar>, at: u32, bytes: &[u8]) -> Result
         ++ without_dropped (source_of (at + n) (drop n bytes.now))
         ≡ characters.old.items ++ without_dropped (source_of at bytes.now)) }
 {
-    let text = valid_front(bytes);
+    let text = valid_prefix(bytes);
     push_text(characters, at, text)?;
     let length = text.len();
     if length == bytes.len() {

@@ -7,10 +7,10 @@ ghost use Rattle.lic_norm.specs.Reading.{HasTaken, HasTakenSome};
 ghost use Rattle.lic_norm.specs.Tokens.{first_tokens_of, line_tokens_of};
 
 use crate::characters::read_characters;
-use crate::rewriting::{PartRoom, Rewriting};
+use crate::rewriting::{PartBuffers, Rewriting};
 use crate::stretch::Stretch;
 use lic_columns::Lines;
-use lic_lines::{LinePart, Room, Rules, SourceChar, left_of_line};
+use lic_lines::{Buffers, LinePart, Rules, SourceChar, left_of_line};
 use simdutf8::compat::from_utf8;
 use std::alloc::{AllocError, Global};
 
@@ -38,24 +38,24 @@ const MAX_KEPT: usize = 65_536;
 
 /// Room for the work on lines, kept from one to the next. What it holds has no effect.
 #[derive(Drop)]
-pub(crate) struct LineRoom {
+pub(crate) struct LineBuffers {
     /// The characters of a line that is not ASCII.
     characters: Vec<SourceChar>,
     /// The letters of a token of such a line.
     letters: String,
-    room: PartRoom,
+    room: PartBuffers,
     /// Lines of ASCII.
     lines: Lines,
 }
 
-impl LineRoom {
+impl LineBuffers {
     /// Room that takes no memory yet.
-    pub(crate) fn new(alloc: Global) -> LineRoom {
-        LineRoom {
+    pub(crate) fn new(alloc: Global) -> LineBuffers {
+        LineBuffers {
             characters: Vec::new(alloc),
             letters: String::new(alloc),
-            room: PartRoom {
-                room: Room::new(alloc),
+            room: PartBuffers {
+                room: Buffers::new(alloc),
                 tokens: Vec::new(alloc),
             },
             lines: Lines::new(alloc),
@@ -79,7 +79,7 @@ pub(crate) fn take_any_line(
     rules: &Rules,
     at: u32,
     line: &[u8],
-    room: &mut LineRoom,
+    room: &mut LineBuffers,
     rewriting: &mut Rewriting<'_>,
 ) -> Result<(), AllocError>
     requires fits { at + length line.now < 2 ^ 32 }
@@ -88,7 +88,7 @@ pub(crate) fn take_any_line(
         → HasTaken rewriting.new (taken ++ line_tokens_of (rules_of rules.now) at line.now)) }
     ensures phrases { rewriting.new.phrases.now ≡ rewriting.old.phrases.now }
 {
-    let LineRoom {
+    let LineBuffers {
         characters,
         letters,
         room,
@@ -108,7 +108,7 @@ pub(crate) fn take_ascii(
     rules: &Rules,
     at: u32,
     text: &str,
-    room: &mut LineRoom,
+    room: &mut LineBuffers,
     rewriting: &mut Rewriting<'_>,
 ) -> Result<(), AllocError>
     requires ascii { IsAscii text.now }

@@ -34,7 +34,7 @@ pub(crate) fn text_line_end(text: &str) -> usize
 }
 
 /// How long the front of these bytes is up to the first block that is not ASCII.
-fn ascii_front(bytes: &[u8]) -> usize
+fn ascii_prefix(bytes: &[u8]) -> usize
     ensures { result ≤ length bytes.now }
 {
     let mut front = 0;
@@ -48,14 +48,14 @@ fn ascii_front(bytes: &[u8]) -> usize
     front
 }
 
-/// Where the lines in front of these bytes end that are read together: those that end before the first block that is not ASCII,
+/// Where the lines at the start of these bytes end that are read together: those that end before the first block that is not ASCII,
 /// and otherwise the first line.
 pub(crate) fn lines_end(bytes: &[u8]) -> usize
     ensures within { result ≤ length bytes.now }
     ensures lines { AreLines (take result bytes.now) ⊎ All (λ b. b ≢ 0x0A) bytes.now }
     ensures some { 0 < length bytes.now → 0 < result }
 {
-    let front = ascii_front(&bytes[..MAX_TOGETHER.min(bytes.len())]);
+    let front = ascii_prefix(&bytes[..MAX_TOGETHER.min(bytes.len())]);
     match memrchr(b'\n', &bytes[..front]) {
         Some(place) => place + 1,
         None => line_end(bytes),

@@ -15,7 +15,7 @@ use crate::lines::text_line_end;
 use crate::rewriting::Rewriting;
 use crate::words::Words;
 use lic_lines::{
-    Cell, FirstToken, LinePart, Room, Rules, SourceChar, cells_of_line, push_tokens_of_line,
+    Buffers, Cell, FirstToken, LinePart, Rules, SourceChar, cells_of_line, push_tokens_of_line,
     unplaced,
 };
 use lic_phrases::laws::spellings_are_token_texts;
@@ -147,7 +147,7 @@ impl Left {
         rules: &Rules,
         part: LinePart,
         line: &[SourceChar],
-        room: &mut Room,
+        room: &mut Buffers,
     ) -> Result<(), AllocError>
         requires { ends_in_feed line.now ≡ true → part.has_end ≡ true }
         ensures edges { OnOk result ((before : List Cell) → HasEdges self.old.edges before
@@ -158,7 +158,7 @@ impl Left {
             ≡ tokens_in self.old.tokens.items
             ++ line_tokens (rules_of rules.now) part line.now) }
     {
-        // most lines have text in front of them and a line feed at their ends, which is a blank
+        // most lines have text before them and a line feed at their ends, which is a blank
         if self.edges.has_text && ends_in_feed(line) {
             self.edges.ends_in_blank = true;
         } else {
@@ -189,7 +189,7 @@ fn left_of(
         edges: Edges::none(),
         tokens: Vec::with_capacity(alloc, text.len() / BYTES_A_TOKEN)?,
     };
-    let mut room = Room::new(alloc);
+    let mut room = Buffers::new(alloc);
     let mut has_front = at_line_start;
     let mut at = 0;
     while at < text.len() {
@@ -247,7 +247,7 @@ pub fn piece(
 {
     let Left { edges, tokens } = left_of(alloc, rules, text, at_line_start, before)?;
     spellings_are_token_texts(words);
-    let mut rewriting = Rewriting::with_room(alloc, words.phrases(), tokens.len(), text.len())?;
+    let mut rewriting = Rewriting::with_capacity(alloc, words.phrases(), tokens.len(), text.len())?;
     rewriting.take(tokens)?;
     let tokens = rewriting.finish()?;
     tokens.texts_are_utf8();

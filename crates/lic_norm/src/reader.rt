@@ -7,7 +7,7 @@ ghost use Rattle.lic_norm.specs.Refusal.{max_bytes, refusal_of};
 ghost use Rattle.lic_norm.specs.Tokens.{first_tokens_of, tokens_of};
 
 use crate::fault::TextFault;
-use crate::line_tokens::{LineRoom, ascii_text, take_any_line, take_ascii};
+use crate::line_tokens::{LineBuffers, ascii_text, take_any_line, take_ascii};
 use crate::lines::{line_end, lines_end};
 use crate::refusal::MAX_BYTES;
 use crate::rewriting::Rewriting;
@@ -28,7 +28,7 @@ pub(crate) struct Reader<'w> {
     line_start: usize,
     rewriting: Rewriting<'w>,
     rules: &'w Rules,
-    room: LineRoom,
+    room: LineBuffers,
 }
 
 impl<'w> Reader<'w> {
@@ -53,7 +53,7 @@ impl<'w> Reader<'w> {
             line_start: 0,
             rewriting: Rewriting::new(alloc, words.phrases()),
             rules,
-            room: LineRoom::new(alloc),
+            room: LineBuffers::new(alloc),
         }
     }
 

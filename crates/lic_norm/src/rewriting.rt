@@ -11,16 +11,16 @@ ghost use Rattle.lic_norm.specs.Tokens.{reported};
 use crate::stretch::Stretch;
 use crate::token_list::TokenList;
 use lic_lines::{
-    FirstToken, FrontPart, Room, Rules, SmallString, SourceChar, TextFront, front_of_text,
-    front_part,
+    Buffers, FirstToken, FrontPart, Rules, SmallString, SourceChar, TextStart, front_part,
+    start_of_text,
 };
 use lic_phrases::{FinalToken, Phrases, Rewriter};
 use std::alloc::{AllocError, Global};
 
 /// Room for the work on a part of a line, kept from one part to the next. What it holds has no effect.
 #[derive(Drop)]
-pub(crate) struct PartRoom {
-    pub(crate) room: Room,
+pub(crate) struct PartBuffers {
+    pub(crate) room: Buffers,
     /// The first tokens of the part.
     pub(crate) tokens: Vec<FirstToken>,
 }
@@ -52,7 +52,7 @@ impl<'w> Rewriting<'w> {
     }
 
     /// Nothing is taken yet; there is memory for a number of tokens, and for the bytes of their texts.
-    pub(crate) fn with_room(
+    pub(crate) fn with_capacity(
         alloc: Global,
         phrases: &'w Phrases,
         tokens: usize,
@@ -65,7 +65,7 @@ impl<'w> Rewriting<'w> {
         Ok(Rewriting {
             phrases,
             rewriter: Rewriter::new(alloc),
-            tokens: TokenList::with_room(alloc, tokens, bytes)?,
+            tokens: TokenList::with_capacity(alloc, tokens, bytes)?,
             settled: Vec::new(alloc),
         })
     }
@@ -229,7 +229,7 @@ impl<'w> Rewriting<'w> {
         Ok(())
     }
 
-    /// Takes a part in front of a text, of which nothing is taken, and lists the tokens that are settled then.
+    /// Takes a part at the start of a text, of which nothing is taken, and lists the tokens that are settled then.
     #[inline(never)]
     fn take_front(
         &mut self,
@@ -237,7 +237,7 @@ impl<'w> Rewriting<'w> {
         rules: &Rules,
         after_blank: bool,
         text: &[SourceChar],
-        room: &mut PartRoom,
+        room: &mut PartBuffers,
     ) -> Result<FrontPart, AllocError>
         requires emptied { self.old.settled.items ≡ [] }
         requires before { HasTakenSome self.old }
@@ -246,13 +246,13 @@ impl<'w> Rewriting<'w> {
         ensures within { IfOk result (λ part. part.length ≤ length text.now) }
         ensures taken { IfOk result (λ part. (taken : List Token) → HasTaken self.old taken
             → (front : List Token) × HasTaken self.new (taken ++ front)
-            × (front ++ text_tokens_after (rules_of rules.now) part.blank_behind
+            × (front ++ text_tokens_after (rules_of rules.now) part.blank_after
             (drop part.length text.now)
             ≡ text_tokens_after (rules_of rules.now) after_blank text.now)) }
         ensures phrases { self.new.phrases.now ≡ self.old.phrases.now }
         ensures emptied { OnOk result (self.new.settled.items ≡ []) }
     {
-        let PartRoom { room, tokens } = room;
+        let PartBuffers { room, tokens } = room;
         let part = front_part(alloc, rules, after_blank, text, room, tokens)?;
         self.take_all(alloc, tokens)?;
         Ok(part)
@@ -266,7 +266,7 @@ impl<'w> Rewriting<'w> {
         rules: &Rules,
         text: &[SourceChar],
         letters: &mut String,
-        room: &mut PartRoom,
+        room: &mut PartBuffers,
     ) -> Result<(), AllocError>
         requires before { HasTakenSome self.old }
         ensures taken { OnOk result ((taken : List Token) → HasTaken self.old taken
@@ -278,21 +278,21 @@ impl<'w> Rewriting<'w> {
         let mut place = 0;
         while place < text.len() {
             let rest = &text[place..];
-            match front_of_text(alloc, rest, letters)? {
-                TextFront::Blank => {
+            match start_of_text(alloc, rest, letters)? {
+                TextStart::Blank => {
                     after_blank = true;
                     place += 1;
                 }
-                TextFront::Token(length) => {
+                TextStart::Token(length) => {
                     let start = rest[0].start;
                     let end = rest[length - 1].end;
                     self.take_text(alloc, letters.as_str(), start, end, after_blank)?;
                     after_blank = false;
                     place += length;
                 }
-                TextFront::Other => {
+                TextStart::Other => {
                     let part = self.take_front(alloc, rules, after_blank, rest, room)?;
-                    after_blank = part.blank_behind;
+                    after_blank = part.blank_after;
                     place += part.length;
                 }
             }

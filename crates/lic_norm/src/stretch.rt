@@ -129,7 +129,7 @@ impl<'a> Stretch<'a> {
         place(self.ends, i)
     }
 
-    /// Whether a blank stands before it.
+    /// Whether a blank comes before it.
     #[inline(always)]
     pub(crate) fn after_blank(&self, i: usize) -> bool
         requires { i < length self.now }
@@ -143,7 +143,7 @@ impl<'a> Stretch<'a> {
         before < place(starts, i)
     }
 
-    /// Whether it has this text, and no blank stands before it.
+    /// Whether it has this text, and no blank comes before it.
     fn goes_on(&self, i: usize, text: &str) -> bool
         requires { i < length self.now }
         ensures { (d : _) → result

@@ -104,7 +104,7 @@ impl TokenList {
     }
 
     /// No tokens yet, with memory for a number of them, and for the bytes of their texts.
-    pub(crate) fn with_room(
+    pub(crate) fn with_capacity(
         alloc: Global,
         tokens: usize,
         bytes: usize,

@@ -6,7 +6,7 @@ use Rattle.std.proofs.lemmas.Bool.Decides.{nat_tests}
 use Rattle.std.proofs.lemmas.List.Elements.{Contains-push, Contains-push_cases, Contains-append_left}
 use Rattle.std.proofs.lemmas.Grind.{common_steps}
 use Rattle.std.specs.List.{Contains}
-use Rattle.lic_phrases.specs.Classes.{OnOneLine, Leads, Equivalent, AreHeads, replaced, classes_joined}
+use Rattle.lic_phrases.specs.Classes.{OnOneLine, Leads, Equivalent, AreRepresentatives, replaced, classes_joined}
 
 -- chains
 pub equivalent_self : {A : Type 0} (lines : List (List A)) (p : A) → Equivalent lines p p
@@ -50,14 +50,14 @@ leads_alike lines f p q [] alike e = ap f e
 leads_alike lines f p q (x ∷ xs) alike (one, rest) = alike p x one ∙ leads_alike lines f x q xs alike rest
 
 -- two phrases have one class just where they are equivalent
-pub heads_alike : (lines : List (List ℕ)) (heads : List ℕ) (i j : ℕ) → AreHeads lines heads → Equivalent lines i j → get_or heads i 0 ≡ get_or heads j 0
+pub heads_alike : (lines : List (List ℕ)) (heads : List ℕ) (i j : ℕ) → AreRepresentatives lines heads → Equivalent lines i j → get_or heads i 0 ≡ get_or heads j 0
 heads_alike lines heads i j known (xs, a) = leads_alike lines (λ k. get_or heads k 0) i j xs known.back a
 
--- no phrase of the class stands before its head, and the head is one of it
-pub head_is_least : (lines : List (List ℕ)) (heads : List ℕ) (i j : ℕ) → AreHeads lines heads → j < length heads → Equivalent lines i j → get_or heads i 0 ≤ j
+-- no phrase of the class comes before its head, and the head is one of it
+pub head_is_least : (lines : List (List ℕ)) (heads : List ℕ) (i j : ℕ) → AreRepresentatives lines heads → j < length heads → Equivalent lines i j → get_or heads i 0 ≤ j
 head_is_least lines heads i j known within joined = let e = heads_alike lines heads i j known joined in let l = known.low j within in omega arith
 
-pub head_is_one : (lines : List (List ℕ)) (heads : List ℕ) (i : ℕ) → AreHeads lines heads → i < length heads → Equivalent lines i (get_or heads i 0)
+pub head_is_one : (lines : List (List ℕ)) (heads : List ℕ) (i : ℕ) → AreRepresentatives lines heads → i < length heads → Equivalent lines i (get_or heads i 0)
 head_is_one lines heads i known within = let l = known.low i within in known.same i (get_or heads i 0) within (omega arith) (sym (known.own i within))
 
 -- a line more, without a phrase yet
@@ -67,7 +67,7 @@ on_new_line lines i j (line, there, has_i, has_j) = ⊎_elim
     (λ last. absurd (let k = has_i.1 in omega (arith, ap length last)))
     (Contains-push_cases lines [] line there)
 
-pub new_line : (lines : List (List ℕ)) (heads : List ℕ) → AreHeads lines heads → AreHeads (lines ++ [] ∷ []) heads
+pub new_line : (lines : List (List ℕ)) (heads : List ℕ) → AreRepresentatives lines heads → AreRepresentatives (lines ++ [] ∷ []) heads
 new_line lines heads known = record {
   numbered = λ line i there has_i. let o = on_new_line lines i i (line, there, has_i, has_i) in known.numbered o.0 i o.1 o.2;
   same = λ i j hi hj e. equivalent_more lines
@@ -85,7 +85,7 @@ get-push_before xs x i h = grind (arith, common_steps)
 get-push_at : (xs : List ℕ) (x : ℕ) → get_or (xs ++ x ∷ []) (length xs) 0 ≡ x
 get-push_at xs x = grind (arith, common_steps)
 
-pub new_phrase : (lines : List (List ℕ)) (heads : List ℕ) → AreHeads lines heads → AreHeads lines (heads ++ length heads ∷ [])
+pub new_phrase : (lines : List (List ℕ)) (heads : List ℕ) → AreRepresentatives lines heads → AreRepresentatives lines (heads ++ length heads ∷ [])
 new_phrase lines heads known = record {
   numbered = λ line i there has_i. let h = known.numbered line i there has_i in omega (arith, length-append heads (length heads ∷ []));
   same = λ i j hi hj e. ⊎_elim
@@ -126,7 +126,7 @@ new_phrase lines heads known = record {
     at_last : (xs : List ℕ) (i : ℕ) → i ≡ length xs → get_or (xs ++ length xs ∷ []) i 0 ≡ length xs
     at_last xs i e = ap (λ k. get_or (xs ++ length xs ∷ []) k 0) e ∙ get-push_at xs (length xs)
 
-    clash : (ls : List (List ℕ)) (xs : List ℕ) → AreHeads ls xs → (i j : ℕ) → i < length xs → j ≡ length xs
+    clash : (ls : List (List ℕ)) (xs : List ℕ) → AreRepresentatives ls xs → (i j : ℕ) → i < length xs → j ≡ length xs
         → get_or (xs ++ length xs ∷ []) i 0 ≡ get_or (xs ++ length xs ∷ []) j 0 → ⊥
     clash ls xs k i j hi hj e = let l = k.low i hi in omega (arith, get-push_before xs (length xs) i hi, at_last xs j hj, e)
 
@@ -156,7 +156,7 @@ max_is : (p q : ℕ) → (max p q ≡ p) ⊎ (max p q ≡ q)
 max_is p q = ⊎_elim (λ (l : p < q). inr (omega arith)) (λ (l : q ≤ p). inl (omega arith)) (cases_lt p q)
 
 -- the line that is being read gets one more phrase
-module _ (lines : List (List ℕ)) (cur heads : List ℕ) (f q : ℕ) (known : AreHeads (lines ++ cur ∷ []) heads)
+module _ (lines : List (List ℕ)) (cur heads : List ℕ) (f q : ℕ) (known : AreRepresentatives (lines ++ cur ∷ []) heads)
     (has_f : Contains cur f) (q_in : q < length heads) where
   abbrev now : List (List ℕ)
   now = lines ++ cur ∷ []
@@ -262,7 +262,7 @@ module _ (lines : List (List ℕ)) (cur heads : List ℕ) (f q : ℕ) (known : A
   as_long : length (classes_joined heads f q) ≡ length heads
   as_long = length-map heads f'
 
-  pub next_phrase : AreHeads (lines ++ (cur ++ q ∷ []) ∷ []) (classes_joined heads f q)
+  pub next_phrase : AreRepresentatives (lines ++ (cur ++ q ∷ []) ∷ []) (classes_joined heads f q)
   next_phrase = record {
     numbered = λ line i there has_i. elim (down i i (line, there, has_i, has_i)) [
       | inl o ↦ let b = known.numbered o.0 i o.1 o.2 in omega (arith, as_long)
@@ -287,8 +287,8 @@ module _ (lines : List (List ℕ)) (cur heads : List ℕ) (f q : ℕ) (known : A
 only_itself : (x q : ℕ) → Contains (q ∷ []) x → q ≡ x
 only_itself x q (k, within, is) = elim (cases_eq k 0) [ inl e ↦ subst (λ j. get_or (q ∷ []) j x ≡ x) e is | inr n ↦ absurd (omega arith) ]
 
-pub first_phrase : (lines : List (List ℕ)) (heads : List ℕ) (q : ℕ) → AreHeads (lines ++ [] ∷ []) heads
-    → q < length heads → AreHeads (lines ++ (q ∷ []) ∷ []) heads
+pub first_phrase : (lines : List (List ℕ)) (heads : List ℕ) (q : ℕ) → AreRepresentatives (lines ++ [] ∷ []) heads
+    → q < length heads → AreRepresentatives (lines ++ (q ∷ []) ∷ []) heads
 first_phrase lines heads q known q_in = record {
   numbered = λ line i there has_i. ⊎_elim
       (λ before. known.numbered line i (Contains-append_left lines ([] ∷ []) line before) has_i)

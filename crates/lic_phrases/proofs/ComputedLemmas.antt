@@ -6,7 +6,7 @@ use Rattle.std.proofs.lemmas.List.{length-map}
 use Rattle.std.proofs.lemmas.List.Elements.{Contains-append_left, Contains-get_or}
 use Rattle.std.proofs.lemmas.Slice.Eq.{slice_eq-Decides, bytes_eq-Decides}
 use Rattle.std.specs.List.{Contains, position_or_len}
-use Rattle.lic_phrases.specs.Classes.{AreHeads, classes_joined}
+use Rattle.lic_phrases.specs.Classes.{AreRepresentatives, classes_joined}
 use Rattle.lic_phrases.specs.WordLists.{AreWords}
 use Rattle.lic_phrases.specs.WordReading.{HasRead}
 use Rattle.lic_phrases.proofs.ClassLemmas.{first_phrase, next_phrase}
@@ -89,22 +89,22 @@ length-all_joined [] heads = refl
 length-all_joined (first ∷ numbers) heads = length-joined_with first numbers heads
 
 joined_with-heads : (before : List (List ℕ)) (first : ℕ) (line numbers heads : List ℕ)
-    → AreHeads (before ++ line ∷ []) heads → Contains line first
+    → AreRepresentatives (before ++ line ∷ []) heads → Contains line first
     → ((k : ℕ) → k < length numbers → get_or numbers k 0 < length heads)
-    → AreHeads (before ++ (line ++ numbers) ∷ []) (joined_with first numbers heads)
-joined_with-heads before first line [] heads known has bound = subst (λ (l : List ℕ). AreHeads (before ++ l ∷ []) heads) (sym (append-nil line)) known
+    → AreRepresentatives (before ++ (line ++ numbers) ∷ []) (joined_with first numbers heads)
+joined_with-heads before first line [] heads known has bound = subst (λ (l : List ℕ). AreRepresentatives (before ++ l ∷ []) heads) (sym (append-nil line)) known
 joined_with-heads before first line (number ∷ numbers) heads known has bound =
     let here : number < length heads = bound 0 (omega arith) in
     let as_long : length (classes_joined heads first number) ≡ length heads = length-map heads _ in
-    subst (λ (l : List ℕ). AreHeads (before ++ l ∷ []) (joined_with first numbers (classes_joined heads first number)))
+    subst (λ (l : List ℕ). AreRepresentatives (before ++ l ∷ []) (joined_with first numbers (classes_joined heads first number)))
     (append_assoc line (number ∷ []) numbers)
     (joined_with-heads before first (line ++ number ∷ []) numbers (classes_joined heads first number)
     (next_phrase before line heads first number known has here) (Contains-append_left line (number ∷ []) first has)
     (λ k within. omega (arith, bound (suc k) (omega arith), as_long)))
 
 all_joined-heads : (before : List (List ℕ)) (numbers heads : List ℕ)
-    → ((k : ℕ) → k < length numbers → get_or numbers k 0 < length heads) → AreHeads (before ++ [] ∷ []) heads
-    → AreHeads (before ++ numbers ∷ []) (all_joined numbers heads)
+    → ((k : ℕ) → k < length numbers → get_or numbers k 0 < length heads) → AreRepresentatives (before ++ [] ∷ []) heads
+    → AreRepresentatives (before ++ numbers ∷ []) (all_joined numbers heads)
 all_joined-heads before [] heads bound known = known
 all_joined-heads before (first ∷ numbers) heads bound known =
     joined_with-heads before first (first ∷ []) numbers heads

@@ -13,7 +13,7 @@ pub mod ReadingLemmas
 pub mod PhraseKeys
 pub mod SpellingLemmas
 pub mod ListedLemmas
-pub mod HeadLemmas
+pub mod RepresentativeLemmas
 pub mod FaultLemmas
 pub mod PhraseBlanks
 pub mod PhraseTokens

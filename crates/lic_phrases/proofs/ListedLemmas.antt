@@ -1,4 +1,4 @@
--- What the reader of a list keeps: keys and phrases stand side by side.
+-- What the reader of a list keeps: keys and phrases are side by side.
 use Rattle.std.proofs.Common.{◌≡◌, ◌≢◌, ℕ, zero, suc, ◌+◌, ◌<◌, ◌≤◌, Bool, true, false, cond, not, ◌||◌, List, [], ◌∷◌, ◌++◌, length, get_or, drop, map, String, string_bytes, string_eq, refl, sym, ap, ap₂, subst, ◌∙◌, arith, length-append, true≢false, inl, inr, take, take_all, append-nil}
 use Rattle.std.proofs.lemmas.Bool.{cases_Bool, cases_lt}
 use Rattle.std.proofs.lemmas.List.{length-map, map-append, drop_all, take_more}
@@ -10,10 +10,10 @@ use Rattle.lic_phrases.specs.declared.phrase.ListedPhrase.{ListedPhrase}
 use Rattle.lic_phrases.specs.Keys.{texts_in, key_of, HaveNoBlank, AreWithoutBlanks}
 use Rattle.lic_phrases.specs.Spelling.{spelled}
 use Rattle.lic_phrases.specs.TokenTexts.{IsTokenText}
-use Rattle.lic_phrases.specs.Listed.{AreListed, ReadsPhrase, phrases_in, spellings_in, with_heads}
+use Rattle.lic_phrases.specs.Listed.{AreListed, ReadsPhrase, phrases_in, spellings_in, with_representatives}
 use Rattle.lic_phrases.specs.WordReading.{HasRead}
 use Rattle.lic_phrases.proofs.PhraseKeys.{key_of-same}
-use Rattle.lic_phrases.specs.Classes.{AreHeads}
+use Rattle.lic_phrases.specs.Classes.{AreRepresentatives}
 use Rattle.lic_phrases.specs.Rewriting.{Phrase}
 use Rattle.lic_phrases.specs.WordLists.{AreWords, in_order}
 use Rattle.lic_phrases.specs.WordReading.{AreInOrder}
@@ -123,7 +123,7 @@ module _ {A : Type 0} (keys keys' : List (String A)) (phrases phrases' : List Li
       (subst (λ n. HasRead [] lines (line ++ phrase ∷ []) (phrases_in phrases ++ phrase ∷ [])
       (heads ++ length heads ∷ []) (numbers ++ n ∷ [])) (sym place) new)))
 
-  -- a phrase that stands there already
+  -- a phrase that occurs there already
   pub reads_again : number ≡ position_or_len (string_eq key) keys → number < length keys → ReadsPhrase phrases heads phrases heads phrase number
   reads_again at within lines line numbers read =
       let many : length keys ≡ length (phrases_in phrases) =
@@ -164,7 +164,7 @@ written_back old new n same len =
 -- the phrases of a line are one class
 pub line_is_read : (lines : List (List (List (List ℕ)))) (line phrases : List (List (List ℕ)))
     (heads heads' numbers : List ℕ) → HasRead [] lines line phrases heads numbers → length heads' ≡ length heads
-    → ((before : List (List ℕ)) → AreHeads (before ++ [] ∷ []) heads → AreHeads (before ++ numbers ∷ []) heads')
+    → ((before : List (List ℕ)) → AreRepresentatives (before ++ [] ∷ []) heads → AreRepresentatives (before ++ numbers ∷ []) heads')
     → HasRead [] (lines ++ line ∷ []) [] phrases heads' []
 line_is_read lines line phrases heads heads' numbers read same joined =
     read_line [] lines line phrases heads numbers read heads' same (joined read.numbers (new_line read.numbers heads read.classes))
@@ -190,21 +190,21 @@ nothing_read = record {
 
 -- phrases with the spelling of the head of their class
 pub words_with_heads : (lines : List (List (List (List ℕ)))) (phrases : List (List (List ℕ))) (heads : List ℕ)
-    → HasRead [] lines [] phrases heads [] → AreWords lines (with_heads phrases (map spelled phrases) heads)
+    → HasRead [] lines [] phrases heads [] → AreWords lines (with_representatives phrases (map spelled phrases) heads)
 words_with_heads lines phrases heads read =
-    subst (λ l. AreWords l (with_heads phrases (map spelled phrases) heads)) read.named
+    subst (λ l. AreWords l (with_representatives phrases (map spelled phrases) heads)) read.named
     (words_are phrases read.numbers heads read.classes read.as_many read.distinct
     (subst (λ l. AreInOrder l (length phrases)) (append-nil (in_order read.numbers)) read.ordered)
-    (with_heads phrases (map spelled phrases) heads) no_phrase many each)
+    (with_representatives phrases (map spelled phrases) heads) no_phrase many each)
   where
     no_phrase : Phrase
     no_phrase = record { texts = []; spelling = [] }
 
-    many : length (with_heads phrases (map spelled phrases) heads) ≡ length phrases
+    many : length (with_representatives phrases (map spelled phrases) heads) ≡ length phrases
     many = length-map (zip phrases heads) _ ∙ length-zip phrases heads ∙ omega (arith, read.as_many)
 
     each : (i : ℕ) → i < length phrases
-        → get_or (with_heads phrases (map spelled phrases) heads) i no_phrase
+        → get_or (with_representatives phrases (map spelled phrases) heads) i no_phrase
         ≡ record { texts = get_or phrases i []; spelling = spelled (get_or phrases (get_or heads i 0) []) }
     each i within =
         let inside : i < length heads = omega (arith, read.as_many) in
@@ -221,6 +221,6 @@ words_with_heads lines phrases heads read =
 
 pub words_read : {A : Type 0} (lines : List (List (List (List ℕ)))) (keys : List (String A))
     (phrases : List ListedPhrase) (heads : List ℕ) → AreListed keys phrases heads
-    → HasRead [] lines [] (phrases_in phrases) heads [] → AreWords lines (with_heads (phrases_in phrases) (spellings_in phrases) heads)
+    → HasRead [] lines [] (phrases_in phrases) heads [] → AreWords lines (with_representatives (phrases_in phrases) (spellings_in phrases) heads)
 words_read lines keys phrases heads known read =
-    subst (λ s. AreWords lines (with_heads (phrases_in phrases) s heads)) (sym known.spellings) (words_with_heads lines (phrases_in phrases) heads read)
+    subst (λ s. AreWords lines (with_representatives (phrases_in phrases) s heads)) (sym known.spellings) (words_with_heads lines (phrases_in phrases) heads read)

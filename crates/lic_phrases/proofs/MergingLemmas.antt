@@ -7,13 +7,13 @@ use Rattle.std.proofs.lemmas.Str.{IsUtf8-had}
 use Rattle.std.proofs.lemmas.List.{get_or-map, length-map, length-take-le, drop-map}
 use Rattle.lic_lines.specs.Tokens.{Token, small_bytes, token_in, tokens_in}
 use Rattle.lic_lines.specs.declared.tokens.FirstToken.{FirstToken}
-use Rattle.lic_phrases.specs.Rewriting.{Phrase, SpannedText, spanned, end_of_last, longest_phrase, count_behind, first_as, phrases_joined}
+use Rattle.lic_phrases.specs.Rewriting.{Phrase, SpannedText, spanned, end_of_last, longest_phrase, count_after, first_as, phrases_joined}
 use Rattle.lic_phrases.specs.PhraseLists.{PhraseList, HaveTokens, longest_from, phrase_with, phrase_of, key_of, key_texts, IsKey}
-use Rattle.lic_phrases.specs.Waiting.{texts_of, front_phrase, phrase_found, count_found, first_given, spanned_in, GivesMore}
+use Rattle.lic_phrases.specs.Waiting.{texts_of, first_phrase, phrase_found, count_found, first_given, spanned_in, GivesMore}
 use Rattle.lic_phrases.specs.declared.merging.Found.{Found}
 use Rattle.lic_phrases.specs.declared.final_token.FinalToken.{FinalToken}
 use Rattle.lic_phrases.proofs.PhraseKeyLemmas.{HaveNoSeparator, HaveNoSeparator-take, utf8_has_none, key_texts-key_of, IsKey-key_of}
-use Rattle.lic_phrases.proofs.PhraseLemmas.{StandWithin, StandWithin-min, StandWithin-from, StandWithin-length, front_phrase-longest, longest_phrase-decided, phrases_joined-first}
+use Rattle.lic_phrases.proofs.PhraseLemmas.{StandWithin, StandWithin-min, StandWithin-from, StandWithin-length, first_phrase-longest, longest_phrase-decided, phrases_joined-first}
 
 tokens_have_none : (items : List FirstToken) → HaveNoSeparator (texts_of (tokens_in items))
 tokens_have_none [] = tt
@@ -57,18 +57,18 @@ OnOk-one (Ok x) P Q follows p = follows p
 OnOk-one (Err e) P Q follows p = tt
 
 -- one more token, with which the texts are a phrase
-pub front_phrase-some : (words : List Phrase) (texts : List (List ℕ)) (n m : ℕ) (p : Phrase) → m ≡ suc n
-    → Some p ≡ phrase_with words (take m texts) → Some p ≡ front_phrase words texts m
-front_phrase-some words texts n m p next is =
-    subst (λ k. Some p ≡ phrase_with words (take k texts) → Some p ≡ front_phrase words texts k)
-    (sym next) (λ found. ap (λ o. option_or o (front_phrase words texts n)) found) is
+pub first_phrase-some : (words : List Phrase) (texts : List (List ℕ)) (n m : ℕ) (p : Phrase) → m ≡ suc n
+    → Some p ≡ phrase_with words (take m texts) → Some p ≡ first_phrase words texts m
+first_phrase-some words texts n m p next is =
+    subst (λ k. Some p ≡ phrase_with words (take k texts) → Some p ≡ first_phrase words texts k)
+    (sym next) (λ found. ap (λ o. option_or o (first_phrase words texts n)) found) is
 
 -- one more token, with which they are none
-pub front_phrase-none : (words : List Phrase) (texts : List (List ℕ)) (n m : ℕ) → m ≡ suc n
-    → None ≡ phrase_with words (take m texts) → front_phrase words texts n ≡ front_phrase words texts m
-front_phrase-none words texts n m next is =
-    subst (λ k. None ≡ phrase_with words (take k texts) → front_phrase words texts n ≡ front_phrase words texts k)
-    (sym next) (λ none. ap (λ o. option_or o (front_phrase words texts n)) none) is
+pub first_phrase-none : (words : List Phrase) (texts : List (List ℕ)) (n m : ℕ) → m ≡ suc n
+    → None ≡ phrase_with words (take m texts) → first_phrase words texts n ≡ first_phrase words texts m
+first_phrase-none words texts n m next is =
+    subst (λ k. None ≡ phrase_with words (take k texts) → first_phrase words texts n ≡ first_phrase words texts k)
+    (sym next) (λ none. ap (λ o. option_or o (first_phrase words texts n)) none) is
 
 -- ---- what is given
 
@@ -87,10 +87,10 @@ end_of_last-more t (u ∷ ts) (suc n) d lt = end_of_last-more u ts n d (omega ar
 less_one : (n : ℕ) → suc n - 1 ≡ n
 less_one n = omega arith
 
--- what is left of the tokens behind the first
+-- what is left of the tokens after the first
 left_behind : (spellings : List (List ℕ)) (found : Option Found) (t : FirstToken) (items : List FirstToken)
     → IfSome found (λ f. (0 < f.count) × (f.count ≤ suc (length items)))
-    → drop (count_behind (option_map (phrase_found spellings (tokens_in (t ∷ items))) found)) (tokens_in items)
+    → drop (count_after (option_map (phrase_found spellings (tokens_in (t ∷ items))) found)) (tokens_in items)
     ≡ tokens_in (drop (count_found found) (t ∷ items))
 left_behind spellings None t items within = refl
 left_behind spellings (Some f) t items within = by f.count within
@@ -111,7 +111,7 @@ pub GivesMore-first : (list : PhraseList) (at_end : Bool) (given : List FinalTok
     (first : FirstToken) (most : ℕ) (found : Option Found) (given' : List FinalToken) (items' : List FirstToken)
     → 0 < length items → first ≡ get_or items 0 first → HaveTokens list.phrases
     → longest_from list.phrases (small_bytes first.text) ≤ most → (at_end ≡ true) ⊎ (most ≤ length items)
-    → option_map (phrase_found list.spellings (tokens_in items)) found ≡ front_phrase list.phrases (texts_of (tokens_in items)) (min most (length items))
+    → option_map (phrase_found list.spellings (tokens_in items)) found ≡ first_phrase list.phrases (texts_of (tokens_in items)) (min most (length items))
     → IfSome found (λ f. (0 < f.count) × (f.count ≤ min most (length items)))
     → items' ≡ drop (count_found found) items
     → map (spanned_in list.spellings) given' ≡ map (spanned_in list.spellings) given ++ first_given list.spellings found (tokens_in items)
@@ -127,7 +127,7 @@ GivesMore-first list at_end given (t ∷ items) first most found given' items' s
     StandWithin-min most (length (t ∷ items)) words (token_in t ∷ ts) (StandWithin-from most words (token_in t) ts tokens from_t)
     (subst (λ k. StandWithin k words (token_in t ∷ ts)) (ap suc size) (StandWithin-length words (token_in t ∷ ts))) in
     let longest : option_map (phrase_found list.spellings (token_in t ∷ ts)) found ≡ longest_phrase words (token_in t ∷ ts) =
-    found_is ∙ front_phrase-longest n words (token_in t ∷ ts) (omega arith) tokens standing in
+    found_is ∙ first_phrase-longest n words (token_in t ∷ ts) (omega arith) tokens standing in
     let decided : longest_phrase words (token_in t ∷ (ts ++ rest)) ≡ longest_phrase words (token_in t ∷ ts) =
     (⊎_elim
     (λ at. ap (λ l. longest_phrase words (token_in t ∷ (ts ++ l))) (ends at) ∙ ap (λ l. longest_phrase words (token_in t ∷ l)) (append-nil ts))
@@ -135,11 +135,11 @@ GivesMore-first list at_end given (t ∷ items) first most found given' items' s
     known) in
     let within_all : IfSome found (λ f. (0 < f.count) × (f.count ≤ suc (length items))) = weaker found n (suc (length items)) (omega arith) within in
     let rest_of : List Token → List SpannedText = λ l. map spanned (phrases_joined words (l ++ rest)) in
-    let first_of : Option Phrase → List SpannedText = λ phrase. spanned (first_as phrase (token_in t) ts) ∷ rest_of (drop (count_behind phrase) ts) in
+    let first_of : Option Phrase → List SpannedText = λ phrase. spanned (first_as phrase (token_in t) ts) ∷ rest_of (drop (count_after phrase) ts) in
     ap (λ l. map (spanned_in list.spellings) given ++ map spanned l) (phrases_joined-first words (token_in t) ts rest decided)
     ∙ ap (λ l. map (spanned_in list.spellings) given ++ l) (ap first_of (sym longest))
     ∙ sym (append_assoc (map (spanned_in list.spellings) given) (first_given list.spellings found (token_in t ∷ ts))
-    (rest_of (drop (count_behind (option_map (phrase_found list.spellings (token_in t ∷ ts)) found)) ts)))
+    (rest_of (drop (count_after (option_map (phrase_found list.spellings (token_in t ∷ ts)) found)) ts)))
     ∙ ap₂ (λ a b. a ++ rest_of b) (sym more) (left_behind list.spellings found t items within_all ∙ sym (ap tokens_in left))
   where
     weaker : (o : Option Found) (m n : ℕ) → m ≤ n → IfSome o (λ f. (0 < f.count) × (f.count ≤ m)) → IfSome o (λ f. (0 < f.count) × (f.count ≤ n))

@@ -1,4 +1,4 @@
--- The longest phrase in front of some tokens.
+-- The longest phrase at the start of some tokens.
 use Rattle.std.proofs.Common.{◌≡◌, ℕ, zero, suc, ◌-◌, ◌<◌, ◌≤◌, ◌&&◌, Bool, true, false, ◌⊎◌, List, [], ◌∷◌, ◌++◌, length, take, drop, max, min, Option, Some, None, refl, sym, ap, ap₂, ◌∙◌, subst, inl, inr, ⊎_elim, arith}
 use Rattle.std.specs.Prelude.{nat_lt, if◌then◌else◌}
 use Rattle.std.specs.Option.{option_or}
@@ -7,31 +7,31 @@ use Rattle.std.proofs.lemmas.Bool.Decides.{nat_tests}
 use Rattle.std.proofs.lemmas.List.{length-take-le, length-map, take-append-le, drop-append-le}
 use Rattle.std.proofs.lemmas.Slice.Eq.{bytes_eq-Decides, slice_eq-Decides}
 use Rattle.lic_lines.specs.Tokens.{Token, is_text}
-use Rattle.lic_phrases.specs.Rewriting.{Phrase, stands, longer, longest_phrase, count_behind, first_as, phrases_behind, phrases_joined, joined_as}
+use Rattle.lic_phrases.specs.Rewriting.{Phrase, begin_with_texts, longer, longest_phrase, count_after, first_as, phrases_after, phrases_joined, joined_as}
 use Rattle.lic_phrases.specs.PhraseLists.{same_texts, phrase_with, begins_with, longest_from, HaveTokens}
-use Rattle.lic_phrases.specs.Waiting.{texts_of, front_phrase}
+use Rattle.lic_phrases.specs.Waiting.{texts_of, first_phrase}
 
 below_or_same : (a b : ℕ) → a ≤ b → (a < b) ⊎ (a ≡ b)
 below_or_same a b le = ⊎_elim (λ less. inl less) (λ not_less. inr (omega arith)) (cases_lt a b)
 
--- ---- what stands at the front
+-- ---- what comes first
 
--- no more tokens stand than there are
-stands-length : (texts : List (List ℕ)) (ts : List Token) → stands texts ts ≡ true → length texts ≤ length ts
-stands-length [] ts h = omega arith
-stands-length (text ∷ texts) [] h = absurd (true≢false (sym h))
-stands-length (text ∷ texts) (t ∷ ts) h = omega (arith, stands-length texts ts (and_parts (is_text text t) (stands texts ts) h).1)
+-- no more tokens are than there are
+begin_with_texts-length : (texts : List (List ℕ)) (ts : List Token) → begin_with_texts texts ts ≡ true → length texts ≤ length ts
+begin_with_texts-length [] ts h = omega arith
+begin_with_texts-length (text ∷ texts) [] h = absurd (true≢false (sym h))
+begin_with_texts-length (text ∷ texts) (t ∷ ts) h = omega (arith, begin_with_texts-length texts ts (and_parts (is_text text t) (begin_with_texts texts ts) h).1)
 
--- texts that stand are those of the tokens
-stands-texts : (texts : List (List ℕ)) (ts : List Token) → stands texts ts ≡ true → texts ≡ take (length texts) (texts_of ts)
-stands-texts [] ts h = refl
-stands-texts (text ∷ texts) [] h = absurd (true≢false (sym h))
-stands-texts (text ∷ texts) (t ∷ ts) h =
-    let parts = and_parts (is_text text t) (stands texts ts) h in
-    ap₂ (λ x l. x ∷ l) ((bytes_eq-Decides text t.text).0 parts.0) (stands-texts texts ts parts.1)
+-- texts that occur are those of the tokens
+begin_with_texts-texts : (texts : List (List ℕ)) (ts : List Token) → begin_with_texts texts ts ≡ true → texts ≡ take (length texts) (texts_of ts)
+begin_with_texts-texts [] ts h = refl
+begin_with_texts-texts (text ∷ texts) [] h = absurd (true≢false (sym h))
+begin_with_texts-texts (text ∷ texts) (t ∷ ts) h =
+    let parts = and_parts (is_text text t) (begin_with_texts texts ts) h in
+    ap₂ (λ x l. x ∷ l) ((bytes_eq-Decides text t.text).0 parts.0) (begin_with_texts-texts texts ts parts.1)
 
--- and the texts of the first tokens stand
-texts-stand : (n : ℕ) (ts : List Token) → stands (take n (texts_of ts)) ts ≡ true
+-- and the texts of the first tokens are
+texts-stand : (n : ℕ) (ts : List Token) → begin_with_texts (take n (texts_of ts)) ts ≡ true
 texts-stand zero ts = refl
 texts-stand (suc n) [] = refl
 texts-stand (suc n) (t ∷ ts) = ap₂ (λ a b. a && b) ((bytes_eq-Decides t.text t.text).1 refl) (texts-stand n ts)
@@ -56,10 +56,10 @@ phrase_with-texts (q ∷ words) texts p h =
 
 -- ---- the longest phrase
 
--- each phrase that stands at the front has at most n tokens
+-- each phrase that comes first has at most n tokens
 abbrev pub StandWithin : ℕ → List Phrase → List Token → Type 0
 StandWithin n [] ts = Unit {0}
-StandWithin n (p ∷ words) ts = (stands p.texts ts ≡ true → length p.texts ≤ n) × StandWithin n words ts
+StandWithin n (p ∷ words) ts = (begin_with_texts p.texts ts ≡ true → length p.texts ≤ n) × StandWithin n words ts
 
 -- a phrase, if there is one, has at most n tokens
 abbrev pub IsWithin : ℕ → Option Phrase → Type 0
@@ -80,39 +80,39 @@ longest_phrase-within n (p ∷ words) ts h =
     let rest = longest_phrase-within n words ts h.1 in
     ⊎_elim
     (λ there. subst (IsWithin n) (sym
-    (cond-true (stands p.texts ts) (Some (longer p (longest_phrase words ts)))
+    (cond-true (begin_with_texts p.texts ts) (Some (longer p (longest_phrase words ts)))
     (longest_phrase words ts) there)) (longer-within n p (longest_phrase words ts) (h.0 there) rest))
-    (λ missing. subst (IsWithin n) (sym (cond-false (stands p.texts ts) (Some (longer p (longest_phrase words ts))) (longest_phrase words ts) missing)) rest)
-    (cases_Bool (stands p.texts ts))
+    (λ missing. subst (IsWithin n) (sym (cond-false (begin_with_texts p.texts ts) (Some (longer p (longest_phrase words ts))) (longest_phrase words ts) missing)) rest)
+    (cases_Bool (begin_with_texts p.texts ts))
 
 -- a phrase is the longer where the other has no more tokens
 longer-first : (p : Phrase) (best : Option Phrase) → IsWithin (length p.texts) best → longer p best ≡ p
 longer-first p None h = refl
 longer-first p (Some q) h = cond-false (nat_lt (length p.texts) (length q.texts)) q p (grind (arith, nat_tests))
 
--- where no phrase that stands has a token, there is no longest
+-- where no phrase that occurs has a token, there is no longest
 pub longest_phrase-none : (words : List Phrase) (ts : List Token) → HaveTokens words → StandWithin 0 words ts → longest_phrase words ts ≡ None
 longest_phrase-none [] ts some h = refl
 longest_phrase-none (p ∷ words) ts some h =
     ⊎_elim
     (λ there. absurd (omega (arith, some.0, h.0 there)))
-    (λ missing. cond-false (stands p.texts ts) (Some (longer p (longest_phrase words ts)))
+    (λ missing. cond-false (begin_with_texts p.texts ts) (Some (longer p (longest_phrase words ts)))
     (longest_phrase words ts) missing ∙ longest_phrase-none words ts some.1 h.1)
-    (cases_Bool (stands p.texts ts))
+    (cases_Bool (begin_with_texts p.texts ts))
 
--- a phrase of n tokens that stands is the longest where no longer one stands
+-- a phrase of n tokens that occurs is the longest where no longer one is
 longest_phrase-found : (n : ℕ) (words : List Phrase) (ts : List Token) (p : Phrase) → n ≤ length ts
     → StandWithin n words ts → phrase_with words (take n (texts_of ts)) ≡ Some p → longest_phrase words ts ≡ Some p
 longest_phrase-found n [] ts p fits h found = cc
 longest_phrase-found n (q ∷ words) ts p fits h found =
     let texts = take n (texts_of ts) in
     let size : length texts ≡ n = length-take-le n (texts_of ts) (omega (arith, length-map ts (λ t. t.text))) in
-    let standing = cond-true (stands q.texts ts) (Some (longer q (longest_phrase words ts))) (longest_phrase words ts) in
+    let standing = cond-true (begin_with_texts q.texts ts) (Some (longer q (longest_phrase words ts))) (longest_phrase words ts) in
     ⊎_elim
     (λ same.
     let is : Some q ≡ Some p = sym (cond-true (same_texts texts q.texts) (Some q) (phrase_with words texts) same) ∙ found in
     let q_texts : texts ≡ q.texts = same-is texts q.texts same in
-    let there : stands q.texts ts ≡ true = subst (λ l. stands l ts ≡ true) q_texts (texts-stand n ts) in
+    let there : begin_with_texts q.texts ts ≡ true = subst (λ l. begin_with_texts l ts ≡ true) q_texts (texts-stand n ts) in
     let long : n ≡ length q.texts = sym size ∙ ap length q_texts in
     standing there ∙ ap Some (longer-first q (longest_phrase words ts)
     (subst (λ k. IsWithin k (longest_phrase words ts)) long (longest_phrase-within n words ts h.1))) ∙ is)
@@ -126,16 +126,16 @@ longest_phrase-found n (q ∷ words) ts p fits h found =
     let shorter : length q.texts < n =
     (⊎_elim
     (λ less. less)
-    (λ as_long. absurd (true≢false (sym (is-same texts q.texts (sym (stands-texts q.texts ts there ∙ ap (λ k. take k (texts_of ts)) as_long))) ∙ other)))
+    (λ as_long. absurd (true≢false (sym (is-same texts q.texts (sym (begin_with_texts-texts q.texts ts there ∙ ap (λ k. take k (texts_of ts)) as_long))) ∙ other)))
     (below_or_same (length q.texts) n at_most)) in
     standing there
     ∙ ap (λ best. Some (longer q best)) rest
     ∙ ap Some (cond-true (nat_lt (length q.texts) (length p.texts)) p q (lt-ltb (length q.texts) (length p.texts) (omega (arith, shorter, p_long)))))
-    (λ missing. cond-false (stands q.texts ts) (Some (longer q (longest_phrase words ts))) (longest_phrase words ts) missing ∙ rest)
-    (cases_Bool (stands q.texts ts)))
+    (λ missing. cond-false (begin_with_texts q.texts ts) (Some (longer q (longest_phrase words ts))) (longest_phrase words ts) missing ∙ rest)
+    (cases_Bool (begin_with_texts q.texts ts)))
     (cases_Bool (same_texts texts q.texts))
 
--- where no phrase has n + 1 of these texts, those that stand have at most n
+-- where no phrase has n + 1 of these texts, those that occur have at most n
 StandWithin-less : (n : ℕ) (words : List Phrase) (ts : List Token) → StandWithin (suc n) words ts
     → phrase_with words (take (suc n) (texts_of ts)) ≡ None → StandWithin n words ts
 StandWithin-less n [] ts h none = tt
@@ -147,32 +147,32 @@ StandWithin-less n (q ∷ words) ts h none =
       λ there.
           ⊎_elim
           (λ less. omega (arith, less))
-          (λ as_long. absurd (true≢false (sym (is-same texts q.texts (sym (stands-texts q.texts ts there ∙ ap (λ k. take k (texts_of ts)) as_long))) ∙ other)))
+          (λ as_long. absurd (true≢false (sym (is-same texts q.texts (sym (begin_with_texts-texts q.texts ts there ∙ ap (λ k. take k (texts_of ts)) as_long))) ∙ other)))
           (below_or_same (length q.texts) (suc n) (h.0 there)),
       StandWithin-less n words ts h.1 (sym (cond-false (same_texts texts q.texts) (Some q) (phrase_with words texts) other) ∙ none),
     ))
     (cases_Bool (same_texts texts q.texts))
 
--- the longest front that is a phrase is the longest phrase that stands, where the fronts reach far enough
-pub front_phrase-longest : (n : ℕ) (words : List Phrase) (ts : List Token) → n ≤ length ts → HaveTokens words
-    → StandWithin n words ts → front_phrase words (texts_of ts) n ≡ longest_phrase words ts
-front_phrase-longest zero words ts fits some h = sym (longest_phrase-none words ts some h)
-front_phrase-longest (suc n) words ts fits some h =
-    by (phrase_with words (take (suc n) (texts_of ts))) refl (λ none. front_phrase-longest n words ts (omega arith) some (StandWithin-less n words ts h none))
+-- the longest prefix that is a phrase is the longest phrase that occurs, where the prefixes reach far enough
+pub first_phrase-longest : (n : ℕ) (words : List Phrase) (ts : List Token) → n ≤ length ts → HaveTokens words
+    → StandWithin n words ts → first_phrase words (texts_of ts) n ≡ longest_phrase words ts
+first_phrase-longest zero words ts fits some h = sym (longest_phrase-none words ts some h)
+first_phrase-longest (suc n) words ts fits some h =
+    by (phrase_with words (take (suc n) (texts_of ts))) refl (λ none. first_phrase-longest n words ts (omega arith) some (StandWithin-less n words ts h none))
   where
     by : (o : Option Phrase) → phrase_with words (take (suc n) (texts_of ts)) ≡ o
         → (phrase_with words (take (suc n) (texts_of ts)) ≡ None
-        → front_phrase words (texts_of ts) n ≡ longest_phrase words ts)
-        → option_or o (front_phrase words (texts_of ts) n) ≡ longest_phrase words ts
+        → first_phrase words (texts_of ts) n ≡ longest_phrase words ts)
+        → option_or o (first_phrase words (texts_of ts) n) ≡ longest_phrase words ts
     by (Some p) is fewer = sym (longest_phrase-found (suc n) words ts p fits h is)
     by None is fewer = fewer is
 
 -- ---- how many tokens it takes
 
--- no phrase that stands has more tokens than there are
+-- no phrase that occurs has more tokens than there are
 pub StandWithin-length : (words : List Phrase) (ts : List Token) → StandWithin (length ts) words ts
 StandWithin-length [] ts = tt
-StandWithin-length (p ∷ words) ts = (stands-length p.texts ts, StandWithin-length words ts)
+StandWithin-length (p ∷ words) ts = (begin_with_texts-length p.texts ts, StandWithin-length words ts)
 
 longest_from-first : (p : Phrase) (words : List Phrase) (text : List ℕ) → begins_with text p.texts ≡ true → length p.texts ≤ longest_from (p ∷ words) text
 longest_from-first p words text begins =
@@ -186,17 +186,17 @@ longest_from-rest p words text = split (begins_with text p.texts)
     split true = omega arith
     split false = omega arith
 
--- a phrase with a token that stands begins with the first token's text
-stands-begins : (texts : List (List ℕ)) (t : Token) (ts : List Token) → 0 < length texts → stands texts (t ∷ ts) ≡ true → begins_with t.text texts ≡ true
-stands-begins [] t ts some there = absurd (omega arith)
-stands-begins (text ∷ texts) t ts some there = (and_parts (is_text text t) (stands texts ts) there).0
+-- a phrase with a token that occurs begins with the first token's text
+begin_with_texts-begins : (texts : List (List ℕ)) (t : Token) (ts : List Token) → 0 < length texts → begin_with_texts texts (t ∷ ts) ≡ true → begins_with t.text texts ≡ true
+begin_with_texts-begins [] t ts some there = absurd (omega arith)
+begin_with_texts-begins (text ∷ texts) t ts some there = (and_parts (is_text text t) (begin_with_texts texts ts) there).0
 
--- no phrase that stands has more tokens than the longest that begins with the first token's text
+-- no phrase that occurs has more tokens than the longest that begins with the first token's text
 pub StandWithin-from : (most : ℕ) (words : List Phrase) (t : Token) (ts : List Token) → HaveTokens words
     → longest_from words t.text ≤ most → StandWithin most words (t ∷ ts)
 StandWithin-from most [] t ts some bound = tt
 StandWithin-from most (p ∷ words) t ts some bound = (
-  λ there. let long = longest_from-first p words t.text (stands-begins p.texts t ts some.0 there) in omega arith,
+  λ there. let long = longest_from-first p words t.text (begin_with_texts-begins p.texts t ts some.0 there) in omega arith,
   StandWithin-from most words t ts some.1 (let less = longest_from-rest p words t.text in omega arith),
 )
 
@@ -206,57 +206,57 @@ StandWithin-min m n (p ∷ words) ts h k = (λ there. omega (arith, h.0 there, k
 
 -- ---- what follows
 
--- whether texts stand does not hang on what follows as many tokens
-stands-front : (texts : List (List ℕ)) (ts rest : List Token) → length texts ≤ length ts → stands texts (ts ++ rest) ≡ stands texts ts
-stands-front [] ts rest fits = refl
-stands-front (text ∷ texts) [] rest fits = absurd (omega arith)
-stands-front (text ∷ texts) (t ∷ ts) rest fits = ap (λ b. is_text text t && b) (stands-front texts ts rest (omega arith))
+-- whether texts occur does not hang on what follows as many tokens
+begin_with_texts-front : (texts : List (List ℕ)) (ts rest : List Token) → length texts ≤ length ts → begin_with_texts texts (ts ++ rest) ≡ begin_with_texts texts ts
+begin_with_texts-front [] ts rest fits = refl
+begin_with_texts-front (text ∷ texts) [] rest fits = absurd (omega arith)
+begin_with_texts-front (text ∷ texts) (t ∷ ts) rest fits = ap (λ b. is_text text t && b) (begin_with_texts-front texts ts rest (omega arith))
 
-stands-decided : (texts : List (List ℕ)) (t : Token) (ts rest : List Token) → 0 < length texts
+begin_with_texts-decided : (texts : List (List ℕ)) (t : Token) (ts rest : List Token) → 0 < length texts
     → (begins_with t.text texts ≡ true → length texts ≤ suc (length ts))
-    → stands texts (t ∷ (ts ++ rest)) ≡ stands texts (t ∷ ts)
-stands-decided [] t ts rest some fits = absurd (omega arith)
-stands-decided (text ∷ texts) t ts rest some fits = by (is_text text t) refl
+    → begin_with_texts texts (t ∷ (ts ++ rest)) ≡ begin_with_texts texts (t ∷ ts)
+begin_with_texts-decided [] t ts rest some fits = absurd (omega arith)
+begin_with_texts-decided (text ∷ texts) t ts rest some fits = by (is_text text t) refl
   where
-    by : (b : Bool) → is_text text t ≡ b → (b && stands texts (ts ++ rest)) ≡ (b && stands texts ts)
-    by true begins = let long = fits begins in stands-front texts ts rest (omega arith)
+    by : (b : Bool) → is_text text t ≡ b → (b && begin_with_texts texts (ts ++ rest)) ≡ (b && begin_with_texts texts ts)
+    by true begins = let long = fits begins in begin_with_texts-front texts ts rest (omega arith)
     by false other = refl
 
--- the longest phrase is known once as many tokens stand there as the longest that begins with the first token's text has
+-- the longest phrase is known once as many tokens are there as the longest that begins with the first token's text has
 pub longest_phrase-decided : (words : List Phrase) (t : Token) (ts rest : List Token) → HaveTokens words
     → longest_from words t.text ≤ suc (length ts)
     → longest_phrase words (t ∷ (ts ++ rest)) ≡ longest_phrase words (t ∷ ts)
 longest_phrase-decided [] t ts rest some bound = refl
 longest_phrase-decided (p ∷ words) t ts rest some bound =
     ap₂ (λ b best. if b then Some (longer p best) else best)
-    (stands-decided p.texts t ts rest some.0 (λ begins. let long = longest_from-first p words t.text begins in omega arith))
+    (begin_with_texts-decided p.texts t ts rest some.0 (λ begins. let long = longest_from-first p words t.text begins in omega arith))
     (longest_phrase-decided words t ts rest some.1 (let less = longest_from-rest p words t.text in omega arith))
 
 -- tokens that went into a phrase
-phrases_behind-drop : (words : List Phrase) (n : ℕ) (ts : List Token) → phrases_behind words n ts ≡ phrases_joined words (drop n ts)
-phrases_behind-drop words zero [] = refl
-phrases_behind-drop words (suc n) [] = refl
-phrases_behind-drop words zero (t ∷ ts) = refl
-phrases_behind-drop words (suc n) (t ∷ ts) = phrases_behind-drop words n ts
+phrases_after-drop : (words : List Phrase) (n : ℕ) (ts : List Token) → phrases_after words n ts ≡ phrases_joined words (drop n ts)
+phrases_after-drop words zero [] = refl
+phrases_after-drop words (suc n) [] = refl
+phrases_after-drop words zero (t ∷ ts) = refl
+phrases_after-drop words (suc n) (t ∷ ts) = phrases_after-drop words n ts
 
 first_as-front : (phrase : Option Phrase) (t : Token) (ts rest : List Token) → IsWithin (suc (length ts)) phrase
     → first_as phrase t (ts ++ rest) ≡ first_as phrase t ts
 first_as-front None t ts rest h = refl
 first_as-front (Some p) t ts rest h = ap (joined_as p.spelling t) (take-append-le (length p.texts - 1) ts rest (omega arith))
 
-count_behind-within : (phrase : Option Phrase) (n : ℕ) → IsWithin (suc n) phrase → count_behind phrase ≤ n
-count_behind-within None n h = omega arith
-count_behind-within (Some p) n h = omega arith
+count_after-within : (phrase : Option Phrase) (n : ℕ) → IsWithin (suc n) phrase → count_after phrase ≤ n
+count_after-within None n h = omega arith
+count_after-within (Some p) n h = omega arith
 
 -- what the first token becomes, and what is left, where the tokens that follow do not change the longest phrase
 pub phrases_joined-first : (words : List Phrase) (t : Token) (ts rest : List Token) → longest_phrase words (t ∷ (ts ++ rest)) ≡ longest_phrase words (t ∷ ts)
     → phrases_joined words ((t ∷ ts) ++ rest)
     ≡ first_as (longest_phrase words (t ∷ ts)) t ts
-    ∷ phrases_joined words (drop (count_behind (longest_phrase words (t ∷ ts))) ts ++ rest)
+    ∷ phrases_joined words (drop (count_after (longest_phrase words (t ∷ ts))) ts ++ rest)
 phrases_joined-first words t ts rest decided =
     let phrase = longest_phrase words (t ∷ ts) in
     let within : IsWithin (suc (length ts)) phrase = longest_phrase-within (suc (length ts)) words (t ∷ ts) (StandWithin-length words (t ∷ ts)) in
-    ap (λ p. first_as p t (ts ++ rest) ∷ phrases_behind words (count_behind p) (ts ++ rest)) decided
+    ap (λ p. first_as p t (ts ++ rest) ∷ phrases_after words (count_after p) (ts ++ rest)) decided
     ∙ ap₂ (λ u us. u ∷ us) (first_as-front phrase t ts rest within)
-    (phrases_behind-drop words (count_behind phrase) (ts ++ rest)
-    ∙ ap (phrases_joined words) (drop-append-le (count_behind phrase) ts rest (count_behind-within phrase (length ts) within)))
+    (phrases_after-drop words (count_after phrase) (ts ++ rest)
+    ∙ ap (phrases_joined words) (drop-append-le (count_after phrase) ts rest (count_after-within phrase (length ts) within)))

@@ -4,7 +4,7 @@ use Rattle.std.proofs.lemmas.Bool.{cases_lt}
 use Rattle.std.proofs.lemmas.List.{map-append}
 use Rattle.std.proofs.lemmas.List.Elements.{Contains-append_right}
 use Rattle.std.specs.List.{Contains}
-use Rattle.lic_phrases.specs.Classes.{AreHeads}
+use Rattle.lic_phrases.specs.Classes.{AreRepresentatives}
 use Rattle.lic_phrases.specs.WordLists.{in_order}
 use Rattle.lic_phrases.specs.WordReading.{AreInOrder, HasRead}
 use Rattle.lic_phrases.proofs.ClassLemmas.{new_phrase}
@@ -103,7 +103,7 @@ module _ {A : Type 0} (d : A) (lines : List (List A)) (line : List A) (keys : Li
 
   -- the line ends, and its phrases become one class
   pub read_line : (heads' : List ℕ) → length heads' ≡ length heads
-      → AreHeads (known.numbers ++ line_numbers ∷ []) heads' → HasRead d (lines ++ line ∷ []) [] keys heads' []
+      → AreRepresentatives (known.numbers ++ line_numbers ∷ []) heads' → HasRead d (lines ++ line ∷ []) [] keys heads' []
   read_line heads' same joined = record {
     numbers = known.numbers ++ line_numbers ∷ [];
     named = map-append (map key) known.numbers (line_numbers ∷ []) ∙ ap₂ (λ a b. a ++ b ∷ []) known.named known.line_named;

@@ -7,7 +7,7 @@ use Rattle.std.proofs.lemmas.List.{length-map, map-append}
 use Rattle.lic_lines.specs.Texts.{groups, join_group}
 use Rattle.lic_lines.specs.Tokens.{Token, is_text, token_in, tokens_in}
 use Rattle.lic_lines.specs.declared.tokens.FirstToken.{FirstToken}
-use Rattle.lic_phrases.specs.Rewriting.{Phrase, SpannedText, spanned, is_sign, both_signs, sign_of_row, sign_rows, https_as_http, longest_phrase, count_behind, first_as, phrases_behind, phrases_joined, rewritten}
+use Rattle.lic_phrases.specs.Rewriting.{Phrase, SpannedText, spanned, is_sign, both_signs, sign_of_row, sign_rows, https_as_http, longest_phrase, count_after, first_as, phrases_after, phrases_joined, rewritten}
 use Rattle.lic_phrases.specs.Settling.{Kept, nothing_kept, IsShort, left_of, left_of_rows, GivesRows, Settles}
 use Rattle.lic_phrases.specs.Held.{held}
 use Rattle.lic_phrases.specs.PhraseLists.{PhraseList, HaveTokens, longest_from}
@@ -38,10 +38,10 @@ length-https_as_http : (ts : List Token) → length (https_as_http ts) ≡ lengt
 length-https_as_http [] = refl
 length-https_as_http (t ∷ ts) = omega (arith, length-https_as_http ts)
 
-length-phrases_behind : (words : List Phrase) (n : ℕ) (ts : List Token) → length (phrases_behind words n ts) ≤ length ts
-length-phrases_behind words n [] = omega arith
-length-phrases_behind words (suc n) (t ∷ ts) = omega (arith, length-phrases_behind words n ts)
-length-phrases_behind words zero (t ∷ ts) = omega (arith, length-phrases_behind words (count_behind (longest_phrase words (t ∷ ts))) ts)
+length-phrases_after : (words : List Phrase) (n : ℕ) (ts : List Token) → length (phrases_after words n ts) ≤ length ts
+length-phrases_after words n [] = omega arith
+length-phrases_after words (suc n) (t ∷ ts) = omega (arith, length-phrases_after words n ts)
+length-phrases_after words zero (t ∷ ts) = omega (arith, length-phrases_after words (count_after (longest_phrase words (t ∷ ts))) ts)
 
 -- what is kept gives no more tokens than it has
 length-left_of : (words : List Phrase) (kept : Kept) → length (left_of words kept []) ≤ length kept.phrase + (length kept.address + length kept.sign)
@@ -52,7 +52,7 @@ length-left_of words kept =
     omega (
       arith,
       length-map (phrases_joined words waiting) spanned,
-      length-phrases_behind words 0 waiting,
+      length-phrases_after words 0 waiting,
       length-append kept.phrase (https_as_http addresses),
       length-https_as_http addresses,
       length-append kept.address (sign_rows signs),
@@ -60,7 +60,7 @@ length-left_of words kept =
       ap length (append-nil kept.sign),
     )
 
--- two lists that are the same are so behind any front
+-- two lists that are the same are so after any prefix
 pub behind_front : (front xs ys xs' ys' : List SpannedText) → xs ++ xs' ≡ ys ++ ys' → (front ++ xs) ++ xs' ≡ (front ++ ys) ++ ys'
 behind_front front xs ys xs' ys' same = append_assoc front xs xs' ∙ ap (λ l. front ++ l) same ∙ sym (append_assoc front ys ys')
 
@@ -89,7 +89,7 @@ Settles-short words taken settled kept goes_on short = record {
   );
 }
 
--- The first step takes a token and passes rows on, and the steps behind it take these.
+-- The first step takes a token and passes rows on, and the steps after it take these.
 pub Settles-more : (words : List Phrase) (taken : List Token) (settled settled' : List SpannedText) (kept kept' : Kept) (t : Token) (rows : List Token)
     → Settles words taken settled kept
     → ((rest : List Token) → sign_rows (kept.sign ++ t ∷ rest) ≡ rows ++ sign_rows (kept'.sign ++ rest))
@@ -176,7 +176,7 @@ pub OnOk-both : {X E : Type 0} (r : Result X E) (P Q R : Type 0) → (P → Q �
 OnOk-both (Ok x) P Q R follows p q = follows p q
 OnOk-both (Err e) P Q R follows p q = tt
 
--- an answer whose fact stands on another
+-- an answer whose fact rests on another
 pub OnOk-from : {X E : Type 0} (r : Result X E) (P Q : Type 0) → (P → OnOk r Q) → OnOk r (P → Q)
 OnOk-from (Ok x) P Q follows = follows
 OnOk-from (Err e) P Q follows = tt
@@ -196,6 +196,6 @@ Settles-alone words t settled taken no_sign no_https some bound before =
     let behind = https_as_http rest in
     let none : longest_phrase words (t ∷ behind) ≡ None = longest_phrase-none words (t ∷ behind) some (StandWithin-from 0 words t behind some bound) in
     ap (λ l. settled ++ map spanned (phrases_joined words l)) (https_as_http-other t rest no_https)
-    ∙ ap (λ phrase. settled ++ map spanned (first_as phrase t behind ∷ phrases_behind words (count_behind phrase) behind)) none
+    ∙ ap (λ phrase. settled ++ map spanned (first_as phrase t behind ∷ phrases_after words (count_after phrase) behind)) none
     ∙ sym (append_assoc settled one (left_of_rows words nothing_kept rest)))
     (record { sign = omega arith; address = omega arith; phrase = omega arith })

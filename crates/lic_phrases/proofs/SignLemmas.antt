@@ -33,7 +33,7 @@ merge_groups a b ((y ∷ g) ∷ gs) signs same =
     ((reaching a b ∷ []) ∷ (y ∷ g) ∷ gs) (same y ∙ alone))))
     (cases_Bool (both_signs b y))
 
--- a sign and the sign behind it are as one that reaches over both
+-- a sign and the sign after it are as one that reaches over both
 pub sign_rows-merge : (a b : Token) (rest : List Token) → both_signs a b ≡ true → sign_rows (a ∷ b ∷ rest) ≡ sign_rows (record a { end = b.end } ∷ rest)
 sign_rows-merge a b rest signs =
     let parts = and_parts (is_sign a) (is_sign b) signs in

@@ -6,13 +6,13 @@ use Rattle.std.proofs.lemmas.List.{reverse-append}
 use Rattle.std.proofs.lemmas.List.Elements.{All-get_or, All-from_get_or}
 use Rattle.std.proofs.lemmas.Str.{IsUtf8-encode, IsUtf8-string_bytes, chars-append, encode_ascii}
 use Rattle.lic_phrases.specs.Keys.{HasNoBlank, texts_in}
-use Rattle.lic_phrases.specs.Listed.{HaveHeads, with_heads}
+use Rattle.lic_phrases.specs.Listed.{HaveRepresentatives, with_representatives}
 use Rattle.lic_phrases.specs.Rewriting.{Phrase}
 use Rattle.lic_phrases.specs.Spelling.{first_is_word, begins_in_word, ends_in_word, is_parted, blank_if, spelled}
 use Rattle.lic_phrases.specs.TokenTexts.{IsTokenText, HaveTokenTexts}
 use Rattle.lic_phrases.specs.WordLists.{phrase_texts}
 use Rattle.lic_phrases.proofs.PhraseBlanks.{AreSolid, phrase_is_solid}
-use Rattle.lic_phrases.proofs.HeadLemmas.{no_phrase, length-with_heads, word_at}
+use Rattle.lic_phrases.proofs.RepresentativeLemmas.{no_phrase, length-with_representatives, word_at}
 
 -- each of these texts is UTF-8
 abbrev AreUtf8 : List (List ℕ) → Type 0
@@ -23,19 +23,19 @@ texts_in-utf8 : {A : Type 0} (texts : List (String A)) → AreUtf8 (texts_in tex
 texts_in-utf8 [] = tt
 texts_in-utf8 (text ∷ texts) = (IsUtf8-string_bytes text, texts_in-utf8 texts)
 
--- ---- where a blank stands
+-- ---- where a blank is
 
 no_blank_inside : (front rest : List ℕ) → HasNoBlank (front ++ 0x20 ∷ rest) → ⊥
 no_blank_inside [] rest known = known.0 refl
 no_blank_inside (c ∷ front) rest known = no_blank_inside front rest known.1
 
--- a blank that stands behind a text without one
-blank_behind : (text tail front rest : List ℕ) → HasNoBlank text → text ++ tail ≡ front ++ 0x20 ∷ rest
+-- a blank that comes after a text without one
+blank_after : (text tail front rest : List ℕ) → HasNoBlank text → text ++ tail ≡ front ++ 0x20 ∷ rest
     → (behind : List ℕ) × (front ≡ text ++ behind) × (tail ≡ behind ++ 0x20 ∷ rest)
-blank_behind [] tail front rest known same = (front, refl, same)
-blank_behind (c ∷ text) tail [] rest known same = absurd (known.0 (ap (λ l. get_or l 0 0) same))
-blank_behind (c ∷ text) tail (d ∷ front) rest known same =
-    let later = blank_behind text tail front rest known.1 (ap (drop 1) same) in
+blank_after [] tail front rest known same = (front, refl, same)
+blank_after (c ∷ text) tail [] rest known same = absurd (known.0 (ap (λ l. get_or l 0 0) same))
+blank_after (c ∷ text) tail (d ∷ front) rest known same =
+    let later = blank_after text tail front rest known.1 (ap (drop 1) same) in
     (later.0, ap₂ (λ x xs. x ∷ xs) (sym (ap (λ l. get_or l 0 0) same)) later.1, later.2)
 
 -- ---- the letters beside it
@@ -63,7 +63,7 @@ spelled_begins text (next ∷ texts) utf8 word = begins_before text (blank_if (i
 blank_utf8 : IsUtf8 (0x20 ∷ [])
 blank_utf8 = subst IsUtf8 (encode_ascii 0x20 (omega arith)) (IsUtf8-encode 0x20 refl)
 
--- the letters beside a blank that stands behind the first text
+-- the letters beside a blank that comes after the first text
 beside_blank : (text next : List ℕ) (texts : List (List ℕ)) (rest : List ℕ) → IsUtf8 text → IsUtf8 next
     → IsTokenText (spelled (next ∷ texts)) → (parted : Bool)
     → (parted ≡ true → IsTrue (ends_in_word text) × IsTrue (begins_in_word next))
@@ -94,7 +94,7 @@ spelled_text text (next ∷ texts) solid utf8 =
     record {
       not_empty = omega (arith, length-append text tail, solid.0.0);
       blanks = λ front rest parts.
-          let cut = blank_behind text tail front rest solid.0.1 parts in
+          let cut = blank_after text tail front rest solid.0.1 parts in
           let beside = beside_blank text next texts rest utf8.0 utf8.1.0 later
           (is_parted text next) (λ is. and_parts (ends_in_word text) (begins_in_word next) is) cut.0 cut.2 in
           (subst (λ l. IsTrue (ends_in_word l)) (sym cut.1) beside.0, beside.1);
@@ -109,12 +109,12 @@ phrase_spelling (text ∷ texts) cs spelling are some is =
     (subst AreSolid (sym are) (phrase_is_solid cs)) (texts_in-utf8 (text ∷ texts)))
 
 -- the spellings of the heads of classes
-pub with_heads-texts : (phrases : List (List (List ℕ))) (spellings : List (List ℕ)) (heads : List ℕ)
-    → HaveHeads phrases heads → length spellings ≡ length phrases → All IsTokenText spellings
-    → HaveTokenTexts (with_heads phrases spellings heads)
-with_heads-texts phrases spellings heads known as_many texts =
-    All-from_get_or (λ p. IsTokenText p.spelling) (with_heads phrases spellings heads) no_phrase
+pub with_representatives-texts : (phrases : List (List (List ℕ))) (spellings : List (List ℕ)) (heads : List ℕ)
+    → HaveRepresentatives phrases heads → length spellings ≡ length phrases → All IsTokenText spellings
+    → HaveTokenTexts (with_representatives phrases spellings heads)
+with_representatives-texts phrases spellings heads known as_many texts =
+    All-from_get_or (λ p. IsTokenText p.spelling) (with_representatives phrases spellings heads) no_phrase
     (λ i within.
-    let inside : i < length phrases = omega (arith, length-with_heads phrases spellings heads known.as_many) in
+    let inside : i < length phrases = omega (arith, length-with_representatives phrases spellings heads known.as_many) in
     subst (λ (w : Phrase). IsTokenText w.spelling) (sym (word_at phrases spellings heads known.as_many i inside))
     (All-get_or IsTokenText spellings (get_or heads i 0) [] (omega (arith, known.low i inside, as_many)) texts))

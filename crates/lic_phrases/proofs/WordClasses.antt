@@ -5,7 +5,7 @@ use Rattle.std.proofs.lemmas.Grind.{common_steps}
 use Rattle.std.proofs.lemmas.List.{length-map, map-append}
 use Rattle.std.proofs.lemmas.List.Elements.{Contains-append_left, Contains-append_right}
 use Rattle.std.specs.List.{Contains}
-use Rattle.lic_phrases.specs.Classes.{OnOneLine, Leads, Equivalent, IsFirst, AreHeads}
+use Rattle.lic_phrases.specs.Classes.{OnOneLine, Leads, Equivalent, IsFirst, AreRepresentatives}
 use Rattle.lic_phrases.specs.WordLists.{in_order, AreWords}
 use Rattle.lic_phrases.specs.WordReading.{AreInOrder}
 use Rattle.lic_phrases.specs.Spelling.{spelled}
@@ -32,7 +32,7 @@ contains-map_from f (x ∷ xs) y (suc k, within, is) =
     let rest = contains-map_from f xs y (k, omega arith, is) in
     (rest.0, (suc rest.1.0, omega (arith, rest.1.1), rest.1.2), rest.2)
 
--- where a number first stands
+-- where a number first occurs
 record First (flat : List ℕ) (m : ℕ) : Type 0 where
   pub at : ℕ
   pub within : at < length flat
@@ -57,7 +57,7 @@ first (x ∷ flat) m (k, within, is) = elim (cases_eq x m) [
     before zero later b e n = n e
     before (suc j) later b e n = later.none j (omega arith) e
 
-module _ (keys : List (List (List ℕ))) (lines : List (List ℕ)) (heads : List ℕ) (known : AreHeads lines heads) (as_many : length heads ≡ length keys)
+module _ (keys : List (List (List ℕ))) (lines : List (List ℕ)) (heads : List ℕ) (known : AreRepresentatives lines heads) (as_many : length heads ≡ length keys)
     (distinct : (i j : ℕ) → i < length keys → j < length keys → get_or keys i [] ≡ get_or keys j [] → i ≡ j)
     (ordered : AreInOrder (in_order lines) (length keys)) where
   abbrev key : ℕ → List (List ℕ)
@@ -193,7 +193,7 @@ module _ (keys : List (List (List ℕ))) (lines : List (List ℕ)) (heads : List
           let i_in : i < length keys = omega (arith, many) in
           (i, i_in, sym is ∙ get_any words i w d within ∙ each i i_in)
 
--- a number that stood before stands again, or the next one comes
+-- a number that came before occurs again, or the next one comes
 pub get_front : (flat more : List ℕ) (k : ℕ) → k < length flat → get_or (flat ++ more) k 0 ≡ get_or flat k 0
 get_front flat more k h = grind (arith, common_steps)
 

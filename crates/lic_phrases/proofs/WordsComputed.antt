@@ -5,7 +5,7 @@ use Rattle.std.specs.List.{position_or_len}
 use Rattle.lic_phrases.specs.Rewriting.{Phrase}
 use Rattle.lic_phrases.specs.Spelling.{spelled}
 use Rattle.lic_phrases.specs.Classes.{classes_joined}
-use Rattle.lic_phrases.specs.Listed.{with_heads}
+use Rattle.lic_phrases.specs.Listed.{with_representatives}
 
 -- the phrases so far, each but once; for each the first of its class; and the numbers of the phrases of a line so far
 pub record Reading : Type 0 where
@@ -16,7 +16,7 @@ pub record Reading : Type 0 where
 abbrev pub same_phrase : List (List ℕ) → List (List ℕ) → Bool
 same_phrase = pointwise bytes_eq
 
--- a phrase with the place at which it stands, or would stand
+-- a phrase with the place at which it is, or would be
 abbrev pub with_phrase_at : ℕ → List (List ℕ) → Reading → Reading
 with_phrase_at place phrase r =
     if nat_lt place (length r.phrases) then record { phrases = r.phrases; heads = r.heads; numbers = r.numbers ++ place ∷ [] }
@@ -46,7 +46,7 @@ with_lines [] r = r
 with_lines (line ∷ lines) r = with_lines lines (line_ended (with_phrases line r))
 
 abbrev pub words_of_reading : Reading → List Phrase
-words_of_reading r = with_heads r.phrases (map spelled r.phrases) r.heads
+words_of_reading r = with_representatives r.phrases (map spelled r.phrases) r.heads
 
 abbrev pub words_computed : List (List (List (List ℕ))) → List Phrase
 words_computed lines = words_of_reading (with_lines lines (record { phrases = []; heads = []; numbers = [] }))

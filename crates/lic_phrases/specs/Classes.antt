@@ -24,7 +24,7 @@ pub record IsFirst {A : Type 0} (xs : List A) (P : A → Type 0) (x : A) : Type 
   pub none : (k : ℕ) → k < at → ¬ (P (slice_index_or xs k x))
 
 -- each phrase's class: the least phrase of the class, by number
-pub record AreHeads (lines : List (List ℕ)) (heads : List ℕ) : Type 0 where
+pub record AreRepresentatives (lines : List (List ℕ)) (heads : List ℕ) : Type 0 where
   pub numbered : (line : List ℕ) (i : ℕ) → Contains lines line → Contains line i → i < length heads
   pub same : (i j : ℕ) → i < length heads → j < length heads → slice_index heads i ≡ slice_index heads j
       → Equivalent lines i j

@@ -1,4 +1,4 @@
--- A phrase as one text, by which it is looked up: each token's text, and a blank behind it.
+-- A phrase as one text, by which it is looked up: each token's text, and a blank after it.
 use Rattle.std.specs.Prelude.{◌≢◌, ℕ, List, [], ◌∷◌, ◌++◌, map, string_bytes, String}
 use Rattle.std.specs.List.{flat_map}
 

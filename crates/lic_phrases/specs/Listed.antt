@@ -19,8 +19,8 @@ abbrev pub spellings_in : List ListedPhrase → List (List ℕ)
 spellings_in phrases = map (λ p. string_bytes p.spelling) phrases
 
 -- each phrase with the spelling of the phrase that heads its class
-abbrev pub with_heads : List (List (List ℕ)) → List (List ℕ) → List ℕ → List Phrase
-with_heads phrases spellings heads =
+abbrev pub with_representatives : List (List (List ℕ)) → List (List ℕ) → List ℕ → List Phrase
+with_representatives phrases spellings heads =
     map (λ p. record { texts = p.0; spelling = slice_index_or spellings p.1 [] }) (zip phrases heads)
 
 -- The keys of these phrases, whose texts hold no blank, so that a key is of one phrase alone; each phrase's own spelling, which
@@ -32,8 +32,8 @@ pub record AreListed {A : Type 0} (keys : List (String A)) (phrases : List Liste
   pub token_texts : All IsTokenText (spellings_in phrases)
   pub as_many : length heads ≡ length phrases
 
--- phrases of one to eight texts, no two the same, and for each the number of one that does not stand behind it
-pub record HaveHeads (phrases : List (List (List ℕ))) (heads : List ℕ) : Type 0 where
+-- phrases of one to eight texts, no two the same, and for each the number of one that does not come after it
+pub record HaveRepresentatives (phrases : List (List (List ℕ))) (heads : List ℕ) : Type 0 where
   pub some : (i : ℕ) → i < length phrases → 0 < length (slice_index_or phrases i [])
   pub few : (i : ℕ) → i < length phrases → length (slice_index_or phrases i []) ≤ 8
   pub distinct : (i j : ℕ) → i < length phrases → j < length phrases
@@ -54,7 +54,7 @@ ReadsLine old old_heads new new_heads line =
     (lines : List (List (List (List ℕ)))) → HasRead [] lines [] (phrases_in old) old_heads []
     → HasRead [] (lines ++ line ∷ []) [] (phrases_in new) new_heads []
 
--- none of these phrases of a line is at fault, and so many stand before and behind them
+-- none of these phrases of a line is at fault, and so many come before and after them
 abbrev pub HasNoFault : List (List (List ℕ)) → ℕ → ℕ → Type 0
 HasNoFault line before behind =
     (number : ℕ) (later : List (ℕ × List (List ℕ)))

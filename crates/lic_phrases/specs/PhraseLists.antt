@@ -48,7 +48,7 @@ HaveTokens (p ∷ words) = (0 < length p.texts) × HaveTokens words
 
 -- ---- keys
 
--- the texts as one key: each with the byte 0xFF behind it, which UTF-8 never has
+-- the texts as one key: each with the byte 0xFF after it, which UTF-8 never has
 abbrev pub key_of : List (List ℕ) → List ℕ
 key_of texts = flat_map (λ text. text ++ 0xFF ∷ []) texts
 

@@ -32,7 +32,7 @@ sign_rows ts = flat_map sign_of_row (groups both_signs ts)
 
 -- ---- web addresses
 
--- whether the tokens `:`, `/`, `/` stand at the front
+-- whether the tokens `:`, `/`, `/` come first
 abbrev pub begins_authority : List Token → Bool
 begins_authority (a ∷ b ∷ c ∷ ts) = is_text (codes ":") a && is_text (codes "/") b && is_text (codes "/") c
 begins_authority _ = false
@@ -53,44 +53,44 @@ pub record Phrase : Type 0 where
   pub texts : List (List ℕ)
   pub spelling : List ℕ
 
--- whether tokens with these texts stand at the front, in this order
-abbrev pub stands : List (List ℕ) → List Token → Bool
-stands [] ts = true
-stands (text ∷ texts) [] = false
-stands (text ∷ texts) (t ∷ ts) = is_text text t && stands texts ts
+-- whether tokens with these texts come first, in this order
+abbrev pub begin_with_texts : List (List ℕ) → List Token → Bool
+begin_with_texts [] ts = true
+begin_with_texts (text ∷ texts) [] = false
+begin_with_texts (text ∷ texts) (t ∷ ts) = is_text text t && begin_with_texts texts ts
 
 -- the longer of two phrases, if there is a second, and the first where they are as long
 abbrev pub longer : Phrase → Option Phrase → Phrase
 longer p None = p
 longer p (Some q) = if nat_lt (length p.texts) (length q.texts) then q else p
 
--- the longest phrase of the list, by number of tokens, that stands at the front
+-- the longest phrase of the list, by number of tokens, that comes first
 abbrev pub longest_phrase : List Phrase → List Token → Option Phrase
 longest_phrase [] ts = None
 longest_phrase (p ∷ words) ts =
-    if stands p.texts ts then Some (longer p (longest_phrase words ts)) else longest_phrase words ts
+    if begin_with_texts p.texts ts then Some (longer p (longest_phrase words ts)) else longest_phrase words ts
 
--- how many tokens behind its first a phrase has
-abbrev pub count_behind : Option Phrase → ℕ
-count_behind None = 0
-count_behind (Some p) = length p.texts - 1
+-- how many tokens after its first a phrase has
+abbrev pub count_after : Option Phrase → ℕ
+count_after None = 0
+count_after (Some p) = length p.texts - 1
 
 -- what the first token becomes: itself, or the phrase that begins with it as one token
 abbrev pub first_as : Option Phrase → Token → List Token → Token
 first_as None t ts = t
 first_as (Some p) t ts = joined_as p.spelling t (take (length p.texts - 1) ts)
 
--- the phrases from the left on, behind this many tokens that went into one
-abbrev pub phrases_behind : List Phrase → ℕ → List Token → List Token
-phrases_behind words n [] = []
-phrases_behind words (suc n) (t ∷ ts) = phrases_behind words n ts
-phrases_behind words zero (t ∷ ts) =
+-- the phrases from the left on, after this many tokens that went into one
+abbrev pub phrases_after : List Phrase → ℕ → List Token → List Token
+phrases_after words n [] = []
+phrases_after words (suc n) (t ∷ ts) = phrases_after words n ts
+phrases_after words zero (t ∷ ts) =
     let phrase = longest_phrase words (t ∷ ts) in
-    first_as phrase t ts ∷ phrases_behind words (count_behind phrase) ts
+    first_as phrase t ts ∷ phrases_after words (count_after phrase) ts
 
 -- from the left, at each token the longest phrase as one token, which is left as it is from then on
 abbrev pub phrases_joined : List Phrase → List Token → List Token
-phrases_joined words ts = phrases_behind words 0 ts
+phrases_joined words ts = phrases_after words 0 ts
 
 -- ---- the three in a row
 

@@ -21,15 +21,15 @@ pub record IsShort (kept : Kept) : Type 0 where
   pub address : length kept.address ≤ 3
   pub phrase : length kept.phrase ≤ 7
 
--- what the steps behind the first still give for what they keep, with these rows of signs and other tokens behind it
+-- what the steps after the first still give for what they keep, with these rows of signs and other tokens after it
 abbrev pub left_of_rows : List Phrase → Kept → List Token → List SpannedText
 left_of_rows words kept rest = map spanned (phrases_joined words (kept.phrase ++ https_as_http (kept.address ++ rest)))
 
--- what the steps still give for what they keep, with these tokens behind it
+-- what the steps still give for what they keep, with these tokens after it
 abbrev pub left_of : List Phrase → Kept → List Token → List SpannedText
 left_of words kept rest = left_of_rows words kept (sign_rows (kept.sign ++ rest))
 
--- The steps behind the first took these rows. They have given more, and the whole is the same, whatever rows follow.
+-- The steps after the first took these rows. They have given more, and the whole is the same, whatever rows follow.
 abbrev pub GivesRows : List Phrase → List SpannedText → Kept → List Token → List SpannedText → Kept → Type 0
 GivesRows words given kept rows given' kept' =
     (rest : List Token) → given ++ left_of_rows words kept (rows ++ rest) ≡ given' ++ left_of_rows words kept' rest

@@ -14,7 +14,7 @@ begins_in_word text = first_is_word (chars text)
 abbrev pub ends_in_word : List ℕ → Bool
 ends_in_word text = first_is_word (reverse (chars text))
 
--- whether a blank stands between two texts
+-- whether a blank is between two texts
 abbrev pub is_parted : List ℕ → List ℕ → Bool
 is_parted text next = ends_in_word text && begins_in_word next
 
@@ -27,7 +27,7 @@ spelled [] = []
 spelled (text ∷ []) = text
 spelled (text ∷ next ∷ texts) = text ++ (blank_if (is_parted text next) ++ spelled (next ∷ texts))
 
--- whether a blank stands before the text at this place
+-- whether a blank comes before the text at this place
 abbrev pub is_parted_at : List (List ℕ) → ℕ → Bool
 is_parted_at texts zero = false
 is_parted_at texts (suc k) = is_parted (slice_index_or texts k []) (slice_index_or texts (suc k) [])

@@ -3,7 +3,7 @@ use Rattle.std.specs.Prelude.{◌≡◌, ℕ, ◌<◌, List, ◌∷◌, ◌++◌
 use Rattle.lic_phrases.specs.Rewriting.{Phrase}
 use Rattle.lic_phrases.specs.Spelling.{begins_in_word, ends_in_word}
 
--- A token's text in UTF-8 has a letter, and each blank in it stands between two letters of kind Word. (The byte 0x20 is in no
+-- A token's text in UTF-8 has a letter, and each blank in it is between two letters of kind Word. (The byte 0x20 is in no
 -- other character.)
 pub record IsTokenText (text : List ℕ) : Type 0 where
   pub not_empty : 0 < length text

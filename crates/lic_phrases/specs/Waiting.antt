@@ -14,12 +14,12 @@ use Rattle.lic_phrases.specs.declared.merging.Found.{Found}
 abbrev pub texts_of : List Token → List (List ℕ)
 texts_of = map (λ t. t.text)
 
--- the phrase whose texts are the longest front, of up to n of these texts, that is a phrase
-abbrev pub front_phrase : List Phrase → List (List ℕ) → ℕ → Option Phrase
-front_phrase words texts zero = None
-front_phrase words texts (suc n) = option_or (phrase_with words (take (suc n) texts)) (front_phrase words texts n)
+-- the phrase whose texts are the longest prefix, of up to n of these texts, that is a phrase
+abbrev pub first_phrase : List Phrase → List (List ℕ) → ℕ → Option Phrase
+first_phrase words texts zero = None
+first_phrase words texts (suc n) = option_or (phrase_with words (take (suc n) texts)) (first_phrase words texts n)
 
--- the phrase that was found in front of these tokens
+-- the phrase that was found at the start of these tokens
 abbrev pub phrase_found : List (List ℕ) → List Token → Found → Phrase
 phrase_found spellings ts found =
     record { texts = take found.count (texts_of ts); spelling = slice_index_or spellings found.class [] }
@@ -44,7 +44,7 @@ abbrev pub first_given : List (List ℕ) → Option Found → List Token → Lis
 first_given spellings found [] = []
 first_given spellings found (t ∷ ts) = spanned (first_as (option_map (phrase_found spellings (t ∷ ts)) found) t ts) ∷ []
 
--- what was given, and what the waiting tokens give with these behind them
+-- what was given, and what the waiting tokens give with these after them
 abbrev pub given_and_left : PhraseList → List FinalToken → List FirstToken → List Token → List SpannedText
 given_and_left list given waiting rest =
     map (spanned_in list.spellings) given ++ map spanned (phrases_joined list.phrases (tokens_in waiting ++ rest))

@@ -21,7 +21,8 @@ use Rattle.lic_phrases.specs.declared.fault.WordsFault.{WordsFault}
 abbrev pub texts_of : List Token → List (List ℕ)
 texts_of tokens = map (λ t. t.text) tokens
 
--- the texts of the tokens of a phrase: where its characters stand has no effect, it has no lines, signs are joined and https is http, and no phrase is looked for
+-- the texts of the tokens of a phrase: where its characters are has no effect, it has no lines,
+-- signs are joined and https is http, and no phrase is looked for
 abbrev pub phrase_texts : List ℕ → List (List ℕ)
 phrase_texts cs = texts_of (https_as_http
     (sign_rows (tokens_of_cells profile (map cell_of (without_dropped (unplaced cs))))))
@@ -56,7 +57,7 @@ fault_of_phrase phrase =
     else (if nat_lt 8 (length phrase) || nat_lt 256 (length (spelled phrase)) then Some PhraseTooLong
     else None)
 
--- what is wrong with a phrase of which so many stand before it in the file, repeats counted
+-- what is wrong with a phrase of which so many come before it in the file, repeats counted
 abbrev pub fault_of : ℕ → List (List ℕ) → Option WordsCause
 fault_of before phrase = if nat_le 4096 before then Some TooManyPhrases else fault_of_phrase phrase
 
@@ -70,7 +71,7 @@ abbrev pub fault_or : Option WordsCause → ℕ → Option WordsFault → Option
 fault_or (Some cause) number later = Some (record { line = number; cause = cause })
 fault_or None number later = later
 
--- the first fault of these phrases, of which so many stand before them in the file
+-- the first fault of these phrases, of which so many come before them in the file
 abbrev pub fault_from : ℕ → List (ℕ × List (List ℕ)) → Option WordsFault
 fault_from before [] = None
 fault_from before (phrase ∷ phrases) = fault_or (fault_of before phrase.1) phrase.0 (fault_from (before + 1) phrases)
@@ -92,14 +93,14 @@ out_of_memory = record { line = 0; cause = OutOfMemory }
 
 -- ---- words
 
--- the phrases of these lines in the order of first standing, each but once, with the spelling of its class: of the first phrase of
+-- the phrases of these lines in the order of first occurrence, each but once, with the spelling of its class: of the first phrase of
 -- the file that is equivalent to it
 pub record AreWords (lines : List (List (List (List ℕ)))) (words : List Phrase) : Type 0 where
   pub all : (p : List (List ℕ)) → Contains (in_order lines) p → (w : Phrase) × Contains words w × (w.texts ≡ p)
   pub only : (w : Phrase) → Contains words w → Contains (in_order lines) w.texts
   pub once : (i j : ℕ) (w : Phrase) → i < length words → j < length words
       → (slice_index_or words i w).texts ≡ (slice_index_or words j w).texts → i ≡ j
-  -- before each place of a word in the file there is one of each word that stands before it here
+  -- before each place of a word in the file there is one of each word that comes before it here
   pub order : (i j k : ℕ) (w : Phrase) (p : List (List ℕ)) → i < j → j < length words → k < length (in_order lines)
       → slice_index_or (in_order lines) k p ≡ (slice_index_or words j w).texts
       → (e : ℕ) × (e < k) × (slice_index_or (in_order lines) e p ≡ (slice_index_or words i w).texts)

@@ -23,7 +23,7 @@ pub(crate) fn is_https(token: &FirstToken) -> bool
     is_text("https", token)
 }
 
-/// Whether `:`, `/` and `/` stand in front.
+/// Whether `:`, `/` and `/` come first.
 fn begins_authority(tokens: &VecDeque<FirstToken>) -> bool
     ensures { result ≡ begins_authority (tokens_in tokens.now.items) }
 {

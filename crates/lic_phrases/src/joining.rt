@@ -1,6 +1,6 @@
 //! Classes of equivalent phrases.
 ghost use Rattle.std.specs.Prelude.{◌≡◌, ◌<◌, ◌++◌, ◌∷◌, [], ℕ, List, EachIndex, length, slice_index};
-ghost use Rattle.lic_phrases.specs.Classes.{AreHeads, classes_joined};
+ghost use Rattle.lic_phrases.specs.Classes.{AreRepresentatives, classes_joined};
 
 /// The classes of these two phrases become one, named by the lesser.
 pub(crate) fn join_classes(heads: &mut [usize], a: usize, b: usize)
@@ -23,8 +23,8 @@ pub(crate) fn join_line(heads: &mut [usize], line: &[usize])
     requires numbered { EachIndex line.now (λ k. slice_index line.now k < length heads.old) }
     requires some { 0 < length line.now }
     ensures len { length heads.new ≡ length heads.old }
-    ensures joined { (lines : List (List ℕ)) → AreHeads (lines ++ [] ∷ []) heads.old
-        → AreHeads (lines ++ line.now ∷ []) heads.new }
+    ensures joined { (lines : List (List ℕ)) → AreRepresentatives (lines ++ [] ∷ []) heads.old
+        → AreRepresentatives (lines ++ line.now ∷ []) heads.new }
 {
     for k in 1..line.len() {
         join_classes(heads, line[0], line[k]);

@@ -4,7 +4,7 @@ ghost use Rattle.std.specs.Prelude.{drop, length, map, option_map, take};
 ghost use Rattle.std.specs.Option.{ForSome};
 ghost use Rattle.std.specs.VecDeque.{deque_len};
 ghost use Rattle.lic_lines.specs.Tokens.{Token, token_in, tokens_in};
-ghost use Rattle.lic_phrases.specs.Waiting.{texts_of, front_phrase, phrase_found, spanned_in};
+ghost use Rattle.lic_phrases.specs.Waiting.{texts_of, first_phrase, phrase_found, spanned_in};
 ghost use Rattle.lic_phrases.specs.Waiting.{count_found, first_given, GivesMore, AreKnown};
 ghost use Rattle.lic_phrases.specs.Rewriting.{end_of_last};
 
@@ -14,7 +14,7 @@ use lic_lines::FirstToken;
 use std::alloc::AllocError;
 use std::collections::VecDeque;
 
-/// A phrase in front of some tokens: of how many tokens, and of which class.
+/// A phrase at the start of some tokens: of how many tokens, and of which class.
 #[derive(Clone, Copy)]
 pub(crate) struct Found {
     count: usize,
@@ -23,7 +23,7 @@ pub(crate) struct Found {
 
 /// The longest phrase, of at most `most` tokens, that these begin with. The key is a buffer for its
 /// own use.
-fn front_phrase(
+fn first_phrase(
     phrases: &Phrases,
     waiting: &VecDeque<FirstToken>,
     most: usize,
@@ -32,7 +32,7 @@ fn front_phrase(
     requires { most ≤ deque_len waiting.now }
     ensures found { IfOk result (λ r.
         option_map (phrase_found phrases.now.spellings (tokens_in waiting.now.items)) r
-        ≡ front_phrase phrases.now.phrases (texts_of (tokens_in waiting.now.items)) most) }
+        ≡ first_phrase phrases.now.phrases (texts_of (tokens_in waiting.now.items)) most) }
     ensures within { IfOk result (λ r. IfSome r (λ f. (0 < f.count) × (f.count ≤ most))) }
     ensures known { IfOk result (λ r. IfSome r (λ f. f.class < length phrases.now.spellings)) }
 {
@@ -58,7 +58,7 @@ fn end_of(token: FirstToken) -> u32
     token.end
 }
 
-/// Drops `count` tokens from the front, and gives where the last of them ends: if there is
+/// Drops `count` tokens from the start, and gives where the last of them ends: if there is
 /// none, the given place.
 fn drop_front(waiting: &mut VecDeque<FirstToken>, count: usize, mut end: u32) -> u32
     requires { count ≤ deque_len waiting.old }
@@ -115,7 +115,7 @@ fn give_first(
     Ok(())
 }
 
-/// Gives waiting tokens as long as the longest phrase in front of them is known. At the end of the
+/// Gives waiting tokens as long as the longest phrase at the start of them is known. At the end of the
 /// text all are given.
 pub(crate) fn give_known(
     phrases: &Phrases,
@@ -136,7 +136,7 @@ pub(crate) fn give_known(
         if !at_end && waiting.len() < most {
             break;
         }
-        let found = front_phrase(phrases, waiting, most.min(waiting.len()), key)?;
+        let found = first_phrase(phrases, waiting, most.min(waiting.len()), key)?;
         give_first(waiting, found, output)?;
     }
     Ok(())
@@ -160,7 +160,7 @@ fn give_alone(token: FirstToken, output: &mut Vec<FinalToken>) -> Result<(), All
     Ok(())
 }
 
-/// Takes the next token, and gives waiting tokens as long as the longest phrase in front of them is known.
+/// Takes the next token, and gives waiting tokens as long as the longest phrase at the start of them is known.
 #[inline(always)]
 pub(crate) fn take_token(
     phrases: &Phrases,

@@ -61,7 +61,7 @@ impl Rewriter {
 
     /// Takes the next token, and puts those that are now settled at the end of the output. All
     /// tokens of a text are taken with the same phrases. The caller may take tokens out of the output
-    /// between calls: those that were given `before` stand in front of it.
+    /// between calls: those that were given `before` come before it.
     #[inline(always)]
     pub fn push(
         &mut self,

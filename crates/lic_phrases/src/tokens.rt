@@ -14,7 +14,7 @@ ghost use Rattle.lic_phrases.specs.WordLists.{phrase_texts};
 use crate::final_token::FinalToken;
 use crate::phrases::Phrases;
 use crate::rewriter::Rewriter;
-use lic_lines::{FirstToken, LinePart, Room, Rules, push_tokens_of_line, unplaced};
+use lic_lines::{Buffers, FirstToken, LinePart, Rules, push_tokens_of_line, unplaced};
 use std::alloc::{AllocError, Global};
 
 /// The texts of a phrase's tokens: the line rules are left out, signs are joined and `https` is
@@ -47,7 +47,7 @@ fn first_tokens(alloc: Global, phrase: &str) -> Result<Vec<FirstToken>, AllocErr
         ≡ tokens_of_cells profile (map cell_of (without_dropped (unplaced (chars phrase.now))))) }
 {
     let rules = Rules::profile(alloc);
-    let mut room = Room::new(alloc);
+    let mut room = Buffers::new(alloc);
     tokens_inside(alloc, &rules, phrase, &mut room)
 }
 
@@ -56,7 +56,7 @@ fn tokens_inside(
     alloc: Global,
     rules: &Rules,
     text: &str,
-    room: &mut Room,
+    room: &mut Buffers,
 ) -> Result<Vec<FirstToken>, AllocError>
     ensures { IfOk result (λ tokens. tokens_in tokens.items ≡ tokens_of_cells (rules_of rules.now)
         (map cell_of (without_dropped (unplaced (chars text.now))))) }

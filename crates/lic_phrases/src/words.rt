@@ -1,7 +1,7 @@
 //! Equivalent words.
 ghost use Rattle.std.specs.Prelude.{◌≡◌, ◌⊎◌, ◌<◌, ◌≤◌, ◌∷◌, ◌++◌, [], None, Some, IfOk, IfErr, OnOk, length, slice_index, slice_index_or, string_bytes};
 ghost use Rattle.lic_phrases.specs.Keys.{texts_in};
-ghost use Rattle.lic_phrases.specs.Listed.{HaveHeads, phrases_in, spellings_in, with_heads};
+ghost use Rattle.lic_phrases.specs.Listed.{HaveRepresentatives, phrases_in, spellings_in, with_representatives};
 ghost use Rattle.lic_phrases.specs.PhraseLists.{with_added};
 ghost use Rattle.lic_phrases.specs.TokenTexts.{HaveTokenTexts, IsTokenText};
 ghost use Rattle.lic_phrases.specs.WordLists.{AreWords, first_fault, out_of_memory, phrase_lines};
@@ -58,14 +58,14 @@ fn add_listed(
 
 /// The phrases, each in the class of its head. Every phrase has a class with its own spelling; one
 /// that heads no phrase leaves its class empty.
-fn with_heads(
+fn with_representatives(
     alloc: Global,
     listed: Vec<ListedPhrase>,
     heads: &[usize],
 ) -> Result<Phrases, AllocError>
-    requires { HaveHeads (phrases_in listed.items) heads.now }
+    requires { HaveRepresentatives (phrases_in listed.items) heads.now }
     ensures { IfOk result (λ p. p.phrases
-        ≡ with_heads (phrases_in listed.items) (spellings_in listed.items) heads.now) }
+        ≡ with_representatives (phrases_in listed.items) (spellings_in listed.items) heads.now) }
 {
     let mut phrases = Phrases::new(alloc);
     for phrase in listed {
@@ -100,7 +100,7 @@ impl Words {
     {
         let mut reader = Reader::new(alloc);
         reader.read_lines(alloc, text)?;
-        let phrases = with_heads(alloc, reader.phrases, &reader.heads)?;
+        let phrases = with_representatives(alloc, reader.phrases, &reader.heads)?;
         Ok(Words { phrases })
     }
 

@@ -1,5 +1,5 @@
 pub mod Spelled
-pub mod Standing
+pub mod Occurring
 pub mod TokenPlaces
 pub mod Reading
 pub mod TextReading

@@ -14,11 +14,11 @@ use Rattle.lic_words.specs.Letters.{is_word}
 use Rattle.lic_norm.specs.Tokens.{TokenValue}
 use Rattle.lic_norm.specs.PieceTexts.{IsPieceText}
 use Rattle.lic_norm.specs.Places.{texts_of, IsTokenEnd}
-use Rattle.lic_places.specs.Places.{AreTexts, IsBehindBlank, OverBlank, Stands, is_blank_at, spelling_of, HasGap}
+use Rattle.lic_places.specs.Places.{AreTexts, IsAfterBlank, OverBlank, Occurs, is_blank_at, spelling_of, HasGap}
 use Rattle.lic_places.specs.Places.OverBlank.{over, stays}
 use Rattle.lic_places.specs.Reads.{Takes, Reads}
 use Rattle.lic_places.proofs.Spelled.{before, spelled-before, spelled-cut, spelled-front, spelled-from, spelled-utf8, blank_if-utf8}
-use Rattle.lic_places.proofs.Standing.{Stands-drop, Stands-nil, Stands-append, Stands-left, Stands-right, Stands-take, Stands-first, blank_stands, stands_blank}
+use Rattle.lic_places.proofs.Occurring.{Occurs-drop, Occurs-nil, Occurs-append, Occurs-left, Occurs-right, Occurs-take, Occurs-first, blank_stands, stands_blank}
 use Rattle.lic_places.proofs.TokenPlaces.{length-texts_of, texts_of-utf8, text_token, place_end-is, blank-between}
 
 -- ---- letters
@@ -34,13 +34,13 @@ encode-some : (c : ℕ) → 0 < length (encode c)
 encode-some c = omega (arith, length-encode c, (len_utf8_bounds c).0)
 
 -- where a letter is whose first byte is a blank, it is a blank
-blank_letter : (bytes : List ℕ) (p c q : ℕ) → Stands bytes p (encode c) q → IsTrue (is_blank_at bytes p) → c ≡ blank
+blank_letter : (bytes : List ℕ) (p c q : ℕ) → Occurs bytes p (encode c) q → IsTrue (is_blank_at bytes p) → c ≡ blank
 blank_letter bytes p c q stands is = by_bytes (encode c) refl
   where
     by_bytes : (bs : List ℕ) → encode c ≡ bs → c ≡ blank
     by_bytes [] e = absurd (omega (arith, encode-some c, ap length e))
     by_bytes (b ∷ bs) e =
-        let here : b ≡ blank = sym (Stands-first bytes p b bs q (subst (λ l. Stands bytes p l q) e stands))
+        let here : b ≡ blank = sym (Occurs-first bytes p b bs q (subst (λ l. Occurs bytes p l q) e stands))
         ∙ eqb-true (get_or bytes p 0) 0x20 is in
         char_from_byte (b ∷ bs) [] c (sym e ∙ sym (append-nil (encode c))) (omega arith) (omega arith) ∙ here
 
@@ -93,14 +93,14 @@ ends-after front text rest c front_utf8 utf8 some is_scalar is =
 
 -- the letter before the end of a token's text
 letter_before : (texts : List (List ℕ)) (i o c p : ℕ) → i < length texts → p ≡ length (spelled (take (suc i) texts))
-    → All IsUtf8 texts → 0 < length (get_or texts i []) → IsScalar c → Stands (spelled texts) o (encode c) p
+    → All IsUtf8 texts → 0 < length (get_or texts i []) → IsScalar c → Occurs (spelled texts) o (encode c) p
     → ends_in_word (get_or texts i []) ≡ is_word c
 letter_before texts i o c p within end utf8 some is_scalar stands =
     let front = spelled (take (suc i) texts) in
     let cut = spelled-front texts i within in
     let ends : front ≡ take o (spelled texts) ++ encode c =
     sym (take_at front cut.0 p (sym end)) ∙ ap (take p) (sym cut.1)
-    ∙ Stands-take (spelled texts) o (encode c) p stands in
+    ∙ Occurs-take (spelled texts) o (encode c) p stands in
     ends-after (before texts i) (get_or texts i []) (take o (spelled texts)) c
     (IsUtf8-append (spelled (take i texts)) (blank_if (is_parted_at texts i))
     (spelled-utf8 (take i texts) (All-take IsUtf8 i texts utf8)) (blank_if-utf8 (is_parted_at texts i)))
@@ -116,14 +116,14 @@ after_end texts i p within end =
 
 letter_after : (texts : List (List ℕ)) (i p d q : ℕ) → suc i < length texts
     → p ≡ length (spelled (take (suc i) texts)) → is_parted_at texts (suc i) ≡ false
-    → All IsUtf8 texts → 0 < length (get_or texts (suc i) []) → Stands (spelled texts) p (encode d) q
+    → All IsUtf8 texts → 0 < length (get_or texts (suc i) []) → Occurs (spelled texts) p (encode d) q
     → begins_in_word (get_or texts (suc i) []) ≡ is_word d
 letter_after texts i p d q within end joined utf8 some stands =
     let from = spelled-from texts (suc i) within in
     let rest = spelled (drop (suc i) texts) in
     let here : rest ≡ encode d ++ drop q (spelled texts) =
     sym (after_end texts i p within end ∙ ap (λ b. blank_if b ++ rest) joined)
-    ∙ Stands-drop (spelled texts) p (encode d) q stands in
+    ∙ Occurs-drop (spelled texts) p (encode d) q stands in
     begins-front (get_or texts (suc i) []) from.0 (drop q (spelled texts)) d
     (All-get_or IsUtf8 texts (suc i) [] within utf8) some
     (subst IsUtf8 from.1 (spelled-utf8 (drop (suc i) texts) (All-drop IsUtf8 (suc i) texts utf8)))
@@ -131,8 +131,8 @@ letter_after texts i p d q within end joined utf8 some stands =
 
 -- where a token ends and no blank is there, the letters beside the place are not both of kind Word
 pub token_end : (tokens : List TokenValue) (o c p d q : ℕ) → AreTexts tokens → IsTokenEnd tokens p → IsScalar c
-    → IsTrue (is_word c) → IsTrue (is_word d) → Stands (spelling_of tokens) o (encode c) p
-    → Stands (spelling_of tokens) p (encode d) q → (IsTrue (is_blank_at (spelling_of tokens) p) → ⊥) → ⊥
+    → IsTrue (is_word c) → IsTrue (is_word d) → Occurs (spelling_of tokens) o (encode c) p
+    → Occurs (spelling_of tokens) p (encode d) q → (IsTrue (is_blank_at (spelling_of tokens) p) → ⊥) → ⊥
 token_end tokens o c p d q are ends is_scalar first_word second_word first second free =
     let i = ends.number in
     let texts = texts_of tokens in
@@ -156,7 +156,7 @@ token_end tokens o c p d q are ends is_scalar first_word second_word first secon
       | inr past ↦
           let all : spelled (take (suc i) texts) ≡ spelled texts = ap spelled (take_all (suc i) texts past) in
           let none : drop p (spelled texts) ≡ [] = drop_all p (spelled texts) (omega (arith, here, ap length all)) in
-          let some = ap length (sym none ∙ Stands-drop (spelled texts) p (encode d) q second) in
+          let some = ap length (sym none ∙ Occurs-drop (spelled texts) p (encode d) q second) in
           absurd (omega (arith, encode-some d, some, length-append (encode d) (drop q (spelled texts))))
     ]
 
@@ -192,7 +192,7 @@ scalars-right [] r h = (and_parts (scalar blank) (scalars r) h).1
 scalars-right (c ∷ f) r h = scalars-right f r (and_parts (scalar c) (scalars (f ++ (blank ∷ r))) h).1
 
 module _ (text : List ℕ) (utf8 : IsUtf8 text) (piece : IsPieceText text)
-    (after : IsBehindBlank text (length text) → ⊥) where
+    (after : IsAfterBlank text (length text) → ⊥) where
   -- the bytes of the text, cut at a blank
   cut_bytes : (front rest : List ℕ) → chars text ≡ front ++ (blank ∷ rest) → text ≡ encodes front ++ (0x20 ∷ encodes rest)
   cut_bytes front rest e =
@@ -225,19 +225,19 @@ module _ (text : List ℕ) (utf8 : IsUtf8 text) (piece : IsPieceText text)
 
 -- the letter that is read first at a place where no gap leads over a blank
 first_read : (tokens : List TokenValue) (p q : ℕ) (cs : List ℕ) → IsTrue (first_is_word cs) → Reads tokens p cs q
-    → (d r : ℕ) × IsTrue (is_word d) × (d ≡ blank → ⊥) × Stands (spelling_of tokens) p (encode d) r
+    → (d r : ℕ) × IsTrue (is_word d) × (d ≡ blank → ⊥) × Occurs (spelling_of tokens) p (encode d) r
 first_read tokens p q [] word reads = absurd (let h : false ≡ true = word in cc)
 first_read tokens p q (d ∷ cs) word reads = by_case reads.1
   where
     by_case : Takes tokens p d reads.0
-        → (e r : ℕ) × IsTrue (is_word e) × (e ≡ blank → ⊥) × Stands (spelling_of tokens) p (encode e) r
+        → (e r : ℕ) × IsTrue (is_word e) × (e ≡ blank → ⊥) × Occurs (spelling_of tokens) p (encode e) r
     by_case (inl over_blank) = absurd (true≢false (sym word ∙ ap is_word over_blank.0 ∙ blank_no_word))
     by_case (inr letter) = (d, reads.0, word, letter.0, letter.2)
 
 -- a blank within a text is read over a blank
 blank_taken : (tokens : List TokenValue) (last o p r q : ℕ) (cs : List ℕ) → AreTexts tokens → IsScalar last
-    → Stands (spelling_of tokens) o (encode last) p → IsTrue (is_word last) → IsTrue (first_is_word cs)
-    → OverBlank tokens p r → Reads tokens r cs q → Stands (spelling_of tokens) p (0x20 ∷ []) r
+    → Occurs (spelling_of tokens) o (encode last) p → IsTrue (is_word last) → IsTrue (first_is_word cs)
+    → OverBlank tokens p r → Reads tokens r cs q → Occurs (spelling_of tokens) p (0x20 ∷ []) r
 blank_taken tokens last o p r q cs are is_scalar stands word next (over is) reads = blank_stands (spelling_of tokens) p is
 blank_taken tokens last o p r q cs are is_scalar stands word next (stays free gap) reads =
     let first = first_read tokens p q cs next reads in
@@ -245,7 +245,7 @@ blank_taken tokens last o p r q cs are is_scalar stands word next (stays free ga
     λ is. first.3 (blank_letter (spelling_of tokens) p first.0 first.1 first.4 is) in
     absurd (no_gap first.0 first.1 first.2 first.4 no_blank gap)
   where
-    no_gap : (d e : ℕ) → IsTrue (is_word d) → Stands (spelling_of tokens) p (encode d) e
+    no_gap : (d e : ℕ) → IsTrue (is_word d) → Occurs (spelling_of tokens) p (encode d) e
         → (IsTrue (is_blank_at (spelling_of tokens) p) → ⊥) → HasGap tokens p → ⊥
     no_gap d e second_word second no_blank (inl start) = omega (arith, encode-some last, stands.0, start)
     no_gap d e second_word second no_blank (inr (inl is)) = no_blank is
@@ -254,35 +254,35 @@ blank_taken tokens last o p r q cs are is_scalar stands word next (stays free ga
 
 -- one letter
 letter_taken : (tokens : List TokenValue) (last o p c r q : ℕ) (cs : List ℕ) → AreTexts tokens → IsScalar last
-    → Stands (spelling_of tokens) o (encode last) p
+    → Occurs (spelling_of tokens) o (encode last) p
     → (c ≡ blank → IsTrue (is_word last) × IsTrue (first_is_word cs))
-    → Takes tokens p c r → Reads tokens r cs q → IsScalar c × Stands (spelling_of tokens) p (encode c) r
+    → Takes tokens p c r → Reads tokens r cs q → IsScalar c × Occurs (spelling_of tokens) p (encode c) r
 letter_taken tokens last o p c r q cs are is_scalar stands between (inl is) reads =
     let beside = between is.0 in
     let here = blank_taken tokens last o p r q cs are is_scalar stands beside.0 beside.1 is.1 reads in (
       subst IsScalar (sym is.0) refl,
-      subst (λ l. Stands (spelling_of tokens) p l r) (sym (ap encode is.0 ∙ encode-blank)) here,
+      subst (λ l. Occurs (spelling_of tokens) p l r) (sym (ap encode is.0 ∙ encode-blank)) here,
     )
 letter_taken tokens last o p c r q cs are is_scalar stands between (inr letter) reads = (letter.1, letter.2)
 
 letters_stand : (tokens : List TokenValue) (last o p q : ℕ) (cs : List ℕ) → AreTexts tokens → IsScalar last
-    → Stands (spelling_of tokens) o (encode last) p → AreBetween last cs → Reads tokens p cs q
-    → Stands (spelling_of tokens) p (encodes cs) q
+    → Occurs (spelling_of tokens) o (encode last) p → AreBetween last cs → Reads tokens p cs q
+    → Occurs (spelling_of tokens) p (encodes cs) q
 letters_stand tokens last o p q [] are is_scalar stands between reads =
-    subst (λ r. Stands (spelling_of tokens) p [] r) reads (Stands-nil (spelling_of tokens) p)
+    subst (λ r. Occurs (spelling_of tokens) p [] r) reads (Occurs-nil (spelling_of tokens) p)
 letters_stand tokens last o p q (c ∷ cs) are is_scalar stands between reads =
     let taken = letter_taken tokens last o p c reads.0 q cs are is_scalar stands between.0 reads.1 reads.2 in
-    Stands-append (spelling_of tokens) p (encode c) reads.0 (encodes cs) q taken.1
+    Occurs-append (spelling_of tokens) p (encode c) reads.0 (encodes cs) q taken.1
     (letters_stand tokens c p reads.0 q cs are taken.0 taken.1 between.1 reads.2)
 
 pub text_stands : (tokens : List TokenValue) (text : List ℕ) (p q : ℕ) → AreTexts tokens → IsUtf8 text → IsPieceText text
-    → 0 < length text → (IsTrue (is_blank_at text 0) → ⊥) → (IsBehindBlank text (length text) → ⊥)
-    → Reads tokens p (chars text) q → Stands (spelling_of tokens) p text q
+    → 0 < length text → (IsTrue (is_blank_at text 0) → ⊥) → (IsAfterBlank text (length text) → ⊥)
+    → Reads tokens p (chars text) q → Occurs (spelling_of tokens) p text q
 text_stands tokens text p q are utf8 piece some start after reads =
-    subst (λ l. Stands (spelling_of tokens) p l q) (encodes-chars text utf8) (by_letters (chars text) refl reads)
+    subst (λ l. Occurs (spelling_of tokens) p l q) (encodes-chars text utf8) (by_letters (chars text) refl reads)
   where
     by_first : (c : ℕ) (cs : List ℕ) → chars text ≡ c ∷ cs → (r : ℕ) → Takes tokens p c r → Reads tokens r cs q
-        → Stands (spelling_of tokens) p (encodes (c ∷ cs)) q
+        → Occurs (spelling_of tokens) p (encodes (c ∷ cs)) q
     by_first c cs e r (inl is) later =
         let begins : text ≡ 0x20 ∷ encodes cs =
         sym (encodes-chars text utf8) ∙ ap encodes e ∙ ap (λ l. l ++ encodes cs) (ap encode is.0 ∙ encode-blank) in
@@ -290,28 +290,28 @@ text_stands tokens text p q are utf8 piece some start after reads =
     by_first c cs e r (inr letter) later =
         let between = AreBetween-each c cs (λ front rest cut more.
         letters_between text utf8 piece after front rest (e ∙ cut) more) in
-        Stands-append (spelling_of tokens) p (encode c) r (encodes cs) q letter.2
+        Occurs-append (spelling_of tokens) p (encode c) r (encodes cs) q letter.2
         (letters_stand tokens c p r q cs are letter.1 letter.2 between later)
 
-    by_letters : (cs : List ℕ) → chars text ≡ cs → Reads tokens p cs q → Stands (spelling_of tokens) p (encodes cs) q
-    by_letters [] e reads = subst (λ r. Stands (spelling_of tokens) p [] r) reads (Stands-nil (spelling_of tokens) p)
+    by_letters : (cs : List ℕ) → chars text ≡ cs → Reads tokens p cs q → Occurs (spelling_of tokens) p (encodes cs) q
+    by_letters [] e reads = subst (λ r. Occurs (spelling_of tokens) p [] r) reads (Occurs-nil (spelling_of tokens) p)
     by_letters (c ∷ cs) e reads = by_first c cs e reads.0 reads.1 reads.2
 
 -- ---- what is there is read
 
 letters_read : (tokens : List TokenValue) (p q : ℕ) (cs : List ℕ) → scalars cs ≡ true
-    → Stands (spelling_of tokens) p (encodes cs) q → Reads tokens p cs q
+    → Occurs (spelling_of tokens) p (encodes cs) q → Reads tokens p cs q
 letters_read tokens p q [] all stands = omega (arith, stands.0)
 letters_read tokens p q (c ∷ cs) all stands =
     let parts = and_parts (scalar c) (scalars cs) all in
     let bytes = spelling_of tokens in
     let r = p + length (encode c) in
-    let left = Stands-left bytes p (encode c) (encodes cs) q stands in
-    let right = Stands-right bytes p (encode c) (encodes cs) q stands in
+    let left = Occurs-left bytes p (encode c) (encodes cs) q stands in
+    let right = Occurs-right bytes p (encode c) (encodes cs) q stands in
     elim (cases_eq c blank) [
       | inl is ↦
-          let here : Stands bytes p (0x20 ∷ []) r =
-          subst (λ l. Stands bytes p l r) (ap encode is ∙ encode-blank) left in
+          let here : Occurs bytes p (0x20 ∷ []) r =
+          subst (λ l. Occurs bytes p l r) (ap encode is ∙ encode-blank) left in
           let next : suc p ≡ r = omega (arith, here.0) in
           let leads = over (stands_blank bytes p [] r here) in
           (r, inl (is, subst (OverBlank tokens p) next leads), letters_read tokens r q cs parts.1 right)
@@ -319,7 +319,7 @@ letters_read tokens p q (c ∷ cs) all stands =
     ]
 
 pub text_read : (tokens : List TokenValue) (text : List ℕ) (p q : ℕ) → IsUtf8 text
-    → Stands (spelling_of tokens) p text q → Reads tokens p (chars text) q
+    → Occurs (spelling_of tokens) p text q → Reads tokens p (chars text) q
 text_read tokens text p q utf8 stands =
     letters_read tokens p q (chars text) (scalars-chars text utf8)
-    (subst (λ l. Stands (spelling_of tokens) p l q) (sym (encodes-chars text utf8)) stands)
+    (subst (λ l. Occurs (spelling_of tokens) p l q) (sym (encodes-chars text utf8)) stands)

@@ -13,7 +13,7 @@ use Rattle.lic_words.proofs.Rows.{gapped_from-letter}
 use Rattle.lic_phrases.specs.Spelling.{first_is_word}
 use Rattle.lic_norm.specs.Tokens.{TokenValue}
 use Rattle.lic_norm.specs.Places.{IsTokenEnd}
-use Rattle.lic_places.specs.Places.{IsBehindBlank, spelling_of}
+use Rattle.lic_places.specs.Places.{IsAfterBlank, spelling_of}
 use Rattle.lic_places.proofs.TieReading.{StandGapped}
 use Rattle.lic_places.proofs.TiePlaces.{drop-on, drop-blank, length-letter, not_behind, has_letter, is_shut_inside, is_needed_before}
 
@@ -44,7 +44,7 @@ gapped_from-token last t cs ts c b are other words =
 -- the letters of a token, whose text is from one place up to another, and what follows it
 module _ (tokens : List TokenValue) (whole : List ℕ) (apart : AreWordsApart whole) (start stop : ℕ)
     (inside : (p : ℕ) → start < p → p < stop → IsTokenEnd tokens p → ⊥) (after : List ℕ) (row : List ℕ) (e : ℕ)
-    (go_on : (last : ℕ) → is_word last ≡ first_is_word (reverse whole) → (IsBehindBlank (spelling_of tokens) stop → ⊥)
+    (go_on : (last : ℕ) → is_word last ≡ first_is_word (reverse whole) → (IsAfterBlank (spelling_of tokens) stop → ⊥)
     → StandGapped tokens stop (gapped_from last false row) e) where
   -- from some place inside on these letters occur, after one that is no blank
   pub record IsAt (front : List ℕ) (last p : ℕ) (cs : List ℕ) : Type 0 where
@@ -52,7 +52,7 @@ module _ (tokens : List TokenValue) (whole : List ℕ) (apart : AreWordsApart wh
     pub last_is : first_is_word (reverse front) ≡ is_word last
     pub scalars : all_scalars cs ≡ true
     pub bytes : drop p (spelling_of tokens) ≡ encode_utf8_all cs ++ after
-    pub solid : IsBehindBlank (spelling_of tokens) p → ⊥
+    pub solid : IsAfterBlank (spelling_of tokens) p → ⊥
     pub forward : start < p
     pub stops : stop ≡ p + length (encode_utf8_all cs)
 
@@ -69,7 +69,7 @@ module _ (tokens : List TokenValue) (whole : List ℕ) (apart : AreWordsApart wh
       let here : stop ≡ p = omega (arith, at.stops) in
       subst (λ q. StandGapped tokens q (gapped_from last false row) e) here
       (go_on last (sym at.last_is ∙ ap (λ x. first_is_word (reverse x)) (sym whole_front))
-      (λ blank_before. at.solid (subst (IsBehindBlank (spelling_of tokens)) here blank_before)))
+      (λ blank_before. at.solid (subst (IsAfterBlank (spelling_of tokens)) here blank_before)))
 
   -- the next place, after a letter
   next_place : (front : List ℕ) (last p c : ℕ) (cs : List ℕ) → c ≢ blank → IsAt front last p (c ∷ cs)

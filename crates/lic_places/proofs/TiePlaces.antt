@@ -8,7 +8,7 @@ use Rattle.std.proofs.lemmas.Str.{length-encode, len_utf8_bounds, encode_same, i
 use Rattle.lic_words.specs.Words.{blank}
 use Rattle.lic_norm.specs.Tokens.{TokenValue}
 use Rattle.lic_norm.specs.Places.{IsTokenEnd}
-use Rattle.lic_places.specs.Places.{HasGap, IsBehindBlank, OverBlank, over, stays, Stands, is_blank_at, spelling_of}
+use Rattle.lic_places.specs.Places.{HasGap, IsAfterBlank, OverBlank, over, stays, Occurs, is_blank_at, spelling_of}
 use Rattle.lic_places.proofs.TieReading.{HasLetter, IsShut, IsFree, IsNeeded}
 
 -- ---- bytes
@@ -27,8 +27,8 @@ slice-on bytes front rest p is =
     ap (λ n. take n (drop p bytes)) size ∙ ap (take (length front)) is ∙ take_at front rest (length front) refl
 
 -- what is at a place, with the bytes after it
-Stands-on : (bytes text : List ℕ) (p q : ℕ) → Stands bytes p text q → drop p bytes ≡ text ++ drop (q - p) (drop p bytes)
-Stands-on bytes text p q stands =
+Occurs-on : (bytes text : List ℕ) (p q : ℕ) → Occurs bytes p text q → drop p bytes ≡ text ++ drop (q - p) (drop p bytes)
+Occurs-on bytes text p q stands =
     sym (take-append-drop (q - p) (drop p bytes)) ∙ ap (λ x. x ++ drop (q - p) (drop p bytes)) stands.1
 
 byte-on : (bytes : List ℕ) (p k : ℕ) → get_or bytes (p + k) 0 ≡ get_or (drop p bytes) k 0
@@ -61,7 +61,7 @@ not_at bytes rest p c other is blank_at =
 
 -- no blank comes before the place where another letter ends
 pub not_behind : (bytes rest : List ℕ) (p c : ℕ) → c ≢ blank → drop p bytes ≡ encode_utf8 c ++ rest
-    → IsBehindBlank bytes (p + length (encode_utf8 c)) → ⊥
+    → IsAfterBlank bytes (p + length (encode_utf8 c)) → ⊥
 not_behind bytes rest p c other is (k, next, blank_at) =
     let some = length-letter c in
     let within : length (encode_utf8 c) - 1 < length (encode_utf8 c) = omega arith in
@@ -78,7 +78,7 @@ has_letter tokens rest p c other scalar is = record {
   stands = (refl, slice-on (spelling_of tokens) (encode_utf8 c) rest p is);
   only = λ d r d_scalar stands.
       let after = drop (r - p) (drop p (spelling_of tokens)) in
-      let same = encode_same d c after rest (sym (Stands-on (spelling_of tokens) (encode_utf8 d) p r stands) ∙ is) in
+      let same = encode_same d c after rest (sym (Occurs-on (spelling_of tokens) (encode_utf8 d) p r stands) ∙ is) in
       (same.0, stands.0 ∙ ap (λ x. p + length (encode_utf8 x)) same.0);
 }
 
@@ -101,7 +101,7 @@ module _ (tokens : List TokenValue) where
       let no_blank : IsTrue (is_blank_at (spelling_of tokens) p) → ⊥ = not_at (spelling_of tokens) rest p c other is in
       record { nowhere = λ q leads. shut_inside p q no_blank (no_gap_inside p no_blank forward inside) leads }
 
-  shut_after : (p q : ℕ) → (IsTrue (is_blank_at (spelling_of tokens) p) → ⊥) → IsBehindBlank (spelling_of tokens) p → OverBlank tokens p q → ⊥
+  shut_after : (p q : ℕ) → (IsTrue (is_blank_at (spelling_of tokens) p) → ⊥) → IsAfterBlank (spelling_of tokens) p → OverBlank tokens p q → ⊥
   shut_after p q no_blank after_blank (over is) = no_blank is
   shut_after p q no_blank after_blank (stays not_behind gap) = not_behind after_blank
 
@@ -111,7 +111,7 @@ module _ (tokens : List TokenValue) where
 
   -- blanks may be at the end of a token before a letter
   pub is_free_before : (rest : List ℕ) (p c : ℕ) → c ≢ blank → drop p (spelling_of tokens) ≡ encode_utf8 c ++ rest
-      → (IsBehindBlank (spelling_of tokens) p → ⊥) → HasGap tokens p → IsFree tokens p
+      → (IsAfterBlank (spelling_of tokens) p → ⊥) → HasGap tokens p → IsFree tokens p
   is_free_before rest p c other is no_blank gap = record {
     stay = stays no_blank gap;
     only = λ q leads. only_stays p q (not_at (spelling_of tokens) rest p c other is) leads;
@@ -119,7 +119,7 @@ module _ (tokens : List TokenValue) where
 
   -- a blank of the text before a letter
   pub is_needed_before : (rest : List ℕ) (p c : ℕ) → c ≢ blank → drop p (spelling_of tokens) ≡ 0x20 ∷ (encode_utf8 c ++ rest)
-      → (IsBehindBlank (spelling_of tokens) p → ⊥) → IsNeeded tokens p (suc p)
+      → (IsAfterBlank (spelling_of tokens) p → ⊥) → IsNeeded tokens p (suc p)
   is_needed_before rest p c other is no_blank =
       let bytes = spelling_of tokens in
       let blank_at : IsTrue (is_blank_at bytes p) = is_blank_at-byte bytes (encode_utf8 c ++ rest) p is in
@@ -130,5 +130,5 @@ module _ (tokens : List TokenValue) where
         next = refl;
         shut = record { nowhere = λ q leads. shut_after (suc p) q (not_at bytes rest (suc p) c other next) (p, refl, blank_at) leads };
         no_letter = λ d q d_other scalar stands.
-            not_at bytes (drop (q - p) (drop p bytes)) p d d_other (Stands-on bytes (encode_utf8 d) p q stands) blank_at;
+            not_at bytes (drop (q - p) (drop p bytes)) p d d_other (Occurs-on bytes (encode_utf8 d) p q stands) blank_at;
       }

@@ -12,7 +12,7 @@ use Rattle.lic_words.proofs.Spellings.{gap-behind_blank}
 use Rattle.lic_phrases.specs.Spelling.{is_parted}
 use Rattle.lic_norm.specs.Tokens.{TokenValue}
 use Rattle.lic_norm.specs.Places.{place_start, place_end, texts_of}
-use Rattle.lic_places.specs.Places.{AreTexts, IsBehindBlank, spelling_of}
+use Rattle.lic_places.specs.Places.{AreTexts, IsAfterBlank, spelling_of}
 use Rattle.lic_places.specs.Reads.{BeginsAt, Reads, ReadsTokens}
 use Rattle.lic_places.proofs.TieReading.{HasLetter, StandsGap, StandGapped, not_behind_stay, read_gapped, spell_gapped}
 use Rattle.lic_places.proofs.TiePlaces.{is_free_before}
@@ -62,7 +62,7 @@ module _ (tokens : List TokenValue) (first e : ℕ) (w : Word) where
   to_gap b p gap q (inl is) read = inr (subst (λ x. Reads tokens x w e) is read)
   to_gap false p gap q (inr (next, blank_before)) read =
       let here : suc q ≡ p = next ∙ sym gap.0 in
-      absurd (not_behind_stay tokens p gap.1.stay (subst (IsBehindBlank (spelling_of tokens)) here blank_before))
+      absurd (not_behind_stay tokens p gap.1.stay (subst (IsAfterBlank (spelling_of tokens)) here blank_before))
   to_gap true p gap q (inr (next, blank_before)) read =
       let is_next = gap.next in
       let here : q ≡ p = omega arith in
@@ -81,7 +81,7 @@ module _ (tokens : List TokenValue) (known : AreTexts tokens) where
       ap (λ n. drop n (spelling_of tokens)) start ∙ after.1
       ∙ ap (λ x. x ++ after.0) (text_written (text_at tokens 0) cs c (text-utf8 tokens 0 known h) are)
       ∙ append_assoc (encode_utf8 c) (encode_utf8_all cs) after.0 in
-      let solid : IsBehindBlank (spelling_of tokens) 0 → ⊥ = λ blank_before. omega (arith, blank_before.1) in
+      let solid : IsAfterBlank (spelling_of tokens) 0 → ⊥ = λ blank_before. omega (arith, blank_before.1) in
       (false, 0, (start, is_free_before tokens (encode_utf8_all cs ++ after.0) 0 c other bytes solid (inl refl)))
   first_gap (suc i) c cs h other are =
       (is_parted (text_at tokens i) (text_at tokens (suc i)), place_end tokens i, gap_before tokens known i c cs h are)

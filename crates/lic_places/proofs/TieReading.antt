@@ -5,7 +5,7 @@ use Rattle.std.proofs.lemmas.Str.{length-encode, len_utf8_bounds}
 use Rattle.lic_words.specs.Words.{Word, blank, blanks}
 use Rattle.lic_words.specs.Spelling.{Gap, no_gap, free, needed, Allows, SpellsGapped}
 use Rattle.lic_norm.specs.Tokens.{TokenValue}
-use Rattle.lic_places.specs.Places.{IsBehindBlank, OverBlank, over, stays, Stands, is_blank_at, spelling_of}
+use Rattle.lic_places.specs.Places.{IsAfterBlank, OverBlank, over, stays, Occurs, is_blank_at, spelling_of}
 use Rattle.lic_places.specs.Reads.{Takes, Reads}
 
 -- ---- what is between places
@@ -14,8 +14,8 @@ use Rattle.lic_places.specs.Reads.{Takes, Reads}
 pub record HasLetter (tokens : List TokenValue) (p c q : ℕ) : Type 0 where
   pub other : c ≢ blank
   pub scalar : IsScalar c
-  pub stands : Stands (spelling_of tokens) p (encode_utf8 c) q
-  pub only : (d r : ℕ) → IsScalar d → Stands (spelling_of tokens) p (encode_utf8 d) r → (d ≡ c) × (r ≡ q)
+  pub stands : Occurs (spelling_of tokens) p (encode_utf8 c) q
+  pub only : (d r : ℕ) → IsScalar d → Occurs (spelling_of tokens) p (encode_utf8 d) r → (d ≡ c) × (r ≡ q)
 
 -- no blank of a word leads on from a place
 pub record IsShut (tokens : List TokenValue) (p : ℕ) : Type 0 where
@@ -32,7 +32,7 @@ pub record IsNeeded (tokens : List TokenValue) (p r : ℕ) : Type 0 where
   pub is_blank : IsTrue (is_blank_at (spelling_of tokens) p)
   pub next : r ≡ suc p
   pub shut : IsShut tokens r
-  pub no_letter : (d q : ℕ) → d ≢ blank → IsScalar d → Stands (spelling_of tokens) p (encode_utf8 d) q → ⊥
+  pub no_letter : (d q : ℕ) → d ≢ blank → IsScalar d → Occurs (spelling_of tokens) p (encode_utf8 d) q → ⊥
 
 -- a gap is between two places
 abbrev pub StandsGap : List TokenValue → ℕ → Gap → ℕ → Type 0
@@ -61,13 +61,13 @@ OverBlank-either tokens p q (stays not_behind gap) = inl refl
 OverBlank-back : (tokens : List TokenValue) (p q : ℕ) → OverBlank tokens p q → q ≤ p → q ≡ p
 OverBlank-back tokens p q leads order = let far = OverBlank-order tokens p q leads in omega arith
 
-Stands-forward : (bytes : List ℕ) (p c q : ℕ) → Stands bytes p (encode_utf8 c) q → p < q
-Stands-forward bytes p c q stands = omega (arith, stands.0, length-encode c, (len_utf8_bounds c).0)
+Occurs-forward : (bytes : List ℕ) (p c q : ℕ) → Occurs bytes p (encode_utf8 c) q → p < q
+Occurs-forward bytes p c q stands = omega (arith, stands.0, length-encode c, (len_utf8_bounds c).0)
 
 Takes-order : (tokens : List TokenValue) (p c q : ℕ) → Takes tokens p c q → p ≤ q
 Takes-order tokens p c q (inl (is, leads)) = OverBlank-order tokens p q leads
 Takes-order tokens p c q (inr (other, scalar, stands)) =
-    let far = Stands-forward (spelling_of tokens) p c q stands in omega arith
+    let far = Occurs-forward (spelling_of tokens) p c q stands in omega arith
 
 Reads-order : (tokens : List TokenValue) (p : ℕ) (w : Word) (q : ℕ) → Reads tokens p w q → p ≤ q
 Reads-order tokens p [] q same = omega arith
@@ -85,7 +85,7 @@ StandGapped-order : (tokens : List TokenValue) (p : ℕ) (gaps : List (Gap × �
 StandGapped-order tokens p [] e (same, stay) = omega arith
 StandGapped-order tokens p (x ∷ gaps) e (r, s, gap, letter, later) =
     let before = StandsGap-order tokens p x.0 r gap in
-    let over = Stands-forward (spelling_of tokens) r x.1 s letter.stands in
+    let over = Occurs-forward (spelling_of tokens) r x.1 s letter.stands in
     let farther = StandGapped-order tokens s gaps e later in
     omega arith
 
@@ -96,11 +96,11 @@ StandGapped-end tokens p [] e (same, stay) = subst (λ x. OverBlank tokens x x) 
 StandGapped-end tokens p (x ∷ gaps) e (r, s, gap, letter, later) = StandGapped-end tokens s gaps e later
 
 -- a blank that stays does not come right after another
-not_behind_over : (tokens : List TokenValue) (p q : ℕ) → OverBlank tokens p q → q ≡ p → IsBehindBlank (spelling_of tokens) p → ⊥
+not_behind_over : (tokens : List TokenValue) (p q : ℕ) → OverBlank tokens p q → q ≡ p → IsAfterBlank (spelling_of tokens) p → ⊥
 not_behind_over tokens p q (over is) same blank_before = omega arith
 not_behind_over tokens p q (stays not_behind gap) same blank_before = not_behind blank_before
 
-pub not_behind_stay : (tokens : List TokenValue) (p : ℕ) → OverBlank tokens p p → IsBehindBlank (spelling_of tokens) p → ⊥
+pub not_behind_stay : (tokens : List TokenValue) (p : ℕ) → OverBlank tokens p p → IsAfterBlank (spelling_of tokens) p → ⊥
 not_behind_stay tokens p stay = not_behind_over tokens p p stay refl
 
 -- ---- what spells the letters is read
@@ -161,15 +161,15 @@ module _ (tokens : List TokenValue) (e d : ℕ) (w : Word) (r0 : ℕ) (later : S
       (suc n, longer)
   spell_end p same stay (inr (other, scalar, stands)) =
       let far = Reads-order tokens r0 w e read in
-      let forward = Stands-forward (spelling_of tokens) p d r0 stands in
+      let forward = Occurs-forward (spelling_of tokens) p d r0 stands in
       absurd (omega arith)
 
   module _ (c : ℕ) (gaps : List (Gap × ℕ)) (r s : ℕ) (letter : HasLetter tokens r c s) (after : StandGapped tokens s gaps e) where
     -- the letter is read
-    spell_letter : (p : ℕ) (gap : Gap) → p ≡ r → Allows gap 0 → IsScalar d → Stands (spelling_of tokens) p (encode_utf8 d) r0
+    spell_letter : (p : ℕ) (gap : Gap) → p ≡ r → Allows gap 0 → IsScalar d → Occurs (spelling_of tokens) p (encode_utf8 d) r0
         → SpellsGapped (d ∷ w) ((gap, c) ∷ gaps)
     spell_letter p gap same none scalar stands =
-        let (is, there) = letter.only d r0 scalar (subst (λ x. Stands (spelling_of tokens) x (encode_utf8 d) r0) same stands) in
+        let (is, there) = letter.only d r0 scalar (subst (λ x. Occurs (spelling_of tokens) x (encode_utf8 d) r0) same stands) in
         (0, none, w, ap (λ x. x ∷ w) is, later s gaps after (subst (λ x. Reads tokens x w e) there read))
 
     -- a blank is read that stays before the blank of the text, or leads over it
@@ -198,7 +198,7 @@ pub spell_gapped : (tokens : List TokenValue) (e : ℕ) (w : Word) (p : ℕ) (ga
 spell_gapped tokens e [] p [] stand read = (0, refl)
 spell_gapped tokens e [] p (x ∷ gaps) (r, s, gap, letter, after) read =
     let before = StandsGap-order tokens p x.0 r gap in
-    let over = Stands-forward (spelling_of tokens) r x.1 s letter.stands in
+    let over = Occurs-forward (spelling_of tokens) r x.1 s letter.stands in
     let farther = StandGapped-order tokens s gaps e after in
     absurd (omega arith)
 spell_gapped tokens e (d ∷ w) p [] (same, stay) (r0, takes, read) =

@@ -13,7 +13,7 @@ use Rattle.lic_phrases.specs.Spelling.{first_is_word, ends_in_word, is_parted, b
 use Rattle.lic_norm.specs.Tokens.{TokenValue}
 use Rattle.lic_norm.specs.Places.{place_start, place_end, texts_of}
 use Rattle.lic_norm.specs.Spans.{IsTokenText}
-use Rattle.lic_places.specs.Places.{AreTexts, HasGap, IsBehindBlank, stays, spelling_of}
+use Rattle.lic_places.specs.Places.{AreTexts, HasGap, IsAfterBlank, stays, spelling_of}
 use Rattle.lic_places.proofs.TieReading.{HasLetter, StandsGap, StandGapped, StandGapped-end, not_behind_stay}
 use Rattle.lic_places.proofs.TiePlaces.{drop-on, length-letter, not_behind, has_letter, is_free_before, is_needed_before}
 use Rattle.lic_places.proofs.TieLetters.{AreWordsApart, gapped_from-token, letters_stand}
@@ -81,7 +81,7 @@ module _ (tokens : List TokenValue) (known : AreTexts tokens) where
     pub later : StandGapped tokens next (gapped_from letter false (others ++ row)) e
 
   pub token_stands : (i : ℕ) → i < length tokens → (row : List ℕ) (e : ℕ)
-      → ((last : ℕ) → is_word last ≡ ends_in_word (text_at tokens i) → (IsBehindBlank (spelling_of tokens) (place_end tokens i) → ⊥)
+      → ((last : ℕ) → is_word last ≡ ends_in_word (text_at tokens i) → (IsAfterBlank (spelling_of tokens) (place_end tokens i) → ⊥)
       → StandGapped tokens (place_end tokens i) (gapped_from last false row) e)
       → TokenStands i row e
   token_stands i h row e go_on =
@@ -123,7 +123,7 @@ module _ (tokens : List TokenValue) (known : AreTexts tokens) where
   end_gap i h = inr (inr (record { number = i; within = h; ends = refl }))
 
   -- no token ends with a blank
-  pub not_behind_end : (i : ℕ) → i < length tokens → IsBehindBlank (spelling_of tokens) (place_end tokens i) → ⊥
+  pub not_behind_end : (i : ℕ) → i < length tokens → IsAfterBlank (spelling_of tokens) (place_end tokens i) → ⊥
   not_behind_end i h =
       let stands = token_stands i h [] (place_end tokens i) (λ last is solid. (refl, stays solid (end_gap i h))) in
       not_behind_stay tokens (place_end tokens i)

@@ -8,10 +8,10 @@ use Rattle.lic_phrases.specs.Spelling.{is_parted_at, blank_if, spelled}
 use Rattle.lic_phrases.specs.TokenTexts.{IsTokenText}
 use Rattle.lic_norm.specs.Tokens.{TokenValue}
 use Rattle.lic_norm.specs.Places.{texts_of, place_end, place_start}
-use Rattle.lic_places.specs.Places.{AreTexts, IsBehindBlank, OverBlank, Stands, is_blank_at, spelling_of}
+use Rattle.lic_places.specs.Places.{AreTexts, IsAfterBlank, OverBlank, Occurs, is_blank_at, spelling_of}
 use Rattle.lic_places.specs.Places.OverBlank.{over, stays}
 use Rattle.lic_places.proofs.Spelled.{before, spelled-before, spelled-around, spelled-cut, spelled-apart, spelled-utf8, apart_at, text_begins, text_ends}
-use Rattle.lic_places.proofs.Standing.{Stands-among, Stands-drop, Stands-first, stands_blank}
+use Rattle.lic_places.proofs.Occurring.{Occurs-among, Occurs-drop, Occurs-first, stands_blank}
 
 -- ---- the texts of tokens
 
@@ -57,17 +57,17 @@ pub place_start-first : (tokens : List TokenValue) → 0 < length tokens → pla
 place_start-first tokens within = place_start-is tokens 0 within
 
 pub place_start-text : (tokens : List TokenValue) (i : ℕ) → i < length tokens
-    → Stands (spelling_of tokens) (place_start tokens i) (get_or (texts_of tokens) i []) (place_end tokens i)
+    → Occurs (spelling_of tokens) (place_start tokens i) (get_or (texts_of tokens) i []) (place_end tokens i)
 place_start-text tokens i within =
     let texts = texts_of tokens in
     let text = get_or texts i [] in
     let around = spelled-around texts i (omega (arith, length-texts_of tokens)) in
     let starts = place_start-is tokens i within in
     let ends : place_end tokens i ≡ length (before texts i) + length text = place_end-before tokens i within in
-    subst (λ bytes. Stands bytes (place_start tokens i) text (place_end tokens i)) (sym around.1)
-    (subst (λ p. Stands (before texts i ++ (text ++ around.0)) p text (place_end tokens i)) (sym starts)
-    (subst (λ q. Stands (before texts i ++ (text ++ around.0)) (length (before texts i)) text q) (sym ends)
-    (Stands-among (before texts i) text around.0)))
+    subst (λ bytes. Occurs bytes (place_start tokens i) text (place_end tokens i)) (sym around.1)
+    (subst (λ p. Occurs (before texts i ++ (text ++ around.0)) p text (place_end tokens i)) (sym starts)
+    (subst (λ q. Occurs (before texts i ++ (text ++ around.0)) (length (before texts i)) text q) (sym ends)
+    (Occurs-among (before texts i) text around.0)))
 
 pub place_end-order : (tokens : List TokenValue) (i : ℕ) → AreTexts tokens → i < length tokens
     → place_start tokens i < place_end tokens i
@@ -100,7 +100,7 @@ blank-between tokens i within parted =
     subst (λ p. IsTrue (is_blank_at (spelling_of tokens) p)) (sym (place_end-is tokens i))
     (subst (λ l. IsTrue (is_blank_at l (length front))) (sym bytes)
     (stands_blank (front ++ (0x20 ∷ spelled (drop (suc i) texts))) (length front) [] (length front + 1)
-    (Stands-among front (0x20 ∷ []) (spelled (drop (suc i) texts)))))
+    (Occurs-among front (0x20 ∷ []) (spelled (drop (suc i) texts)))))
 
 pub tokens-next : (tokens : List TokenValue) (i : ℕ) → suc i < length tokens
     → (place_start tokens (suc i) ≡ place_end tokens i)
@@ -120,11 +120,11 @@ tokens-next tokens i within =
 
 -- ---- edges
 
-no_blank_first : (bytes text : List ℕ) (p q : ℕ) → IsTokenText text → Stands bytes p text q → is_blank_at bytes p ≡ true → ⊥
+no_blank_first : (bytes text : List ℕ) (p q : ℕ) → IsTokenText text → Occurs bytes p text q → is_blank_at bytes p ≡ true → ⊥
 no_blank_first bytes [] p q token stands blank = absurd (omega (arith, token.not_empty))
 no_blank_first bytes (c ∷ text) p q token stands blank =
     text_begins (c ∷ text) text token
-    (ap (λ x. x ∷ text) (sym (Stands-first bytes p c text q stands) ∙ eqb-true (get_or bytes p 0) 0x20 blank))
+    (ap (λ x. x ∷ text) (sym (Occurs-first bytes p c text q stands) ∙ eqb-true (get_or bytes p 0) 0x20 blank))
 
 pub token-starts : (tokens : List TokenValue) (i : ℕ) → AreTexts tokens → i < length tokens
     → is_blank_at (spelling_of tokens) (place_start tokens i) ≡ false
@@ -137,27 +137,27 @@ last_cut : (text : List ℕ) (n : ℕ) → length text ≡ suc n → text ≡ ta
 last_cut text n many =
     sym (take_all (n + 1) text (omega arith)) ∙ take_more text n 0 (omega arith)
 
-last_byte : (bytes text : List ℕ) (p r n : ℕ) → length text ≡ suc n → Stands bytes p text (suc r)
+last_byte : (bytes text : List ℕ) (p r n : ℕ) → length text ≡ suc n → Occurs bytes p text (suc r)
     → get_or text n 0 ≡ get_or bytes r 0
 last_byte bytes text p r n many stands =
     let at : r ≡ p + n = omega (arith, stands.0) in
     let within : n < length text = omega arith in
     sym (get_or_append_left text (drop (suc r) bytes) 0 n within)
-    ∙ ap (λ l. get_or l n 0) (sym (Stands-drop bytes p text (suc r) stands))
+    ∙ ap (λ l. get_or l n 0) (sym (Occurs-drop bytes p text (suc r) stands))
     ∙ get_or-drop p bytes n 0 ∙ ap (λ k. get_or bytes k 0) (sym at)
 
-no_blank_last : (bytes text : List ℕ) (p q : ℕ) → IsTokenText text → Stands bytes p text q → IsBehindBlank bytes q → ⊥
+no_blank_last : (bytes text : List ℕ) (p q : ℕ) → IsTokenText text → Occurs bytes p text q → IsAfterBlank bytes q → ⊥
 no_blank_last bytes text p q token stands after =
     let r = after.0 in
     let n = length text - 1 in
     let many : length text ≡ suc n = omega (arith, token.not_empty) in
-    let here : Stands bytes p text (suc r) = subst (λ k. Stands bytes p text k) after.1 stands in
+    let here : Occurs bytes p text (suc r) = subst (λ k. Occurs bytes p text k) after.1 stands in
     text_ends text (take n text) token
     (last_cut text n many
     ∙ ap (λ c. take n text ++ (c ∷ [])) (last_byte bytes text p r n many here ∙ eqb-true (get_or bytes r 0) 0x20 after.2))
 
 pub token-ends : (tokens : List TokenValue) (i : ℕ) → AreTexts tokens → i < length tokens
-    → IsBehindBlank (spelling_of tokens) (place_end tokens i) → ⊥
+    → IsAfterBlank (spelling_of tokens) (place_end tokens i) → ⊥
 token-ends tokens i are within after =
     no_blank_last (spelling_of tokens) (get_or (texts_of tokens) i []) (place_start tokens i) (place_end tokens i)
     (text_token tokens i are within) (place_start-text tokens i within) after
@@ -189,7 +189,7 @@ OverBlank-order tokens p q (stays free gap) = (omega arith, omega arith)
 -- what it leads over, by where it leads
 OverBlank-was : (tokens : List TokenValue) (p q : ℕ) → OverBlank tokens p q
     → ((suc p ≡ q) × IsTrue (is_blank_at (spelling_of tokens) p))
-    ⊎ ((p ≡ q) × (IsBehindBlank (spelling_of tokens) p → ⊥))
+    ⊎ ((p ≡ q) × (IsAfterBlank (spelling_of tokens) p → ⊥))
 OverBlank-was tokens p q (over blank) = inl (refl, blank)
 OverBlank-was tokens p q (stays free gap) = inr (refl, free)
 

@@ -16,16 +16,16 @@ pub record AreTexts (tokens : List TokenValue) : Type 0 where
   pub texts : AreTokenTexts tokens
 
 -- these bytes occur from one place up to the other
-abbrev pub Stands : List ℕ → ℕ → List ℕ → ℕ → Type 0
-Stands bytes p text q = (q ≡ p + length text) × (slice_range bytes p q ≡ text)
+abbrev pub Occurs : List ℕ → ℕ → List ℕ → ℕ → Type 0
+Occurs bytes p text q = (q ≡ p + length text) × (slice_range bytes p q ≡ text)
 
 -- a blank is at a place
 abbrev pub is_blank_at : List ℕ → ℕ → Bool
 is_blank_at bytes p = slice_index bytes p == 0x20
 
 -- a blank comes before a place
-abbrev pub IsBehindBlank : List ℕ → ℕ → Type 0
-IsBehindBlank bytes q = (p : ℕ) × (q ≡ suc p) × IsTrue (is_blank_at bytes p)
+abbrev pub IsAfterBlank : List ℕ → ℕ → Type 0
+IsAfterBlank bytes q = (p : ℕ) × (q ≡ suc p) × IsTrue (is_blank_at bytes p)
 
 -- a place at which a word may have blanks: the text begins there, a blank is there, or a token ends there
 abbrev pub HasGap : List TokenValue → ℕ → Type 0
@@ -34,4 +34,4 @@ HasGap tokens q = (q ≡ 0) ⊎ IsTrue (is_blank_at (spelling_of tokens) q) ⊎ 
 -- Where a blank of a word leads from the place before which it is: over a blank of the text, or, at any other gap, nowhere.
 pub data OverBlank (tokens : List TokenValue) : ℕ → ℕ → Type 0 where
   over : {p : ℕ} → IsTrue (is_blank_at (spelling_of tokens) p) → OverBlank tokens p (suc p)
-  stays : {p : ℕ} → ¬ (IsBehindBlank (spelling_of tokens) p) → HasGap tokens p → OverBlank tokens p p
+  stays : {p : ℕ} → ¬ (IsAfterBlank (spelling_of tokens) p) → HasGap tokens p → OverBlank tokens p p

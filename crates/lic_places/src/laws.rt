@@ -7,7 +7,7 @@ ghost use Rattle.lic_words.specs.Spelling.{Spells};
 ghost use Rattle.lic_norm.specs.Tokens.{TokenValue};
 ghost use Rattle.lic_norm.specs.Places.{place_end, place_start, texts_of};
 ghost use Rattle.lic_norm.specs.PieceTexts.{IsPieceText};
-ghost use Rattle.lic_places.specs.Places.{AreTexts, IsBehindBlank, OverBlank, Stands, is_blank_at, spelling_of};
+ghost use Rattle.lic_places.specs.Places.{AreTexts, IsAfterBlank, OverBlank, Occurs, is_blank_at, spelling_of};
 ghost use Rattle.lic_places.specs.Reads.{Reads, ReadsTokens};
 
 /// A word that spells tokens spells, in the canonical spelling of all tokens, what is there from the first of them to the last.
@@ -25,11 +25,11 @@ pub fn joined_words_are_read_one_after_another()
 {}
 
 /// The letters of a text with no blank at its edges are read exactly where its bytes are.
-pub fn a_text_is_read_where_its_bytes_stand()
+pub fn a_text_is_read_where_its_bytes_occur()
     ensures { (tokens : List TokenValue) (text : List ℕ) (p q : ℕ)
         → AreTexts tokens → IsUtf8 text → IsPieceText text → 0 < length text
-        → ¬ IsTrue (is_blank_at text 0) → ¬ IsBehindBlank text (length text)
-        → Reads tokens p (chars text) q ↔ Stands (spelling_of tokens) p text q }
+        → ¬ IsTrue (is_blank_at text 0) → ¬ IsAfterBlank text (length text)
+        → Reads tokens p (chars text) q ↔ Occurs (spelling_of tokens) p text q }
 {}
 
 /// What a word spells ends no earlier than it begins, and each letter takes four bytes at most.
@@ -49,7 +49,7 @@ pub fn a_blank_leads_one_way()
 {}
 
 /// The texts of tokens follow one another in the canonical spelling, with a blank between two of them or none.
-pub fn tokens_stand_one_after_another()
+pub fn tokens_follow_one_another()
     ensures first { (tokens : List TokenValue) → 0 < length tokens → place_start tokens 0 ≡ 0 }
     ensures next { (tokens : List TokenValue) (i : ℕ) → AreTexts tokens → suc i < length tokens
         → (place_start tokens (suc i) ≡ place_end tokens i)
@@ -58,7 +58,7 @@ pub fn tokens_stand_one_after_another()
     ensures order { (tokens : List TokenValue) (i : ℕ) → AreTexts tokens → i < length tokens
         → place_start tokens i < place_end tokens i }
     ensures text { (tokens : List TokenValue) (i : ℕ) → i < length tokens
-        → Stands (spelling_of tokens) (place_start tokens i)
+        → Occurs (spelling_of tokens) (place_start tokens i)
         (slice_index_or (texts_of tokens) i []) (place_end tokens i) }
     ensures last { (tokens : List TokenValue) (i : ℕ) → suc i ≡ length tokens
         → place_end tokens i ≡ length (spelling_of tokens) }
@@ -69,7 +69,7 @@ pub fn tokens_have_no_blank_at_their_edges()
     ensures start { (tokens : List TokenValue) (i : ℕ) → AreTexts tokens → i < length tokens
         → is_blank_at (spelling_of tokens) (place_start tokens i) ≡ false }
     ensures end { (tokens : List TokenValue) (i : ℕ) → AreTexts tokens → i < length tokens
-        → ¬ IsBehindBlank (spelling_of tokens) (place_end tokens i) }
+        → ¬ IsAfterBlank (spelling_of tokens) (place_end tokens i) }
 {}
 
 /// A canonical spelling is in UTF-8, and no two blanks are together in it.

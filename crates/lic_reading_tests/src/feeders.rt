@@ -66,7 +66,7 @@ fn shown(alloc: Global, text: &Result<Text, TextFault>) -> Result<String, AllocE
 }
 
 /// What comes of a front and of pieces, with two equivalent words.
-fn told(
+fn reported(
     alloc: Global,
     front: &[u8],
     rest: &[u8],
@@ -119,8 +119,8 @@ fn pieces_are_read_as_the_whole(rt: HostRuntime) -> Result<(), Fail> {
         for front in 0..input.len() + 1 {
             let (first, rest) = input.split_at(front.min(input.len()));
             for size in [1, MAX_BYTES] {
-                let told = told(rt.alloc(), first, rest, size)?;
-                assert_eq!(rt; told.2.as_str(), *wanted, "{input:?} cut at {front}");
+                let reported = reported(rt.alloc(), first, rest, size)?;
+                assert_eq!(rt; reported.2.as_str(), *wanted, "{input:?} cut at {front}");
             }
             let read = read_in_pieces(rt.alloc(), &[first, rest])?;
             assert_eq!(rt; read.as_str(), *wanted, "{input:?} cut at {front}");
@@ -158,9 +158,9 @@ fn random_pieces_are_read_as_the_whole(rt: HostRuntime) -> Result<(), Fail> {
         let (input, next) = drawn(rt.alloc(), state)?;
         state = next;
         let (first, rest) = input.split_at(((state >> 40) as usize % 24).min(input.len()));
-        let told = told(rt.alloc(), first, rest, (state >> 50) as usize % 7 + 1)?;
+        let reported = reported(rt.alloc(), first, rest, (state >> 50) as usize % 7 + 1)?;
         let whole = read_whole(rt.alloc(), &input)?;
-        assert_eq!(rt; told.2.as_str(), whole.as_str(), "{input:?}");
+        assert_eq!(rt; reported.2.as_str(), whole.as_str(), "{input:?}");
     }
     Ok(())
 }
@@ -171,8 +171,8 @@ fn tokens_are_ready_as_lines_come(rt: HostRuntime) -> Result<(), Fail> {
         b"a\na\na\na\na\na\na\na\na\na\na\na\na\na\na\na\na\na\na\na\na\na\na\na\na\na\na\na\na\na\na\na\n";
     for lines in 1..33usize {
         let (input, _) = all.split_at((2 * lines).min(all.len()));
-        let told = told(rt.alloc(), b"", input, 2)?;
-        assert!(rt; told.1.saturating_add(12) >= lines && told.1 <= lines);
+        let reported = reported(rt.alloc(), b"", input, 2)?;
+        assert!(rt; reported.1.saturating_add(12) >= lines && reported.1 <= lines);
     }
     Ok(())
 }
@@ -180,8 +180,8 @@ fn tokens_are_ready_as_lines_come(rt: HostRuntime) -> Result<(), Fail> {
 #[test]
 fn a_refusal_stays(rt: HostRuntime) -> Result<(), Fail> {
     let long = vec![in rt.alloc(); b'a'; MAX_BYTES]?;
-    let told = told(rt.alloc(), &long, b"b\nc\n", 1)?;
-    assert_eq!(rt; (told.0, told.1), (4, 0));
-    assert_eq!(rt; told.2.as_str(), "X2: more than 67108864 bytes");
+    let reported = reported(rt.alloc(), &long, b"b\nc\n", 1)?;
+    assert_eq!(rt; (reported.0, reported.1), (4, 0));
+    assert_eq!(rt; reported.2.as_str(), "X2: more than 67108864 bytes");
     Ok(())
 }

@@ -1,7 +1,7 @@
 //! A plain reader to compare with: one character after another, one line after another, and the rewriting of all its tokens.
 
 use lic_kind::{Rules, is_dropped};
-use lic_lines::{FirstToken, LinePart, Room, SourceChar, push_tokens_of_line};
+use lic_lines::{Buffers, FirstToken, LinePart, SourceChar, push_tokens_of_line};
 use lic_phrases::{FinalToken, Phrases, Rewriter, TokenText, Words};
 use std::alloc::{AllocError, Global};
 use std::fmt::Write;
@@ -59,7 +59,7 @@ fn characters_of(alloc: Global, at: usize, line: &[u8]) -> Result<Vec<SourceChar
 /// The first tokens of an input.
 fn first_tokens(alloc: Global, rules: &Rules, input: &[u8]) -> Result<Vec<FirstToken>, AllocError> {
     let mut tokens = Vec::new(alloc);
-    let mut room = Room::new(alloc);
+    let mut buffers = Buffers::new(alloc);
     let mut start = 0;
     for (place, byte) in input.iter().enumerate() {
         let end = place.saturating_add(1);
@@ -71,7 +71,7 @@ fn first_tokens(alloc: Global, rules: &Rules, input: &[u8]) -> Result<Vec<FirstT
                 rules,
                 WHOLE_LINE,
                 &characters,
-                &mut room,
+                &mut buffers,
                 &mut tokens,
             )?;
             start = end;

@@ -1,35 +1,35 @@
--- From the beginning of a text letters stand side by side up to each place at which none is cut.
+-- From the beginning of a text letters are side by side up to each place at which none is cut.
 use Rattle.std.proofs.Common.{◌≡◌, ℕ, ◌+◌, ◌-◌, ◌≤◌, true, List, [], ◌∷◌, length, take, inr, refl, sym, ap, arith, ◌∙◌}
 use Rattle.std.specs.Str.{IsCharBoundary, IsUtf8, chars}
 use Rattle.std.proofs.Math.Utf8.{encode, encodes, scalars}
 use Rattle.std.proofs.lemmas.List.{length-take-le}
 use Rattle.std.proofs.lemmas.Str.{IsUtf8-take, encodes-chars, length-le-encodes, scalars-chars}
-use Rattle.lic_places.specs.Places.{Stands}
-use Rattle.lic_places.proofs.Standing.{Stands-left, Stands-right}
+use Rattle.lic_places.specs.Places.{Occurs}
+use Rattle.lic_places.proofs.Occurring.{Occurs-left, Occurs-right}
 use Rattle.lic_reverse.specs.Runs.{IsChain, IsRunStart}
 use Rattle.lic_view.proofs.CountReads.{scalar-head}
 use Rattle.lic_reverse.proofs.RunChains.{letter-forward}
 
 -- the letters that bytes spell
-letters-chain : (bytes : List ℕ) (cs : List ℕ) (low place : ℕ) → scalars cs ≡ true → Stands bytes low (encodes cs) place →
+letters-chain : (bytes : List ℕ) (cs : List ℕ) (low place : ℕ) → scalars cs ≡ true → Occurs bytes low (encodes cs) place →
     IsChain bytes (λ _. true) (length cs) low place
 letters-chain bytes [] low place all stands = omega (arith, stands.0)
 letters-chain bytes (c ∷ cs) low place all stands = (
   low + length (encode c),
   c,
-  record { scalar = (scalar-head c cs all).0; stands = Stands-left bytes low (encode c) (encodes cs) place stands },
+  record { scalar = (scalar-head c cs all).0; stands = Occurs-left bytes low (encode c) (encodes cs) place stands },
   refl,
-  letters-chain bytes cs (low + length (encode c)) place (scalar-head c cs all).1 (Stands-right bytes low (encode c) (encodes cs) place stands),
+  letters-chain bytes cs (low + length (encode c)) place (scalar-head c cs all).1 (Occurs-right bytes low (encode c) (encodes cs) place stands),
 )
 
--- where so many letters of any kind may stand up to a place as it has bytes before it, they begin at the beginning
+-- where so many letters of any kind may be up to a place as it has bytes before it, they begin at the beginning
 pub any-start : (bytes : List ℕ) (count place : ℕ) → IsUtf8 bytes → IsCharBoundary bytes place → place ≤ count → IsRunStart bytes (λ _. true) count place 0
 any-start bytes count place utf8 whole many =
     let front : List ℕ = take place bytes in
     let spelled : encodes (chars front) ≡ front = encodes-chars front (IsUtf8-take bytes place utf8 whole) in
     let long : length front ≡ place = length-take-le place bytes whole.0 in
     let all : place - 0 ≡ place = omega arith in
-    let stands : Stands bytes 0 (encodes (chars front)) place = (omega (arith, ap length spelled), ap (λ n. take n bytes) all ∙ sym spelled) in
+    let stands : Occurs bytes 0 (encodes (chars front)) place = (omega (arith, ap length spelled), ap (λ n. take n bytes) all ∙ sym spelled) in
     record {
       number = length (chars front);
       few = omega (arith, length-le-encodes (chars front), ap length spelled);

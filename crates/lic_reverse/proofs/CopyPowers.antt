@@ -7,7 +7,7 @@ use Rattle.lic_places.specs.Reads.{Reads}
 use Rattle.lic_spans.specs.declared.span.PlaceSpan.{PlaceSpan}
 use Rattle.lic_view.specs.PlaceSets.{ArePlaced, Reaches}
 use Rattle.lic_view.specs.Backward.{Beats, IsBack, Keeps}
-use Rattle.lic_reverse.specs.Reached.{IsFrontOf}
+use Rattle.lic_reverse.specs.Reached.{IsFrontierOf}
 use Rattle.lic_reverse.specs.Tidily.{Taken, UpTo, a_blank, a_letter, nothing}
 use Rattle.lic_view.specs.declared.sets.keep.Keep.{Keep}
 use Rattle.lic_view.proofs.Placed.{ArePlaced-nil, Reaches-append, Reaches-append_left, Reaches-append_right, Reaches-nil}
@@ -140,7 +140,7 @@ module _ (keep : Keep) (tokens : List TokenValue) (B : Word → Type 0) where
   -- what is added to the places that were reached, of ways that only have such
   pub reached-added : (xs front next : List PlaceSpan) (old more new fresh : Taken → List PlaceSpan) (i : ℕ) →
       more nothing ≡ next → AreReached xs (old nothing) front i → IsBack keep tokens B front next →
-      IsFrontOf keep tokens old (λ s. old s ++ more s) new fresh → AreReached xs (new nothing) (fresh nothing) (i + 1)
+      IsFrontierOf keep tokens old (λ s. old s ++ more s) new fresh → AreReached xs (new nothing) (fresh nothing) (i + 1)
   reached-added xs front next old more new fresh i is reached step added =
       reached-more xs (old nothing) front (more nothing) (new nothing) (fresh nothing) i (i + 1) (omega arith) reached
       (subst (λ x. IsBack keep tokens B front x) (sym is) step) plain

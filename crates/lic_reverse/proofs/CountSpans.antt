@@ -4,12 +4,12 @@ use Rattle.std.proofs.lemmas.List.Elements.{All-cons, All-nil}
 use Rattle.lic_words.specs.Words.{Word}
 use Rattle.lic_norm.specs.Tokens.{TokenValue}
 use Rattle.lic_norm.specs.Places.{place_end}
-use Rattle.lic_places.specs.Places.{AreTexts, IsBehindBlank, spelling_of}
+use Rattle.lic_places.specs.Places.{AreTexts, IsAfterBlank, spelling_of}
 use Rattle.lic_places.specs.Reads.{Reads}
-use Rattle.lic_spans.specs.declared.span.Kind.TheVariants.{Letters}
+use Rattle.lic_spans.specs.declared.span.SpanKind.TheVariants.{Letters}
 use Rattle.lic_spans.specs.declared.span.PlaceSpan.{PlaceSpan}
 use Rattle.lic_view.specs.Backward.{Beats, IsBackFrom}
-use Rattle.lic_view.specs.PlaceSets.{IsLetterPlace, IsPlaceOf, LiesInFront}
+use Rattle.lic_view.specs.PlaceSets.{IsLetterPlace, IsPlaceOf, LiesBefore}
 use Rattle.lic_view.proofs.Back.{back-nothing}
 use Rattle.lic_view.proofs.BlankLemmas.{held}
 use Rattle.lic_view.proofs.CountPlaces.{LiesWell}
@@ -33,7 +33,7 @@ module _ (keep : Keep) (tokens : List TokenValue) (q last : ℕ) (Ends : ℕ →
       let word = counted-sound 1 None w is in
       counted-reads tokens w p q word.tidied word.least (subst (Reads tokens p w) (at r l ends).0 reads)
 
-  pub back-behind_blank : IsBehindBlank (spelling_of tokens) q → IsBackFrom keep tokens (Counted 1 None) Ends []
+  pub back-behind_blank : IsAfterBlank (spelling_of tokens) q → IsBackFrom keep tokens (Counted 1 None) Ends []
   back-behind_blank behind =
       back-nothing keep tokens (Counted 1 None) Ends (λ p r l w ends is reads. (counted_from p r l w ends is reads).ends behind)
 
@@ -42,7 +42,7 @@ module _ (keep : Keep) (tokens : List TokenValue) (q last : ℕ) (Ends : ℕ →
       back-nothing keep tokens (Counted 1 None) Ends
       (λ p r l w ends is reads. let before : p < q = (counted_from p r l w ends is reads).before in omega arith)
 
-  pub back-counted : AreTexts tokens → LiesWell tokens last q → 0 < q → ¬ (IsBehindBlank (spelling_of tokens) q) → Ends q last
+  pub back-counted : AreTexts tokens → LiesWell tokens last q → 0 < q → ¬ (IsAfterBlank (spelling_of tokens) q) → Ends q last
       → IsBackFrom keep tokens (Counted 1 None) Ends (letters_before q last ∷ [])
   back-counted texts lies some free here = record {
     placed = record {
@@ -53,7 +53,7 @@ module _ (keep : Keep) (tokens : List TokenValue) (q last : ℕ) (Ends : ℕ →
           let to : number ≤ q - 1 = one.2 in
           let front : q ≤ place_end tokens last = lies.front in
           let before : number < place_end tokens last = omega arith in
-          subst (λ k. LiesInFront tokens k number l) one.0 (subst (λ n. number < place_end tokens n) one.3 before);
+          subst (λ k. LiesBefore tokens k number l) one.0 (subst (λ n. number < place_end tokens n) one.3 before);
     };
     sound = λ p l reached.
         let one = held (letters_before q last) reached.kind reached.number l reached.holds in

@@ -7,7 +7,7 @@ use Rattle.lic_words.specs.Expressions.{Expression, Language, IsAtMost, one, rep
 abbrev pub any_letter : Expression
 any_letter = one (λ _. true)
 
--- from so many to so many of them, tidy
+-- from a least to a greatest number of them, tidy
 abbrev pub Counted : ℕ → Option ℕ → Word → Type 0
 Counted min max = Language (tidy (repeat min max any_letter))
 

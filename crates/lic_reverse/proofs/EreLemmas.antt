@@ -20,7 +20,7 @@ use Rattle.lic_reverse.specs.Tidily.{IsRepeated, IsTakenBack, IsTidyBack, IsTidy
 use Rattle.lic_view.specs.PlaceSets.{ArePlaced, Reaches}
 use Rattle.lic_places.specs.Reads.{Reads}
 use Rattle.lic_view.specs.Fresh.{AreFresh}
-use Rattle.lic_reverse.specs.Reached.{IsFrontOf}
+use Rattle.lic_reverse.specs.Reached.{IsFrontierOf}
 use Rattle.lic_view.proofs.Placed.{ArePlaced-append, Reaches-append, Reaches-append_left, Reaches-append_right}
 use Rattle.lic_view.proofs.Back.{Beats-same}
 use Rattle.lic_view.proofs.FreshLemmas.{fresh-among, fresh-parted}
@@ -289,7 +289,7 @@ module _ (keep : Keep) (tokens : List TokenValue) (B : Word → Type 0) (xs foun
       first : IsReached keep tokens B xs found found 0
       first = reached-first keep tokens B xs found (tidy-lists keep tokens (λ w. w ≡ []) (λ t q l. Reaches tokens (xs t) q l) xs found same (tidy-stay keep tokens xs placed))
 
-  -- all, once nothing is left to go on from
+  -- all, once nothing is left to continue from
   pub reached-empty : (ways : Taken → List PlaceSpan) (i count : ℕ) → IsReached keep tokens B xs found front i → i ≤ count → ((s : Taken) → front s ≡ []) →
       ((s : Taken) → ways s ≡ found s) → IsTidyBack keep tokens (UpTo B count) xs ways
   reached-empty ways i count reached more empty same =
@@ -303,10 +303,10 @@ module _ (keep : Keep) (tokens : List TokenValue) (B : Word → Type 0) (xs foun
       tidy-lists keep tokens (UpTo B count) (λ t q l. Reaches tokens (xs t) q l) found ways same
       (subst (λ k. IsTidyBack keep tokens (UpTo B k) xs found) is reached.back)
 
--- one word more, without the places from which it went on
+-- one word more, without the places from which it continued
 pub reached-pruned : (keep : Keep) (tokens : List TokenValue) (B : Word → Type 0) (xs found front copied led next more all fresh : Taken → List PlaceSpan) (i n : ℕ) → n ≡ suc i →
     IsReached keep tokens B xs found front i → ((s : Taken) → copied s ≡ front s) → IsTidyBack keep tokens B copied led → IsTidyBack keep tokens (λ w. w ≡ []) led next →
-    ((s : Taken) → AreFresh (next s) (front s) (more s)) → IsFrontOf keep tokens found (λ s. found s ++ more s) all fresh →
+    ((s : Taken) → AreFresh (next s) (front s) (more s)) → IsFrontierOf keep tokens found (λ s. found s ++ more s) all fresh →
     IsReached keep tokens B xs all fresh n
 reached-pruned keep tokens B xs found front copied led next more all fresh i n one_more reached copies goes least are added =
     reached-more keep tokens B xs found front next both all fresh i n one_more reached step (λ s. refl) back added.placed added.among added.parted

@@ -6,7 +6,7 @@ use Rattle.lic_words.specs.Words.{Word}
 use Rattle.lic_norm.specs.Tokens.{TokenValue}
 use Rattle.lic_places.specs.Reads.{Reads}
 use Rattle.lic_spans.specs.Spans.{Holds}
-use Rattle.lic_spans.specs.declared.span.Kind.{Kind}
+use Rattle.lic_spans.specs.declared.span.SpanKind.{SpanKind}
 use Rattle.lic_spans.specs.declared.span.PlaceSpan.{PlaceSpan}
 use Rattle.lic_reverse.specs.declared.ways.groups.Entry.{Entry}
 use Rattle.lic_view.specs.PlaceSets.{ArePlaced, Reaches}
@@ -21,7 +21,7 @@ use Rattle.lic_view.proofs.BlankLemmas.{holds-one}
 use Rattle.lic_view.specs.declared.sets.keep.Keep.{Keep}
 
 -- one span of a list holds what it holds alone
-alone : (spans : List PlaceSpan) (kind : Kind) (number last : ℕ) → (h : Holds spans kind number last) → Holds (h.span ∷ []) kind number last
+alone : (spans : List PlaceSpan) (kind : SpanKind) (number last : ℕ) → (h : Holds spans kind number last) → Holds (h.span ∷ []) kind number last
 alone spans kind number last h = record { span = h.span; among = (0, omega arith, refl); kind_is = h.kind_is; from = h.from; to = h.to; last_is = h.last_is }
 
 -- what a group has of the spans
@@ -51,11 +51,11 @@ group-part tokens P hash spans found lists placed groups ends exact = record {
       };
 }
   where
-    whole : (kind : Kind) (number last : ℕ) → Holds found kind number last → Holds spans kind number last
+    whole : (kind : SpanKind) (number last : ℕ) → Holds found kind number last → Holds spans kind number last
     whole kind number last h =
         let piece = groups.sound hash h.span ((exact h.span).0 h.among) in piece.among kind number last (alone found kind number last h)
 
-    member : (s : PlaceSpan) → Contains found s → (kind : Kind) (number last : ℕ) → Holds (s ∷ []) kind number last → Holds found kind number last
+    member : (s : PlaceSpan) → Contains found s → (kind : SpanKind) (number last : ℕ) → Holds (s ∷ []) kind number last → Holds found kind number last
     member s among kind number last h = Holds-among (s ∷ []) found kind number last (λ x has. by_case x (Contains-push_cases [] s x has)) h
       where
         by_case : (x : PlaceSpan) → Contains [] x ⊎ (s ≡ x) → Contains found x

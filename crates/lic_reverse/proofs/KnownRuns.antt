@@ -1,17 +1,17 @@
--- Runs that are known, and those that go on from them.
+-- Runs that are known, and those that continue from them.
 use Rattle.std.proofs.Common.{◌≡◌, ◌⊎◌, ℕ, zero, suc, ◌+◌, ◌-◌, ◌<◌, ◌≤◌, Bool, true, List, [], ◌∷◌, length, get_or, take, drop, inl, inr, refl, sym, ap, subst, ◌∙◌, arith, drop-cons, slice_range}
 use Rattle.std.specs.Str.{IsAscii}
 use Rattle.std.proofs.Math.Utf8.{encode, low_scalar}
 use Rattle.std.proofs.lemmas.List.{get_or-drop, get_or-take}
 use Rattle.std.proofs.lemmas.Str.{encode_ascii}
-use Rattle.lic_places.specs.Places.{Stands}
+use Rattle.lic_places.specs.Places.{Occurs}
 use Rattle.lic_reverse.specs.declared.letters.run.Run.{Run}
 use Rattle.lic_view.specs.LettersBefore.{IsLetterBefore}
 use Rattle.lic_reverse.specs.Runs.{IsChain, IsRunStart}
 use Rattle.lic_reverse.specs.RunsKnown.{IsLongest, IsNoneBefore, IsRunBackTo}
 use Rattle.lic_reverse.proofs.RunChains.{letter-forward}
 
--- no letters stand before the first place
+-- no letters come before the first place
 pub longest-first : (bytes : List ℕ) (passes : ℕ → Bool) (count : ℕ) (run : Run) → run.low ≡ 0 → run.place ≡ 0 → run.number ≡ 0 → IsLongest bytes passes count run
 longest-first bytes passes count run low place none = record {
   few = omega arith;
@@ -94,7 +94,7 @@ ascii-letter bytes p ascii within = record { scalar = low_scalar c (omega (arith
     here : take (suc p - p) (drop p bytes) ≡ c ∷ []
     here = ap (λ n. take n (drop p bytes)) many ∙ ap (take 1) (drop-cons bytes p 0 within) ∙ ap (λ b. b ∷ []) refl
 
-    stands : Stands bytes p (encode c) (suc p)
+    stands : Occurs bytes p (encode c) (suc p)
     stands = (omega (arith, ap length one), here ∙ sym one)
 
 -- bytes of ASCII are a chain of letters

@@ -256,7 +256,7 @@ rows-all tokens one place first hash k old new adds reaches none = record {
       };
 }
 
--- no letter stands before the place, or a blank does
+-- no letter comes before the place, or a blank does
 pub pending-none : (tokens : List TokenValue) (first hash k : ℕ) → ((p c : ℕ) → ¬ (IsLetterBefore (spelling_of tokens) first p c)) →
     (v : Word) (p : ℕ) → IsPending tokens first hash k v p → ⊥
 pending-none tokens first hash k none v p pending = let last = pending-letter tokens first hash k v p pending in none last.2 last.1 last.6
@@ -362,7 +362,7 @@ span-all tokens span end old new last adds = adds-same tokens (IsPieceOf (span �
 
 -- ---- all spans
 
--- the groups have the places of the first so many spans
+-- the groups have the places of the first n spans
 pub record AreGroupsTo (tokens : List TokenValue) (spans : List PlaceSpan) (i : ℕ) (lists : List (Vec Entry Global)) : Type 0 where
   pub some : 0 < length lists
   pub sound : (hash : ℕ) (span : PlaceSpan) → HasEntry lists hash span → IsPieceOf spans span
@@ -411,7 +411,7 @@ groups-all tokens spans i lists all are = record {
 
 -- ---- one group
 
--- the spans with this hash among the first so many entries
+-- the spans with this hash among the first n entries
 pub record AreWith (hash : ℕ) (entries : List Entry) (i : ℕ) (found : List PlaceSpan) : Type 0 where
   pub exact : (s : PlaceSpan) → Contains found s ↔ Contains (take i entries) (record { hash = hash; span = s })
 

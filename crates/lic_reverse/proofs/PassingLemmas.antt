@@ -11,8 +11,8 @@ use Rattle.lic_norm.specs.Tokens.{TokenValue}
 use Rattle.lic_norm.specs.Places.{place_end}
 use Rattle.lic_places.specs.Places.{AreTexts, spelling_of}
 use Rattle.lic_places.specs.Reads.{Reads, Takes}
-use Rattle.lic_spans.specs.declared.span.Kind.{Kind}
-use Rattle.lic_spans.specs.declared.span.Kind.TheVariants.{End, Place, Letters, Blanks}
+use Rattle.lic_spans.specs.declared.span.SpanKind.{SpanKind}
+use Rattle.lic_spans.specs.declared.span.SpanKind.TheVariants.{End, Place, Letters, Blanks}
 use Rattle.lic_spans.specs.declared.span.PlaceSpan.{PlaceSpan}
 use Rattle.lic_view.specs.PlaceSets.{ArePlaced, IsPlaceOf, Reaches}
 use Rattle.lic_view.specs.Backward.{IsBackFrom}
@@ -32,13 +32,13 @@ use Rattle.lic_view.proofs.LastLetters.{letter-one, letter-whole}
 use Rattle.lic_view.specs.declared.sets.keep.Keep.{Keep}
 
 -- a number gives one place at most
-pub place-one : (tokens : List TokenValue) (kind : Kind) (number p q : ℕ) → IsPlaceOf tokens kind number p → IsPlaceOf tokens kind number q → p ≡ q
+pub place-one : (tokens : List TokenValue) (kind : SpanKind) (number p q : ℕ) → IsPlaceOf tokens kind number p → IsPlaceOf tokens kind number q → p ≡ q
 place-one tokens End number p q one other = one ∙ sym other
 place-one tokens Place number p q one other = one ∙ sym other
 place-one tokens Letters number p q one other = one.0 ∙ sym other.0
 place-one tokens Blanks number p q one other = blank-one tokens p q number one.1 other.1
 
--- a letter that is no blank is read where it stands
+-- a letter that is no blank is read where it is
 pub letter-read : (tokens : List TokenValue) (p c q : ℕ) → ¬ (c ≡ blank) → Reads tokens p (c ∷ []) q → IsLetterBefore (spelling_of tokens) q p c
 letter-read tokens p c q dark reads = taken reads.1
   where

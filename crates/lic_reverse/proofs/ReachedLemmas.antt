@@ -5,7 +5,7 @@ use Rattle.lic_norm.specs.Tokens.{TokenValue}
 use Rattle.lic_spans.specs.declared.span.PlaceSpan.{PlaceSpan}
 use Rattle.lic_view.specs.Fresh.{AreFresh}
 use Rattle.lic_view.specs.PlaceSets.{ArePlaced, Reaches}
-use Rattle.lic_reverse.specs.Reached.{IsFrontOf}
+use Rattle.lic_reverse.specs.Reached.{IsFrontierOf}
 use Rattle.lic_reverse.specs.Tidily.{IsTakenBack, IsTidyBack, IsTidyBackFrom, Taken}
 use Rattle.lic_view.proofs.Placed.{ArePlaced-append, Reaches-append, Reaches-append_left, Reaches-append_right}
 use Rattle.lic_view.proofs.FreshLemmas.{fresh-among, fresh-parted, fresh-placed}
@@ -20,7 +20,7 @@ module _ (keep : Keep) (tokens : List TokenValue) where
   -- as they come
   pub front-added : (old next new front : Taken → List PlaceSpan) → ((s : Taken) → new s ≡ old s ++ next s) → ((s : Taken) → front s ≡ next s) →
       ((s : Taken) → ArePlaced tokens (old s)) → ((s : Taken) → ArePlaced tokens (next s)) →
-      IsFrontOf keep tokens old (λ s. old s ++ next s) new front
+      IsFrontierOf keep tokens old (λ s. old s ++ next s) new front
   front-added old next new front added same one other = record {
     back = tidy-lists keep tokens IsEmptyWord (λ t q l. Reaches tokens (all t) q l) all new added
         (tidy-stay keep tokens all (λ s. ArePlaced-append tokens (old s) (next s) (one s) (other s)));
@@ -42,7 +42,7 @@ module _ (keep : Keep) (tokens : List TokenValue) where
       IsTidyBack keep tokens IsEmptyWord old known → ((s : Taken) → all s ≡ known s ++ next s) → ((s : Taken) → ArePlaced tokens (next s)) →
       IsTidyBack keep tokens IsEmptyWord all least → ((s : Taken) → AreFresh (least s) (known s) (fresh s)) →
       ((s : Taken) → rest s ≡ []) → ((s : Taken) → new s ≡ least s ++ rest s) →
-      IsFrontOf keep tokens old (λ s. old s ++ next s) new fresh
+      IsFrontierOf keep tokens old (λ s. old s ++ next s) new fresh
   front-settled old next known rest all least new fresh settled joined placed back are empty is = record {
     back = tidy-lists keep tokens IsEmptyWord Ends least new same (tidy-least keep tokens IsEmptyWord Ends all least
         (tidy-lists keep tokens IsEmptyWord Ends both all joined begun) back);

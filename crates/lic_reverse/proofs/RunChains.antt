@@ -8,7 +8,7 @@ use Rattle.std.proofs.lemmas.List.{drop-drop, get_or_past, length-drop, length-t
 use Rattle.std.proofs.lemmas.Str.{IsUtf8-between, encode_ascii, encode_same, length-encode, len_utf8_bounds}
 use Rattle.lic_words.specs.Words.{Word, blank}
 use Rattle.lic_norm.specs.Tokens.{TokenValue}
-use Rattle.lic_places.specs.Places.{AreTexts, IsBehindBlank, OverBlank, Stands, is_blank_at, over, spelling_of}
+use Rattle.lic_places.specs.Places.{AreTexts, IsAfterBlank, OverBlank, Occurs, is_blank_at, over, spelling_of}
 use Rattle.lic_places.specs.Reads.{Reads}
 use Rattle.lic_view.specs.LettersBefore.{IsLetterBefore}
 use Rattle.lic_reverse.specs.Runs.{AllPass, IsChain}
@@ -22,7 +22,7 @@ encode-blank = encode_ascii blank (omega arith)
 pub letter-forward : (bytes : List ℕ) (q p c : ℕ) → IsLetterBefore bytes q p c → p < q
 letter-forward bytes q p c is = omega (arith, is.stands.0, length-encode c, (len_utf8_bounds c).0)
 
--- a blank of a text is a letter before the place behind it
+-- a blank of a text is a letter before the place after it
 pub blank-before : (bytes : List ℕ) (p : ℕ) → IsTrue (is_blank_at bytes p) → IsLetterBefore bytes (suc p) p blank
 blank-before bytes p is = record { scalar = refl; stands = stands }
   where
@@ -38,7 +38,7 @@ blank-before bytes p is = record { scalar = refl; stands = stands }
     here : take (suc p - p) (drop p bytes) ≡ 0x20 ∷ []
     here = ap (λ n. take n (drop p bytes)) many ∙ ap (take 1) (drop-cons bytes p 0 within) ∙ ap (λ b. b ∷ []) byte
 
-    stands : Stands bytes p (encode blank) (suc p)
+    stands : Occurs bytes p (encode blank) (suc p)
     stands = (omega (arith, ap length encode-blank), here ∙ sym encode-blank)
 
 -- the letter at a blank of a text is a blank
@@ -106,9 +106,9 @@ chain-more bytes passes k n low place start c is chain stands passing =
 
 -- ---- what a chain spells
 
--- a letter was taken last, or no blank stands in front
+-- a letter was taken last, or no blank comes first
 abbrev pub MayGoOn : List ℕ → Taken → ℕ → Type 0
-MayGoOn bytes s q = (s ≡ a_letter) ⊎ ¬ (IsBehindBlank bytes q)
+MayGoOn bytes s q = (s ≡ a_letter) ⊎ ¬ (IsAfterBlank bytes q)
 
 pub record Spelled (tokens : List TokenValue) (passes : ℕ → Bool) (t : Taken) (count low q : ℕ) : Type 0 where
   pub state : Taken
@@ -160,7 +160,7 @@ chain-spelled tokens passes t (suc count) low q texts may chain =
         letter (inl same) = same
         letter (inr not) = absurd (not (low, at.1, at.0))
 
-        apart : IsBehindBlank (spelling_of tokens) low → ⊥
+        apart : IsAfterBlank (spelling_of tokens) low → ⊥
         apart behind =
             let no = blanks-apart tokens behind.0 texts behind.2 in
             true≢false (sym (subst (λ x. IsTrue (is_blank_at (spelling_of tokens) x)) behind.1 at.0) ∙ no)

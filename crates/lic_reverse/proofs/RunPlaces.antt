@@ -5,7 +5,7 @@ use Rattle.std.proofs.lemmas.Bool.{cases_lt, eq-eqb}
 use Rattle.std.proofs.lemmas.List.{append-nil}
 use Rattle.lic_words.specs.Words.{Word, blank}
 use Rattle.lic_norm.specs.Tokens.{TokenValue}
-use Rattle.lic_places.specs.Places.{AreTexts, IsBehindBlank, OverBlank, is_blank_at, over, spelling_of, stays}
+use Rattle.lic_places.specs.Places.{AreTexts, IsAfterBlank, OverBlank, is_blank_at, over, spelling_of, stays}
 use Rattle.lic_places.specs.Reads.{Reads, Takes}
 use Rattle.lic_view.specs.PlaceSets.{IsLetterPlace}
 use Rattle.lic_view.specs.LettersBefore.{IsLetterBefore}
@@ -72,7 +72,7 @@ module _ (tokens : List TokenValue) (texts : AreTexts tokens) where
 
   -- ---- a word that comes from further back
 
-  -- a word cut at the letter that stands in front of the place where it ends
+  -- a word cut at the letter that comes before the place where it ends
   record Peeled (p : ℕ) (v : Word) (r : ℕ) : Type 0 where
     front : Word
     letter : ℕ
@@ -200,9 +200,9 @@ module _ (tokens : List TokenValue) (texts : AreTexts tokens) where
                 omega arith,
               )
 
-  -- where no letter is taken before it, no blank stands in front of the place
+  -- where no letter is taken before it, no blank comes before the place
   pub run-ends : (w : Word) (s t : Taken) (p q : ℕ) → (t ≡ a_letter → ⊥) → 0 < length w → IsTakenBack s w t → Reads tokens p w q →
-      IsBehindBlank (spelling_of tokens) q → ⊥
+      IsAfterBlank (spelling_of tokens) q → ⊥
   run-ends [] s t p q other some taken reads behind = omega arith
   run-ends (c ∷ []) s t p q other some taken reads behind = by_letter taken.1 reads.1
     where

@@ -4,13 +4,13 @@ use Rattle.std.proofs.lemmas.List.Elements.{All-nil, All-push}
 use Rattle.lic_words.specs.Words.{Word}
 use Rattle.lic_norm.specs.Tokens.{TokenValue}
 use Rattle.lic_norm.specs.Places.{place_end}
-use Rattle.lic_places.specs.Places.{AreTexts, IsBehindBlank, spelling_of}
+use Rattle.lic_places.specs.Places.{AreTexts, IsAfterBlank, spelling_of}
 use Rattle.lic_places.specs.Reads.{Reads}
 use Rattle.lic_spans.specs.Spans.{Holds}
-use Rattle.lic_spans.specs.declared.span.Kind.{Kind}
-use Rattle.lic_spans.specs.declared.span.Kind.TheVariants.{Letters}
+use Rattle.lic_spans.specs.declared.span.SpanKind.{SpanKind}
+use Rattle.lic_spans.specs.declared.span.SpanKind.TheVariants.{Letters}
 use Rattle.lic_spans.specs.declared.span.PlaceSpan.{PlaceSpan}
-use Rattle.lic_view.specs.PlaceSets.{ArePlaced, IsLetterPlace, IsPlaceOf, LiesInFront, Reaches}
+use Rattle.lic_view.specs.PlaceSets.{ArePlaced, IsLetterPlace, IsPlaceOf, LiesBefore, Reaches}
 use Rattle.lic_view.specs.Backward.{Beats, IsBackFrom}
 use Rattle.lic_reverse.specs.Runs.{IsRun, IsRunStart, IsRunTo, before_of}
 use Rattle.lic_reverse.specs.Tidily.{IsTakenBack, a_letter, nothing}
@@ -26,11 +26,11 @@ use Rattle.lic_view.specs.declared.sets.keep.Keep.{Keep}
 nothing-no_letter : nothing ≡ a_letter → ⊥
 nothing-no_letter same = let e : nothing ≡ a_letter = same in cc
 
-pub may-go_on : (bytes : List ℕ) (after : Bool) (place : ℕ) → (after ≡ true) ⊎ ¬ (IsBehindBlank bytes place) → MayGoOn bytes (before_of after) place
+pub may-go_on : (bytes : List ℕ) (after : Bool) (place : ℕ) → (after ≡ true) ⊎ ¬ (IsAfterBlank bytes place) → MayGoOn bytes (before_of after) place
 may-go_on bytes after place (inl is) = inl (ap before_of is)
 may-go_on bytes after place (inr free) = inr free
 
--- the places at which letters begin, from one place to in front of another
+-- the places at which letters begin, from one place to before another
 abbrev pub run_span : ℕ → ℕ → ℕ → PlaceSpan
 run_span low place last = record { low = low; high = place - 1; last = last; kind = Letters }
 
@@ -45,15 +45,15 @@ module _ (keep : Keep) (tokens : List TokenValue) (texts : AreTexts tokens) (pas
   pub run-no_place : ((p : ℕ) → ¬ (IsPlaceOf tokens span.kind number p)) → IsBackFrom keep tokens Words (At tokens span number) []
   run-no_place none = back-nothing keep tokens Words (At tokens span number) (λ p q l w e is reads. none q e.1)
 
-  -- a blank stands in front of it
-  pub run-behind : (place : ℕ) → after ≡ false → IsPlaceOf tokens span.kind number place → IsBehindBlank (spelling_of tokens) place →
+  -- a blank comes before it
+  pub run-behind : (place : ℕ) → after ≡ false → IsPlaceOf tokens span.kind number place → IsAfterBlank (spelling_of tokens) place →
       IsBackFrom keep tokens Words (At tokens span number) []
   run-behind place is_not here behind = back-nothing keep tokens Words (At tokens span number) (λ p q l w e is reads.
       let same : place ≡ q = place-one tokens span.kind number place q here e.1 in
       run-ends tokens texts w a_letter nothing p q nothing-no_letter (run-long w is.0) (subst (λ b. IsTakenBack a_letter w (before_of b)) is_not is.1) reads
-      (subst (λ x. IsBehindBlank (spelling_of tokens) x) same behind))
+      (subst (λ x. IsAfterBlank (spelling_of tokens) x) same behind))
 
-  -- no letter that passes stands there
+  -- no letter that passes is there
   pub run-none : (place low : ℕ) → IsPlaceOf tokens span.kind number place → IsRunStart (spelling_of tokens) passes count place low → place ≤ low →
       IsBackFrom keep tokens Words (At tokens span number) []
   run-none place low here start none = back-nothing keep tokens Words (At tokens span number) (λ p q l w e is reads.
@@ -86,10 +86,10 @@ module _ (keep : Keep) (tokens : List TokenValue) (texts : AreTexts tokens) (pas
       front : place ≤ place_end tokens span.last
       front = Reaches-in_front tokens (span ∷ []) place span.last placed reached
 
-      fronts : (kind : Kind) (n l : ℕ) → (Letters ≡ kind) × (low ≤ n) × (n ≤ place - 1) × (span.last ≡ l) → LiesInFront tokens kind n l
+      fronts : (kind : SpanKind) (n l : ℕ) → (Letters ≡ kind) × (low ≤ n) × (n ≤ place - 1) × (span.last ≡ l) → LiesBefore tokens kind n l
       fronts kind n l h =
           let lies : n < place_end tokens span.last = omega (arith, h.2, front) in
-          subst (λ x. LiesInFront tokens kind n x) h.3 (subst (λ k. LiesInFront tokens k n span.last) h.0 lies)
+          subst (λ x. LiesBefore tokens kind n x) h.3 (subst (λ k. LiesBefore tokens k n span.last) h.0 lies)
 
       sound : (p l : ℕ) (r : Reaches tokens (run ∷ []) p l) → (Letters ≡ r.kind) × (low ≤ r.number) × (r.number ≤ place - 1) × (span.last ≡ l) →
           (q : ℕ) × At tokens span number q l × (w : Word) × Words w × Reads tokens p w q

@@ -76,7 +76,7 @@ module _ (keep : Keep) (tokens : List TokenValue) (B : Word → Type 0) where
   abbrev pub IsFollowed : (Taken → List PlaceSpan) → Taken → ℕ → ℕ → Type 0
   IsFollowed found t q l = (s : Taken) (p : ℕ) (u : Word) → B u → IsTakenBack s u t → Reads tokens p u q → HasBetter keep tokens (found s) p l
 
-  -- what up to so many words lead to is found, and what one word more leads to, but for that from the front
+  -- what up to so many words lead to is found, and what one word more leads to, but for that from the start
   pub record IsReached (xs found front : Taken → List PlaceSpan) (i : ℕ) : Type 0 where
     pub back : IsTidyBack keep tokens (UpTo B i) xs found
     pub placed : (s : Taken) → ArePlaced tokens (front s)
@@ -177,7 +177,7 @@ module _ (keep : Keep) (tokens : List TokenValue) (B : Word → Type 0) where
       followed t q l (inl r) = inl r
       followed t q l (inr r) = inr (λ s p u is taken reads. onward s t p q l u r is taken reads)
 
-  -- once nothing is left to go on from, all is found
+  -- once nothing is left to continue from, all is found
   pub reached-all : (xs found front : Taken → List PlaceSpan) (i n : ℕ) → i ≤ n → ((s : Taken) → front s ≡ []) →
       IsReached xs found front i → IsTidyBack keep tokens (UpTo B n) xs found
   reached-all xs found front i n more empty reached = record {

@@ -5,7 +5,7 @@ use Rattle.lic_words.specs.Words.{Word, blank}
 use Rattle.lic_norm.specs.Tokens.{TokenValue}
 use Rattle.lic_places.specs.Reads.{Reads}
 use Rattle.lic_spans.specs.Spans.{Holds}
-use Rattle.lic_spans.specs.declared.span.Kind.{Kind}
+use Rattle.lic_spans.specs.declared.span.SpanKind.{SpanKind}
 use Rattle.lic_spans.specs.declared.span.PlaceSpan.{PlaceSpan}
 use Rattle.lic_reverse.specs.declared.ways.groups.Entry.{Entry}
 use Rattle.lic_view.specs.PlaceSets.{ArePlaced, Reaches}
@@ -48,7 +48,7 @@ HasNone lists = (hash : ℕ) (span : PlaceSpan) → HasEntry lists hash span →
 -- a span has numbers of the others alone
 pub record IsPieceOf (spans : List PlaceSpan) (piece : PlaceSpan) : Type 0 where
   pub ordered : piece.low ≤ piece.high
-  pub among : (kind : Kind) (number last : ℕ) → Holds (piece ∷ []) kind number last → Holds spans kind number last
+  pub among : (kind : SpanKind) (number last : ℕ) → Holds (piece ∷ []) kind number last → Holds spans kind number last
 
 -- an entry with the hash of these letters has the place
 pub record HasPlaceWith (tokens : List TokenValue) (lists : List (Vec Entry Global)) (w : Word) (q last : ℕ) : Type 0 where
@@ -56,14 +56,14 @@ pub record HasPlaceWith (tokens : List TokenValue) (lists : List (Vec Entry Glob
   pub entry : HasEntry lists (hash_of w) span
   pub reaches : Reaches tokens (span ∷ []) q last
 
--- Such spans were added that each of the places is in the group for each row of letters that stands before it.
+-- Such spans were added that each of the places is in the group for each row of letters that comes before it.
 pub record AddsPlaces (tokens : List TokenValue) (Added : PlaceSpan → Type 0) (Ends : ℕ → ℕ → Type 0) (old new : List (Vec Entry Global)) : Type 0 where
   pub same : length new ≡ length old
   pub kept : (hash : ℕ) (span : PlaceSpan) → HasEntry old hash span → HasEntry new hash span
   pub sound : (hash : ℕ) (span : PlaceSpan) → HasEntry new hash span → HasEntry old hash span ⊎ Added span
   pub complete : (w : Word) (p q last : ℕ) → AreLastLetters w → Reads tokens p w q → Ends q last → HasPlaceWith tokens new w q last
 
--- The groups have places of the spans alone, and each in the group for each row of letters that stands before it.
+-- The groups have places of the spans alone, and each in the group for each row of letters that comes before it.
 pub record AreGroupsOf (tokens : List TokenValue) (spans : List PlaceSpan) (lists : List (Vec Entry Global)) : Type 0 where
   pub sound : (hash : ℕ) (span : PlaceSpan) → HasEntry lists hash span → IsPieceOf spans span
   pub complete : (w : Word) (p q last : ℕ) → AreLastLetters w → Reads tokens p w q → Reaches tokens spans q last → HasPlaceWith tokens lists w q last

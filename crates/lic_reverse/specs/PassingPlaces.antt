@@ -3,18 +3,18 @@ use Rattle.std.specs.Prelude.{◌≡◌, ℕ, Bool, true, List}
 use Rattle.lic_words.specs.Words.{blank}
 use Rattle.lic_norm.specs.Tokens.{TokenValue}
 use Rattle.lic_places.specs.Places.{spelling_of}
-use Rattle.lic_spans.specs.declared.span.Kind.{Kind}
-use Rattle.lic_spans.specs.declared.span.Kind.TheVariants.{Place}
+use Rattle.lic_spans.specs.declared.span.SpanKind.{SpanKind}
+use Rattle.lic_spans.specs.declared.span.SpanKind.TheVariants.{Place}
 use Rattle.lic_view.specs.PlaceSets.{IsPlaceOf}
 use Rattle.lic_view.specs.LettersBefore.{IsLetterBefore}
 
--- no letter that passes and is no blank stands in front of the place
-abbrev pub LeadsNowhere : List TokenValue → (ℕ → Bool) → Kind → ℕ → Type 0
+-- no letter that passes and is no blank comes before the place
+abbrev pub LeadsNowhere : List TokenValue → (ℕ → Bool) → SpanKind → ℕ → Type 0
 LeadsNowhere tokens passes kind number = (p q c : ℕ) → IsPlaceOf tokens kind number q → ¬ (c ≡ blank) → passes c ≡ true
     → ¬ (IsLetterBefore (spelling_of tokens) q p c)
 
 -- such a letter begins here
-pub record LeadsTo (tokens : List TokenValue) (passes : ℕ → Bool) (kind : Kind) (number p : ℕ) : Type 0 where
+pub record LeadsTo (tokens : List TokenValue) (passes : ℕ → Bool) (kind : SpanKind) (number p : ℕ) : Type 0 where
   pub place : ℕ
   pub letter : ℕ
   pub is : IsPlaceOf tokens kind number place

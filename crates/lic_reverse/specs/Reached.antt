@@ -11,8 +11,8 @@ use Rattle.lic_view.specs.declared.sets.keep.Keep.{Keep}
 abbrev pub reached_of : Reached → Taken → List PlaceSpan
 reached_of reached s = spans_of reached.settled s ++ spans_of reached.recent s
 
--- All spans stand for all, and the front has those of their places that are not known.
-pub record IsFrontOf (keep : Keep) (tokens : List TokenValue) (known all new front : Taken → List PlaceSpan) : Type 0 where
+-- All spans represent all, and the frontier has those of their places that are not known.
+pub record IsFrontierOf (keep : Keep) (tokens : List TokenValue) (known all new front : Taken → List PlaceSpan) : Type 0 where
   pub back : IsTidyBack keep tokens (λ w. w ≡ []) all new
   pub placed : (s : Taken) → ArePlaced tokens (front s)
   pub among : (s : Taken) (p last : ℕ) → Reaches tokens (front s) p last → Reaches tokens (new s) p last

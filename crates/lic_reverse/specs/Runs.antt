@@ -27,12 +27,12 @@ before_of false = nothing
 abbrev pub IsRunTo : (ℕ → Bool) → ℕ → Bool → Word → Type 0
 IsRunTo passes count after w = IsRun passes count w × IsTakenBack a_letter w (before_of after)
 
--- so many letters and blanks that pass stand from one place up to the other
+-- so many letters and blanks that pass are from one place up to the other
 abbrev pub IsChain : List ℕ → (ℕ → Bool) → ℕ → ℕ → ℕ → Type 0
 IsChain bytes passes zero low place = low ≡ place
 IsChain bytes passes (suc count) low place = (next c : ℕ) × IsLetterBefore bytes next low c × (passes c ≡ true) × IsChain bytes passes count next place
 
--- the place from which so many at most stand up to a place, and no more of those that pass
+-- the place from which so many at most are up to a place, and no more of those that pass
 pub record IsRunStart (bytes : List ℕ) (passes : ℕ → Bool) (count place low : ℕ) : Type 0 where
   pub number : ℕ
   pub few : number ≤ count

@@ -1,4 +1,4 @@
--- Going back over the words of a pattern in which no two blanks stand together: with each place what was taken last is kept.
+-- Going back over the words of a pattern in which no two blanks are adjacent: with each place what was taken last is kept.
 use Rattle.std.specs.Prelude.{◌≡◌, ◌⊎◌, ℕ, suc, ◌+◌, ◌^◌, ◌≤◌, List, [], ◌∷◌, Option, Some, None, slice_index_or}
 use Rattle.lic_words.specs.Words.{Word, Power, blank}
 use Rattle.lic_ere.specs.Trees.{tree_of}

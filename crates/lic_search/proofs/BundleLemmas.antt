@@ -6,8 +6,8 @@ use Rattle.std.proofs.lemmas.List.Elements.{All-contains, All-nil, All-push, Con
 use Rattle.lic_phrases.proofs.WordClasses.{contains-map, contains-map_from}
 use Rattle.lic_norm.specs.Tokens.{TokenValue}
 use Rattle.lic_spans.specs.Spans.{AreApartOfLast, Holds}
-use Rattle.lic_spans.specs.declared.span.Kind.{Kind}
-use Rattle.lic_spans.specs.declared.span.Kind.TheVariants.{Letters}
+use Rattle.lic_spans.specs.declared.span.SpanKind.{SpanKind}
+use Rattle.lic_spans.specs.declared.span.SpanKind.TheVariants.{Letters}
 use Rattle.lic_spans.specs.declared.span.PlaceSpan.{PlaceSpan}
 use Rattle.lic_spans.proofs.Members.{HasPlace-single, Holds-append_cases, Holds-left, Holds-member, Holds-right, Holds-single}
 use Rattle.lic_set.specs.declared.triple.Triple.{Triple}
@@ -87,7 +87,7 @@ module _ (tokens : List TokenValue) (taken firsts : List PlaceSpan) (span : Plac
 
 -- the same joined
 pub firsts-joined : (tokens : List TokenValue) (spans firsts joined : List PlaceSpan) → AreFirstsOf tokens spans firsts →
-    ((kind : Kind) (place last : ℕ) → Holds joined kind place last ↔ Holds firsts kind place last) → All (λ s. s.low ≤ s.high) joined → AreFirstsOf tokens spans joined
+    ((kind : SpanKind) (place last : ℕ) → Holds joined kind place last ↔ Holds firsts kind place last) → All (λ s. s.low ≤ s.high) joined → AreFirstsOf tokens spans joined
 firsts-joined tokens spans firsts joined are same ordered = record {
   exact = λ first last. (λ holds. (are.exact first last).0 ((same Letters first last).0 holds), λ begins. (same Letters first last).1 ((are.exact first last).1 begins));
   ordered = ordered;

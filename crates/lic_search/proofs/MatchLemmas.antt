@@ -7,13 +7,13 @@ use Rattle.std.proofs.lemmas.List.{length-drop, length-map, length-take}
 use Rattle.lic_words.specs.Expressions.{Expression, Language}
 use Rattle.lic_norm.specs.Tokens.{TokenValue}
 use Rattle.lic_norm.specs.Places.{place_end}
-use Rattle.lic_places.specs.Places.{AreTexts, IsBehindBlank, spelling_of}
+use Rattle.lic_places.specs.Places.{AreTexts, IsAfterBlank, spelling_of}
 use Rattle.lic_places.specs.Reads.{BeginsAt, Reads, ReadsTokens}
-use Rattle.lic_spans.specs.declared.span.Kind.{Kind}
-use Rattle.lic_spans.specs.declared.span.Kind.TheVariants.{End, Place, Letters, Blanks}
+use Rattle.lic_spans.specs.declared.span.SpanKind.{SpanKind}
+use Rattle.lic_spans.specs.declared.span.SpanKind.TheVariants.{End, Place, Letters, Blanks}
 use Rattle.lic_spans.specs.declared.span.PlaceSpan.{PlaceSpan}
 use Rattle.lic_search.specs.declared.range.Range.{Range}
-use Rattle.lic_view.specs.PlaceSets.{ArePlaced, IsPlaceOf, LiesInFront, Reaches}
+use Rattle.lic_view.specs.PlaceSets.{ArePlaced, IsPlaceOf, LiesBefore, Reaches}
 use Rattle.lic_view.specs.Backward.{Beats, IsBackFrom, IsEach}
 use Rattle.lic_search.specs.Beginnings.{BeginsIn}
 use Rattle.lic_search.specs.Matches.{DescribesRange, HasLeastRanges}
@@ -21,8 +21,8 @@ use Rattle.lic_view.proofs.Laws.{a_blank_leads_one_way-order, a_spelling_is_read
 use Rattle.lic_view.proofs.ViewPlaces.{ends-order, start-after, starts-after}
 use Rattle.lic_view.specs.declared.sets.keep.Keep.{Keep}
 
--- a place in front of the end of its last token, or at it where nothing was taken
-placed-in-front : (tokens : List TokenValue) (kind : Kind) (number p last : ℕ) → LiesInFront tokens kind number last → IsPlaceOf tokens kind number p
+-- a place before the end of its last token, or at it where nothing was taken
+placed-in-front : (tokens : List TokenValue) (kind : SpanKind) (number p last : ℕ) → LiesBefore tokens kind number last → IsPlaceOf tokens kind number p
     → (p < place_end tokens last) ⊎ (p ≡ place_end tokens last)
 placed-in-front tokens End number p last front place = inr (place ∙ front)
 placed-in-front tokens Place number p last front place = inl (omega (arith, front.0))
@@ -40,7 +40,7 @@ begins-after tokens before (suc k) p texts below within (inr after) =
     elim (cases_lt p (place_end tokens k)) [
       | inl less ↦
           let same : suc p ≡ place_end tokens k = omega (arith, after.0) in
-          absurd (no_blank-end tokens k texts (omega arith) (subst (IsBehindBlank (spelling_of tokens)) same after.1))
+          absurd (no_blank-end tokens k texts (omega arith) (subst (IsAfterBlank (spelling_of tokens)) same after.1))
       | inr le ↦ omega arith
     ]
 

@@ -6,11 +6,11 @@ use Rattle.std.proofs.lemmas.List.Elements.{All-cons, All-contains, All-nil, Con
 use Rattle.lic_norm.specs.Tokens.{TokenValue}
 use Rattle.lic_norm.specs.Places.{place_end}
 use Rattle.lic_spans.specs.Spans.{Holds}
-use Rattle.lic_spans.specs.declared.span.Kind.{Kind}
-use Rattle.lic_spans.specs.declared.span.Kind.TheVariants.{End}
+use Rattle.lic_spans.specs.declared.span.SpanKind.{SpanKind}
+use Rattle.lic_spans.specs.declared.span.SpanKind.TheVariants.{End}
 use Rattle.lic_spans.specs.declared.span.PlaceSpan.{PlaceSpan}
 use Rattle.lic_search.specs.declared.range.Range.{Range}
-use Rattle.lic_view.specs.PlaceSets.{ArePlaced, IsPlaceOf, LiesInFront, Reaches}
+use Rattle.lic_view.specs.PlaceSets.{ArePlaced, IsPlaceOf, LiesBefore, Reaches}
 use Rattle.lic_search.specs.Beginnings.{BeginsIn, IsEndOf, IsLastBeginning}
 use Rattle.lic_search.proofs.MatchSpans.{GivesPlace-from, one-only}
 
@@ -42,7 +42,7 @@ AreEnds-push tokens count ends span are here = record {
 }
 
 -- what the ends of tokens hold
-ends-held : (tokens : List TokenValue) (count : ℕ) (ends : List PlaceSpan) (kind : Kind) (number last : ℕ) → AreEnds tokens count ends
+ends-held : (tokens : List TokenValue) (count : ℕ) (ends : List PlaceSpan) (kind : SpanKind) (number last : ℕ) → AreEnds tokens count ends
     → Holds ends kind number last → (kind ≡ End) × (last < count) × (number ≡ place_end tokens last)
 ends-held tokens count ends kind number last are holds =
     let found = are.sound holds.span holds.among in
@@ -53,8 +53,8 @@ ends-held tokens count ends kind number last are holds =
       omega (arith, holds.from, holds.to, is.low, is.high, ap (λ n. place_end tokens n) same),
     )
 
-end-in-front : (tokens : List TokenValue) (kind : Kind) (number last : ℕ) → kind ≡ End → number ≡ place_end tokens last → LiesInFront tokens kind number last
-end-in-front tokens kind number last is at = subst (λ k. LiesInFront tokens k number last) (sym is) at
+end-in-front : (tokens : List TokenValue) (kind : SpanKind) (number last : ℕ) → kind ≡ End → number ≡ place_end tokens last → LiesBefore tokens kind number last
+end-in-front tokens kind number last is at = subst (λ k. LiesBefore tokens k number last) (sym is) at
 
 pub AreEnds-placed : (tokens : List TokenValue) (ends : List PlaceSpan) → AreEnds tokens (length tokens) ends → ArePlaced tokens ends
 AreEnds-placed tokens ends are = record {

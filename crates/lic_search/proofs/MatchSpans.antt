@@ -5,12 +5,12 @@ use Rattle.std.proofs.Math.Nat.{eq-or-lt_of_le}
 use Rattle.std.proofs.lemmas.Bool.{cases_lt, true≢false}
 use Rattle.lic_norm.specs.Tokens.{TokenValue}
 use Rattle.lic_norm.specs.Places.{place_end, place_start}
-use Rattle.lic_places.specs.Places.{AreTexts, HasGap, IsBehindBlank, is_blank_at, spelling_of}
+use Rattle.lic_places.specs.Places.{AreTexts, HasGap, IsAfterBlank, is_blank_at, spelling_of}
 use Rattle.lic_places.specs.Reads.{BeginsAt}
-use Rattle.lic_spans.specs.declared.span.Kind.{Kind}
-use Rattle.lic_spans.specs.declared.span.Kind.TheVariants.{End, Place, Letters, Blanks}
+use Rattle.lic_spans.specs.declared.span.SpanKind.{SpanKind}
+use Rattle.lic_spans.specs.declared.span.SpanKind.TheVariants.{End, Place, Letters, Blanks}
 use Rattle.lic_spans.specs.declared.span.PlaceSpan.{PlaceSpan}
-use Rattle.lic_view.specs.PlaceSets.{ArePlaced, IsLetterPlace, IsPlaceOf, LiesInFront, Reaches}
+use Rattle.lic_view.specs.PlaceSets.{ArePlaced, IsLetterPlace, IsPlaceOf, LiesBefore, Reaches}
 use Rattle.lic_search.specs.Beginnings.{BeginsIn, LiesWithin}
 use Rattle.lic_view.specs.Views.{IsFirstFrom}
 use Rattle.lic_view.proofs.Laws.{no_blank-end, no_blank-start, tokens_stand-first, tokens_stand-order}
@@ -54,8 +54,8 @@ pub Reaches-one : (tokens : List TokenValue) (span : PlaceSpan) (number p : ℕ)
     → IsPlaceOf tokens span.kind number p → Reaches tokens (span ∷ []) p span.last
 Reaches-one tokens span number p from to place = record { kind = span.kind; number = number; holds = Holds-one span number from to; place = place }
 
--- where a letter was taken, a number lies in front of the end of the last token
-front-taken : (tokens : List TokenValue) (kind : Kind) (number last : ℕ) → kind ≢ End → LiesInFront tokens kind number last → number < place_end tokens last
+-- where a letter was taken, a number lies before the end of the last token
+front-taken : (tokens : List TokenValue) (kind : SpanKind) (number last : ℕ) → kind ≢ End → LiesBefore tokens kind number last → number < place_end tokens last
 front-taken tokens End number last taken at = absurd (taken refl)
 front-taken tokens Place number last taken front = front.0
 front-taken tokens Letters number last taken front = front
@@ -80,7 +80,7 @@ high-blank tokens span texts placed taken blank =
 
 blanks-number : (tokens : List TokenValue) (number p first : ℕ) → AreTexts tokens → first < length tokens → IsLetterPlace tokens number
     → ((number ≡ suc p) × IsTrue (is_blank_at (spelling_of tokens) p))
-    ⊎ ((p ≡ number) × ¬ (IsBehindBlank (spelling_of tokens) number) × HasGap tokens number)
+    ⊎ ((p ≡ number) × ¬ (IsAfterBlank (spelling_of tokens) number) × HasGap tokens number)
     → BeginsAt tokens first p
     → (place_start tokens first ≡ number)
     ⊎ ((Blanks ≡ Place) × (place_start tokens first ≡ suc number) × IsTrue (is_blank_at (spelling_of tokens) number))
@@ -94,7 +94,7 @@ blanks-number tokens number p first texts within letter (inr stays) (inr after) 
     absurd (letter-no_blank tokens number letter (subst (λ n. IsTrue (is_blank_at bytes n)) stays.0 (behind-blank tokens p after.1)))
 
 -- a place gives the token that begins there, or, if it is a blank, the one that begins after it
-begin-number : (tokens : List TokenValue) (kind : Kind) (number p first : ℕ) → kind ≢ End → AreTexts tokens → first < length tokens
+begin-number : (tokens : List TokenValue) (kind : SpanKind) (number p first : ℕ) → kind ≢ End → AreTexts tokens → first < length tokens
     → IsPlaceOf tokens kind number p → BeginsAt tokens first p
     → (place_start tokens first ≡ number)
     ⊎ ((kind ≡ Place) × (place_start tokens first ≡ suc number) × IsTrue (is_blank_at (spelling_of tokens) number))
@@ -111,7 +111,7 @@ begin-number tokens Blanks number p first taken texts within place begins =
     blanks-number tokens number p first texts within place.0 (over_blank-cases tokens p number place.1) begins
 
 -- the places of the numbers at which tokens begin
-number-begins : (tokens : List TokenValue) (kind : Kind) (first : ℕ) → kind ≢ End → AreTexts tokens → first < length tokens
+number-begins : (tokens : List TokenValue) (kind : SpanKind) (first : ℕ) → kind ≢ End → AreTexts tokens → first < length tokens
     → (p : ℕ) × IsPlaceOf tokens kind (place_start tokens first) p × BeginsAt tokens first p
 number-begins tokens End first taken texts within = absurd (taken refl)
 number-begins tokens Place first taken texts within = (place_start tokens first, refl, inl refl)
@@ -193,7 +193,7 @@ end-begins tokens span first texts placed kind begins =
     let given = GivesPlace-from tokens span begins.place span.last begins.reached in
     let last : span.last < length tokens = last-one tokens span placed in
     let held = placed.front span.kind given.number span.last (Holds-one span given.number given.from given.to) in
-    let front : LiesInFront tokens End given.number span.last = subst (λ k. LiesInFront tokens k given.number span.last) kind held in
+    let front : LiesBefore tokens End given.number span.last = subst (λ k. LiesBefore tokens k given.number span.last) kind held in
     let at : IsPlaceOf tokens End given.number begins.place = subst (λ k. IsPlaceOf tokens k given.number begins.place) kind given.place in
     let order : place_start tokens first < place_end tokens first = tokens_stand-order tokens first texts (omega (arith, begins.order)) in
     let ends : place_end tokens first ≤ place_end tokens span.last = ends-order tokens first span.last texts begins.order last in

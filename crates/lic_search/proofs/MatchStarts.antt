@@ -7,15 +7,15 @@ use Rattle.std.proofs.lemmas.List.Elements.{All-get_or, All-map}
 use Rattle.std.proofs.lemmas.Str.{IsCharBoundary-start}
 use Rattle.lic_norm.specs.Tokens.{TokenValue}
 use Rattle.lic_norm.specs.Places.{place_end, place_start, texts_of}
-use Rattle.lic_places.specs.Places.{AreTexts, HasGap, IsBehindBlank, OverBlank, Stands, is_blank_at, spelling_of}
+use Rattle.lic_places.specs.Places.{AreTexts, HasGap, IsAfterBlank, OverBlank, Occurs, is_blank_at, spelling_of}
 use Rattle.lic_places.specs.Places.OverBlank.{over, stays}
 use Rattle.lic_places.specs.Reads.{BeginsAt}
 use Rattle.lic_view.specs.PlaceSets.{IsLetterPlace}
 use Rattle.lic_view.proofs.Laws.{no_blank-end, no_blank-start, tokens_stand-first, tokens_stand-next, tokens_stand-order, tokens_stand-text}
 use Rattle.lic_view.proofs.ViewPlaces.{end-within, starts-after}
 
--- the first byte of a text that stands somewhere begins a letter
-text-boundary : (bytes text : List ℕ) (p q : ℕ) → IsUtf8 text → Stands bytes p text q → p < q → q ≤ length bytes → IsCharBoundary bytes p
+-- the first byte of a text that occurs somewhere begins a letter
+text-boundary : (bytes text : List ℕ) (p q : ℕ) → IsUtf8 text → Occurs bytes p text q → p < q → q ≤ length bytes → IsCharBoundary bytes p
 text-boundary bytes text p q utf8 stands order within =
     let first : get_or text 0 0 ≡ get_or bytes p 0 =
     sym (ap (λ l. get_or l 0 0) stands.1) ∙ get_or-take (q - p) (drop p bytes) 0 0 (omega arith) ∙ get_or-drop p bytes 0 0 ∙ ap (λ n. get_or bytes n 0) (add-zero p) in
@@ -34,12 +34,12 @@ start-letter tokens i texts within =
       letter = λ blank. true≢false (sym (eq-eqb _ _ blank) ∙ no_blank-start tokens i texts within);
     }
 
--- no blank stands at a letter
+-- no blank is at a letter
 pub letter-no_blank : (tokens : List TokenValue) (p : ℕ) → IsLetterPlace tokens p → ¬ IsTrue (is_blank_at (spelling_of tokens) p)
 letter-no_blank tokens p letter blank = letter.letter (eqb-true _ _ blank)
 
--- a blank in front of a place
-pub behind-blank : (tokens : List TokenValue) (p : ℕ) → IsBehindBlank (spelling_of tokens) (suc p) → IsTrue (is_blank_at (spelling_of tokens) p)
+-- a blank before a place
+pub behind-blank : (tokens : List TokenValue) (p : ℕ) → IsAfterBlank (spelling_of tokens) (suc p) → IsTrue (is_blank_at (spelling_of tokens) p)
 behind-blank tokens p behind =
     let bytes = spelling_of tokens in
     let same : behind.0 ≡ p = omega (arith, behind.1) in
@@ -50,12 +50,12 @@ pub blank-before : (tokens : List TokenValue) (first : ℕ) → AreTexts tokens 
     → (p : ℕ) × OverBlank tokens p (place_start tokens first) × BeginsAt tokens first p
 blank-before tokens zero texts within =
     let at : place_start tokens 0 ≡ 0 = tokens_stand-first tokens within in
-    let none : ¬ IsBehindBlank (spelling_of tokens) (place_start tokens 0) = λ behind. absurd (omega (arith, behind.1, at)) in
+    let none : ¬ IsAfterBlank (spelling_of tokens) (place_start tokens 0) = λ behind. absurd (omega (arith, behind.1, at)) in
     (place_start tokens 0, stays none (inl at), inl refl)
 blank-before tokens (suc k) texts within =
     elim (tokens_stand-next tokens k texts within) [
       | inl same ↦
-          let none = subst (λ p. ¬ IsBehindBlank (spelling_of tokens) p) (sym same) (no_blank-end tokens k texts (omega arith)) in
+          let none = subst (λ p. ¬ IsAfterBlank (spelling_of tokens) p) (sym same) (no_blank-end tokens k texts (omega arith)) in
           let gap : HasGap tokens (place_start tokens (suc k)) = inr (inr (record { number = k; within = omega arith; ends = same })) in
           (place_start tokens (suc k), stays none gap, inl refl)
       | inr after ↦

@@ -20,7 +20,7 @@ use Rattle.lic_view.proofs.MergeLemmas.{merged-back}
 use Rattle.lic_view.proofs.Back.{back-after, back-either, back-keeps, back-same, back-stay}
 use Rattle.lic_view.specs.declared.sets.keep.Keep.{Keep}
 
--- behind all parts
+-- after all parts
 pub parts-last : (keep : Keep) (tokens : List TokenValue) (parts : List Part) (spans : List PlaceSpan) → ArePlaced tokens spans →
     IsBack keep tokens (Language (parts_words (map part_of (drop (length parts) parts)))) spans spans
 parts-last keep tokens parts spans placed =

@@ -8,17 +8,17 @@ use Rattle.std.proofs.lemmas.List.Elements.{Contains-append_left, Contains-get_o
 use Rattle.lic_norm.specs.Tokens.{TokenValue}
 use Rattle.lic_norm.specs.Places.{place_end}
 use Rattle.lic_spans.specs.Spans.{Holds}
-use Rattle.lic_spans.specs.declared.span.Kind.{Kind}
-use Rattle.lic_spans.specs.declared.span.Kind.TheVariants.{End}
+use Rattle.lic_spans.specs.declared.span.SpanKind.{SpanKind}
+use Rattle.lic_spans.specs.declared.span.SpanKind.TheVariants.{End}
 use Rattle.lic_spans.specs.declared.span.PlaceSpan.{PlaceSpan}
-use Rattle.lic_view.specs.PlaceSets.{ArePlaced, IsPlaceOf, LiesInFront, Reaches}
+use Rattle.lic_view.specs.PlaceSets.{ArePlaced, IsPlaceOf, LiesBefore, Reaches}
 use Rattle.lic_search.specs.Beginnings.{IsEndOf}
 use Rattle.lic_search.specs.Windows.{AddsEnds, AreTokenEnds, ListsEnd}
 
 -- ---- ends of tokens as spans
 
 -- what ends of tokens hold
-ends-held : (tokens : List TokenValue) (ends : List PlaceSpan) (kind : Kind) (number last : ℕ) → AreTokenEnds tokens ends → Holds ends kind number last
+ends-held : (tokens : List TokenValue) (ends : List PlaceSpan) (kind : SpanKind) (number last : ℕ) → AreTokenEnds tokens ends → Holds ends kind number last
     → (kind ≡ End) × (last < length tokens) × (number ≡ place_end tokens last)
 ends-held tokens ends kind number last are holds =
     let found = are holds.span holds.among in
@@ -39,7 +39,7 @@ ends-placed tokens ends are = record {
       omega (arith, found.1, found.2.last_is);
   front = λ kind number last holds.
       let held = ends-held tokens ends kind number last are holds in
-      subst (λ k. LiesInFront tokens k number last) (sym held.0) held.2;
+      subst (λ k. LiesBefore tokens k number last) (sym held.0) held.2;
 }
 
 pub ends-sound : (tokens : List TokenValue) (ends : List PlaceSpan) (p last : ℕ) → AreTokenEnds tokens ends → Reaches tokens ends p last
@@ -104,7 +104,7 @@ rises xs i (suc j) rising order within =
           omega (arith, before, next, same)
     ]
 
--- the ends that lie in the windows after the first so many places are listed, and of the tokens before one those that end at
+-- the ends that lie in the windows after the first n places are listed, and of the tokens before one those that end at
 -- a later place or after it
 pub record ListsWindows (tokens : List TokenValue) (places : List ℕ) (most count next : ℕ) (found : List PlaceSpan) : Type 0 where
   pub ends : AreTokenEnds tokens found

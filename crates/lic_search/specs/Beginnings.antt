@@ -3,7 +3,7 @@ use Rattle.std.specs.Prelude.{◌≡◌, ℕ, ◌≤◌, ◌↔◌, List, [], �
 use Rattle.lic_norm.specs.Tokens.{TokenValue}
 use Rattle.lic_norm.specs.Places.{place_end, place_start}
 use Rattle.lic_places.specs.Reads.{BeginsAt}
-use Rattle.lic_spans.specs.declared.span.Kind.TheVariants.{End, Letters}
+use Rattle.lic_spans.specs.declared.span.SpanKind.TheVariants.{End, Letters}
 use Rattle.lic_spans.specs.declared.span.PlaceSpan.{PlaceSpan}
 use Rattle.lic_search.specs.declared.range.Range.{Range}
 use Rattle.lic_view.specs.PlaceSets.{Reaches}

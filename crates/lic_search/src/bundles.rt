@@ -2,7 +2,7 @@
 
 ghost use Rattle.std.specs.Prelude.{◌≡◌, ◌≤◌, ◌↔◌, ℕ, [], ◌∷◌, All, IfOk, MatchOption};
 ghost use Rattle.lic_spans.specs.Spans.{AreApartOfLast, Holds};
-ghost use Rattle.lic_spans.specs.declared.span.Kind.TheVariants.{Letters};
+ghost use Rattle.lic_spans.specs.declared.span.SpanKind.TheVariants.{Letters};
 ghost use Rattle.lic_set.specs.declared.triple.Triple.{Triple};
 ghost use Rattle.lic_bundles.specs.Bundles.{AreApart};
 ghost use Rattle.lic_search.specs.AllMatches.{BundlesHold, IsOrdered};
@@ -12,7 +12,7 @@ ghost use Rattle.lic_view.specs.PlaceSets.{ArePlaced};
 use crate::matches::last_beginning;
 use lic_bundles::bundle::Bundle;
 use lic_spans::each::with_each_last;
-use lic_spans::span::{Kind, PlaceSpan};
+use lic_spans::span::{PlaceSpan, SpanKind};
 use lic_view::{View, tokens_have_texts};
 use std::alloc::{AllocError, Global};
 
@@ -85,6 +85,6 @@ fn firsts_in(view: &View<'_>, span: PlaceSpan) -> Option<PlaceSpan>
         low: view.first_beginning_from(span.low),
         high: range.first,
         last: span.last,
-        kind: Kind::Letters,
+        kind: SpanKind::Letters,
     })
 }

@@ -3,13 +3,13 @@
 ghost use Rattle.std.specs.Prelude.{◌≡◌, ◌≢◌, ◌≤◌, ◌<◌, ◌↔◌, ℕ, [], ◌∷◌, length, Contains, IfOk, MatchOption};
 ghost use Rattle.lic_norm.specs.Places.{place_end, place_start};
 ghost use Rattle.lic_places.specs.Reads.{BeginsAt};
-ghost use Rattle.lic_spans.specs.declared.span.Kind.TheVariants.{End};
+ghost use Rattle.lic_spans.specs.declared.span.SpanKind.TheVariants.{End};
 ghost use Rattle.lic_search.specs.declared.range.Range.{Range};
 ghost use Rattle.lic_view.specs.PlaceSets.{ArePlaced, Reaches};
 ghost use Rattle.lic_search.specs.Beginnings.{BeginsIn, IsEndOf, IsLastBeginning, LiesWithin};
 
 use crate::range::Range;
-use lic_spans::span::{Kind, PlaceSpan};
+use lic_spans::span::{PlaceSpan, SpanKind};
 use lic_view::{View, tokens_have_texts};
 use std::alloc::{AllocError, Global};
 
@@ -36,7 +36,7 @@ pub(crate) fn token_end(view: &View<'_>, last: usize) -> PlaceSpan
         low: place,
         high: place,
         last,
-        kind: Kind::End,
+        kind: SpanKind::End,
     }
 }
 
@@ -71,7 +71,7 @@ pub(crate) fn last_beginning(view: &View<'_>, span: PlaceSpan) -> Option<Range>
         (λ range. IsLastBeginning view.now span range) }
 {
     tokens_have_texts(view);
-    if span.kind == Kind::End {
+    if span.kind == SpanKind::End {
         // No letter was taken yet.
         return None;
     }
@@ -96,7 +96,7 @@ fn last_start(view: &View<'_>, span: PlaceSpan) -> usize
         → BeginsIn view.now (span ∷ []) first span.last ↔ LiesWithin span.low result (place_start view.now first) }
 {
     tokens_have_texts(view);
-    if span.kind == Kind::Place && view.is_blank(span.high) {
+    if span.kind == SpanKind::Place && view.is_blank(span.high) {
         prove!(span.high < view.bytes().len());
         return span.high + 1;
     }

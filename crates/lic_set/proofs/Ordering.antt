@@ -17,7 +17,7 @@ use Rattle.std.specs.Str.{bytes_eq}
 use Rattle.std.specs.String.{string_bytes, string_cmp}
 use Rattle.std.specs.declared.cmp.Ordering.{Ordering}
 use Rattle.std.specs.declared.cmp.Ordering.TheVariants.{Less, Equal, Greater}
-use Rattle.lic_set.specs.Sets.{Known, pair_known, pairs_known, AscendFrom, AreOrdered, IsSetOf, StandsTwice, RepeatsAt}
+use Rattle.lic_set.specs.Sets.{Known, pair_known, pairs_known, AscendFrom, AreOrdered, IsSetOf, OccursTwice, RepeatsAt}
 use Rattle.lic_markup.specs.Parts.{TemplateValue}
 
 -- what is neither below nor the same, the other way round
@@ -84,19 +84,19 @@ count_by-neighbours p xs k d some low first second =
       sum_by-take-le (λ x. cond (p x) 1 0) xs (k + 1),
     )
 
--- an identifier that stands twice does so in any order
-StandsTwice-permutation : (id : List ℕ) (xs ys : List Known) → IsPermutation xs ys → StandsTwice id ys → StandsTwice id xs
-StandsTwice-permutation id xs ys moved twice =
+-- an identifier that occurs twice does so in any order
+OccursTwice-permutation : (id : List ℕ) (xs ys : List Known) → IsPermutation xs ys → OccursTwice id ys → OccursTwice id xs
+OccursTwice-permutation id xs ys moved twice =
     subst (λ n. 2 ≤ n) (sum_by-IsPermutation (λ k. cond (bytes_eq k.id id) 1 0) xs ys moved) twice
 
-pub StandsTwice-from_repeat : (pairs moved : List Pair) (k : ℕ) (d : Pair) → IsPermutation pairs moved
-    → RepeatsAt moved k → StandsTwice (string_bytes (get_or moved k d).0) (pairs_known pairs)
-StandsTwice-from_repeat pairs moved k d same repeats =
+pub OccursTwice-from_repeat : (pairs moved : List Pair) (k : ℕ) (d : Pair) → IsPermutation pairs moved
+    → RepeatsAt moved k → OccursTwice (string_bytes (get_or moved k d).0) (pairs_known pairs)
+OccursTwice-from_repeat pairs moved k d same repeats =
     let id : List ℕ = string_bytes (get_or moved k d).0 in
     let passes : Known → Bool = λ n. bytes_eq n.id id in
     let first : passes (get_or (map pair_known moved) (k - 1) (pair_known d)) ≡ true =
     ap passes (get_or-map pair_known moved (k - 1) d) ∙ bytes_eq-same _ id (repeats.2 d) in
     let second : passes (get_or (map pair_known moved) k (pair_known d)) ≡ true = ap passes (get_or-map pair_known moved k d) ∙ bytes_eq-same _ id refl in
     let low : k < length (map pair_known moved) = omega (arith, length-map moved pair_known, repeats.1) in
-    StandsTwice-permutation id (pairs_known pairs) (pairs_known moved) (IsPermutation-map pair_known pairs moved same)
+    OccursTwice-permutation id (pairs_known pairs) (pairs_known moved) (IsPermutation-map pair_known pairs moved same)
     (count_by-neighbours passes (map pair_known moved) k (pair_known d) repeats.0 low first second)

@@ -44,7 +44,7 @@ module _ (xs : List ℕ) (n : ℕ) (r : IsRising xs n) where
       let here : i + (j - i - 1) + 1 ≡ j = omega arith in
       subst (λ k. get_or xs i 0 < get_or xs k 0) here (between i (j - i - 1) (omega arith))
 
-  -- what stands before a place is less than what stands there
+  -- what comes before a place is less than what is there
   pub less_before : (i x : ℕ) → i < length xs → Contains (take i xs) x → x < get_or xs i 0
   less_before i x h (j, within, is) =
       let size : length (take i xs) ≤ i = omega (arith, length-take i xs) in
@@ -53,7 +53,7 @@ module _ (xs : List ℕ) (n : ℕ) (r : IsRising xs n) where
       let there : get_or xs j 0 ≡ x = get_or_default xs j 0 x (omega arith) ∙ same in
       omega (arith, rises j i less h, there)
 
-  -- what stands at a place stands at none before
+  -- what is at a place is at none before
   pub fresh_before : (i : ℕ) → i < length xs → ¬ (Contains (take i xs) (get_or xs i 0))
   fresh_before i h inside = let less = less_before i (get_or xs i 0) h inside in omega (arith, less)
 

@@ -57,8 +57,8 @@ pub record IsSetOf (handed_in set : List Known) : Type 0 where
   pub ordered : AreOrdered set
 
 -- two templates or more have this identifier
-abbrev pub StandsTwice : List ℕ → List Known → Type 0
-StandsTwice id known = 2 ≤ count_by (λ k. bytes_eq k.id id) known
+abbrev pub OccursTwice : List ℕ → List Known → Type 0
+OccursTwice id known = 2 ≤ count_by (λ k. bytes_eq k.id id) known
 
 -- the identifier at this place is that of the place before
 abbrev pub RepeatsAt : List (String Global × TemplateValue) → ℕ → Type 0

@@ -80,7 +80,7 @@ impl Model for Set {
 }
 
 impl Set {
-    ghost use Rattle.lic_set.specs.Sets.{Known, IsSetOf, StandsTwice, pairs_known};
+    ghost use Rattle.lic_set.specs.Sets.{Known, IsSetOf, OccursTwice, pairs_known};
 
     /// Makes a set of templates, each under its identifier, with what the search needs to look for all of them at once.
     ///
@@ -92,7 +92,7 @@ impl Set {
         ensures many { IsErrOf result BuildFault.TooMany ↔ (4096 < length templates.items) }
         ensures twice { (id : _) → IsErrOf result (BuildFault.Twice id)
             → (length templates.items ≤ 4096)
-            × StandsTwice (string_bytes id) (pairs_known templates.items) }
+            × OccursTwice (string_bytes id) (pairs_known templates.items) }
 
         // Lack of memory is reported only if nothing else prevents a set.
         ensures memory { IsErrOf result BuildFault.Memory

@@ -9,7 +9,7 @@ use Rattle.std.specs.List.{All, Contains}
 use Rattle.std.specs.List.Sorted.{IsPermutation}
 use Rattle.std.specs.Ordering.{nat_cmp, is_lt, ordering_then}
 use Rattle.std.specs.declared.cmp.Ordering.{Ordering}
-use Rattle.lic_spans.specs.declared.span.Kind.{Kind}
+use Rattle.lic_spans.specs.declared.span.SpanKind.{SpanKind}
 use Rattle.lic_spans.specs.declared.span.PlaceSpan.{PlaceSpan}
 use Rattle.lic_spans.specs.Spans.{FitsKind, Holds, gap_of}
 use Rattle.lic_spans.specs.Sweeps.{Active, active_cmp, Reaches, HasLess, IsSettled, Covers, Advances}
@@ -31,7 +31,7 @@ least_first x active bound y among =
     not_less y.0.0 x.0.0 (nat_cmp x.1 y.1)
     (All-contains (λ z. is_lt (active_cmp x z) ≡ false) active y (All-from_recursion (λ z. is_lt (active_cmp x z) ≡ false) active bound) among)
 
-pub Advances-start : (kind : Kind) (at : ℕ) (active : List Active) (spans : List PlaceSpan) → Advances kind at active spans at active spans
+pub Advances-start : (kind : SpanKind) (at : ℕ) (active : List Active) (spans : List PlaceSpan) → Advances kind at active spans at active spans
 Advances-start kind at active spans = record {
   onward = omega arith;
   kept = λ k p l h. h;
@@ -42,7 +42,7 @@ Advances-start kind at active spans = record {
   fits = λ low h. h;
 }
 
-module _ (kind : Kind) (from : ℕ) (first : List Active) (old : List PlaceSpan) (at : ℕ) (active : List Active) (spans : List PlaceSpan)
+module _ (kind : SpanKind) (from : ℕ) (first : List Active) (old : List PlaceSpan) (at : ℕ) (active : List Active) (spans : List PlaceSpan)
     (so_far : Advances kind from first old at active spans) where
   -- none is active: the places up to any other are done
   pub Advances-none : (to : ℕ) → at ≤ to → ((item : Active) → Contains active item → ⊥) → Advances kind from first old to active spans
@@ -60,7 +60,7 @@ module _ (kind : Kind) (from : ℕ) (first : List Active) (old : List PlaceSpan)
   -- the first active span covers the places to before `stop`, and stays or leaves
   module _ (x : Active) (among : Contains active x) (bound : IsUpperBound active_cmp x active) (stop : ℕ) (new : List PlaceSpan)
       (covers : Covers kind at stop x.0.0 spans new) (settled : IsSettled spans kind at → IsSettled new kind (max at stop)) where
-    covered_sound : stop ≤ x.1 + 1 → (k : Kind) (p l : ℕ) → Holds new k p l → Holds old k p l ⊎ ((k ≡ kind) × (from ≤ p) × Reaches first p l)
+    covered_sound : stop ≤ x.1 + 1 → (k : SpanKind) (p l : ℕ) → Holds new k p l → Holds old k p l ⊎ ((k ≡ kind) × (from ≤ p) × Reaches first p l)
     covered_sound within k p l h =
         ⊎_elim (λ before. so_far.sound k p l before)
         (λ (same, low, high, last).
@@ -120,16 +120,16 @@ module _ (kind : Kind) (from : ℕ) (first : List Active) (old : List PlaceSpan)
     }
 
 -- The same in the form in which the code has them: the kind, the place and the active spans by equations.
-module _ (kind : Kind) (from : ℕ) (first : List Active) (old : List PlaceSpan) (at : ℕ) (active : List Active) (spans : List PlaceSpan)
+module _ (kind : SpanKind) (from : ℕ) (first : List Active) (old : List PlaceSpan) (at : ℕ) (active : List Active) (spans : List PlaceSpan)
     (so_far : Advances kind from first old at active spans) (x : Active) (at_first : IsFirst active_cmp x active)
-    (k : Kind) (same : k ≡ kind) (stop : ℕ) (new : List PlaceSpan) (covers : Covers k at stop x.0.0 spans new)
+    (k : SpanKind) (same : k ≡ kind) (stop : ℕ) (new : List PlaceSpan) (covers : Covers k at stop x.0.0 spans new)
     (next : ℕ) (is_next : next ≡ max at stop) (settled : IsSettled spans k at → IsSettled new k next) where
   covers_same : Covers kind at stop x.0.0 spans new
   covers_same = subst (λ j. Covers j at stop x.0.0 spans new) same covers
 
   settled_same : IsSettled spans kind at → IsSettled new kind (max at stop)
   settled_same =
-      let P : Kind → ℕ → Type 0 = λ j n. IsSettled spans j at → IsSettled new j n in
+      let P : SpanKind → ℕ → Type 0 = λ j n. IsSettled spans j at → IsSettled new j n in
       subst (λ n. P kind n) is_next (subst (λ j. P j next) same settled)
 
   pub Advances-stopped : (left : List Active) → left ≡ active → at ≤ stop → stop ≤ x.1 → Advances kind from first old stop left new

@@ -2,7 +2,7 @@
 use Rattle.std.proofs.Common.{◌≡◌, ℕ, ◌≤◌, zero, suc, ◌⊎◌, List, [], ◌∷◌, ◌++◌, refl, sym, subst, ◌<◌, get_or, inl, inr, ⊎_elim, arith}
 use Rattle.std.proofs.lemmas.List.Elements.{All-contains, Contains-append_left, Contains-append_right, Contains-append_cases, Contains-get_or}
 use Rattle.std.specs.List.{All, Contains}
-use Rattle.lic_spans.specs.declared.span.Kind.{Kind}
+use Rattle.lic_spans.specs.declared.span.SpanKind.{SpanKind}
 use Rattle.lic_spans.specs.declared.span.PlaceSpan.{PlaceSpan}
 use Rattle.lic_spans.specs.Spans.{Holds}
 use Rattle.lic_spans.specs.Sweeps.{HasLess}
@@ -23,10 +23,10 @@ Contains-cons_cases x xs y (suc k, h, e) = inr (k, omega arith, e)
 
 -- a list with the members of another holds what that holds
 pub Holds-among : (xs ys : List PlaceSpan) → ((s : PlaceSpan) → Contains xs s → Contains ys s) →
-    (k : Kind) (p l : ℕ) → Holds xs k p l → Holds ys k p l
+    (k : SpanKind) (p l : ℕ) → Holds xs k p l → Holds ys k p l
 Holds-among xs ys among k p l h = record { span = h.span; among = among h.span h.among; kind_is = h.kind_is; from = h.from; to = h.to; last_is = h.last_is }
 
-pub Holds-nil : (k : Kind) (p l : ℕ) → Holds [] k p l → ⊥
+pub Holds-nil : (k : SpanKind) (p l : ℕ) → Holds [] k p l → ⊥
 Holds-nil k p l h = Contains-nil h.span h.among
 
 -- what a member has, its list holds
@@ -34,27 +34,27 @@ pub Holds-member : (xs : List PlaceSpan) (s : PlaceSpan) → Contains xs s → (
 Holds-member xs s among p low high = record { span = s; among = among; kind_is = refl; from = low; to = high; last_is = refl }
 
 -- a span alone holds its places
-pub record HasPlace (s : PlaceSpan) (k : Kind) (p l : ℕ) : Type 0 where
+pub record HasPlace (s : PlaceSpan) (k : SpanKind) (p l : ℕ) : Type 0 where
   pub kind : s.kind ≡ k
   pub from : s.low ≤ p
   pub to : p ≤ s.high
   pub last : s.last ≡ l
 
-pub HasPlace-single : (s : PlaceSpan) (k : Kind) (p l : ℕ) → Holds (s ∷ []) k p l → HasPlace s k p l
+pub HasPlace-single : (s : PlaceSpan) (k : SpanKind) (p l : ℕ) → Holds (s ∷ []) k p l → HasPlace s k p l
 HasPlace-single s k p l h =
     let found : HasPlace h.span k p l = record { kind = h.kind_is; from = h.from; to = h.to; last = h.last_is } in
     ⊎_elim (λ (e : s ≡ h.span). subst (λ t. HasPlace t k p l) (sym e) found) (λ none. absurd (Contains-nil h.span none)) (Contains-cons_cases s [] h.span h.among)
 
-pub Holds-single : (s : PlaceSpan) (k : Kind) (p l : ℕ) → HasPlace s k p l → Holds (s ∷ []) k p l
+pub Holds-single : (s : PlaceSpan) (k : SpanKind) (p l : ℕ) → HasPlace s k p l → Holds (s ∷ []) k p l
 Holds-single s k p l h = record { span = s; among = Contains-head s []; kind_is = h.kind; from = h.from; to = h.to; last_is = h.last }
 
-pub Holds-left : (xs ys : List PlaceSpan) (k : Kind) (p l : ℕ) → Holds xs k p l → Holds (xs ++ ys) k p l
+pub Holds-left : (xs ys : List PlaceSpan) (k : SpanKind) (p l : ℕ) → Holds xs k p l → Holds (xs ++ ys) k p l
 Holds-left xs ys k p l h = Holds-among xs (xs ++ ys) (λ s among. Contains-append_left xs ys s among) k p l h
 
-pub Holds-right : (xs ys : List PlaceSpan) (k : Kind) (p l : ℕ) → Holds ys k p l → Holds (xs ++ ys) k p l
+pub Holds-right : (xs ys : List PlaceSpan) (k : SpanKind) (p l : ℕ) → Holds ys k p l → Holds (xs ++ ys) k p l
 Holds-right xs ys k p l h = Holds-among ys (xs ++ ys) (λ s among. Contains-append_right xs ys s among) k p l h
 
-pub Holds-append_cases : (xs ys : List PlaceSpan) (k : Kind) (p l : ℕ) → Holds (xs ++ ys) k p l → Holds xs k p l ⊎ Holds ys k p l
+pub Holds-append_cases : (xs ys : List PlaceSpan) (k : SpanKind) (p l : ℕ) → Holds (xs ++ ys) k p l → Holds xs k p l ⊎ Holds ys k p l
 Holds-append_cases xs ys k p l h =
     ⊎_elim
     (λ first. inl (record { span = h.span; among = first; kind_is = h.kind_is; from = h.from; to = h.to; last_is = h.last_is }))
@@ -62,15 +62,15 @@ Holds-append_cases xs ys k p l h =
     (Contains-append_cases xs ys h.span h.among)
 
 -- a last token that is no greater stays, where the list keeps what it holds
-pub HasLess-kept : (xs ys : List PlaceSpan) → ((k : Kind) (p l : ℕ) → Holds xs k p l → Holds ys k p l) →
-    (k : Kind) (p l : ℕ) → HasLess xs k p l → HasLess ys k p l
+pub HasLess-kept : (xs ys : List PlaceSpan) → ((k : SpanKind) (p l : ℕ) → Holds xs k p l → Holds ys k p l) →
+    (k : SpanKind) (p l : ℕ) → HasLess xs k p l → HasLess ys k p l
 HasLess-kept xs ys kept k p l h = (h.0, h.1, kept k p h.0 h.2)
 
-pub HasLess-itself : (xs : List PlaceSpan) (k : Kind) (p l : ℕ) → Holds xs k p l → HasLess xs k p l
+pub HasLess-itself : (xs : List PlaceSpan) (k : SpanKind) (p l : ℕ) → Holds xs k p l → HasLess xs k p l
 HasLess-itself xs k p l h = (l, omega arith, h)
 
 -- where a list holds only what another holds, a limit on the places of that one is one on its own
-pub high-below : (limit : ℕ) (xs ys : List PlaceSpan) → ((k : Kind) (p l : ℕ) → Holds ys k p l → Holds xs k p l) →
+pub high-below : (limit : ℕ) (xs ys : List PlaceSpan) → ((k : SpanKind) (p l : ℕ) → Holds ys k p l → Holds xs k p l) →
     All (λ s. s.low ≤ s.high) ys → All (λ s. s.high < limit) xs → All (λ s. s.high < limit) ys
 high-below limit xs ys sound ordered all = λ k d low.
     let s : PlaceSpan = get_or ys k d in

@@ -6,8 +6,8 @@ use Rattle.std.proofs.Math.ListN.{get_or-append}
 use Rattle.std.proofs.Math.Seq.{get_or-append_seam, take-length}
 use Rattle.std.proofs.lemmas.List.{length-append, length-set, set-get_or, take_more, take_more_set}
 use Rattle.std.specs.List.{All, AllPairs, Contains}
-use Rattle.lic_spans.specs.declared.span.Kind.{Kind}
-use Rattle.lic_spans.specs.declared.span.Kind.TheVariants.{End, Place, Letters, Blanks}
+use Rattle.lic_spans.specs.declared.span.SpanKind.{SpanKind}
+use Rattle.lic_spans.specs.declared.span.SpanKind.TheVariants.{End, Place, Letters, Blanks}
 use Rattle.lic_spans.specs.declared.span.PlaceSpan.{PlaceSpan}
 use Rattle.lic_spans.specs.Spans.{Holds, LiesBefore, is_continued_by, lengthened, rank, gap_of, FitsKind}
 use Rattle.lic_spans.specs.Sweeps.{IsSettled}
@@ -36,13 +36,13 @@ module _ {X : Type 0} where
       (subst (λ x. R x (get_or (xs ++ b ∷ []) (length xs) d)) (front-get_or xs b k d low) (pairs k (length xs) d low (omega (arith, length-append xs (b ∷ [])))))
 
 -- what lies before a place lies before a later one
-pub LiesBefore-later : (kind : Kind) (at to : ℕ) → at ≤ to → (s : PlaceSpan) → LiesBefore kind at s → LiesBefore kind to s
+pub LiesBefore-later : (kind : SpanKind) (at to : ℕ) → at ≤ to → (s : PlaceSpan) → LiesBefore kind at s → LiesBefore kind to s
 LiesBefore-later kind at to onward s h = record {
   kinds = h.kinds;
   places = λ e. let low : s.high < at = h.places e in omega arith;
 }
 
-pub IsSettled-later : (xs : List PlaceSpan) (kind : Kind) (at to : ℕ) → at ≤ to → IsSettled xs kind at → IsSettled xs kind to
+pub IsSettled-later : (xs : List PlaceSpan) (kind : SpanKind) (at to : ℕ) → at ≤ to → IsSettled xs kind at → IsSettled xs kind to
 IsSettled-later xs kind at to onward h = record {
   apart = h.apart;
   before = All-weaker (LiesBefore kind at) (LiesBefore kind to) (LiesBefore-later kind at to onward) xs h.before;
@@ -59,7 +59,7 @@ IsSettled-push xs s order h = record {
   ordered = All-push (λ t. t.low ≤ t.high) xs s h.ordered order;
 }
 
-pub Holds-push : (xs : List PlaceSpan) (s : PlaceSpan) (k : Kind) (p l : ℕ) → Holds (xs ++ s ∷ []) k p l ↔ (Holds xs k p l ⊎ Holds (s ∷ []) k p l)
+pub Holds-push : (xs : List PlaceSpan) (s : PlaceSpan) (k : SpanKind) (p l : ℕ) → Holds (xs ++ s ∷ []) k p l ↔ (Holds xs k p l ⊎ Holds (s ∷ []) k p l)
 Holds-push xs s k p l = (Holds-append_cases xs (s ∷ []) k p l, λ h. ⊎_elim (Holds-left xs (s ∷ []) k p l) (Holds-right xs (s ∷ []) k p l) h)
 
 -- the span has the kind and the last token of the other, and begins within it or next after it
@@ -70,7 +70,7 @@ pub record IsContinued (before span : PlaceSpan) : Type 0 where
   pub near : span.low ≤ before.high + gap_of before.kind
   pub to : span.low ≤ before.high + 1
 
-gap_small : (k : Kind) → gap_of k ≤ 1
+gap_small : (k : SpanKind) → gap_of k ≤ 1
 gap_small End = omega arith
 gap_small Place = omega arith
 gap_small Letters = omega arith
@@ -93,7 +93,7 @@ FitsKind-lengthened b s joins first second = λ single.
     let from : b.low ≤ s.low = joins.from in
     omega arith
 
-pub HasPlace-lengthened : (b s : PlaceSpan) → IsContinued b s → (k : Kind) (p l : ℕ) →
+pub HasPlace-lengthened : (b s : PlaceSpan) → IsContinued b s → (k : SpanKind) (p l : ℕ) →
     HasPlace (lengthened b s.high) k p l → HasPlace b k p l ⊎ HasPlace s k p l
 HasPlace-lengthened b s joins k p l h =
     ⊎_elim
@@ -103,17 +103,17 @@ HasPlace-lengthened b s joins k p l h =
     (λ within. inl (record { kind = h.kind; from = h.from; to = within; last = h.last }))
     (cases_lt b.high p)
 
-pub HasPlace-before : (b s : PlaceSpan) (k : Kind) (p l : ℕ) → HasPlace b k p l → HasPlace (lengthened b s.high) k p l
+pub HasPlace-before : (b s : PlaceSpan) (k : SpanKind) (p l : ℕ) → HasPlace b k p l → HasPlace (lengthened b s.high) k p l
 HasPlace-before b s k p l h = let to : p ≤ b.high = h.to in record { kind = h.kind; from = h.from; to = omega arith; last = h.last }
 
-pub HasPlace-more : (b s : PlaceSpan) → IsContinued b s → (k : Kind) (p l : ℕ) → HasPlace s k p l → HasPlace (lengthened b s.high) k p l
+pub HasPlace-more : (b s : PlaceSpan) → IsContinued b s → (k : SpanKind) (p l : ℕ) → HasPlace s k p l → HasPlace (lengthened b s.high) k p l
 HasPlace-more b s joins k p l h =
     let from : s.low ≤ p = h.from in
     let to : p ≤ s.high = h.to in
     record { kind = joins.kind ∙ h.kind; from = omega (arith, joins.from); to = omega arith; last = joins.last ∙ h.last }
 
 -- what a list holds whose last span is made longer
-pub Holds-lengthened : (xs : List PlaceSpan) (b s : PlaceSpan) → IsContinued b s → (k : Kind) (p l : ℕ) →
+pub Holds-lengthened : (xs : List PlaceSpan) (b s : PlaceSpan) → IsContinued b s → (k : SpanKind) (p l : ℕ) →
     Holds (xs ++ lengthened b s.high ∷ []) k p l ↔ (Holds (xs ++ b ∷ []) k p l ⊎ Holds (s ∷ []) k p l)
 Holds-lengthened xs b s joins k p l = (
   λ h. ⊎_elim (λ first. inl (Holds-left xs (b ∷ []) k p l first))
@@ -163,7 +163,7 @@ module _ (xs : List PlaceSpan) (n : ℕ) (b s : PlaceSpan) (e : n + 1 ≡ length
   is_split : xs ≡ take n xs ++ b ∷ []
   is_split = last_split xs n b e ∙ ap (λ x. take n xs ++ x ∷ []) (sym last)
 
-  pub Holds-set_longer : (k : Kind) (p l : ℕ) → Holds (set xs n (lengthened b s.high)) k p l ↔ (Holds xs k p l ⊎ Holds (s ∷ []) k p l)
+  pub Holds-set_longer : (k : SpanKind) (p l : ℕ) → Holds (set xs n (lengthened b s.high)) k p l ↔ (Holds xs k p l ⊎ Holds (s ∷ []) k p l)
   Holds-set_longer k p l =
       let P : List PlaceSpan → Type 0 = λ ys. Holds ys k p l ↔ (Holds xs k p l ⊎ Holds (s ∷ []) k p l) in
       let Q : List PlaceSpan → Type 0 = λ ys. Holds (take n xs ++ lengthened b s.high ∷ []) k p l ↔ (Holds ys k p l ⊎ Holds (s ∷ []) k p l) in
@@ -183,7 +183,7 @@ module _ (xs : List PlaceSpan) (n : ℕ) (b b' s : PlaceSpan) (r : Bool) (e : n 
       let now : b' ≡ lengthened b s.high = longer ∙ ap (λ t. if t then lengthened b s.high else b) joined in
       ap (set xs n) (sym now)
 
-  pub Holds-joined_last : r ≡ true → (k : Kind) (p l : ℕ) → Holds (set xs n b') k p l ↔ (Holds xs k p l ⊎ Holds (s ∷ []) k p l)
+  pub Holds-joined_last : r ≡ true → (k : SpanKind) (p l : ℕ) → Holds (set xs n b') k p l ↔ (Holds xs k p l ⊎ Holds (s ∷ []) k p l)
   Holds-joined_last joined k p l =
       let P : List PlaceSpan → Type 0 = λ ys. Holds ys k p l ↔ (Holds xs k p l ⊎ Holds (s ∷ []) k p l) in
       subst P (written_is joined) (Holds-set_longer xs n b s e is_last (test-IsContinued b s (sym answer ∙ joined)) k p l)

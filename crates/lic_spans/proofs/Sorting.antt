@@ -15,8 +15,8 @@ use Rattle.std.specs.List.Sorted.{IsPermutation, IsSortedBy}
 use Rattle.std.specs.Ordering.{nat_cmp, is_lt, ordering_then}
 use Rattle.std.specs.declared.cmp.Ordering.{Ordering}
 use Rattle.std.specs.declared.cmp.Ordering.TheVariants.{Less, Equal, Greater}
-use Rattle.lic_spans.specs.declared.span.Kind.{Kind}
-use Rattle.lic_spans.specs.declared.span.Kind.TheVariants.{End}
+use Rattle.lic_spans.specs.declared.span.SpanKind.{SpanKind}
+use Rattle.lic_spans.specs.declared.span.SpanKind.TheVariants.{End}
 use Rattle.lic_spans.specs.declared.span.PlaceSpan.{PlaceSpan}
 use Rattle.lic_spans.specs.Spans.{Holds, LiesBefore, AreApart, BeginsBefore, is_covered_by, is_before, rank}
 use Rattle.lic_spans.specs.Sweeps.{HasLess}
@@ -166,7 +166,7 @@ covered_by_dedup [] s h = absurd (Contains-nil s h)
 covered_by_dedup (x ∷ xs) s h = covered_by_dedup_from x xs s h
 
 -- what a list holds, what is kept of its spans in another order holds with a last token that is no greater
-pub HasLess-kept_sorted : (old sorted : List PlaceSpan) → IsPermutation old sorted → (k : Kind) (p l : ℕ) → Holds old k p l → HasLess (dedup is_covered_by sorted) k p l
+pub HasLess-kept_sorted : (old sorted : List PlaceSpan) → IsPermutation old sorted → (k : SpanKind) (p l : ℕ) → Holds old k p l → HasLess (dedup is_covered_by sorted) k p l
 HasLess-kept_sorted old sorted moved k p l h =
     let by = covered_by_dedup sorted h.span (Contains-permutation old sorted h.span moved h.among) in
     let low : by.by.low ≤ h.span.low = by.covered.from in

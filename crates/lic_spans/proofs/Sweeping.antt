@@ -4,7 +4,7 @@ use Rattle.std.proofs.lemmas.List.Elements.{All-contains, All-weaker, Contains-a
 use Rattle.std.proofs.lemmas.List.Sorted.{IsPermutation-sym, Contains-permutation}
 use Rattle.std.specs.List.{All, Contains}
 use Rattle.std.specs.List.Sorted.{IsPermutation}
-use Rattle.lic_spans.specs.declared.span.Kind.{Kind}
+use Rattle.lic_spans.specs.declared.span.SpanKind.{SpanKind}
 use Rattle.lic_spans.specs.declared.span.PlaceSpan.{PlaceSpan}
 use Rattle.lic_spans.specs.Spans.{FitsKind, gap_of, Holds, LiesBefore, rank}
 use Rattle.lic_spans.specs.Sweeps.{Active, Reaches, HasLess, IsTaken, Advances, IsSweepOf, IsLeastOf}
@@ -12,12 +12,12 @@ use Rattle.lic_spans.proofs.Members.{Contains-nil, Contains-head, Contains-tail,
 use Rattle.lic_spans.proofs.Ranks.{rank-same}
 use Rattle.lic_spans.proofs.Settling.{All-front}
 
-IsTaken-later : (taken : List PlaceSpan) (kind : Kind) (at to : ℕ) → at ≤ to → (item : Active) → IsTaken taken kind at item → IsTaken taken kind to item
+IsTaken-later : (taken : List PlaceSpan) (kind : SpanKind) (at to : ℕ) → at ≤ to → (item : Active) → IsTaken taken kind at item → IsTaken taken kind to item
 IsTaken-later taken kind at to onward item h =
     let from : h.span.low ≤ at = h.from in
     record { span = h.span; among = h.among; kind_is = h.kind_is; from = omega arith; to = h.to; last_is = h.last_is; bounded = h.bounded }
 
-IsTaken-more : (taken more : List PlaceSpan) (kind : Kind) (at : ℕ) (item : Active) → IsTaken taken kind at item → IsTaken (taken ++ more) kind at item
+IsTaken-more : (taken more : List PlaceSpan) (kind : SpanKind) (at : ℕ) (item : Active) → IsTaken taken kind at item → IsTaken (taken ++ more) kind at item
 IsTaken-more taken more kind at item h = record {
   span = h.span;
   among = Contains-append_left taken more h.span h.among;
@@ -29,8 +29,8 @@ IsTaken-more taken more kind at item h = record {
 }
 
 -- what an active span reaches, the spans that were taken hold
-Holds-reached : (taken : List PlaceSpan) (kind : Kind) (at : ℕ) (active : List Active) → ((item : Active) → Contains active item → IsTaken taken kind at item) →
-    (k : Kind) (p l : ℕ) → k ≡ kind → at ≤ p → Reaches active p l → Holds taken k p l
+Holds-reached : (taken : List PlaceSpan) (kind : SpanKind) (at : ℕ) (active : List Active) → ((item : Active) → Contains active item → IsTaken taken kind at item) →
+    (k : SpanKind) (p l : ℕ) → k ≡ kind → at ≤ p → Reaches active p l → Holds taken k p l
 Holds-reached taken kind at active actives k p l same past h =
     let t : IsTaken taken kind at h.item = actives h.item h.among in
     let from : t.span.low ≤ at = t.from in
@@ -39,7 +39,7 @@ Holds-reached taken kind at active actives k p l same past h =
     record { span = t.span; among = t.among; kind_is = t.kind_is ∙ sym same; from = omega arith; to = omega arith; last_is = t.last_is ∙ h.last_is }
 
 -- an active span of a single place ends where the sweep is
-single_reached : (taken : List PlaceSpan) (kind : Kind) (at : ℕ) (active : List Active) → ((item : Active) → Contains active item → IsTaken taken kind at item) →
+single_reached : (taken : List PlaceSpan) (kind : SpanKind) (at : ℕ) (active : List Active) → ((item : Active) → Contains active item → IsTaken taken kind at item) →
     All FitsKind taken → gap_of kind ≡ 0 → All (λ item. item.1 ≤ at) active
 single_reached taken kind at active actives all single = λ k d low.
     let t : IsTaken taken kind at (get_or active k d) = actives (get_or active k d) (Contains-get_or active k d low) in
@@ -48,7 +48,7 @@ single_reached taken kind at active actives all single = λ k d low.
     let one : t.span.low ≡ t.span.high = All-contains FitsKind taken t.span all t.among (ap gap_of t.kind_is ∙ single) in
     omega arith
 
-pub IsSweepOf-advanced : (taken : List PlaceSpan) (kind : Kind) (at : ℕ) (active : List Active) (spans : List PlaceSpan) (to : ℕ) (left : List Active) (new : List PlaceSpan) →
+pub IsSweepOf-advanced : (taken : List PlaceSpan) (kind : SpanKind) (at : ℕ) (active : List Active) (spans : List PlaceSpan) (to : ℕ) (left : List Active) (new : List PlaceSpan) →
     Advances kind at active spans to left new → IsSweepOf taken kind at active spans → IsSweepOf taken kind to left new
 IsSweepOf-advanced taken kind at active spans to left new goes h = record {
   sound = λ k p l holds.
@@ -64,7 +64,7 @@ IsSweepOf-advanced taken kind at active spans to left new goes h = record {
 }
 
 -- no active span reaches the greatest place
-pub reaches_below : (taken : List PlaceSpan) (kind : Kind) (at : ℕ) (active : List Active) (spans : List PlaceSpan) → IsSweepOf taken kind at active spans →
+pub reaches_below : (taken : List PlaceSpan) (kind : SpanKind) (at : ℕ) (active : List Active) (spans : List PlaceSpan) → IsSweepOf taken kind at active spans →
     All (λ item. item.1 < 18446744073709551615) active
 reaches_below taken kind at active spans h = λ k d low.
     let t = h.actives (get_or active k d) (Contains-get_or active k d low) in
@@ -73,8 +73,8 @@ reaches_below taken kind at active spans h = λ k d low.
     omega arith
 
 -- at the greatest place all is done
-done_at_end : (taken : List PlaceSpan) (kind : Kind) (active : List Active) (spans : List PlaceSpan) → IsSweepOf taken kind 18446744073709551615 active spans →
-    (k : Kind) (p l : ℕ) → Holds taken k p l → HasLess spans k p l
+done_at_end : (taken : List PlaceSpan) (kind : SpanKind) (active : List Active) (spans : List PlaceSpan) → IsSweepOf taken kind 18446744073709551615 active spans →
+    (k : SpanKind) (p l : ℕ) → Holds taken k p l → HasLess spans k p l
 done_at_end taken kind active spans h k p l holds =
     ⊎_elim (λ less. less)
     (λ (same, past, reaches).
@@ -85,7 +85,7 @@ done_at_end taken kind active spans h k p l holds =
     absurd (omega arith))
     (h.done k p l holds)
 
-pub IsLeastOf-end : (taken : List PlaceSpan) (kind : Kind) (active : List Active) (spans : List PlaceSpan) →
+pub IsLeastOf-end : (taken : List PlaceSpan) (kind : SpanKind) (active : List Active) (spans : List PlaceSpan) →
     IsSweepOf taken kind 18446744073709551615 active spans → IsLeastOf taken spans
 IsLeastOf-end taken kind active spans h = record {
   sound = h.sound;
@@ -96,7 +96,7 @@ IsLeastOf-end taken kind active spans h = record {
 }
 
 -- at the greatest place the sweep can turn to a later kind
-pub IsSweepOf-turned : (taken : List PlaceSpan) (kind : Kind) (active : List Active) (spans : List PlaceSpan) (next : Kind) → rank kind ≤ rank next →
+pub IsSweepOf-turned : (taken : List PlaceSpan) (kind : SpanKind) (active : List Active) (spans : List PlaceSpan) (next : SpanKind) → rank kind ≤ rank next →
     (kind ≡ next → ⊥) → IsSweepOf taken kind 18446744073709551615 active spans → IsSweepOf taken next 0 [] spans
 IsSweepOf-turned taken kind active spans next up other h = record {
   sound = h.sound;

@@ -1,11 +1,11 @@
 -- What a list of spans holds, and which lists have no place of a kind twice.
 use Rattle.std.specs.Prelude.{◌≡◌, max, ◌+◌, ◌==◌, ◌&&◌, ◌||◌, Bool, nat_le, nat_lt, ℕ, ◌<◌, ◌≤◌, List, Contains, All, AllPairs}
-use Rattle.lic_spans.specs.declared.span.Kind.{Kind}
-use Rattle.lic_spans.specs.declared.span.Kind.TheVariants.{End, Place, Letters, Blanks}
+use Rattle.lic_spans.specs.declared.span.SpanKind.{SpanKind}
+use Rattle.lic_spans.specs.declared.span.SpanKind.TheVariants.{End, Place, Letters, Blanks}
 use Rattle.lic_spans.specs.declared.span.PlaceSpan.{PlaceSpan}
 
 -- some span of the list has this kind and this last token, and the place among its places
-pub record Holds (spans : List PlaceSpan) (kind : Kind) (place last : ℕ) : Type 0 where
+pub record Holds (spans : List PlaceSpan) (kind : SpanKind) (place last : ℕ) : Type 0 where
   pub span : PlaceSpan
   pub among : Contains spans span
   pub kind_is : span.kind ≡ kind
@@ -14,14 +14,14 @@ pub record Holds (spans : List PlaceSpan) (kind : Kind) (place last : ℕ) : Typ
   pub last_is : span.last ≡ last
 
 -- the place of a kind in the order of kinds
-abbrev pub rank : Kind → ℕ
+abbrev pub rank : SpanKind → ℕ
 rank End = 0
 rank Place = 1
 rank Letters = 2
 rank Blanks = 3
 
 -- the span is of an earlier kind, or of this one and ends before the place
-pub record LiesBefore (kind : Kind) (place : ℕ) (span : PlaceSpan) : Type 0 where
+pub record LiesBefore (kind : SpanKind) (place : ℕ) (span : PlaceSpan) : Type 0 where
   pub kinds : rank span.kind ≤ rank kind
   pub places : span.kind ≡ kind → span.high < place
 
@@ -56,7 +56,7 @@ pub record AreBefore (spans : List PlaceSpan) (span : PlaceSpan) : Type 0 where
   pub start : All (λ s. StartsBefore s span) spans
 
 -- how far after the end of a span another of its kind may begin that is joined with it: a single place is joined with none
-abbrev pub gap_of : Kind → ℕ
+abbrev pub gap_of : SpanKind → ℕ
 gap_of End = 0
 gap_of Place = 0
 gap_of Letters = 1

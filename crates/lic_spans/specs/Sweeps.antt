@@ -3,7 +3,7 @@ use Rattle.std.specs.Prelude.{◌≡◌, ℕ, ◌+◌, ◌^◌, ◌<◌, ◌≤�
 use Rattle.std.specs.Ordering.{nat_cmp, ordering_then}
 use Rattle.std.specs.declared.cmp.Ordering.{Ordering}
 use Rattle.std.specs.declared.cmp.Reverse.{Reverse}
-use Rattle.lic_spans.specs.declared.span.Kind.{Kind}
+use Rattle.lic_spans.specs.declared.span.SpanKind.{SpanKind}
 use Rattle.lic_spans.specs.declared.span.PlaceSpan.{PlaceSpan}
 use Rattle.lic_spans.specs.Spans.{Holds, LiesBefore, AreApart, FitsKind, gap_of}
 
@@ -23,17 +23,17 @@ pub record Reaches (active : List Active) (place last : ℕ) : Type 0 where
   pub to : place ≤ item.1
 
 -- the list has the place with a last token that is no greater
-abbrev pub HasLess : List PlaceSpan → Kind → ℕ → ℕ → Type 0
+abbrev pub HasLess : List PlaceSpan → SpanKind → ℕ → ℕ → Type 0
 HasLess spans kind place last = (other : ℕ) × (other ≤ last) × Holds spans kind place other
 
 -- the spans are apart, and all lie before the place
-pub record IsSettled (spans : List PlaceSpan) (kind : Kind) (at : ℕ) : Type 0 where
+pub record IsSettled (spans : List PlaceSpan) (kind : SpanKind) (at : ℕ) : Type 0 where
   pub apart : AreApart spans
   pub before : All (LiesBefore kind at) spans
   pub ordered : All (λ s. s.low ≤ s.high) spans
 
 -- an active span is one of the list's, of the kind, which begins no later than at the place
-pub record IsTaken (taken : List PlaceSpan) (kind : Kind) (at : ℕ) (item : Active) : Type 0 where
+pub record IsTaken (taken : List PlaceSpan) (kind : SpanKind) (at : ℕ) (item : Active) : Type 0 where
   pub span : PlaceSpan
   pub among : Contains taken span
   pub kind_is : span.kind ≡ kind
@@ -43,18 +43,18 @@ pub record IsTaken (taken : List PlaceSpan) (kind : Kind) (at : ℕ) (item : Act
   pub bounded : span.high + 1 < 2 ^ 64
 
 -- the new list has besides what the old one has the places of the kind from `at` to before `stop`, with this last token
-pub record Covers (kind : Kind) (at stop last : ℕ) (old new : List PlaceSpan) : Type 0 where
-  pub kept : (k : Kind) (p l : ℕ) → Holds old k p l → Holds new k p l
+pub record Covers (kind : SpanKind) (at stop last : ℕ) (old new : List PlaceSpan) : Type 0 where
+  pub kept : (k : SpanKind) (p l : ℕ) → Holds old k p l → Holds new k p l
   pub added : (p : ℕ) → at ≤ p → p < stop → Holds new kind p last
-  pub sound : (k : Kind) (p l : ℕ) → Holds new k p l → Holds old k p l ⊎ ((k ≡ kind) × (at ≤ p) × (p < stop) × (l ≡ last))
+  pub sound : (k : SpanKind) (p l : ℕ) → Holds new k p l → Holds old k p l ⊎ ((k ≡ kind) × (at ≤ p) × (p < stop) × (l ≡ last))
   pub fits : (gap_of kind ≡ 0 → stop ≤ at + 1) → All FitsKind old → All FitsKind new
 
 -- Of the places of the kind from `at` to before `to` that active spans reach, the new list has the least last token of each;
 -- spans that reach further are still active.
-pub record Advances (kind : Kind) (at : ℕ) (active : List Active) (old : List PlaceSpan) (to : ℕ) (left : List Active) (new : List PlaceSpan) : Type 0 where
+pub record Advances (kind : SpanKind) (at : ℕ) (active : List Active) (old : List PlaceSpan) (to : ℕ) (left : List Active) (new : List PlaceSpan) : Type 0 where
   pub onward : at ≤ to
-  pub kept : (k : Kind) (p l : ℕ) → Holds old k p l → Holds new k p l
-  pub sound : (k : Kind) (p l : ℕ) → Holds new k p l → Holds old k p l ⊎ ((k ≡ kind) × (at ≤ p) × Reaches active p l)
+  pub kept : (k : SpanKind) (p l : ℕ) → Holds old k p l → Holds new k p l
+  pub sound : (k : SpanKind) (p l : ℕ) → Holds new k p l → Holds old k p l ⊎ ((k ≡ kind) × (at ≤ p) × Reaches active p l)
   pub least : (p l : ℕ) → at ≤ p → Reaches active p l → HasLess new kind p l ⊎ ((to ≤ p) × Reaches left p l)
   pub actives : (item : Active) → Contains left item → Contains active item
   pub settled : IsSettled old kind at → IsSettled new kind to
@@ -62,17 +62,17 @@ pub record Advances (kind : Kind) (at : ℕ) (active : List Active) (old : List 
 
 -- The list has of each place of the spans that were taken the least last token, but for the places from `at` on, which
 -- spans that are still active reach.
-pub record IsSweepOf (taken : List PlaceSpan) (kind : Kind) (at : ℕ) (active : List Active) (least : List PlaceSpan) : Type 0 where
-  pub sound : (k : Kind) (p l : ℕ) → Holds least k p l → Holds taken k p l
+pub record IsSweepOf (taken : List PlaceSpan) (kind : SpanKind) (at : ℕ) (active : List Active) (least : List PlaceSpan) : Type 0 where
+  pub sound : (k : SpanKind) (p l : ℕ) → Holds least k p l → Holds taken k p l
   pub actives : (item : Active) → Contains active item → IsTaken taken kind at item
-  pub done : (k : Kind) (p l : ℕ) → Holds taken k p l → HasLess least k p l ⊎ ((k ≡ kind) × (at ≤ p) × Reaches active p l)
+  pub done : (k : SpanKind) (p l : ℕ) → Holds taken k p l → HasLess least k p l ⊎ ((k ≡ kind) × (at ≤ p) × Reaches active p l)
   pub settled : IsSettled least kind at
   pub fits : All FitsKind taken → All FitsKind least
 
 -- the least last token of each place of the spans, and no place twice
 pub record IsLeastOf (taken least : List PlaceSpan) : Type 0 where
-  pub sound : (k : Kind) (p l : ℕ) → Holds least k p l → Holds taken k p l
-  pub done : (k : Kind) (p l : ℕ) → Holds taken k p l → HasLess least k p l
+  pub sound : (k : SpanKind) (p l : ℕ) → Holds least k p l → Holds taken k p l
+  pub done : (k : SpanKind) (p l : ℕ) → Holds taken k p l → HasLess least k p l
   pub apart : AreApart least
   pub ordered : All (λ s. s.low ≤ s.high) least
   pub fits : All FitsKind taken → All FitsKind least

@@ -1,7 +1,7 @@
 //! Of each place of a set all its last tokens.
 
 ghost use Rattle.std.specs.Prelude.{◌≡◌, ℕ, ◌≤◌, ◌↔◌, length, All, AllPairs, IfOk};
-ghost use Rattle.lic_spans.specs.declared.span.Kind.{Kind};
+ghost use Rattle.lic_spans.specs.declared.span.SpanKind.{SpanKind};
 ghost use Rattle.lic_spans.specs.Spans.{Holds, AreApartOfLast, StartsBefore};
 
 use crate::join::add;
@@ -17,7 +17,7 @@ pub fn with_each_last(
     mut spans: Vec<PlaceSpan>,
 ) -> Result<Vec<PlaceSpan>, AllocError>
     requires { All (λ s. s.low ≤ s.high) spans.items }
-    ensures same { IfOk result (λ each. (kind : Kind) (place last : ℕ) → Holds each.items kind place last ↔ Holds spans.items kind place last) }
+    ensures same { IfOk result (λ each. (kind : SpanKind) (place last : ℕ) → Holds each.items kind place last ↔ Holds spans.items kind place last) }
     ensures apart { IfOk result (λ each. AreApartOfLast each.items) }
     ensures ordered { IfOk result (λ each. All (λ s. s.low ≤ s.high) each.items) }
     ensures few { IfOk result (λ each. length each.items ≤ length spans.items) }
@@ -30,7 +30,7 @@ pub fn with_each_last(
 fn joined(alloc: Global, spans: &[PlaceSpan]) -> Result<Vec<PlaceSpan>, AllocError>
     requires ordered { All (λ s. s.low ≤ s.high) spans.now }
     requires sorted { AllPairs StartsBefore spans.now }
-    ensures same { IfOk result (λ each. (kind : Kind) (place last : ℕ) → Holds each.items kind place last ↔ Holds spans.now kind place last) }
+    ensures same { IfOk result (λ each. (kind : SpanKind) (place last : ℕ) → Holds each.items kind place last ↔ Holds spans.now kind place last) }
     ensures apart { IfOk result (λ each. AreApartOfLast each.items) }
     ensures ordered { IfOk result (λ each. All (λ s. s.low ≤ s.high) each.items) }
     ensures few { IfOk result (λ each. length each.items ≤ length spans.now) }

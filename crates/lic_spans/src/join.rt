@@ -1,7 +1,7 @@
 //! Spans of one kind and one last token that overlap or touch are joined.
 
 ghost use Rattle.std.specs.Prelude.{◌≡◌, ◌+◌, ◌<◌, ◌≤◌, ◌⊎◌, ◌↔◌, ℕ, [], ◌∷◌, length, All, OnOk, if◌then◌else◌};
-ghost use Rattle.lic_spans.specs.declared.span.Kind.{Kind};
+ghost use Rattle.lic_spans.specs.declared.span.SpanKind.{SpanKind};
 ghost use Rattle.lic_spans.specs.Spans.{AreBefore, Holds, FitsKind, is_continued_by, lengthened};
 ghost use Rattle.lic_spans.specs.Sweeps.{IsSettled};
 
@@ -11,7 +11,7 @@ use std::alloc::AllocError;
 /// Puts a span to the end of a list, joined with the last one there where it continues that.
 pub(crate) fn add(spans: &mut Vec<PlaceSpan>, span: PlaceSpan) -> Result<(), AllocError>
     requires { span.low ≤ span.high }
-    ensures holds { OnOk result ((k : Kind) (p l : ℕ) → Holds spans.new.items k p l ↔ (Holds spans.old.items k p l ⊎ Holds (span ∷ []) k p l)) }
+    ensures holds { OnOk result ((k : SpanKind) (p l : ℕ) → Holds spans.new.items k p l ↔ (Holds spans.old.items k p l ⊎ Holds (span ∷ []) k p l)) }
     ensures settled { OnOk result (IsSettled spans.old.items span.kind span.low → IsSettled spans.new.items span.kind (span.high + 1)) }
     ensures fits { OnOk result (FitsKind span → All FitsKind spans.old.items → All FitsKind spans.new.items) }
     ensures ordered { OnOk result (All (λ s. s.low ≤ s.high) spans.old.items → All (λ s. s.low ≤ s.high) spans.new.items) }

@@ -1,7 +1,7 @@
 //! Of each place of a set its least last token.
 
 ghost use Rattle.std.specs.Prelude.{◌≡◌, ℕ, ◌+◌, ◌*◌, ◌<◌, ◌≤◌, ◌↔◌, List, length, All, AllPairs, IfOk, IsTrue, OnOk, Contains};
-ghost use Rattle.lic_spans.specs.declared.span.Kind.{Kind};
+ghost use Rattle.lic_spans.specs.declared.span.SpanKind.{SpanKind};
 ghost use Rattle.lic_spans.specs.declared.span.PlaceSpan.{PlaceSpan};
 ghost use Rattle.lic_spans.specs.Spans.{Holds, AreApart, FitsKind, BeginsBefore, is_before as lies_before, is_covered_by};
 ghost use Rattle.lic_spans.specs.Sweeps.{HasLess, IsLeastOf};
@@ -23,8 +23,8 @@ pub fn with_least_last(
 ) -> Result<Vec<PlaceSpan>, AllocError>
     requires ordered { All (λ s. s.low ≤ s.high) spans.items }
     requires bounded { All (λ s. s.high < usize.MAX) spans.items }
-    ensures sound { IfOk result (λ least. (kind : Kind) (place last : ℕ) → Holds least.items kind place last → Holds spans.items kind place last) }
-    ensures least { IfOk result (λ least. (kind : Kind) (place last : ℕ) → Holds spans.items kind place last
+    ensures sound { IfOk result (λ least. (kind : SpanKind) (place last : ℕ) → Holds least.items kind place last → Holds spans.items kind place last) }
+    ensures least { IfOk result (λ least. (kind : SpanKind) (place last : ℕ) → Holds spans.items kind place last
         → (other : ℕ) × (other ≤ last) × Holds least.items kind place other) }
     ensures apart { IfOk result (λ least. AreApart least.items) }
     ensures ordered { IfOk result (λ least. All (λ s. s.low ≤ s.high) least.items) }
@@ -62,7 +62,7 @@ fn swept(alloc: Global, spans: &[PlaceSpan]) -> Result<Vec<PlaceSpan>, AllocErro
 fn sort(spans: &mut Vec<PlaceSpan>) -> Result<(), AllocError>
     ensures sorted { OnOk result (AllPairs BeginsBefore spans.new.items) }
     ensures sound { OnOk result ((span : PlaceSpan) → Contains spans.new.items span → Contains spans.old.items span) }
-    ensures least { OnOk result ((kind : Kind) (place last : ℕ) → Holds spans.old.items kind place last → HasLess spans.new.items kind place last) }
+    ensures least { OnOk result ((kind : SpanKind) (place last : ℕ) → Holds spans.old.items kind place last → HasLess spans.new.items kind place last) }
     ensures few { OnOk result (length spans.new.items ≤ length spans.old.items) }
 {
     spans.sort_by_key(|span| (span.kind as u8, span.low, span.last))?;

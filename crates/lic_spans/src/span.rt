@@ -6,7 +6,7 @@ ghost use Rattle.std.specs.Prelude.{◌≡◌, ◌↔◌, IsTrue};
 ///
 /// The meaning of each kind belongs to the search; here only equality and order count.
 #[derive(Clone, Copy, Debug, PartialEq, Eq, PartialOrd, Ord)]
-pub enum Kind {
+pub enum SpanKind {
     /// The end of its last token, where no letter was taken yet: one place.
     End,
     /// One place.
@@ -17,14 +17,14 @@ pub enum Kind {
     Blanks,
 }
 
-impl Kind {
+impl SpanKind {
     ghost use Rattle.lic_spans.specs.Spans.{gap_of};
 
     /// Whether a span of the kind has one place.
     pub fn is_single(self) -> bool
         ensures { IsTrue result ↔ (gap_of self ≡ 0) }
     {
-        matches!(self, Kind::End | Kind::Place)
+        matches!(self, SpanKind::End | SpanKind::Place)
     }
 }
 
@@ -35,5 +35,5 @@ pub struct PlaceSpan {
     pub low: usize,
     pub high: usize,
     pub last: usize,
-    pub kind: Kind,
+    pub kind: SpanKind,
 }

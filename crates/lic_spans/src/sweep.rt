@@ -8,7 +8,7 @@ ghost use Rattle.lic_spans.specs.Spans.{rank};
 ghost use Rattle.lic_spans.specs.Sweeps.{Covers, IsSettled, IsLeastOf, active_cmp};
 
 use crate::join::add;
-use crate::span::{Kind, PlaceSpan};
+use crate::span::{PlaceSpan, SpanKind};
 use std::alloc::{AllocError, Global};
 use std::cmp::Reverse;
 use std::collections::BinaryHeap;
@@ -17,7 +17,7 @@ use std::collections::BinaryHeap;
 #[derive(Drop)]
 pub(crate) struct Sweep {
     // The kind of the active spans.
-    kind: Kind,
+    kind: SpanKind,
     // The first place that is not done.
     at: usize,
     // The active spans, each with its last token and its last place: the one of the least last token comes first.
@@ -38,7 +38,7 @@ impl Sweep {
         ensures few { size_of result ≡ 0 }
     {
         Sweep {
-            kind: Kind::End,
+            kind: SpanKind::End,
             at: 0,
             active: BinaryHeap::new(alloc),
             least: Vec::new(alloc),
@@ -72,7 +72,7 @@ impl Sweep {
     }
 
     // Moves to a kind, to its first place, after what the active spans have is done.
-    fn reach(&mut self, kind: Kind) -> Result<(), AllocError>
+    fn reach(&mut self, kind: SpanKind) -> Result<(), AllocError>
         requires { rank self.old.kind ≤ rank kind }
         ensures sweep { OnOk result ((taken : List PlaceSpan) → HasTaken taken self.old → HasTaken taken self.new) }
         ensures kind { OnOk result (self.new.kind ≡ kind) }

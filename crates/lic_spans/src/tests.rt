@@ -3,13 +3,13 @@
 ghost use Rattle.std.specs.Prelude.{◌≤◌, ◌<◌, All, IfOk};
 
 use crate::least::with_least_last;
-use crate::span::{Kind, PlaceSpan};
+use crate::span::{PlaceSpan, SpanKind};
 use std::alloc::{AllocError, Global};
 use std::fmt::Write;
 use std::test::Fail;
 
 /// Spans as lists in a table write them: kind, low place, high place, last token.
-type Listed<'a> = &'a [(Kind, usize, usize, usize)];
+type Listed<'a> = &'a [(SpanKind, usize, usize, usize)];
 
 /// The spans of a table.
 fn spans(alloc: Global, listed: Listed) -> Result<Vec<PlaceSpan>, AllocError>
@@ -46,48 +46,48 @@ fn keeps_the_least_last_token_of_each_place(rt: HostRuntime) -> Result<(), Fail>
     let alloc = rt.alloc();
     let table: &[(Listed, &str)] = &[
         (&[], ""),
-        (&[(Kind::Letters, 3, 7, 1)], "2:3-7:1 "),
+        (&[(SpanKind::Letters, 3, 7, 1)], "2:3-7:1 "),
         // single places in any order, with repeats
         (
             &[
-                (Kind::Place, 7, 7, 3),
-                (Kind::Place, 2, 2, 9),
-                (Kind::Place, 7, 7, 1),
-                (Kind::End, 7, 7, 4),
+                (SpanKind::Place, 7, 7, 3),
+                (SpanKind::Place, 2, 2, 9),
+                (SpanKind::Place, 7, 7, 1),
+                (SpanKind::End, 7, 7, 4),
             ],
             "0:7-7:4 1:2-2:9 1:7-7:1 ",
         ),
         // a better one within, and a worse one that reaches further
         (
-            &[(Kind::Letters, 0, 9, 5), (Kind::Letters, 3, 4, 2)],
+            &[(SpanKind::Letters, 0, 9, 5), (SpanKind::Letters, 3, 4, 2)],
             "2:0-2:5 2:3-4:2 2:5-9:5 ",
         ),
         (
-            &[(Kind::Letters, 2, 8, 3), (Kind::Letters, 0, 5, 1)],
+            &[(SpanKind::Letters, 2, 8, 3), (SpanKind::Letters, 0, 5, 1)],
             "2:0-5:1 2:6-8:3 ",
         ),
         // neighbours of one last token, with a worse one across
         (
             &[
-                (Kind::Letters, 0, 4, 2),
-                (Kind::Letters, 3, 6, 8),
-                (Kind::Letters, 5, 9, 2),
+                (SpanKind::Letters, 0, 4, 2),
+                (SpanKind::Letters, 3, 6, 8),
+                (SpanKind::Letters, 5, 9, 2),
             ],
             "2:0-9:2 ",
         ),
         // single places next to each other stay single, also where a sweep is needed
         (
             &[
-                (Kind::Letters, 0, 9, 5),
-                (Kind::Place, 5, 5, 1),
-                (Kind::Letters, 3, 4, 2),
-                (Kind::Place, 4, 4, 1),
+                (SpanKind::Letters, 0, 9, 5),
+                (SpanKind::Place, 5, 5, 1),
+                (SpanKind::Letters, 3, 4, 2),
+                (SpanKind::Place, 4, 4, 1),
             ],
             "1:4-4:1 1:5-5:1 2:0-2:5 2:3-4:2 2:5-9:5 ",
         ),
         // kinds have nothing to do with each other
         (
-            &[(Kind::Blanks, 0, 5, 1), (Kind::Letters, 0, 5, 2)],
+            &[(SpanKind::Blanks, 0, 5, 1), (SpanKind::Letters, 0, 5, 2)],
             "2:0-5:2 3:0-5:1 ",
         ),
     ];
@@ -110,7 +110,7 @@ fn nested(alloc: Global, count: u32) -> Result<Vec<PlaceSpan>, AllocError>
             low: low as usize,
             high: count as usize + below,
             last: below,
-            kind: Kind::Letters,
+            kind: SpanKind::Letters,
         };
         all.push(span)?;
     }
@@ -129,7 +129,7 @@ fn shifted(alloc: Global, count: u32) -> Result<Vec<PlaceSpan>, AllocError>
             low,
             high: low + count as usize,
             last: low,
-            kind: Kind::Letters,
+            kind: SpanKind::Letters,
         };
         all.push(span)?;
     }

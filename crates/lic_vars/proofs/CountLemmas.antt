@@ -1,4 +1,4 @@
--- How many letters stand between two places.
+-- How many letters are between two places.
 use Rattle.std.proofs.Common.{◌≡◌, ℕ, zero, suc, ◌+◌, ◌-◌, ◌<◌, ◌≤◌, Bool, true, false, ◌&&◌, not, cond, IsTrue, List, [], ◌∷◌, ◌++◌, length, get_or, take, drop, count_by, slice_range, refl, sym, ap, ◌∙◌, subst, arith, append-nil, eqb-true, ne_eqb}
 use Rattle.std.specs.Char.{encode_utf8}
 use Rattle.std.proofs.lemmas.List.{get_or-drop}
@@ -13,7 +13,7 @@ use Rattle.lic_vars.specs.Counts.{begins_character}
 use Rattle.lic_vars.proofs.CountBytes.{as_count, count-encode, slice-split}
 use Rattle.lic_vars.specs.Cuts.{letter_place}
 use Rattle.lic_vars.specs.Shortest.{begins_letter, letters_between}
-use Rattle.lic_vars.proofs.HopLemmas.{Hops, LetterAt, behind, cut_at, hop-forward, hops-forward}
+use Rattle.lic_vars.proofs.StepOverLemmas.{Hops, LetterAt, behind, cut_at, hop-forward, hops-forward}
 
 count-cons : (p : ℕ → Bool) (b : ℕ) (bs : List ℕ) → count_by p (b ∷ bs) ≡ as_count (p b) + count_by p bs
 count-cons p b bs = sum_by-cons (λ x. cond (p x) 1 0) b bs

@@ -25,7 +25,7 @@ use Rattle.lic_vars.proofs.FoundLemmas.{Found, least, none, found-if, found-next
 
 -- ---- the words of so many letters and blanks that can be read
 
--- a word that can be read, with a record that it gives with the state behind it
+-- a word that can be read, with a record that it gives with the state after it
 abbrev Reading : ℕ → List (Gap × ℕ) → Bool → (Word → State → List ℕ → Type 0) → List ℕ → Type 0
 Reading n left apart Q r = (w : Word) × (length w ≤ n) × (s : State) × (read_word w left apart ≡ Some s) × Q w s r
 

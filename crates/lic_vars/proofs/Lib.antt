@@ -13,7 +13,7 @@ pub mod PartLemmas
 pub mod AssignLemmas
 pub mod OneListLemmas
 pub mod RunLemmas
-pub mod HopLemmas
+pub mod StepOverLemmas
 pub mod CountLemmas
 pub mod MakingLemmas
 pub mod ShortestLemmas

@@ -23,7 +23,7 @@ optional_moves : (body rest : Nodes) (ms : List Move)
     ≡ optional (length (moves body)) ∷ (moves body ++ (moves rest ++ ms))
 optional_moves body rest ms = ap (λ (xs : List Move). optional (length (moves body)) ∷ xs) (append_assoc (moves body) (moves rest) ms)
 
--- a choice's word, and then one that the moves behind it make
+-- a choice's word, and then one that the moves after it make
 makes-of : (ns : Nodes) (d : Choice ns) (ms : List Move) (r : List ℕ) (w : Word) → IsAllowed ns d → Makes ms r w
     → Makes (moves ns ++ ms) (record_of ns d ++ r) (word_of ns d ++ w)
 makes-of no_node d ms r w h f = f
@@ -252,7 +252,7 @@ module _ (ms : List Move) (P : Word → Type 0) where
   pub can-picked : (name : List ℕ) (re : Expression) → CanMake (variable name re ∷ ms) P → Picked re
   can-picked name re can = picked name re can.choices can.word can.makes can.is
 
-  -- with as few letters as possible, where each word with as few goes on like this one
+  -- with as few letters as possible, where each word with as few continues like this one
   abbrev pub AllNext : (re : Expression) (u : Word) → Type 0
   AllNext re u = (v w : Word) (q : List ℕ) → Language (tidy re) v → Makes ms q w → P (v ++ w)
       → (letters_in u < letters_in v) ⊎ ((letters_in u ≡ letters_in v) × P (u ++ w))

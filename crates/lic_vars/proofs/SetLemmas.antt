@@ -13,7 +13,7 @@ use Rattle.lic_places.specs.Places.{AreTexts, spelling_of}
 use Rattle.lic_places.specs.Reads.{Reads}
 use Rattle.lic_places.proofs.Reading.{Reads-cut, Reads-joined}
 use Rattle.lic_places.proofs.TokenPlaces.{place_end-last}
-use Rattle.lic_spans.specs.declared.span.Kind.TheVariants.{End}
+use Rattle.lic_spans.specs.declared.span.SpanKind.TheVariants.{End}
 use Rattle.lic_spans.specs.declared.span.PlaceSpan.{PlaceSpan}
 use Rattle.lic_reverse.specs.Reverse.{LeadBack}
 use Rattle.lic_view.proofs.Placed.{Reaches-append, Reaches-append_left, Reaches-append_right}

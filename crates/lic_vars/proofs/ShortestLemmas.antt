@@ -6,20 +6,20 @@ use Rattle.lic_words.specs.Words.{Word, IsTidy, blank}
 use Rattle.lic_words.specs.Letters.{letters_in}
 use Rattle.lic_words.specs.Expressions.{Expression, Language, tidy}
 use Rattle.lic_norm.specs.Tokens.{TokenValue}
-use Rattle.lic_places.specs.Places.{AreTexts, IsBehindBlank, OverBlank, is_blank_at, spelling_of}
+use Rattle.lic_places.specs.Places.{AreTexts, IsAfterBlank, OverBlank, is_blank_at, spelling_of}
 use Rattle.lic_places.specs.Places.OverBlank.{over, stays}
 use Rattle.lic_places.specs.Reads.{Reads}
 use Rattle.lic_places.proofs.Reading.{Reads-cut, Reads-joined}
 use Rattle.lic_spans.specs.Spans.{Holds}
-use Rattle.lic_spans.specs.declared.span.Kind.{Kind}
-use Rattle.lic_spans.specs.declared.span.Kind.TheVariants.{End, Place, Letters, Blanks}
+use Rattle.lic_spans.specs.declared.span.SpanKind.{SpanKind}
+use Rattle.lic_spans.specs.declared.span.SpanKind.TheVariants.{End, Place, Letters, Blanks}
 use Rattle.lic_spans.specs.declared.span.PlaceSpan.{PlaceSpan}
 use Rattle.lic_view.specs.PlaceSets.{IsPlaceOf, Reaches}
 use Rattle.lic_vars.specs.Cuts.{LeadsTo, ReadsFrom, lead, letter_place}
 use Rattle.lic_vars.specs.Shortest.{IsLeastNumber, IsShortest, LeadsWithin, letters_between}
 use Rattle.lic_vars.specs.declared.cut.Cut.{Cut}
 use Rattle.lic_vars.proofs.CountLemmas.{between-none, hops-count}
-use Rattle.lic_vars.proofs.HopLemmas.{Hops, IsApart, cut-places, cut_at, hops-forward, hops-more, hops-same, hops-solid, leads-nothing, reads-hops, past-letter}
+use Rattle.lic_vars.proofs.StepOverLemmas.{Hops, IsApart, cut-places, cut_at, hops-forward, hops-more, hops-same, hops-solid, leads-nothing, reads-hops, past-letter}
 
 -- ---- tidy words
 
@@ -27,7 +27,7 @@ not_blank : (c : ℕ) → (c == blank) ≡ false → ¬ (c ≡ blank)
 not_blank c h same = let t : (c == blank) ≡ true = ap (λ x. x == blank) same in true≢false (sym t ∙ h)
 
 module _ (tokens : List TokenValue) (are : AreTexts tokens) where
-  -- no two blanks together, none last, and none first behind one
+  -- no two blanks together, none last, and none first after one
   abbrev HasNoTwo : Word → Type 0
   HasNoTwo w = (u v : Word) → w ≡ u ++ blank ∷ blank ∷ v → ⊥
 
@@ -69,7 +69,7 @@ module _ (tokens : List TokenValue) (are : AreTexts tokens) where
   tidy-apart : (c : ℕ) (w : Word) (b : Bool) → IsTidy (c ∷ w) → ¬ (c ≡ blank) × IsApart tokens are b (c ∷ w)
   tidy-apart c w b is = tidy_apart c w b is (is_apart (c ∷ w) false is.not_two is.not_last (λ e. absurd (true≢false (sym e))))
 
-  -- ---- behind a cut
+  -- ---- after a cut
 
   module _ (cut : Cut) where
     abbrev begin : ℕ
@@ -80,7 +80,7 @@ module _ (tokens : List TokenValue) (are : AreTexts tokens) where
       some : 0 < letters_in v
       hops : Hops tokens are cut.place (letters_in v) q
       past : begin < q
-      solid : ¬ (IsBehindBlank (spelling_of tokens) q)
+      solid : ¬ (IsAfterBlank (spelling_of tokens) q)
 
     from_hops : (v : Word) (n q : ℕ) → letters_in v ≡ suc n → begin < q → Hops tokens are cut.place (letters_in v) q → Reached v q
     from_hops v n q many past hops = record {
@@ -138,13 +138,13 @@ module _ (tokens : List TokenValue) (are : AreTexts tokens) where
     over_number q _ (over is) = inr (refl, is)
     over_number q _ (stays free gap) = inl refl
 
-    pub number : (kind : Kind) (n q : ℕ) → IsPlaceOf tokens kind n q → (n ≡ q) ⊎ ((n ≡ suc q) × (is_blank_at (spelling_of tokens) q ≡ true))
+    pub number : (kind : SpanKind) (n q : ℕ) → IsPlaceOf tokens kind n q → (n ≡ q) ⊎ ((n ≡ suc q) × (is_blank_at (spelling_of tokens) q ≡ true))
     number End n q is = inl (sym is)
     number Place n q is = inl (sym is)
     number Letters n q is = inl (sym is.0)
     number Blanks n q is = over_number q n is.1
 
-    -- the place of a number behind a letter: not behind a blank
+    -- the place of a number after a letter: not after a blank
     abbrev pub end_of : ℕ → ℕ
     end_of m = if nat_lt begin m && is_blank_at (spelling_of tokens) (m - 1) then m - 1 else m
 
@@ -169,7 +169,7 @@ module _ (tokens : List TokenValue) (are : AreTexts tokens) where
       leads = least.leads
 
       -- a word leads to no number that is less
-      no_less : (kind : Kind) (n l q : ℕ) (v : Word) → Holds spans kind n l → IsPlaceOf tokens kind n q → Language (tidy words) v → ReadsFrom tokens cut v q → m ≤ n
+      no_less : (kind : SpanKind) (n l q : ℕ) (v : Word) → Holds spans kind n l → IsPlaceOf tokens kind n q → Language (tidy words) v → ReadsFrom tokens cut v q → m ≤ n
       no_less kind n l q v holds place is reads =
           elim (cases_lt n m) [
             | inl less ↦ absurd (least.least n less (record {
@@ -195,7 +195,7 @@ module _ (tokens : List TokenValue) (are : AreTexts tokens) where
       here : Reaches tokens spans leads.end leads.last
       here = record { kind = leads.kind; number = leads.number; holds = leads.holds; place = leads.place }
 
-      -- no place that is reached without a letter has such a number, where the place of the number lies behind
+      -- no place that is reached without a letter has such a number, where the place of the number lies after
       not_empty : begin < end_of m → (n q : ℕ) → m ≤ n → (n ≡ q) ⊎ ((n ≡ suc q) × (is_blank_at (spelling_of tokens) q ≡ true)) → q ≤ begin → ⊥
       not_empty after n q more (inl same) before = by (end_cases m)
         where
@@ -211,7 +211,7 @@ module _ (tokens : List TokenValue) (are : AreTexts tokens) where
               let at : m - 1 ≡ q = omega (arith, e.0, after, more, same.0, before) in
               true≢false (sym same.1 ∙ ap (is_blank_at (spelling_of tokens)) (sym at) ∙ e.1 behind_it)
 
-      -- a place behind a letter with such a number is that of the least number or comes after it
+      -- a place after a letter with such a number is that of the least number or comes after it
       not_before : begin < end_of m → (n q : ℕ) → m ≤ n → (n ≡ q) ⊎ ((n ≡ suc q) × (is_blank_at (spelling_of tokens) q ≡ true)) → end_of m ≤ q
       not_before after n q more (inl same) = by (end_cases m)
         where
@@ -229,7 +229,7 @@ module _ (tokens : List TokenValue) (are : AreTexts tokens) where
               absurd (true≢false (sym same.1 ∙ ap (is_blank_at (spelling_of tokens)) (sym at) ∙ e.1 behind_it))
 
       -- nor does it come after it, at the least number
-      not_after : (n q : ℕ) → n ≡ m → ¬ (IsBehindBlank (spelling_of tokens) q) → begin < q → (n ≡ q) ⊎ ((n ≡ suc q) × (is_blank_at (spelling_of tokens) q ≡ true)) → q ≡ end_of m
+      not_after : (n q : ℕ) → n ≡ m → ¬ (IsAfterBlank (spelling_of tokens) q) → begin < q → (n ≡ q) ⊎ ((n ≡ suc q) × (is_blank_at (spelling_of tokens) q ≡ true)) → q ≡ end_of m
       not_after n q same solid past (inl at) = by (end_cases m)
         where
           by : EndCases m → q ≡ end_of m

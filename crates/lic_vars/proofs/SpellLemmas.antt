@@ -13,7 +13,7 @@ pub gapped-letters : (last : ℕ) (apart : Bool) (cs : List ℕ) → NoBlanks (g
 gapped-letters last apart [] = tt
 gapped-letters last apart (c ∷ rest) = flat_cons last apart c rest (c == blank) refl (λ l a. gapped-letters l a rest)
 
--- the word behind the blank that was written before it
+-- the word after the blank that was written before it
 abbrev lead : Bool → Word → Word
 lead true w = blank ∷ w
 lead false w = w

@@ -18,7 +18,7 @@ use Rattle.lic_vars.specs.Making.{CanMake, LeastOf}
 use Rattle.lic_vars.specs.Cuts.{AreFinishing, IsOpen, IsWalk, LeadsTo, ReadsFrom, ReadsOn, lead, start}
 use Rattle.lic_vars.specs.Shortest.{IsShortest, LeadsWithin}
 use Rattle.lic_vars.specs.declared.cut.Cut.{Cut}
-use Rattle.lic_vars.proofs.HopLemmas.{lead-joined, lead-parted, open-read}
+use Rattle.lic_vars.proofs.StepOverLemmas.{lead-joined, lead-parted, open-read}
 use Rattle.lic_vars.proofs.MakingLemmas.{can-absent, can-picked, can-text, least-absent, least-ended, least-present, least-same, least-text, least-variable}
 
 module _ (tokens : List TokenValue) (are : AreTexts tokens) where

@@ -23,7 +23,7 @@ letters_in-append (c ∷ u) v = in_cons (c == blank) (letters_in (u ++ v)) (lett
 drop_words : (u v : Word) (spans : List Span) → drop (letters_in v) (drop (letters_in u) spans) ≡ drop (letters_in (u ++ v)) spans
 drop_words u v spans = drop-drop (letters_in v) (letters_in u) spans ∙ ap (λ n. drop n spans) (sym (letters_in-append u v))
 
--- the variables among moves stand for nothing
+-- the variables among moves match nothing
 abbrev absent : List Move → List Assigned
 absent [] = []
 absent (text w ∷ ms) = absent ms
@@ -50,7 +50,7 @@ recorded_absent (text w ∷ xs) ys r spans = recorded_absent xs ys r spans
 recorded_absent (variable name re ∷ xs) ys r spans = ap (λ s. record { name = name; span = None } ∷ s) (recorded_absent xs ys r spans)
 recorded_absent (optional n ∷ xs) ys r spans = recorded_absent xs ys r spans
 
--- what stands behind the nodes
+-- what comes after the nodes
 abbrev Behind : (ns : Nodes) → Choice ns → List Move → List ℕ → List Span → List Assigned
 Behind ns d ms r spans = choice_values ns d spans ++ recorded 0 ms r (drop (letters_in (word_of ns d)) spans)
 

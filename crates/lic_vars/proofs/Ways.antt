@@ -12,7 +12,7 @@ abbrev pub NoBlanks : List (Gap × ℕ) → Type 0
 NoBlanks [] = Unit {0}
 NoBlanks (p ∷ rest) = ((p.1 == blank) ≡ false) × NoBlanks rest
 
--- whether a letter may come behind the gap
+-- whether a letter may come after the gap
 abbrev pub fits : Gap → Bool → Bool
 fits no_gap apart = not apart
 fits free apart = true

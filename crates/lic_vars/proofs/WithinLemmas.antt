@@ -10,17 +10,17 @@ use Rattle.lic_norm.specs.Places.{place_end}
 use Rattle.lic_places.specs.Places.{AreTexts}
 use Rattle.lic_places.proofs.Reading.{Reads-order}
 use Rattle.lic_spans.specs.Spans.{Holds}
-use Rattle.lic_spans.specs.declared.span.Kind.{Kind}
-use Rattle.lic_spans.specs.declared.span.Kind.TheVariants.{End}
+use Rattle.lic_spans.specs.declared.span.SpanKind.{SpanKind}
+use Rattle.lic_spans.specs.declared.span.SpanKind.TheVariants.{End}
 use Rattle.lic_spans.specs.declared.span.PlaceSpan.{PlaceSpan}
 use Rattle.lic_reverse.specs.Reverse.{LeadBack}
-use Rattle.lic_view.specs.PlaceSets.{ArePlaced, IsPlaceOf, LiesInFront, Reaches}
+use Rattle.lic_view.specs.PlaceSets.{ArePlaced, IsPlaceOf, LiesBefore, Reaches}
 use Rattle.lic_view.proofs.BlankLemmas.{held}
 use Rattle.lic_view.proofs.Placed.{Holds-among, Holds-append, Holds-nil}
 use Rattle.lic_vars.specs.Cuts.{ReadsFrom, lead}
 use Rattle.lic_vars.specs.Shortest.{AreWithin, HaveNone, IsBetween, IsLeastNumber, LeadsWithin}
 use Rattle.lic_vars.specs.declared.cut.Cut.{Cut}
-use Rattle.lic_vars.proofs.HopLemmas.{lead-joined, lead-parted}
+use Rattle.lic_vars.proofs.StepOverLemmas.{lead-joined, lead-parted}
 use Rattle.lic_vars.proofs.ShortestLemmas.{number}
 
 -- ---- some of the numbers
@@ -32,7 +32,7 @@ pub record IsPart (low high : ℕ) (span part : PlaceSpan) : Type 0 where
   pub last_is : part.last ≡ span.last
   pub kind_is : part.kind ≡ span.kind
 
-one-holds : (span : PlaceSpan) (kind : Kind) (n l : ℕ) → span.kind ≡ kind → span.low ≤ n → n ≤ span.high → span.last ≡ l → Holds (span ∷ []) kind n l
+one-holds : (span : PlaceSpan) (kind : SpanKind) (n l : ℕ) → span.kind ≡ kind → span.low ≤ n → n ≤ span.high → span.last ≡ l → Holds (span ∷ []) kind n l
 one-holds span kind n l k from to last = record { span = span; among = (0, omega arith, refl); kind_is = k; from = from; to = to; last_is = last }
 
 module _ (low high : ℕ) where
@@ -54,10 +54,10 @@ module _ (low high : ℕ) where
     more-is : more ≡ take (i + 1) spans
     more-is = sym (take_more spans i d below)
 
-    left : (kind : Kind) (n l : ℕ) → Holds (take i spans) kind n l → Holds more kind n l
+    left : (kind : SpanKind) (n l : ℕ) → Holds (take i spans) kind n l → Holds more kind n l
     left kind n l holds = Holds-among (take i spans) more kind n l (λ s among. Contains-append_left (take i spans) (span ∷ []) s among) holds
 
-    right : (kind : Kind) (n l : ℕ) → Holds (span ∷ []) kind n l → Holds more kind n l
+    right : (kind : SpanKind) (n l : ℕ) → Holds (span ∷ []) kind n l → Holds more kind n l
     right kind n l holds = Holds-among (span ∷ []) more kind n l (λ s among. Contains-append_right (take i spans) (span ∷ []) s among) holds
 
     pub within-push : part.low ≤ part.high → AreWithin (take (i + 1) spans) low high (found ++ part ∷ [])
@@ -137,7 +137,7 @@ one-end tokens last place within at =
       front = λ kind n l holds.
           let h = held span kind n l holds in
           let same : n ≡ place_end tokens l = (let here : n ≡ place = omega (arith, h.1, h.2) in here ∙ at ∙ ap (place_end tokens) h.3) in
-          subst (λ k. LiesInFront tokens k n l) h.0 same;
+          subst (λ k. LiesBefore tokens k n l) h.0 same;
     }
 
 pub end-reached : (tokens : List TokenValue) (last place p l : ℕ) → Reaches tokens (record { low = place; high = place; last = last; kind = End } ∷ []) p l → p ≡ place
@@ -213,7 +213,7 @@ module _ (tokens : List TokenValue) (are : AreTexts tokens) (words : Expression)
         (parts.0, found.0, parts.1, found.2),
   )
     where
-      place_to : (kind : Kind) (n q : ℕ) → IsPlaceOf tokens kind n q → q ≤ n
+      place_to : (kind : SpanKind) (n q : ℕ) → IsPlaceOf tokens kind n q → q ≤ n
       place_to kind n q place =
           elim (number tokens are cut kind n q place) [
             | inl same ↦ omega (arith, same)

@@ -1,4 +1,4 @@
--- What the code's steps and cuts stand for.
+-- What the code's steps and cuts represent.
 use Rattle.std.specs.Prelude.{◌≡◌, ℕ, ◌+◌, ◌-◌, ◌&&◌, ◌↔◌, Bool, true, false, List, ◌∷◌, ◌++◌, drop, map, length, chars, if◌then◌else◌}
 use Rattle.lic_words.specs.Words.{Word, blank}
 use Rattle.lic_norm.specs.PieceTexts.{IsPieceText}
@@ -44,11 +44,11 @@ abbrev pub lead : Bool → Word → Word
 lead true w = blank ∷ w
 lead false w = w
 
--- the word spells what stands from a cut up to a place
+-- the word spells what is from a cut up to a place
 abbrev pub ReadsFrom : List TokenValue → Cut → Word → ℕ → Type 0
 ReadsFrom tokens cut w q = Reads tokens cut.place (lead cut.is_apart w) q
 
--- the word spells all that stands behind a cut
+-- the word spells all that comes after a cut
 abbrev pub ReadsOn : List TokenValue → Cut → Word → Type 0
 ReadsOn tokens cut w = ReadsFrom tokens cut w (length (spelling_of tokens))
 
@@ -60,11 +60,11 @@ start = record { place = 0; is_apart = false }
 abbrev pub letter_place : List TokenValue → Cut → ℕ
 letter_place tokens cut = if cut.is_apart && is_blank_at (spelling_of tokens) cut.place then cut.place + 1 else cut.place
 
--- blanks may stand at a cut behind which they were written
+-- blanks may be at a cut after which they were written
 abbrev pub IsOpen : List TokenValue → Cut → Type 0
 IsOpen tokens cut = cut.is_apart ≡ true → OverBlank tokens cut.place cut.place
 
--- behind the first cut the word spells what the rest of it spells behind the second
+-- after the first cut the word spells what the rest of it spells after the second
 abbrev pub LeadsTo : List TokenValue → Cut → Word → Cut → Type 0
 LeadsTo tokens cut u next = (w : Word) → ReadsOn tokens cut (u ++ w) ↔ ReadsOn tokens next w
 
@@ -73,7 +73,7 @@ pub record AreFinishing (tokens : List TokenValue) (ms : List Move) (spans : Lis
   pub placed : ArePlaced tokens spans
   pub exact : (p : ℕ) → ((last : ℕ) × Reaches tokens spans p last) ↔ CanMake ms (λ w. Reads tokens p w (length (spelling_of tokens)))
 
--- the moves that are left can finish behind the cut, and their least record completes the least of all
+-- the moves that are left can finish after the cut, and their least record completes the least of all
 pub record IsWalk (tokens : List TokenValue) (all ms : List Move) (found : List ℕ) (cut : Cut) : Type 0 where
   pub can : CanMake ms (ReadsOn tokens cut)
   pub least : (r : List ℕ) → LeastOf ms (ReadsOn tokens cut) r → LeastOf all (ReadsOn tokens start) (found ++ r)

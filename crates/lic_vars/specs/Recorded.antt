@@ -5,7 +5,7 @@ use Rattle.lic_words.specs.Letters.{letters_in}
 use Rattle.lic_vars.specs.Values.{Assigned, covered}
 use Rattle.lic_vars.specs.Moves.{Move, text, variable, optional}
 
--- the values along moves of which the first so many are left out, where the letters behind them have these spans
+-- the values along moves of which the first n are left out, where the letters after them have these spans
 abbrev pub recorded : ℕ → List Move → List ℕ → List Span → List Assigned
 recorded left_out [] r spans = []
 recorded (suc k) (text w ∷ ms) r spans = recorded k ms r spans

@@ -1,4 +1,4 @@
--- The shortest word that a variable can stand for.
+-- The shortest word that a variable can match.
 use Rattle.std.specs.Prelude.{◌≡◌, ◌⊎◌, ℕ, ◌<◌, ◌≤◌, ◌==◌, ◌&&◌, ◌||◌, not, nat_lt, nat_le, Bool, List, [], All, count_by, slice_range}
 use Rattle.lic_words.specs.Words.{Word}
 use Rattle.lic_words.specs.Expressions.{Expression, Language, tidy}
@@ -6,7 +6,7 @@ use Rattle.lic_words.specs.Letters.{letters_in}
 use Rattle.lic_norm.specs.Tokens.{TokenValue}
 use Rattle.lic_places.specs.Places.{spelling_of}
 use Rattle.lic_spans.specs.Spans.{Holds}
-use Rattle.lic_spans.specs.declared.span.Kind.{Kind}
+use Rattle.lic_spans.specs.declared.span.SpanKind.{SpanKind}
 use Rattle.lic_spans.specs.declared.span.PlaceSpan.{PlaceSpan}
 use Rattle.lic_view.specs.PlaceSets.{IsPlaceOf, Reaches}
 use Rattle.lic_vars.specs.Cuts.{LeadsTo, ReadsFrom}
@@ -22,7 +22,7 @@ letters_between bytes p q = count_by begins_letter (slice_range bytes p q)
 
 -- a tidy word leads from the cut to a place of the spans whose number is no greater than this one
 pub record LeadsWithin (tokens : List TokenValue) (words : Expression) (spans : List PlaceSpan) (cut : Cut) (high : ℕ) : Type 0 where
-  pub kind : Kind
+  pub kind : SpanKind
   pub number : ℕ
   pub last : ℕ
   pub holds : Holds spans kind number last
@@ -38,7 +38,7 @@ pub record IsLeastNumber (tokens : List TokenValue) (words : Expression) (spans 
   pub leads : LeadsWithin tokens words spans cut number
   pub least : (m : ℕ) → m < number → ¬ (LeadsWithin tokens words spans cut m)
 
--- no number in front of the low one is such a number, and the high one is
+-- no number before the low one is such a number, and the high one is
 pub record IsBetween (tokens : List TokenValue) (words : Expression) (spans : List PlaceSpan) (cut : Cut) (low high : ℕ) : Type 0 where
   pub order : low ≤ high
   pub before : (m : ℕ) → m < low → ¬ (LeadsWithin tokens words spans cut m)
@@ -46,13 +46,13 @@ pub record IsBetween (tokens : List TokenValue) (words : Expression) (spans : Li
 
 -- the spans have no number from the low one on that is below the high one
 pub record HaveNone (spans : List PlaceSpan) (low high : ℕ) : Type 0 where
-  pub none : (kind : Kind) (number last : ℕ) → Holds spans kind number last → low ≤ number → number < high → ⊥
+  pub none : (kind : SpanKind) (number last : ℕ) → Holds spans kind number last → low ≤ number → number < high → ⊥
 
 -- the spans with their numbers from the low one to the high one alone
 pub record AreWithin (spans : List PlaceSpan) (low high : ℕ) (found : List PlaceSpan) : Type 0 where
   pub ordered : All (λ s. s.low ≤ s.high) found
-  pub sound : (kind : Kind) (number last : ℕ) → Holds found kind number last → Holds spans kind number last × (number ≤ high)
-  pub all : (kind : Kind) (number last : ℕ) → Holds spans kind number last → low ≤ number → number ≤ high → Holds found kind number last
+  pub sound : (kind : SpanKind) (number last : ℕ) → Holds found kind number last → Holds spans kind number last × (number ≤ high)
+  pub all : (kind : SpanKind) (number last : ℕ) → Holds spans kind number last → low ≤ number → number ≤ high → Holds found kind number last
 
 -- a tidy word with the fewest letters leads from the one cut to the other, and any other with as few
 pub record IsShortest (tokens : List TokenValue) (words : Expression) (spans : List PlaceSpan) (cut next : Cut) : Type 0 where

@@ -1,4 +1,4 @@
--- The values of a derivation: what each variable stood for.
+-- The values of a derivation: what each variable matched.
 use Rattle.std.specs.Prelude.{◌≡◌, ℕ, ◌+◌, ◌≤◌, List, [], ◌∷◌, ◌++◌, map, take, drop, replicate, Option, Some, None, chars, slice_get, slice_index_or, slice_range}
 use Rattle.lic_norm.specs.Tokens.{TokenValue}
 use Rattle.lic_norm.specs.declared.token.Span.{Span}
@@ -9,7 +9,7 @@ use Rattle.lic_set.specs.declared.triple.Triple.{Triple}
 use Rattle.lic_words.specs.Letters.{letters_in}
 use Rattle.lic_vars.specs.Derivations.{Choice, Derivation, IsLeast, word_of}
 
--- a variable's name, as UTF-8 bytes, and the bytes of the source that it stood for
+-- a variable's name, as UTF-8 bytes, and the bytes of the source that it matched
 pub record Assigned : Type 0 where
   pub name : List ℕ
   pub span : Option Span
@@ -29,7 +29,7 @@ abbrev pub covered : List Span → Option Span
 covered [] = None
 covered (span ∷ rest) = Some (record { start = span.start; end = last_end span rest })
 
--- the variables of an absent part stood for nothing
+-- the variables of an absent part matched nothing
 abbrev pub absent_values : Nodes → List Assigned
 absent_values no_node = []
 absent_values (one_more (letters text) rest) = absent_values rest

@@ -1,4 +1,4 @@
--- What the code's values stand for.
+-- What the code's values represent.
 use Rattle.lic_vars.specs.Values.{Assigned}
 use Rattle.lic_vars.specs.declared.values.Value.{Value}
 

@@ -40,20 +40,20 @@ pub fn have_cut(view: &View<'_>, spans: &[PlaceSpan], cut: Cut) -> bool
 }
 
 /// The cut after a text that can be read.
-pub fn behind_text(view: &View<'_>, text: &str, cut: Cut) -> Cut
+pub fn after_text(view: &View<'_>, text: &str, cut: Cut) -> Cut
     requires { (w : Word) × ReadsOn view.now cut (chars text.now ++ w) }
     ensures { LeadsTo view.now cut (chars text.now) result }
 {
     tokens_have_texts(view);
     let mut cut = cut;
     for c in text.chars() {
-        cut = behind_letter(view, c, cut);
+        cut = after_letter(view, c, cut);
     }
     cut
 }
 
 // The cut after a letter or a blank that can be read.
-fn behind_letter(view: &View<'_>, letter: char, cut: Cut) -> Cut
+fn after_letter(view: &View<'_>, letter: char, cut: Cut) -> Cut
     requires { (w : Word) × ReadsOn view.now cut (letter ∷ w) }
     ensures { LeadsTo view.now cut (letter ∷ []) result }
 {

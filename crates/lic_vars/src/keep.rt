@@ -58,7 +58,7 @@ pub fn suffix_sets(
 }
 
 // Lets go the first of the last sets while they have too many spans, but one of each block, of as many sets as there are blocks, and
-// what a step in front of `number` leads to.
+// what a step before `number` leads to.
 fn release(
     steps: &[Step],
     sets: &mut Vec<Option<Vec<PlaceSpan>>>,
@@ -84,7 +84,7 @@ fn release(
     }
 }
 
-// Whether a set is not the last one of its block, and no step in front of `number` leads to it.
+// Whether a set is not the last one of its block, and no step before `number` leads to it.
 fn can_go(uses: &[usize], set: usize, block: usize, number: usize) -> bool
     requires block { 0 < block }
     requires uses { set < length uses.now }

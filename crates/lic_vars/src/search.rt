@@ -6,11 +6,11 @@ ghost use Rattle.lic_vars.specs.Making.{CanMake, LeastOf};
 ghost use Rattle.lic_vars.specs.Cuts.{AreFinishing, IsPiece, IsWalk, ReadsOn, last_moves, moves_of, start};
 ghost use Rattle.lic_vars.specs.Shortest.{begins_letter, letters_between};
 
-use crate::cut::{Cut, behind_text, have_cut};
+use crate::cut::{Cut, after_text, have_cut};
 use crate::keep::suffix_sets;
 use crate::sets::{fill, set_of};
 use crate::steps::Step;
-use crate::variable::behind_shortest;
+use crate::variable::after_shortest;
 use lic_spans::span::PlaceSpan;
 use lic_view::{View, tokens_have_texts};
 use std::alloc::{AllocError, Global};
@@ -75,11 +75,11 @@ fn take_step(
     walk.left -= 1;
     match step {
         Step::Text(text) => {
-            walk.cut = behind_text(view, text, walk.cut);
+            walk.cut = after_text(view, text, walk.cut);
             Ok(())
         }
         Step::Variable { ere, is_empty, .. } => {
-            let next = behind_shortest(alloc, view, ere, *is_empty, rest, walk.cut)?;
+            let next = after_shortest(alloc, view, ere, *is_empty, rest, walk.cut)?;
             walk.record.push(letters_up_to(view, walk.cut, next))?;
             walk.cut = next;
             Ok(())
@@ -97,7 +97,7 @@ fn take_step(
     }
 }
 
-// How many letters stand between two cuts.
+// How many letters are between two cuts.
 fn letters_up_to(view: &View<'_>, cut: Cut, next: Cut) -> usize
     requires order { cut.place ≤ next.place }
     requires within { next.place ≤ length (spelling_of view.now) }

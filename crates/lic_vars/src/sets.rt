@@ -9,7 +9,7 @@ ghost use Rattle.lic_vars.specs.Sets.{AreSuffixSets, HasOther, IsOther, IsSet, I
 use crate::steps::Step;
 use crate::variable::over_pattern;
 use lic_reverse::{either, over_text};
-use lic_spans::span::{Kind, PlaceSpan};
+use lic_spans::span::{PlaceSpan, SpanKind};
 use lic_view::{View, tokens_have_texts};
 use std::alloc::{AllocError, Global};
 
@@ -31,7 +31,7 @@ pub fn end_alone(
         low: end,
         high: end,
         last,
-        kind: Kind::End,
+        kind: SpanKind::End,
     })?;
     let mut sets = Vec::new(alloc);
     sets.push(Some(spans))?;

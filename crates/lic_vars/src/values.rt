@@ -1,4 +1,4 @@
-//! What the variables of a template stand for in a match.
+//! What the variables of a template match in a match.
 
 ghost use Rattle.std.specs.Prelude.{◌≡◌, ◌==◌, ◌<◌, All, IfOk, false, length, map, take, drop, slice_index_or, if◌then◌else◌};
 ghost use Rattle.lic_set.specs.Matches.{IsMatch};

@@ -1,4 +1,4 @@
-//! The tidy words of a variable's pattern: going back over them, and the shortest one that a variable can stand for.
+//! The tidy words of a variable's pattern: going back over them, and the shortest one that a variable can match.
 
 ghost use Rattle.std.specs.Prelude.{◌≡◌, ◌+◌, ◌-◌, ◌<◌, ◌&&◌, IfOk, IsTrue, ◌↔◌, if◌then◌else◌, nat_lt, ◌≤◌, length, max};
 ghost use Rattle.lic_ere.specs.Trees.{tree_of};
@@ -37,7 +37,7 @@ pub fn over_pattern(
 }
 
 /// The cut after the shortest tidy word of a pattern that leads to a place of the spans.
-pub fn behind_shortest(
+pub fn after_shortest(
     alloc: Global,
     view: &View<'_>,
     ere: &Ere,

@@ -9,10 +9,10 @@ use Rattle.lic_norm.specs.Places.{place_end}
 use Rattle.lic_places.specs.Places.{AreTexts, OverBlank, over, stays}
 use Rattle.lic_places.specs.Reads.{Reads, Takes}
 use Rattle.lic_spans.specs.Spans.{Holds}
-use Rattle.lic_spans.specs.declared.span.Kind.{Kind}
-use Rattle.lic_spans.specs.declared.span.Kind.TheVariants.{End, Place, Letters, Blanks}
+use Rattle.lic_spans.specs.declared.span.SpanKind.{SpanKind}
+use Rattle.lic_spans.specs.declared.span.SpanKind.TheVariants.{End, Place, Letters, Blanks}
 use Rattle.lic_spans.specs.declared.span.PlaceSpan.{PlaceSpan}
-use Rattle.lic_view.specs.PlaceSets.{ArePlaced, IsPlaceOf, LiesInFront, Reaches}
+use Rattle.lic_view.specs.PlaceSets.{ArePlaced, IsPlaceOf, LiesBefore, Reaches}
 use Rattle.lic_view.specs.Backward.{Beats, IsBack, IsBackFrom, IsEach, Keeps}
 use Rattle.lic_view.proofs.Placed.{ArePlaced-append, ArePlaced-nil, Reaches-append, Reaches-append_left, Reaches-append_right, Reaches-nil}
 use Rattle.lic_view.proofs.PlaceLaws.{place_end-rises}
@@ -107,8 +107,8 @@ pub OverBlank-order : (tokens : List TokenValue) (p q : ℕ) → OverBlank token
 OverBlank-order tokens p _ (over is) = omega arith
 OverBlank-order tokens p _ (stays not gap) = omega arith
 
--- a place lies in front of the end of its last token, or at it
-place-in_front : (tokens : List TokenValue) (kind : Kind) (number p last : ℕ) → LiesInFront tokens kind number last → IsPlaceOf tokens kind number p →
+-- a place lies before the end of its last token, or at it
+place-in_front : (tokens : List TokenValue) (kind : SpanKind) (number p last : ℕ) → LiesBefore tokens kind number last → IsPlaceOf tokens kind number p →
     p ≤ place_end tokens last
 place-in_front tokens End number p last front is = omega arith
 place-in_front tokens Place number p last front is = omega arith
@@ -178,15 +178,15 @@ place_end-one tokens i j texts one other order same = by_order (eq-or-lt_of_le o
     by_order (inr below) = let rises = place_end-rises tokens i j texts below other in absurd (omega arith)
 
 -- the last token of what a list holds is one of the text
-pub Holds-last : (tokens : List TokenValue) (xs : List PlaceSpan) (kind : Kind) (number last : ℕ) → ArePlaced tokens xs → Holds xs kind number last →
+pub Holds-last : (tokens : List TokenValue) (xs : List PlaceSpan) (kind : SpanKind) (number last : ℕ) → ArePlaced tokens xs → Holds xs kind number last →
     last < length tokens
 Holds-last tokens xs kind number last placed holds =
     let below : holds.span.last < length tokens = All-contains (λ (s : PlaceSpan). s.last < length tokens) xs holds.span placed.last holds.among in
     omega (arith, below, holds.last_is)
 
 -- of two last tokens with a place of one kind the lesser one is as good, if not each is kept
-beats-kind : (keep : Keep) (tokens : List TokenValue) (kind : Kind) (number p other last : ℕ) → AreTexts tokens → other < length tokens → last < length tokens → other ≤ last →
-    (IsEach keep → other ≡ last) → LiesInFront tokens kind number other → LiesInFront tokens kind number last → IsPlaceOf tokens kind number p → Beats keep tokens p other last
+beats-kind : (keep : Keep) (tokens : List TokenValue) (kind : SpanKind) (number p other last : ℕ) → AreTexts tokens → other < length tokens → last < length tokens → other ≤ last →
+    (IsEach keep → other ≡ last) → LiesBefore tokens kind number other → LiesBefore tokens kind number last → IsPlaceOf tokens kind number p → Beats keep tokens p other last
 beats-kind keep tokens End number p other last texts one two least each front behind is = record {
   least = least;
   taken = λ at. place_end-one tokens other last texts one two least (sym front ∙ behind);

@@ -5,13 +5,13 @@ use Rattle.std.proofs.lemmas.List.Elements.{All-contains, All-nil, All-push, Con
 use Rattle.lic_words.specs.Words.{Word, blank}
 use Rattle.lic_norm.specs.Tokens.{TokenValue}
 use Rattle.lic_norm.specs.Places.{place_end}
-use Rattle.lic_places.specs.Places.{AreTexts, IsBehindBlank, OverBlank, is_blank_at, over, spelling_of, stays}
+use Rattle.lic_places.specs.Places.{AreTexts, IsAfterBlank, OverBlank, is_blank_at, over, spelling_of, stays}
 use Rattle.lic_places.specs.Reads.{Reads, Takes}
 use Rattle.lic_spans.specs.Spans.{Holds}
-use Rattle.lic_spans.specs.declared.span.Kind.{Kind}
-use Rattle.lic_spans.specs.declared.span.Kind.TheVariants.{End, Letters, Blanks}
+use Rattle.lic_spans.specs.declared.span.SpanKind.{SpanKind}
+use Rattle.lic_spans.specs.declared.span.SpanKind.TheVariants.{End, Letters, Blanks}
 use Rattle.lic_spans.specs.declared.span.PlaceSpan.{PlaceSpan}
-use Rattle.lic_view.specs.PlaceSets.{ArePlaced, IsPlaceOf, LiesInFront, Reaches}
+use Rattle.lic_view.specs.PlaceSets.{ArePlaced, IsPlaceOf, LiesBefore, Reaches}
 use Rattle.lic_view.specs.Backward.{Beats, IsBack}
 use Rattle.lic_view.proofs.PlaceLaws.{blank-one, blank-twice, blanks-apart, end-not_behind}
 use Rattle.lic_view.proofs.Back.{Beats-same}
@@ -33,7 +33,7 @@ blank-read tokens p q = (forward, λ o. (q, inl (refl, o), refl))
         taken (inr is) = absurd (is.0 refl)
 
 -- what one span holds
-pub held : (span : PlaceSpan) (kind : Kind) (number last : ℕ) → Holds (span ∷ []) kind number last →
+pub held : (span : PlaceSpan) (kind : SpanKind) (number last : ℕ) → Holds (span ∷ []) kind number last →
     (span.kind ≡ kind) × (span.low ≤ number) × (number ≤ span.high) × (span.last ≡ last)
 held span kind number last holds = by_member (Contains-push_cases [] span holds.span holds.among)
   where
@@ -52,8 +52,8 @@ holds-one span number from to = record { span = span; among = (0, omega arith, r
 -- a span of the same numbers, of another kind, whose places are those to which a blank leads from the places of the one
 pub back-renamed : (keep : Keep) (tokens : List TokenValue) (span other : PlaceSpan) → ArePlaced tokens (span ∷ []) →
     other.low ≡ span.low → other.high ≡ span.high → other.last ≡ span.last →
-    ((number : ℕ) → LiesInFront tokens span.kind number span.last → LiesInFront tokens other.kind number span.last) →
-    ((number p : ℕ) → LiesInFront tokens span.kind number span.last →
+    ((number : ℕ) → LiesBefore tokens span.kind number span.last → LiesBefore tokens other.kind number span.last) →
+    ((number p : ℕ) → LiesBefore tokens span.kind number span.last →
     IsPlaceOf tokens other.kind number p ↔ ((q : ℕ) × IsPlaceOf tokens span.kind number q × OverBlank tokens p q)) →
     IsBack keep tokens IsBlank (span ∷ []) (other ∷ [])
 back-renamed keep tokens span other placed low high last front places = record {
@@ -72,14 +72,14 @@ back-renamed keep tokens span other placed low high last front places = record {
     within : other.last < length tokens
     within = let o = All-contains (λ (s : PlaceSpan). s.last < length tokens) (span ∷ []) span placed.last (0, omega arith, refl) in omega (arith, o, last)
 
-    in_front : (number : ℕ) → span.low ≤ number → number ≤ span.high → LiesInFront tokens span.kind number span.last
+    in_front : (number : ℕ) → span.low ≤ number → number ≤ span.high → LiesBefore tokens span.kind number span.last
     in_front number from to = placed.front span.kind number span.last (holds-one span number from to)
 
-    fronts : (kind : Kind) (number l : ℕ) → (other.kind ≡ kind) × (other.low ≤ number) × (number ≤ other.high) × (other.last ≡ l) →
-        LiesInFront tokens kind number l
+    fronts : (kind : SpanKind) (number l : ℕ) → (other.kind ≡ kind) × (other.low ≤ number) × (number ≤ other.high) × (other.last ≡ l) →
+        LiesBefore tokens kind number l
     fronts kind number l h =
-        subst (λ x. LiesInFront tokens kind number x) (sym last ∙ h.3)
-        (subst (λ k. LiesInFront tokens k number span.last) h.0
+        subst (λ x. LiesBefore tokens kind number x) (sym last ∙ h.3)
+        (subst (λ k. LiesBefore tokens k number span.last) h.0
         (front number (in_front number (omega (arith, h.1, low)) (omega (arith, h.2, high)))))
 
     sound : (p l : ℕ) (r : Reaches tokens (other ∷ []) p l) →
@@ -118,12 +118,12 @@ blank-at_end tokens last p texts within = (
 pub blank-again : (tokens : List TokenValue) (p q : ℕ) → AreTexts tokens → OverBlank tokens p q → OverBlank tokens p p
 blank-again tokens p _ texts (over is) = stays (λ behind. apart behind) (inr (inl is))
   where
-    apart : IsBehindBlank (spelling_of tokens) p → ⊥
+    apart : IsAfterBlank (spelling_of tokens) p → ⊥
     apart behind = let no = blanks-apart tokens behind.0 texts behind.2 in
         let same : is_blank_at (spelling_of tokens) p ≡ false = subst (λ x. is_blank_at (spelling_of tokens) x ≡ false) (sym behind.1) no in cc
 blank-again tokens p _ texts (stays not gap) = stays not gap
 
--- of what nothing was taken, and of what is in front of a blank, the places stay
+-- of what nothing was taken, and of what is before a blank, the places stay
 pub back-kept : (keep : Keep) (tokens : List TokenValue) (span : PlaceSpan) → AreTexts tokens → ArePlaced tokens (span ∷ []) → (span.kind ≡ End) ⊎ (span.kind ≡ Blanks) →
     IsBack keep tokens IsBlank (span ∷ []) (span ∷ [])
 back-kept keep tokens span texts placed kinds = back-renamed keep tokens span span placed refl refl refl (λ number front. front) (λ number p front. by_kind kinds number p front)
@@ -134,9 +134,9 @@ back-kept keep tokens span texts placed kinds = back-renamed keep tokens span sp
     Moved : ℕ → ℕ → Type 0
     Moved number p = IsPlaceOf tokens span.kind number p ↔ ((q : ℕ) × IsPlaceOf tokens span.kind number q × OverBlank tokens p q)
 
-    by_kind : (span.kind ≡ End) ⊎ (span.kind ≡ Blanks) → (number p : ℕ) → LiesInFront tokens span.kind number span.last → Moved number p
+    by_kind : (span.kind ≡ End) ⊎ (span.kind ≡ Blanks) → (number p : ℕ) → LiesBefore tokens span.kind number span.last → Moved number p
     by_kind (inl is) number p front =
-        subst (λ k. LiesInFront tokens k number span.last → IsPlaceOf tokens k number p ↔ ((q : ℕ) × IsPlaceOf tokens k number q × OverBlank tokens p q)) (sym is) at_end front
+        subst (λ k. LiesBefore tokens k number span.last → IsPlaceOf tokens k number p ↔ ((q : ℕ) × IsPlaceOf tokens k number q × OverBlank tokens p q)) (sym is) at_end front
       where
         at_end : number ≡ place_end tokens span.last → (p ≡ number) ↔ ((q : ℕ) × (q ≡ number) × OverBlank tokens p q)
         at_end ends = (
@@ -155,7 +155,7 @@ pub back-with_blank : (keep : Keep) (tokens : List TokenValue) (span other : Pla
 back-with_blank keep tokens span other placed is renamed =
     subst (λ o. IsBack keep tokens IsBlank (span ∷ []) (o ∷ [])) (sym renamed)
     (back-renamed keep tokens span (record span { kind = Blanks }) placed refl refl refl
-    (λ number front. subst (λ k. LiesInFront tokens k number span.last) is front)
+    (λ number front. subst (λ k. LiesBefore tokens k number span.last) is front)
     (λ number p front. subst (λ k. IsPlaceOf tokens Blanks number p ↔ ((q : ℕ) × IsPlaceOf tokens k number q × OverBlank tokens p q)) (sym is) (
       λ place. (number, (refl, place.0), place.1),
       λ m. (m.1.1, subst (λ x. OverBlank tokens p x) m.1.0 m.2),

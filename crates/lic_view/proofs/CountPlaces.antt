@@ -7,13 +7,13 @@ use Rattle.std.proofs.lemmas.List.Elements.{All-get_or, All-map}
 use Rattle.std.proofs.lemmas.Str.{IsCharBoundary-before_ascii, IsCharBoundary-end, IsCharBoundary-start}
 use Rattle.lic_norm.specs.Tokens.{TokenValue}
 use Rattle.lic_norm.specs.Places.{place_end, place_start, texts_of}
-use Rattle.lic_places.specs.Places.{AreTexts, OverBlank, Stands, is_blank_at, spelling_of}
+use Rattle.lic_places.specs.Places.{AreTexts, OverBlank, Occurs, is_blank_at, spelling_of}
 use Rattle.lic_places.specs.Places.OverBlank.{over, stays}
 use Rattle.lic_places.proofs.TokenPlaces.{OverBlank-one, place_end-last, place_end-order, place_start-text, tokens-next}
-use Rattle.lic_spans.specs.declared.span.Kind.{Kind}
-use Rattle.lic_spans.specs.declared.span.Kind.TheVariants.{End, Place, Letters, Blanks}
+use Rattle.lic_spans.specs.declared.span.SpanKind.{SpanKind}
+use Rattle.lic_spans.specs.declared.span.SpanKind.TheVariants.{End, Place, Letters, Blanks}
 use Rattle.lic_spans.specs.declared.span.PlaceSpan.{PlaceSpan}
-use Rattle.lic_view.specs.PlaceSets.{ArePlaced, IsLetterPlace, IsPlaceOf, LiesInFront}
+use Rattle.lic_view.specs.PlaceSets.{ArePlaced, IsLetterPlace, IsPlaceOf, LiesBefore}
 use Rattle.lic_view.proofs.CountReads.{follows-byte, stands-follows}
 use Rattle.lic_view.proofs.ViewSpans.{Holds-one, last-one}
 
@@ -24,13 +24,13 @@ text_utf8 tokens i texts h =
     All-get_or IsUtf8 (texts_of tokens) i [] (omega (arith, length-map tokens (λ t. t.text)))
     (All-map IsUtf8 (λ t. t.text) tokens texts.utf8)
 
-stands_within : (bytes : List ℕ) (p : ℕ) (text : List ℕ) (q : ℕ) → Stands bytes p text q → p < q → q ≤ length bytes
+stands_within : (bytes : List ℕ) (p : ℕ) (text : List ℕ) (q : ℕ) → Occurs bytes p text q → p < q → q ≤ length bytes
 stands_within bytes p text q stands before =
     let end : q ≡ p + length text = stands.0 in
     omega (arith, length-drop p bytes, ap length (stands-follows bytes p text q stands), length-append text (drop q bytes))
 
 -- no character is cut where a text begins
-text_whole : (bytes : List ℕ) (p : ℕ) (text : List ℕ) (q : ℕ) → IsUtf8 text → Stands bytes p text q → p < q → IsCharBoundary bytes p
+text_whole : (bytes : List ℕ) (p : ℕ) (text : List ℕ) (q : ℕ) → IsUtf8 text → Occurs bytes p text q → p < q → IsCharBoundary bytes p
 text_whole bytes p text q utf8 stands before =
     let inside = stands_within bytes p text q stands before in
     let end : q ≡ p + length text = stands.0 in
@@ -46,7 +46,7 @@ start-whole tokens i texts h =
     text_whole (spelling_of tokens) (place_start tokens i) (get_or (texts_of tokens) i []) (place_end tokens i) (text_utf8 tokens i texts h)
     (place_start-text tokens i h) (place_end-order tokens i texts h)
 
--- nor where a blank stands
+-- nor where a blank is
 pub blank-whole : (bytes : List ℕ) (p : ℕ) → IsTrue (is_blank_at bytes p) → IsCharBoundary bytes p
 blank-whole bytes p is = IsCharBoundary-before_ascii bytes p (inside (cases_lt p (length bytes))) (omega (arith, byte))
   where
@@ -83,8 +83,8 @@ pub record LiesWell (tokens : List TokenValue) (last p : ℕ) : Type 0 where
   pub front : p ≤ place_end tokens last
   pub whole : IsCharBoundary (spelling_of tokens) p
 
-place_lies : (tokens : List TokenValue) (kind : Kind) (number last p : ℕ) → AreTexts tokens → last < length tokens
-    → LiesInFront tokens kind number last → IsPlaceOf tokens kind number p → LiesWell tokens last p
+place_lies : (tokens : List TokenValue) (kind : SpanKind) (number last p : ℕ) → AreTexts tokens → last < length tokens
+    → LiesBefore tokens kind number last → IsPlaceOf tokens kind number p → LiesWell tokens last p
 place_lies tokens End number last p texts known front is =
     let e : place_end tokens last ≡ p = sym (is ∙ front) in
     record { known = known; front = omega arith; whole = subst (IsCharBoundary (spelling_of tokens)) e (end-whole tokens last texts known) }
@@ -109,7 +109,7 @@ number-lies tokens span number q texts placed low high place =
     (placed.front span.kind number span.last (Holds-one span number low high)) place
 
 -- no number gives two places
-pub place-same : (tokens : List TokenValue) (kind : Kind) (number p q : ℕ) → IsPlaceOf tokens kind number p → IsPlaceOf tokens kind number q → p ≡ q
+pub place-same : (tokens : List TokenValue) (kind : SpanKind) (number p q : ℕ) → IsPlaceOf tokens kind number p → IsPlaceOf tokens kind number q → p ≡ q
 place-same tokens End number p q one other = one ∙ sym other
 place-same tokens Place number p q one other = one ∙ sym other
 place-same tokens Letters number p q one other = one.0 ∙ sym other.0
@@ -121,7 +121,7 @@ over-bounds tokens p q (over is) = (omega arith, omega arith)
 over-bounds tokens p q (stays none gap) = (omega arith, omega arith)
 
 -- a lesser number gives no greater place
-pub place-order : (tokens : List TokenValue) (kind : Kind) (m n p q : ℕ) → IsPlaceOf tokens kind m p → IsPlaceOf tokens kind n q → m < n → p ≤ q
+pub place-order : (tokens : List TokenValue) (kind : SpanKind) (m n p q : ℕ) → IsPlaceOf tokens kind m p → IsPlaceOf tokens kind n q → m < n → p ≤ q
 place-order tokens End m n p q one other before = let e : p ≡ m = one in let f : q ≡ n = other in omega arith
 place-order tokens Place m n p q one other before = let e : p ≡ m = one in let f : q ≡ n = other in omega arith
 place-order tokens Letters m n p q one other before = let e : p ≡ m = one.0 in let f : q ≡ n = other.0 in omega arith

@@ -9,16 +9,16 @@ use Rattle.std.proofs.lemmas.List.{drop-drop, drop_at, take_at, get_or-drop, len
 use Rattle.std.proofs.lemmas.Str.{IsCharBoundary-start, IsUtf8-between, IsUtf8-encode, encode_ascii, encodes-append, inside_one, len_utf8_bounds, length-encode}
 use Rattle.lic_words.specs.Words.{Word, blank, IsTidy}
 use Rattle.lic_norm.specs.Tokens.{TokenValue}
-use Rattle.lic_places.specs.Places.{AreTexts, IsBehindBlank, OverBlank, Stands, is_blank_at, spelling_of}
+use Rattle.lic_places.specs.Places.{AreTexts, IsAfterBlank, OverBlank, Occurs, is_blank_at, spelling_of}
 use Rattle.lic_places.specs.Places.OverBlank.{over}
 use Rattle.lic_places.specs.Reads.{Reads, Takes}
 use Rattle.lic_places.proofs.TokenPlaces.{blank-alone, spelling-utf8}
 use Rattle.lic_view.specs.PlaceSets.{IsLetterPlace}
 use Rattle.lic_view.proofs.Back.{reads-forward}
 
--- ---- what stands at a place
+-- ---- what is at a place
 
--- these bytes stand from the place on, and then those
+-- these bytes occur from the place on, and then those
 abbrev pub Follows : List ℕ → ℕ → List ℕ → List ℕ → Type 0
 Follows bytes p text after = drop p bytes ≡ text ++ after
 
@@ -28,12 +28,12 @@ follows-more bytes p xs ys after h =
     let first : drop p bytes ≡ xs ++ (ys ++ after) = h ∙ append_assoc xs ys after in
     (first, sym (drop-drop (length xs) p bytes) ∙ ap (drop (length xs)) first ∙ drop_at xs (ys ++ after) (length xs) refl)
 
-follows-stands : (bytes : List ℕ) (p : ℕ) (xs after : List ℕ) → Follows bytes p xs after → Stands bytes p xs (p + length xs)
+follows-stands : (bytes : List ℕ) (p : ℕ) (xs after : List ℕ) → Follows bytes p xs after → Occurs bytes p xs (p + length xs)
 follows-stands bytes p xs after h =
     let n : (p + length xs) - p ≡ length xs = omega arith in
     (refl, ap (λ k. take k (drop p bytes)) n ∙ ap (take (length xs)) h ∙ take_at xs after (length xs) refl)
 
-pub stands-follows : (bytes : List ℕ) (p : ℕ) (xs : List ℕ) (q : ℕ) → Stands bytes p xs q → Follows bytes p xs (drop q bytes)
+pub stands-follows : (bytes : List ℕ) (p : ℕ) (xs : List ℕ) (q : ℕ) → Occurs bytes p xs q → Follows bytes p xs (drop q bytes)
 stands-follows bytes p xs q h =
     let n : q - p ≡ length xs = let e : q ≡ p + length xs = h.0 in omega arith in
     let back : p + (q - p) ≡ q = let e : q ≡ p + length xs = h.0 in omega arith in
@@ -70,8 +70,8 @@ no_blank_byte c k other within e =
     let low : get_or (encode_utf8 c) k 0 < 128 = omega arith in
     other (inside_one c [] (encode_utf8 c) k (sym (append-nil (encode_utf8 c))) within low ∙ e)
 
--- a letter begins where its bytes stand
-letter_begins : (tokens : List TokenValue) (p c q : ℕ) → (c ≡ blank → ⊥) → IsScalar c → Stands (spelling_of tokens) p (encode_utf8 c) q
+-- a letter begins where its bytes occur
+letter_begins : (tokens : List TokenValue) (p c q : ℕ) → (c ≡ blank → ⊥) → IsScalar c → Occurs (spelling_of tokens) p (encode_utf8 c) q
     → IsLetterPlace tokens p
 letter_begins tokens p c q other scalar stands =
     let bytes = spelling_of tokens in
@@ -88,9 +88,9 @@ letter_begins tokens p c q other scalar stands =
       letter = λ e. no_blank_byte c 0 other (omega arith) (sym byte ∙ e);
     }
 
--- no blank stands in front of the place where it ends
-letter_ends : (tokens : List TokenValue) (p c q : ℕ) → (c ≡ blank → ⊥) → Stands (spelling_of tokens) p (encode_utf8 c) q
-    → IsBehindBlank (spelling_of tokens) q → ⊥
+-- no blank comes before the place where it ends
+letter_ends : (tokens : List TokenValue) (p c q : ℕ) → (c ≡ blank → ⊥) → Occurs (spelling_of tokens) p (encode_utf8 c) q
+    → IsAfterBlank (spelling_of tokens) q → ⊥
 letter_ends tokens p c q other stands (r, e, is) =
     let bytes = spelling_of tokens in
     let follows = stands-follows bytes p (encode_utf8 c) q stands in
@@ -104,10 +104,10 @@ letter_ends tokens p c q other stands (r, e, is) =
 -- ---- words that are read
 
 reads-ends : (tokens : List TokenValue) (w : Word) (c p q : ℕ) → ((u : Word) → c ∷ w ≡ u ++ blank ∷ [] → ⊥) → Reads tokens p (c ∷ w) q
-    → IsBehindBlank (spelling_of tokens) q → ⊥
+    → IsAfterBlank (spelling_of tokens) q → ⊥
 reads-ends tokens [] c p q last (r, inl (e, o), reads) behind = last [] (ap (λ x. x ∷ []) e)
 reads-ends tokens [] c p q last (r, inr (other, scalar, stands), reads) behind =
-    letter_ends tokens p c r other stands (subst (IsBehindBlank (spelling_of tokens)) (sym reads) behind)
+    letter_ends tokens p c r other stands (subst (IsAfterBlank (spelling_of tokens)) (sym reads) behind)
 reads-ends tokens (d ∷ w) c p q last (r, takes, reads) behind =
     reads-ends tokens w d r q (λ u e. last (c ∷ u) (ap (λ x. c ∷ x) e)) reads behind
 
@@ -115,7 +115,7 @@ reads-ends tokens (d ∷ w) c p q last (r, takes, reads) behind =
 pub record IsFree (tokens : List TokenValue) (p q : ℕ) : Type 0 where
   pub before : p < q
   pub begins : IsLetterPlace tokens p
-  pub ends : ¬ (IsBehindBlank (spelling_of tokens) q)
+  pub ends : ¬ (IsAfterBlank (spelling_of tokens) q)
 
 pub counted-reads : (tokens : List TokenValue) (w : Word) (p q : ℕ) → IsTidy w → 1 ≤ length w → Reads tokens p w q → IsFree tokens p q
 counted-reads tokens [] p q tidied some reads = absurd (omega arith)
@@ -130,7 +130,7 @@ counted-reads tokens (c ∷ w) p q tidied some (r, inr (other, scalar, stands), 
       ends = reads-ends tokens w c p q tidied.not_last (r, inr (other, scalar, stands), reads);
     }
 
--- ---- the word that stands between two places
+-- ---- the word that is between two places
 
 pub scalar-head : (c : ℕ) (cs : List ℕ) → scalars (c ∷ cs) ≡ true → (scalar c ≡ true) × (scalars cs ≡ true)
 scalar-head c cs h = both (scalar c) (scalars cs) h
@@ -174,7 +174,7 @@ reads-letters tokens (c ∷ cs) p after all follows =
 blank-within : (u v : Word) → encode_utf8_all (u ++ blank ∷ v) ≡ encode_utf8_all u ++ (blank ∷ encode_utf8_all v)
 blank-within u v = encodes-append u (blank ∷ v) ∙ ap (λ x. encode_utf8_all u ++ (x ++ encode_utf8_all v)) blank_bytes
 
--- the word whose letters stand side by side between the places
+-- the word whose letters are side by side between the places
 pub record IsSpelled (tokens : List TokenValue) (p q : ℕ) (w : Word) : Type 0 where
   pub follows : Follows (spelling_of tokens) p (encode_utf8_all w) (drop q (spelling_of tokens))
   pub end : q ≡ p + length (encode_utf8_all w)

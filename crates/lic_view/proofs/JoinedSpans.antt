@@ -4,19 +4,19 @@ use Rattle.std.specs.Prelude.{All}
 use Rattle.std.proofs.lemmas.Bool.{cases_lt}
 use Rattle.std.proofs.lemmas.List.Elements.{All-set, Contains-append_left, Contains-append_right}
 use Rattle.lic_spans.specs.Spans.{Holds}
-use Rattle.lic_spans.specs.declared.span.Kind.{Kind}
+use Rattle.lic_spans.specs.declared.span.SpanKind.{SpanKind}
 use Rattle.lic_spans.specs.declared.span.PlaceSpan.{PlaceSpan}
 use Rattle.lic_spans.proofs.Settling.{last_set, last_split}
 use Rattle.lic_view.specs.Backward.{IsEach, Keeps}
-use Rattle.lic_view.specs.Joined.{GoesOn}
+use Rattle.lic_view.specs.Joined.{Extends}
 use Rattle.lic_view.specs.declared.sets.keep.Keep.{Keep}
 use Rattle.lic_view.proofs.BlankLemmas.{held, holds-one}
 use Rattle.lic_view.proofs.Placed.{Holds-among, Holds-append}
 
-left : (xs ys : List PlaceSpan) (kind : Kind) (number last : ℕ) → Holds xs kind number last → Holds (xs ++ ys) kind number last
+left : (xs ys : List PlaceSpan) (kind : SpanKind) (number last : ℕ) → Holds xs kind number last → Holds (xs ++ ys) kind number last
 left xs ys kind number last holds = Holds-among xs (xs ++ ys) kind number last (λ s. Contains-append_left xs ys s) holds
 
-right : (xs ys : List PlaceSpan) (kind : Kind) (number last : ℕ) → Holds ys kind number last → Holds (xs ++ ys) kind number last
+right : (xs ys : List PlaceSpan) (kind : SpanKind) (number last : ℕ) → Holds ys kind number last → Holds (xs ++ ys) kind number last
 right xs ys kind number last holds = Holds-among ys (xs ++ ys) kind number last (λ s. Contains-append_right xs ys s) holds
 
 -- a list of spans keeps itself
@@ -35,11 +35,11 @@ keeps-more keep all found more next first second = record {
   kept = λ kind number last holds. kept kind number last (Holds-append all more kind number last holds);
 }
   where
-    sound : (kind : Kind) (number last : ℕ) → Holds found kind number last ⊎ Holds more kind number last → Holds (all ++ more) kind number last
+    sound : (kind : SpanKind) (number last : ℕ) → Holds found kind number last ⊎ Holds more kind number last → Holds (all ++ more) kind number last
     sound kind number last (inl holds) = left all more kind number last (first.sound kind number last holds)
     sound kind number last (inr holds) = right all more kind number last holds
 
-    kept : (kind : Kind) (number last : ℕ) → Holds all kind number last ⊎ Holds more kind number last →
+    kept : (kind : SpanKind) (number last : ℕ) → Holds all kind number last ⊎ Holds more kind number last →
         (other : ℕ) × (other ≤ last) × (IsEach keep → other ≡ last) × Holds next kind number other
     kept kind number last (inl holds) =
         let one = first.kept kind number last holds in
@@ -48,16 +48,16 @@ keeps-more keep all found more next first second = record {
     kept kind number last (inr holds) = second.kept kind number last (right found more kind number last holds)
 
 -- the numbers of a kind, with a last token, that a span has
-has : (span : PlaceSpan) (kind : Kind) (number last : ℕ) → span.kind ≡ kind → span.low ≤ number → number ≤ span.high → span.last ≡ last →
+has : (span : PlaceSpan) (kind : SpanKind) (number last : ℕ) → span.kind ≡ kind → span.low ≤ number → number ≤ span.high → span.last ≡ last →
     Holds (span ∷ []) kind number last
 has span kind number last is from to same =
     subst (λ l. Holds (span ∷ []) kind number l) same (subst (λ k. Holds (span ∷ []) k number span.last) is (holds-one span number from to))
 
--- a span that another goes on from, as long as both
+-- a span that another continues from, as long as both
 abbrev pub longer_by : PlaceSpan → PlaceSpan → PlaceSpan
 longer_by before span = record { low = before.low; high = span.high; last = before.last; kind = before.kind }
 
-keeps-lengthened : (keep : Keep) (others : List PlaceSpan) (before span : PlaceSpan) → GoesOn before span →
+keeps-lengthened : (keep : Keep) (others : List PlaceSpan) (before span : PlaceSpan) → Extends before span →
     All (λ (s : PlaceSpan). s.low ≤ s.high) (others ++ longer_by before span ∷ []) →
     Keeps keep ((others ++ before ∷ []) ++ span ∷ []) (others ++ longer_by before span ∷ [])
 keeps-lengthened keep others before span on ordered = record {
@@ -69,7 +69,7 @@ keeps-lengthened keep others before span on ordered = record {
     both : List PlaceSpan
     both = (others ++ before ∷ []) ++ span ∷ []
 
-    in_both : (kind : Kind) (number last : ℕ) →
+    in_both : (kind : SpanKind) (number last : ℕ) →
         (before.kind ≡ kind) × (before.low ≤ number) × (number ≤ span.high) × (before.last ≡ last) → (number < span.low) ⊎ (span.low ≤ number) →
         Holds ((others ++ before ∷ []) ++ span ∷ []) kind number last
     in_both kind number last h (inl below) =
@@ -79,26 +79,26 @@ keeps-lengthened keep others before span on ordered = record {
         right (others ++ before ∷ []) (span ∷ []) kind number last
         (has span kind number last (sym on.kind_is ∙ h.0) from h.2 (sym on.last_is ∙ h.3))
 
-    sound : (kind : Kind) (number last : ℕ) → Holds others kind number last ⊎ Holds (longer_by before span ∷ []) kind number last →
+    sound : (kind : SpanKind) (number last : ℕ) → Holds others kind number last ⊎ Holds (longer_by before span ∷ []) kind number last →
         Holds ((others ++ before ∷ []) ++ span ∷ []) kind number last
     sound kind number last (inl holds) =
         left (others ++ before ∷ []) (span ∷ []) kind number last (left others (before ∷ []) kind number last holds)
     sound kind number last (inr holds) =
         in_both kind number last (held (longer_by before span) kind number last holds) (cases_lt number span.low)
 
-    in_longer : (kind : Kind) (number last : ℕ) → before.kind ≡ kind → before.low ≤ number → number ≤ span.high → before.last ≡ last →
+    in_longer : (kind : SpanKind) (number last : ℕ) → before.kind ≡ kind → before.low ≤ number → number ≤ span.high → before.last ≡ last →
         Holds (others ++ longer_by before span ∷ []) kind number last
     in_longer kind number last is from to same =
         right others (longer_by before span ∷ []) kind number last (has (longer_by before span) kind number last is from to same)
 
-    of_others : (kind : Kind) (number last : ℕ) → Holds others kind number last ⊎ Holds (before ∷ []) kind number last →
+    of_others : (kind : SpanKind) (number last : ℕ) → Holds others kind number last ⊎ Holds (before ∷ []) kind number last →
         Holds (others ++ longer_by before span ∷ []) kind number last
     of_others kind number last (inl holds) = left others (longer_by before span ∷ []) kind number last holds
     of_others kind number last (inr holds) =
         let h = held before kind number last holds in
         in_longer kind number last h.0 h.1 (omega (arith, h.2, on.to)) h.3
 
-    kept : (kind : Kind) (number last : ℕ) → Holds (others ++ before ∷ []) kind number last ⊎ Holds (span ∷ []) kind number last →
+    kept : (kind : SpanKind) (number last : ℕ) → Holds (others ++ before ∷ []) kind number last ⊎ Holds (span ∷ []) kind number last →
         Holds (others ++ longer_by before span ∷ []) kind number last
     kept kind number last (inl holds) = of_others kind number last (Holds-append others (before ∷ []) kind number last holds)
     kept kind number last (inr holds) =
@@ -107,7 +107,7 @@ keeps-lengthened keep others before span on ordered = record {
 
 -- the same where the last span of a list is written
 pub keeps-last_lengthened : (keep : Keep) (spans : List PlaceSpan) (i : ℕ) (before span longer : PlaceSpan) → i + 1 ≡ length spans → before ≡ get_or spans i before →
-    GoesOn before span → longer ≡ longer_by before span → All (λ (s : PlaceSpan). s.low ≤ s.high) spans → span.low ≤ span.high →
+    Extends before span → longer ≡ longer_by before span → All (λ (s : PlaceSpan). s.low ≤ s.high) spans → span.low ≤ span.high →
     Keeps keep (spans ++ span ∷ []) (set spans i longer)
 keeps-last_lengthened keep spans i before span longer last is on same ordered order =
     subst (λ x. Keeps keep (spans ++ span ∷ []) (set spans i x)) (sym same)

@@ -1,4 +1,4 @@
--- The letter that stands in front of a place of a text.
+-- The letter that comes before a place of a text.
 use Rattle.std.proofs.Common.{◌≡◌, ◌⊎◌, ℕ, ◌+◌, ◌-◌, ◌<◌, ◌≤◌, List, [], ◌∷◌, ◌++◌, length, take, drop, get_or, inl, inr, refl, sym, ap, ap₂, arith, subst, ◌∙◌, append_assoc, length-append}
 use Rattle.std.specs.Char.{IsScalar}
 use Rattle.std.specs.Str.{IsCharBoundary, IsUtf8}
@@ -7,20 +7,20 @@ use Rattle.std.proofs.lemmas.Bool.{cases_lt}
 use Rattle.std.proofs.lemmas.List.{take-append-drop, take_at, drop_at, drop-drop, length-take, length-drop}
 use Rattle.std.proofs.lemmas.List.Edits.{get_or-between}
 use Rattle.std.proofs.lemmas.Str.{IsCharBoundary-past_char, IsCharBoundary-start, IsUtf8-between, IsUtf8-drop, IsUtf8-encode, encode_same, length-encode, len_utf8_bounds}
-use Rattle.lic_places.specs.Places.{Stands}
+use Rattle.lic_places.specs.Places.{Occurs}
 use Rattle.lic_view.specs.LettersBefore.{IsLetterBefore}
 
 letter-long : (c : ℕ) → 0 < length (encode c)
 letter-long c = omega (arith, length-encode c, (len_utf8_bounds c).0)
 
--- what follows a place where bytes stand begins with them
-pub stands-drop : (bytes : List ℕ) (p : ℕ) (text : List ℕ) (q : ℕ) → Stands bytes p text q → drop p bytes ≡ text ++ drop q bytes
+-- what follows a place where bytes occur begins with them
+pub stands-drop : (bytes : List ℕ) (p : ℕ) (text : List ℕ) (q : ℕ) → Occurs bytes p text q → drop p bytes ≡ text ++ drop q bytes
 stands-drop bytes p text q stands =
     let end : p + (q - p) ≡ q = omega (arith, stands.0) in
     sym (take-append-drop (q - p) (drop p bytes))
     ∙ ap₂ (λ x y. x ++ y) stands.1 (drop-drop (q - p) p bytes ∙ ap (λ n. drop n bytes) end)
 
--- letters that stand lie in the text
+-- letters that occur lie in the text
 pub letter-within : (bytes : List ℕ) (place p c : ℕ) → IsLetterBefore bytes place p c → place ≤ length bytes
 letter-within bytes place p c is =
     let long = letter-long c in
@@ -30,7 +30,7 @@ letter-within bytes place p c is =
     let second = length-drop place bytes in
     omega (arith, is.stands.0)
 
--- a character begins where a letter stands
+-- a character begins where a letter is
 pub letter-whole : (bytes : List ℕ) (place p c : ℕ) → IsLetterBefore bytes place p c → IsCharBoundary bytes p
 letter-whole bytes place p c is = (
   omega (arith, is.stands.0, within),
@@ -54,7 +54,7 @@ letter-end bytes place p c utf8 is =
     let end = IsCharBoundary-past_char bytes (drop place bytes) p c whole.0 (IsUtf8-drop bytes p utf8 whole) (stands-drop bytes p (encode c) place is.stands) in
     subst (λ x. IsCharBoundary bytes x) (ap (λ n. p + n) (sym (length-encode c)) ∙ sym is.stands.0) end
 
--- one letter at most stands in front of a place
+-- one letter at most comes before a place
 pub letter-one : (bytes : List ℕ) (place p c r d : ℕ) → IsUtf8 bytes → IsLetterBefore bytes place p c → IsLetterBefore bytes place r d → (p ≡ r) × (c ≡ d)
 letter-one bytes place p c r d utf8 one other = by_order (cases_lt p r) (cases_lt r p)
   where
@@ -100,7 +100,7 @@ letter-one bytes place p c r d utf8 one other = by_order (cases_lt p r) (cases_l
         let letter = encode_same c d (drop place bytes) (drop place bytes) letters in
         (same, letter.0)
 
--- the last letter of what stands in front of a place
+-- the last letter of what comes before a place
 pub letter-found : (bytes front : List ℕ) (place c : ℕ) → place ≤ length bytes → IsScalar c → take place bytes ≡ front ++ encode c → IsLetterBefore bytes place (length front) c
 letter-found bytes front place c within scalar came = record {
   scalar = scalar;
@@ -114,7 +114,7 @@ letter-found bytes front place c within scalar came = record {
     from = ap (drop (length front)) (sym (take-append-drop place bytes) ∙ ap (λ x. x ++ drop place bytes) came ∙ append_assoc front (encode c) (drop place bytes))
         ∙ drop_at front (encode c ++ drop place bytes) (length front) refl
 
--- none stands in front of the first one
+-- none comes before the first one
 pub letter-none : (bytes : List ℕ) (place p c : ℕ) → length (take place bytes) ≡ 0 → IsLetterBefore bytes place p c → ⊥
 letter-none bytes place p c none is =
     let within = letter-within bytes place p c is in

@@ -5,7 +5,7 @@ use Rattle.std.proofs.lemmas.List.Edits.{get_or-between}
 use Rattle.std.proofs.lemmas.Str.{IsCharBoundary-start}
 use Rattle.lic_norm.specs.Tokens.{TokenValue}
 use Rattle.lic_norm.specs.Places.{place_end}
-use Rattle.lic_places.specs.Places.{AreTexts, Stands, spelling_of}
+use Rattle.lic_places.specs.Places.{AreTexts, Occurs, spelling_of}
 use Rattle.lic_places.specs.Reads.{Reads}
 use Rattle.lic_literals.specs.Ends.{EndsAt}
 use Rattle.lic_view.specs.Backward.{IsBackFrom}
@@ -16,8 +16,8 @@ use Rattle.lic_view.proofs.Back.{back-nothing}
 use Rattle.lic_view.proofs.SingleLemmas.{back-single, single}
 use Rattle.lic_view.specs.declared.sets.keep.Keep.{Keep}
 
--- a character begins where letters in UTF-8 stand
-letters-whole : (bytes letters : List ℕ) (p q : ℕ) → IsUtf8 letters → 0 < length letters → q ≤ length bytes → Stands bytes p letters q → IsCharBoundary bytes p
+-- a character begins where letters in UTF-8 are
+letters-whole : (bytes letters : List ℕ) (p q : ℕ) → IsUtf8 letters → 0 < length letters → q ≤ length bytes → Occurs bytes p letters q → IsCharBoundary bytes p
 letters-whole bytes letters p q utf8 some within stands = (
   omega (arith, stands.0),
   λ below big. lead big,

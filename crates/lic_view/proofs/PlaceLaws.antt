@@ -2,7 +2,7 @@
 use Rattle.std.proofs.Common.{◌≡◌, ℕ, suc, ◌<◌, List, length, false, IsTrue}
 use Rattle.lic_norm.specs.Tokens.{TokenValue}
 use Rattle.lic_norm.specs.Places.{place_end}
-use Rattle.lic_places.specs.Places.{AreTexts, IsBehindBlank, OverBlank, is_blank_at, spelling_of}
+use Rattle.lic_places.specs.Places.{AreTexts, IsAfterBlank, OverBlank, is_blank_at, spelling_of}
 use Rattle.lic_places.proofs.TokenPlaces.{OverBlank-one, OverBlank-twice, blank-alone, token-ends}
 use Rattle.lic_view.proofs.ViewPlaces.{ends-rise}
 pub use Rattle.lic_keys.proofs.RequiredEnds.{text-read}
@@ -11,7 +11,7 @@ pub use Rattle.lic_keys.proofs.RequiredEnds.{text-read}
 pub place_end-rises : (tokens : List TokenValue) (i j : ℕ) → AreTexts tokens → i < j → j < length tokens → place_end tokens i < place_end tokens j
 place_end-rises = ends-rise
 
-pub end-not_behind : (tokens : List TokenValue) (i : ℕ) → AreTexts tokens → i < length tokens → ¬ (IsBehindBlank (spelling_of tokens) (place_end tokens i))
+pub end-not_behind : (tokens : List TokenValue) (i : ℕ) → AreTexts tokens → i < length tokens → ¬ (IsAfterBlank (spelling_of tokens) (place_end tokens i))
 end-not_behind = token-ends
 
 pub blank-one : (tokens : List TokenValue) (p r q : ℕ) → OverBlank tokens p q → OverBlank tokens r q → p ≡ r

@@ -4,12 +4,12 @@ use Rattle.std.specs.Prelude.{Contains}
 use Rattle.std.proofs.lemmas.List.Elements.{All-append, All-nil, Contains-append_left, Contains-append_right, Contains-append_cases}
 use Rattle.lic_norm.specs.Tokens.{TokenValue}
 use Rattle.lic_spans.specs.Spans.{Holds}
-use Rattle.lic_spans.specs.declared.span.Kind.{Kind}
+use Rattle.lic_spans.specs.declared.span.SpanKind.{SpanKind}
 use Rattle.lic_spans.specs.declared.span.PlaceSpan.{PlaceSpan}
-use Rattle.lic_view.specs.PlaceSets.{ArePlaced, LiesInFront, Reaches}
+use Rattle.lic_view.specs.PlaceSets.{ArePlaced, LiesBefore, Reaches}
 
 -- a list holds what each list from which it has all members holds
-pub Holds-among : (xs ys : List PlaceSpan) (kind : Kind) (number last : ℕ) → ((s : PlaceSpan) → Contains xs s → Contains ys s) →
+pub Holds-among : (xs ys : List PlaceSpan) (kind : SpanKind) (number last : ℕ) → ((s : PlaceSpan) → Contains xs s → Contains ys s) →
     Holds xs kind number last → Holds ys kind number last
 Holds-among xs ys kind number last members holds = record {
   span = holds.span;
@@ -20,7 +20,7 @@ Holds-among xs ys kind number last members holds = record {
   last_is = holds.last_is;
 }
 
-pub Holds-append : (xs ys : List PlaceSpan) (kind : Kind) (number last : ℕ) → Holds (xs ++ ys) kind number last →
+pub Holds-append : (xs ys : List PlaceSpan) (kind : SpanKind) (number last : ℕ) → Holds (xs ++ ys) kind number last →
     Holds xs kind number last ⊎ Holds ys kind number last
 Holds-append xs ys kind number last holds =
     elim (Contains-append_cases xs ys holds.span holds.among) [
@@ -28,7 +28,7 @@ Holds-append xs ys kind number last holds =
       | inr other ↦ inr (record { span = holds.span; among = other; kind_is = holds.kind_is; from = holds.from; to = holds.to; last_is = holds.last_is })
     ]
 
-pub Holds-nil : (kind : Kind) (number last : ℕ) → Holds [] kind number last → ⊥
+pub Holds-nil : (kind : SpanKind) (number last : ℕ) → Holds [] kind number last → ⊥
 Holds-nil kind number last holds = omega (arith, holds.among.1)
 
 pub Reaches-append_left : (tokens : List TokenValue) (xs ys : List PlaceSpan) (p last : ℕ) → Reaches tokens xs p last → Reaches tokens (xs ++ ys) p last
@@ -65,7 +65,7 @@ ArePlaced-append tokens xs ys one other = record {
   front = λ kind number last holds. front kind number last (Holds-append xs ys kind number last holds);
 }
   where
-    front : (kind : Kind) (number last : ℕ) → Holds xs kind number last ⊎ Holds ys kind number last → LiesInFront tokens kind number last
+    front : (kind : SpanKind) (number last : ℕ) → Holds xs kind number last ⊎ Holds ys kind number last → LiesBefore tokens kind number last
     front kind number last (inl holds) = one.front kind number last holds
     front kind number last (inr holds) = other.front kind number last holds
 

@@ -9,10 +9,10 @@ use Rattle.lic_norm.specs.Tokens.{TokenValue}
 use Rattle.lic_norm.specs.Places.{place_end}
 use Rattle.lic_places.specs.Places.{OverBlank, over, spelling_of, stays}
 use Rattle.lic_places.specs.Reads.{Reads}
-use Rattle.lic_spans.specs.declared.span.Kind.{Kind}
-use Rattle.lic_spans.specs.declared.span.Kind.TheVariants.{Place}
+use Rattle.lic_spans.specs.declared.span.SpanKind.{SpanKind}
+use Rattle.lic_spans.specs.declared.span.SpanKind.TheVariants.{Place}
 use Rattle.lic_spans.specs.declared.span.PlaceSpan.{PlaceSpan}
-use Rattle.lic_view.specs.PlaceSets.{ArePlaced, IsPlaceOf, LiesInFront, Reaches}
+use Rattle.lic_view.specs.PlaceSets.{ArePlaced, IsPlaceOf, LiesBefore, Reaches}
 use Rattle.lic_view.specs.Backward.{IsBackFrom}
 use Rattle.lic_view.proofs.PlaceLaws.{blank-one}
 use Rattle.lic_view.proofs.Back.{Beats-same, OverBlank-order, back-nothing}
@@ -41,12 +41,12 @@ single-placed tokens p last within front whole = record {
   front = λ kind number l holds. fronts kind number l (held (single p last) kind number l holds);
 }
   where
-    fronts : (kind : Kind) (number l : ℕ) → (Place ≡ kind) × (p ≤ number) × (number ≤ p) × (last ≡ l) → LiesInFront tokens kind number l
+    fronts : (kind : SpanKind) (number l : ℕ) → (Place ≡ kind) × (p ≤ number) × (number ≤ p) × (last ≡ l) → LiesBefore tokens kind number l
     fronts kind number l h =
         let same : p ≡ number = omega (arith, h.1, h.2) in
-        subst (λ x. LiesInFront tokens kind number x) h.3
-        (subst (λ k. LiesInFront tokens k number last) h.0
-        (subst (λ n. LiesInFront tokens Place n last) same (front, whole)))
+        subst (λ x. LiesBefore tokens kind number x) h.3
+        (subst (λ k. LiesBefore tokens k number last) h.0
+        (subst (λ n. LiesBefore tokens Place n last) same (front, whole)))
 
 -- From one place a word of the set leads to one place.
 pub back-single : (keep : Keep) (tokens : List TokenValue) (P : Word → Type 0) (Ends : ℕ → ℕ → Type 0) (p q last : ℕ) (w : Word) →
@@ -78,7 +78,7 @@ blank-whole tokens p _ whole (over is) =
 
 -- where a blank leads from one place
 pub back-blank : (keep : Keep) (tokens : List TokenValue) (span : PlaceSpan) (number p : ℕ) → span.last < length tokens → span.kind ≡ Place →
-    LiesInFront tokens Place number span.last → OverBlank tokens p number →
+    LiesBefore tokens Place number span.last → OverBlank tokens p number →
     IsBackFrom keep tokens IsBlank (At tokens span number) (single p span.last ∷ [])
 back-blank keep tokens span number p within is front leads =
     back-single keep tokens IsBlank (At tokens span number) p number span.last (blank ∷ []) within

@@ -9,8 +9,8 @@ use Rattle.std.proofs.lemmas.List.Elements.{All-contains, Contains-append_cases,
 use Rattle.lic_norm.specs.Tokens.{TokenValue}
 use Rattle.lic_places.specs.Places.{spelling_of}
 use Rattle.lic_spans.specs.Spans.{AreApartOfLast, Holds, gap_of}
-use Rattle.lic_spans.specs.declared.span.Kind.{Kind}
-use Rattle.lic_spans.specs.declared.span.Kind.TheVariants.{Letters}
+use Rattle.lic_spans.specs.declared.span.SpanKind.{SpanKind}
+use Rattle.lic_spans.specs.declared.span.SpanKind.TheVariants.{Letters}
 use Rattle.lic_spans.specs.declared.span.PlaceSpan.{PlaceSpan}
 use Rattle.lic_spans.proofs.Members.{Holds-member}
 use Rattle.lic_view.specs.PlaceSets.{ArePlaced}
@@ -80,7 +80,7 @@ record IsFrom (spans : List PlaceSpan) (s : PlaceSpan) : Type 0 where
 
 -- the same joined where they overlap
 pub stretches-joined : (spans stretches joined : List PlaceSpan) → AreStretched spans stretches →
-    ((kind : Kind) (place last : ℕ) → Holds joined kind place last ↔ Holds stretches kind place last) →
+    ((kind : SpanKind) (place last : ℕ) → Holds joined kind place last ↔ Holds stretches kind place last) →
     AreApartOfLast joined → All (λ s. s.low ≤ s.high) joined → AreStretchesOf spans joined
 stretches-joined spans stretches joined are same apart ordered = record {
   apart = λ i j d before low.

@@ -1,18 +1,18 @@
 -- Where a blank leads.
 use Rattle.std.proofs.Common.{◌≡◌, ◌⊎◌, inl, inr, ℕ, suc, ◌-◌, List, refl, sym, subst, arith, IsTrue}
 use Rattle.lic_norm.specs.Tokens.{TokenValue}
-use Rattle.lic_places.specs.Places.{HasGap, IsBehindBlank, OverBlank, is_blank_at, spelling_of}
+use Rattle.lic_places.specs.Places.{HasGap, IsAfterBlank, OverBlank, is_blank_at, spelling_of}
 use Rattle.lic_places.specs.Places.OverBlank.{over, stays}
 
 -- a blank leads over a blank of the text, or stays
 pub over_blank-cases : (tokens : List TokenValue) (p q : ℕ) → OverBlank tokens p q
     → ((q ≡ suc p) × IsTrue (is_blank_at (spelling_of tokens) p))
-    ⊎ ((p ≡ q) × ¬ (IsBehindBlank (spelling_of tokens) q) × HasGap tokens q)
+    ⊎ ((p ≡ q) × ¬ (IsAfterBlank (spelling_of tokens) q) × HasGap tokens q)
 over_blank-cases tokens p q (over blank) = inl (refl, blank)
 over_blank-cases tokens p q (stays free gap) = inr (refl, free, gap)
 
--- over the blank in front of a place
-pub over_blank-behind : (tokens : List TokenValue) (place : ℕ) → IsBehindBlank (spelling_of tokens) place → OverBlank tokens (place - 1) place
+-- over the blank before a place
+pub over_blank-behind : (tokens : List TokenValue) (place : ℕ) → IsAfterBlank (spelling_of tokens) place → OverBlank tokens (place - 1) place
 over_blank-behind tokens place behind =
     let P : ℕ → ℕ → Type 0 = λ p q. OverBlank tokens p q in
     let same : behind.0 ≡ place - 1 = omega (arith, behind.1) in

@@ -60,7 +60,7 @@ start-over tokens before i texts next within blank =
       | inr after ↦ omega (arith, after.0, here)
     ]
 
--- or, where no blank stands, right there
+-- or, where no blank is, right there
 pub start-same : (tokens : List TokenValue) (before i : ℕ) → AreTexts tokens → i ≡ suc before → i < length tokens
     → is_blank_at (spelling_of tokens) (place_end tokens before) ≡ false → place_end tokens before ≡ place_start tokens i
 start-same tokens before i texts next within blank =

@@ -4,18 +4,18 @@ use Rattle.lic_norm.specs.Tokens.{TokenValue}
 use Rattle.lic_norm.specs.Places.{place_end}
 use Rattle.lic_places.specs.Places.{spelling_of}
 use Rattle.lic_spans.specs.Spans.{Holds}
-use Rattle.lic_spans.specs.declared.span.Kind.{Kind}
-use Rattle.lic_spans.specs.declared.span.Kind.TheVariants.{End, Place, Letters, Blanks}
+use Rattle.lic_spans.specs.declared.span.SpanKind.{SpanKind}
+use Rattle.lic_spans.specs.declared.span.SpanKind.TheVariants.{End, Place, Letters, Blanks}
 use Rattle.lic_spans.specs.declared.span.PlaceSpan.{PlaceSpan}
-use Rattle.lic_view.specs.PlaceSets.{ArePlaced, LiesInFront}
+use Rattle.lic_view.specs.PlaceSets.{ArePlaced, LiesBefore}
 use Rattle.lic_view.proofs.ViewPlaces.{end-within}
 
 -- each number of one span is held
 pub Holds-one : (span : PlaceSpan) (number : ℕ) → span.low ≤ number → number ≤ span.high → Holds (span ∷ []) span.kind number span.last
 Holds-one span number from to = record { span = span; among = (0, omega arith, refl); kind_is = refl; from = from; to = to; last_is = refl }
 
--- a number lies in front of the end of its last token or at it
-pub front-to : (tokens : List TokenValue) (kind : Kind) (number last : ℕ) → LiesInFront tokens kind number last → number ≤ place_end tokens last
+-- a number lies before the end of its last token or at it
+pub front-to : (tokens : List TokenValue) (kind : SpanKind) (number last : ℕ) → LiesBefore tokens kind number last → number ≤ place_end tokens last
 front-to tokens End number last at = omega arith
 front-to tokens Place number last front = omega arith
 front-to tokens Letters number last front = omega arith

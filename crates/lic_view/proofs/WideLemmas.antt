@@ -10,8 +10,8 @@ use Rattle.lic_places.specs.Reads.{Reads}
 use Rattle.lic_places.proofs.TokenPlaces.{OverBlank-order}
 use Rattle.lic_literals.specs.Ends.{EndsAt}
 use Rattle.lic_spans.specs.Spans.{gap_of}
-use Rattle.lic_spans.specs.declared.span.Kind.{Kind}
-use Rattle.lic_spans.specs.declared.span.Kind.TheVariants.{End, Place, Letters, Blanks}
+use Rattle.lic_spans.specs.declared.span.SpanKind.{SpanKind}
+use Rattle.lic_spans.specs.declared.span.SpanKind.TheVariants.{End, Place, Letters, Blanks}
 use Rattle.lic_spans.specs.declared.span.PlaceSpan.{PlaceSpan}
 use Rattle.lic_view.specs.PlaceSets.{ArePlaced, IsPlaceOf, Reaches}
 use Rattle.lic_view.specs.Backward.{AddsBack, IsBackFrom}
@@ -27,7 +27,7 @@ use Rattle.lic_view.proofs.LetterLemmas.{IsWordOf, back-letters}
 use Rattle.lic_view.specs.declared.sets.keep.Keep.{Keep}
 
 -- which kinds have many places
-wide-kinds : (kind : Kind) → gap_of kind ≡ 1 → (kind ≡ Letters) ⊎ (kind ≡ Blanks)
+wide-kinds : (kind : SpanKind) → gap_of kind ≡ 1 → (kind ≡ Letters) ⊎ (kind ≡ Blanks)
 wide-kinds End wide = absurd (omega (arith, wide))
 wide-kinds Place wide = absurd (omega (arith, wide))
 wide-kinds Letters wide = inl refl
@@ -50,17 +50,17 @@ wide-between tokens span q last wide r = by_kind (wide-kinds span.kind wide)
         let order = OverBlank-order tokens q r.number place.1 in
         (omega (arith, order, h.1), omega (arith, order, h.2))
 
--- a place of a span that is one of the first so many of a list
+-- a place of a span that is one of the first n of a list
 abbrev pub Listed : List TokenValue → PlaceSpan → List ℕ → ℕ → ℕ → ℕ → Type 0
 Listed tokens span ends count q last = (k : ℕ) × (k < count) × (q ≡ get_or ends k 0) × Reaches tokens (span ∷ []) q last
 
--- spans were added that have what leads to the first so many places of a list
+-- spans were added that have what leads to the first n places of a list
 pub record AddsListed (keep : Keep) (tokens : List TokenValue) (P : Word → Type 0) (span : PlaceSpan) (ends : List ℕ) (count : ℕ) (old new : List PlaceSpan) : Type 0 where
   pub more : List PlaceSpan
   pub added : new ≡ old ++ more
   pub back : IsBackFrom keep tokens P (Listed tokens span ends count) more
 
--- none of the first so many is one of the span's, where they come before it
+-- none of the first n is one of the span's, where they come before it
 pub listed-first : (keep : Keep) (tokens : List TokenValue) (P : Word → Type 0) (span : PlaceSpan) (ends : List ℕ) (first : ℕ) (old : List PlaceSpan) → gap_of span.kind ≡ 1 →
     ((k : ℕ) → k < first → get_or ends k 0 < span.low - 1) → AddsListed keep tokens P span ends first old old
 listed-first keep tokens P span ends first old wide before = record {

@@ -5,7 +5,7 @@ use Rattle.lic_norm.specs.Tokens.{TokenValue}
 use Rattle.lic_norm.specs.Places.{place_end}
 use Rattle.lic_places.specs.Reads.{Reads}
 use Rattle.lic_spans.specs.Spans.{Holds}
-use Rattle.lic_spans.specs.declared.span.Kind.{Kind}
+use Rattle.lic_spans.specs.declared.span.SpanKind.{SpanKind}
 use Rattle.lic_spans.specs.declared.span.PlaceSpan.{PlaceSpan}
 use Rattle.lic_view.specs.PlaceSets.{ArePlaced, Reaches}
 use Rattle.lic_view.specs.declared.sets.keep.Keep.{Keep}
@@ -43,8 +43,8 @@ pub record AddsBack (keep : Keep) (tokens : List TokenValue) (P : Word → Type 
 -- the other list has each number of the one with those last tokens at least that are kept, and no other number
 pub record Keeps (keep : Keep) (spans found : List PlaceSpan) : Type 0 where
   pub ordered : All (λ s. s.low ≤ s.high) found
-  pub sound : (kind : Kind) (number last : ℕ) → Holds found kind number last → Holds spans kind number last
-  pub kept : (kind : Kind) (number last : ℕ) → Holds spans kind number last
+  pub sound : (kind : SpanKind) (number last : ℕ) → Holds found kind number last → Holds spans kind number last
+  pub kept : (kind : SpanKind) (number last : ℕ) → Holds spans kind number last
       → (other : ℕ) × (other ≤ last) × (IsEach keep → other ≡ last) × Holds found kind number other
 
 -- the same as in AddsBack, and of what is there then those last tokens at least that are kept

@@ -3,7 +3,7 @@ use Rattle.std.specs.Prelude.{◌≡◌, ℕ, ◌+◌, ◌-◌, ◌<◌, ◌≤�
 use Rattle.std.specs.List.Sorted.{IsStrictlyIncreasing}
 use Rattle.lic_norm.specs.Tokens.{TokenValue}
 use Rattle.lic_spans.specs.Spans.{gap_of}
-use Rattle.lic_spans.specs.declared.span.Kind.TheVariants.{Letters}
+use Rattle.lic_spans.specs.declared.span.SpanKind.TheVariants.{Letters}
 use Rattle.lic_spans.specs.declared.span.PlaceSpan.{PlaceSpan}
 use Rattle.lic_view.specs.PlaceSets.{Reaches}
 

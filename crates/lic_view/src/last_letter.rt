@@ -1,9 +1,9 @@
-//! The letter in front of a place of a text.
+//! The letter before a place of a text.
 
 ghost use Rattle.std.specs.Prelude.{◌≡◌, ℕ, MatchOption};
 ghost use Rattle.lic_view.specs.LettersBefore.{IsLetterBefore};
 
-/// Where the letter in front of a place begins, and this letter. A place is a number of bytes.
+/// Where the letter before a place begins, and this letter. A place is a number of bytes.
 pub(crate) fn last_letter(text: &str, place: usize) -> Option<(usize, char)>
     ensures { MatchOption result ((p c : ℕ) → ¬ (IsLetterBefore text.now place p c))
         (λ found. IsLetterBefore text.now place found.0 found.1) }

@@ -3,7 +3,7 @@
 ghost use Rattle.std.specs.Prelude.{◌≡◌, ◌+◌, ◌<◌, ◌≤◌, ◌↔◌, ℕ, IsTrue, length, slice_range, MatchOption};
 ghost use Rattle.std.specs.Str.{IsAscii, IsCharBoundary};
 ghost use Rattle.lic_norm.specs.Places.{IsTokenEnd, place_end, place_start};
-ghost use Rattle.lic_places.specs.Places.{AreTexts, IsBehindBlank, OverBlank, is_blank_at, spelling_of};
+ghost use Rattle.lic_places.specs.Places.{AreTexts, IsAfterBlank, OverBlank, is_blank_at, spelling_of};
 ghost use Rattle.lic_view.specs.LettersBefore.{IsLetterBefore};
 ghost use Rattle.lic_view.specs.PlaceSets.{IsLetterPlace};
 ghost use Rattle.lic_view.specs.Views.{AreSpelledFrom, IsFirstFrom};
@@ -92,7 +92,7 @@ impl View<'_> {
         self.is_ascii
     }
 
-    /// Where the letter in front of a place begins, and this letter.
+    /// Where the letter before a place begins, and this letter.
     pub fn letter_before(&self, place: usize) -> Option<(usize, char)>
         ensures { MatchOption result ((p c : ℕ) → ¬ (IsLetterBefore (spelling_of self.now) place p c))
             (λ found. IsLetterBefore (spelling_of self.now) place found.0 found.1) }
@@ -133,8 +133,8 @@ impl View<'_> {
     }
 
     /// Whether a blank is right before a place.
-    pub fn is_behind_blank(&self, place: usize) -> bool
-        ensures { IsTrue result ↔ IsBehindBlank (spelling_of self.now) place }
+    pub fn is_after_blank(&self, place: usize) -> bool
+        ensures { IsTrue result ↔ IsAfterBlank (spelling_of self.now) place }
     {
         place > 0 && self.is_blank(place - 1)
     }
@@ -184,7 +184,7 @@ impl View<'_> {
         ensures { MatchOption result ((p : ℕ) → ¬ (OverBlank self.now p place))
             (λ p. OverBlank self.now p place) }
     {
-        if self.is_behind_blank(place) {
+        if self.is_after_blank(place) {
             return Some(place - 1);
         }
         if place == 0 || self.is_blank(place) || self.is_token_end(place) {

@@ -6,10 +6,10 @@ use Rattle.std.specs.Str.{chars}
 use Rattle.lic_kind.specs.Kinds.{kind_of}
 use Rattle.lic_norm.specs.Tokens.{TokenValue}
 use Rattle.lic_norm.specs.Places.{place_start, place_end}
-use Rattle.lic_places.specs.Places.{IsBehindBlank, OverBlank, is_blank_at, spelling_of}
+use Rattle.lic_places.specs.Places.{IsAfterBlank, OverBlank, is_blank_at, spelling_of}
 use Rattle.lic_places.specs.Places.OverBlank.{over, stays}
 use Rattle.lic_places.specs.Reads.{Takes, Reads, ReadsTokens}
-use Rattle.lic_places.proofs.Standing.{Stands-first}
+use Rattle.lic_places.proofs.Occurring.{Occurs-first}
 
 abbrev token : List ℕ → ℕ → ℕ → TokenValue
 token text start end = record { text = text; span = record { start = start; end = end } }
@@ -49,7 +49,7 @@ parted-blanks = (refl, refl)
 -- ---- where blanks of words lead
 
 -- no blank comes before the second byte where the first is none
-begins_in_letter : (bytes : List ℕ) → is_blank_at bytes 0 ≡ false → IsBehindBlank bytes 1 → ⊥
+begins_in_letter : (bytes : List ℕ) → is_blank_at bytes 0 ≡ false → IsAfterBlank bytes 1 → ⊥
 begins_in_letter bytes first after = by_place after.0 after.1 after.2
   where
     by_place : (p : ℕ) → 1 ≡ suc p → IsTrue (is_blank_at bytes p) → ⊥
@@ -112,7 +112,7 @@ unfolding kind_of chars encode_utf8
 no_b p q at (inl gap) = omega (arith, gap.0)
 no_b p q at (inr letter) =
     let here : 0x20 ≡ 0x62 =
-    sym (ap (λ r. get_or (spelling_of parted) r 0) at) ∙ Stands-first (spelling_of parted) p 0x62 [] q letter.2 in
+    sym (ap (λ r. get_or (spelling_of parted) r 0) at) ∙ Occurs-first (spelling_of parted) p 0x62 [] q letter.2 in
     omega (arith, here)
 
 after_a : (q : ℕ) → Takes parted 0 0x61 q → q ≡ 1

@@ -8,7 +8,7 @@ ghost use Rattle.lic_view.specs.PlaceSets.{ArePlaced, IsPlaceOf};
 
 use crate::letters::runs::{Letters, runs_before};
 use lic_ere::Ere;
-use lic_spans::span::{Kind, PlaceSpan};
+use lic_spans::span::{PlaceSpan, SpanKind};
 use lic_view::{Keep, Stop, View, end_of, kept, place_of, tokens_have_texts};
 use std::alloc::Global;
 
@@ -112,7 +112,7 @@ fn any_before(
 
 // Adds where such words lead to the places of a span.
 //
-// It goes from the greatest number down. The first place that letters lead to is enough: all that lead to one in front of it lead
+// It goes from the greatest number down. The first place that letters lead to is enough: all that lead to one before it lead
 // to it too.
 fn add_counted(
     view: &View<'_>,
@@ -144,11 +144,11 @@ fn letters_before(view: &View<'_>, span: PlaceSpan, number: usize) -> Option<Pla
     ensures some { IfSome result (λ letters. (keep : Keep) → IsBackFrom keep view.now (Language (tidy (repeat 1 None (one (λ _. true)))))
         (λ q last. IsPlaceOf view.now span.kind number q × (last ≡ span.last)) (letters ∷ [])) }
     ensures all { IfSome result (λ letters. (q : ℕ) × IsPlaceOf view.now span.kind number q
-        × (letters ≡ record { low = 0; high = q - 1; last = span.last; kind = Kind.Letters })) }
+        × (letters ≡ record { low = 0; high = q - 1; last = span.last; kind = SpanKind.Letters })) }
 {
     tokens_have_texts(view);
     let place = place_of(view, span.kind, number)?;
-    if view.is_behind_blank(place) {
+    if view.is_after_blank(place) {
         return None;
     }
     if place == 0 {
@@ -158,6 +158,6 @@ fn letters_before(view: &View<'_>, span: PlaceSpan, number: usize) -> Option<Pla
         low: 0,
         high: place - 1,
         last: span.last,
-        kind: Kind::Letters,
+        kind: SpanKind::Letters,
     })
 }

@@ -18,7 +18,7 @@ ghost use Rattle.lic_view.specs.Wide.{HoldThoseOf, This};
 
 use crate::ways::Ways;
 use lic_ere::Ere;
-use lic_spans::span::{Kind, PlaceSpan};
+use lic_spans::span::{PlaceSpan, SpanKind};
 use lic_view::{
     Keep, Stop, View, end_of, first_from, has_place, over_blanks, place_of, single, stretches_of,
     tokens_have_texts,
@@ -81,8 +81,10 @@ fn over_passing(
     let mut found = Vec::new(alloc);
     for span in spans {
         match span.kind {
-            Kind::End | Kind::Place => add_passing(view, keep, ere, *span, &mut found)?,
-            Kind::Letters | Kind::Blanks => add_wide(view, keep, ere, &ends, *span, &mut found)?,
+            SpanKind::End | SpanKind::Place => add_passing(view, keep, ere, *span, &mut found)?,
+            SpanKind::Letters | SpanKind::Blanks => add_wide(
+                view, keep, ere, &ends, *span, &mut found,
+            )?,
         }
     }
     Ok(found)
@@ -124,7 +126,7 @@ fn ends_in(
     let _length = view.bytes().len();
     let mut ends = Vec::new(alloc);
     for place in stretch.low..stretch.high + 1 {
-        if passing_before(view, ere, Kind::Place, place).is_some() {
+        if passing_before(view, ere, SpanKind::Place, place).is_some() {
             ends.push(place)?;
         }
     }
@@ -166,13 +168,13 @@ fn passing_in(view: &View<'_>, ere: &Ere, span: PlaceSpan, end: usize) -> Option
     ensures { MatchOption result
         ((keep : Keep) → IsBackFrom keep view.now (IsPassing (passes_of (tree_of ere.now))) (This view.now span end) [])
         (λ place. (keep : Keep) → IsBackFrom keep view.now (IsPassing (passes_of (tree_of ere.now))) (This view.now span end)
-        (record { low = place; high = place; last = span.last; kind = Kind.Place } ∷ [])) }
+        (record { low = place; high = place; last = span.last; kind = SpanKind.Place } ∷ [])) }
 {
     tokens_have_texts(view);
     if !has_place(view, span, end) {
         return None;
     }
-    passing_before(view, ere, Kind::Place, end)
+    passing_before(view, ere, SpanKind::Place, end)
 }
 
 // Adds where such a letter leads to the single places of a span.
@@ -196,7 +198,7 @@ fn add_passing(
 }
 
 // Where such a letter leads to the place of a number.
-fn passing_before(view: &View<'_>, ere: &Ere, kind: Kind, number: usize) -> Option<usize>
+fn passing_before(view: &View<'_>, ere: &Ere, kind: SpanKind, number: usize) -> Option<usize>
     requires { number ≤ length (spelling_of view.now) }
     ensures { MatchOption result (LeadsNowhere view.now (passes_of (tree_of ere.now)) kind number)
         (LeadsTo view.now (passes_of (tree_of ere.now)) kind number) }

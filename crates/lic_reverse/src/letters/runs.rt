@@ -17,7 +17,7 @@ use crate::letters::passing::passes;
 use crate::letters::run::{Run, first_run, run_start};
 use crate::ways::Ways;
 use lic_ere::Ere;
-use lic_spans::span::{Kind, PlaceSpan};
+use lic_spans::span::{PlaceSpan, SpanKind};
 use lic_view::{Keep, Stop, View, end_of, over_blanks, place_of, push_joined, tokens_have_texts};
 use std::alloc::Global;
 
@@ -187,7 +187,7 @@ fn run_before(
 {
     tokens_have_texts(view);
     let place = place_of(view, span.kind, number)?;
-    if !letters.after && view.is_behind_blank(place) {
+    if !letters.after && view.is_after_blank(place) {
         return None;
     }
     let low = run_start(view, letters.ere, letters.count, known, place);
@@ -198,7 +198,7 @@ fn run_before(
         low,
         high: place - 1,
         last: span.last,
-        kind: Kind::Letters,
+        kind: SpanKind::Letters,
     })
 }
 

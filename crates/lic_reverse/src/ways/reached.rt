@@ -2,7 +2,7 @@
 
 ghost use Rattle.std.specs.Prelude.{◌≡◌, ◌++◌, [], IfOk, OnOk};
 ghost use Rattle.lic_view.specs.PlaceSets.{ArePlaced};
-ghost use Rattle.lic_reverse.specs.Reached.{IsFrontOf, reached_of};
+ghost use Rattle.lic_reverse.specs.Reached.{IsFrontierOf, reached_of};
 ghost use Rattle.lic_reverse.specs.Tidily.{AreWays, IsTidyBack, Taken, spans_of};
 
 use crate::ways::Ways;
@@ -39,7 +39,7 @@ impl Reached {
     ) -> Result<Ways, Stop>
         requires reached { (s : Taken) → ArePlaced view.now (reached_of self.old s) }
         requires next { AreWays view.now next }
-        ensures { IfOk result (λ front. IsFrontOf keep view.now (reached_of self.old)
+        ensures { IfOk result (λ front. IsFrontierOf keep view.now (reached_of self.old)
             (λ s. reached_of self.old s ++ spans_of next s) (reached_of self.new) (spans_of front)) }
     {
         if self.recent.longest() < self.settled.longest() {

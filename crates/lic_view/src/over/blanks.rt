@@ -9,7 +9,7 @@ use crate::sets::keep::Keep;
 use crate::sets::singles::{end_of, single};
 use crate::sets::stop::Stop;
 use crate::view::{View, tokens_have_texts};
-use lic_spans::span::{Kind, PlaceSpan};
+use lic_spans::span::{PlaceSpan, SpanKind};
 use std::alloc::Global;
 
 /// The places to which a blank leads from those of the spans.
@@ -41,22 +41,22 @@ fn add_over_blank(
 {
     tokens_have_texts(view);
     match span.kind {
-        Kind::End | Kind::Blanks => keep.push(found, span)?,
-        Kind::Letters => keep.push(found, with_blank(span))?,
-        Kind::Place => add_moved(view, keep, span, found)?,
+        SpanKind::End | SpanKind::Blanks => keep.push(found, span)?,
+        SpanKind::Letters => keep.push(found, with_blank(span))?,
+        SpanKind::Place => add_moved(view, keep, span, found)?,
     }
     Ok(())
 }
 
 // The places to which a blank leads from those at which letters begin.
 fn with_blank(span: PlaceSpan) -> PlaceSpan
-    ensures { result ≡ record span { kind = Kind.Blanks } }
+    ensures { result ≡ record span { kind = SpanKind.Blanks } }
 {
     PlaceSpan {
         low: span.low,
         high: span.high,
         last: span.last,
-        kind: Kind::Blanks,
+        kind: SpanKind::Blanks,
     }
 }
 
@@ -67,7 +67,7 @@ fn add_moved(
     span: PlaceSpan,
     found: &mut Vec<PlaceSpan>,
 ) -> Result<(), Stop>
-    requires kind { span.kind ≡ Kind.Place }
+    requires kind { span.kind ≡ SpanKind.Place }
     requires placed { ArePlaced view.now (span ∷ []) }
     ensures { OnOk result (AddsBack keep view.now (λ w. w ≡ blank ∷ []) span found.old.items found.new.items) }
 {

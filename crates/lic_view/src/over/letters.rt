@@ -5,7 +5,7 @@ ghost use Rattle.std.specs.Str.{chars};
 ghost use Rattle.lic_literals.specs.Ends.{EndsAt};
 ghost use Rattle.lic_places.specs.Places.{spelling_of};
 ghost use Rattle.lic_spans.specs.Spans.{gap_of};
-ghost use Rattle.lic_spans.specs.declared.span.Kind.TheVariants.{End, Place};
+ghost use Rattle.lic_spans.specs.declared.span.SpanKind.TheVariants.{End, Place};
 ghost use Rattle.lic_spans.specs.declared.span.PlaceSpan.{PlaceSpan};
 ghost use Rattle.lic_view.specs.Backward.{AddsBack, IsBack};
 ghost use Rattle.lic_view.specs.PlaceSets.{ArePlaced};
@@ -19,7 +19,7 @@ use crate::sets::stop::Stop;
 use crate::sets::wide::{first_from, stretches_of};
 use crate::view::{View, tokens_have_texts};
 use lic_literals::ends::ends_within;
-use lic_spans::span::{Kind, PlaceSpan};
+use lic_spans::span::{PlaceSpan, SpanKind};
 use std::alloc::{AllocError, Global};
 
 /// The places at which the letters begin that end at those of the spans.
@@ -38,8 +38,8 @@ pub(crate) fn over_letters(
     let mut found = Vec::new(alloc);
     for span in spans {
         match span.kind {
-            Kind::End | Kind::Place => add_single(view, keep, letters, *span, &mut found)?,
-            Kind::Letters | Kind::Blanks => {
+            SpanKind::End | SpanKind::Place => add_single(view, keep, letters, *span, &mut found)?,
+            SpanKind::Letters | SpanKind::Blanks => {
                 add_wide(view, keep, letters, &ends, *span, &mut found)?
             }
         }

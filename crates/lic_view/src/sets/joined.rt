@@ -2,7 +2,7 @@
 
 ghost use Rattle.std.specs.Prelude.{◌≡◌, ◌≤◌, ◌++◌, ◌∷◌, [], All, IsTrue, OnOk};
 ghost use Rattle.lic_view.specs.Backward.{Keeps};
-ghost use Rattle.lic_view.specs.Joined.{GoesOn};
+ghost use Rattle.lic_view.specs.Joined.{Extends};
 
 use crate::sets::keep::Keep;
 use crate::sets::stop::Stop;
@@ -15,7 +15,7 @@ pub fn push_joined(keep: Keep, spans: &mut Vec<PlaceSpan>, span: PlaceSpan) -> R
     ensures { OnOk result (Keeps keep (spans.old.items ++ span ∷ []) spans.new.items) }
 {
     let count = spans.len();
-    if count > 0 && goes_on(&spans[count - 1], &span) {
+    if count > 0 && extends(&spans[count - 1], &span) {
         spans[count - 1] = lengthened(spans[count - 1], span.high);
         return Ok(());
     }
@@ -23,8 +23,8 @@ pub fn push_joined(keep: Keep, spans: &mut Vec<PlaceSpan>, span: PlaceSpan) -> R
 }
 
 // Whether a span continues another: it begins within it or right after it, and ends no earlier.
-fn goes_on(before: &PlaceSpan, span: &PlaceSpan) -> bool
-    ensures { IsTrue result → GoesOn before.now span.now }
+fn extends(before: &PlaceSpan, span: &PlaceSpan) -> bool
+    ensures { IsTrue result → Extends before.now span.now }
 {
     before.kind == span.kind
         && before.last == span.last

@@ -5,19 +5,19 @@ ghost use Rattle.lic_places.specs.Places.{spelling_of};
 ghost use Rattle.lic_view.specs.PlaceSets.{ArePlaced, IsPlaceOf};
 
 use crate::view::View;
-use lic_spans::span::{Kind, PlaceSpan};
+use lic_spans::span::{PlaceSpan, SpanKind};
 
 /// The place that a number of a span of this kind gives, if it gives one.
-pub fn place_of(view: &View<'_>, kind: Kind, number: usize) -> Option<usize>
+pub fn place_of(view: &View<'_>, kind: SpanKind, number: usize) -> Option<usize>
     requires { number ≤ length (spelling_of view.now) }
     ensures { MatchOption result ((p : ℕ) → ¬ (IsPlaceOf view.now kind number p))
         (λ p. IsPlaceOf view.now kind number p) }
 {
     match kind {
-        Kind::End | Kind::Place => Some(number),
-        Kind::Letters if view.is_letter_place(number) => Some(number),
-        Kind::Blanks if view.is_letter_place(number) => view.over_blank(number),
-        Kind::Letters | Kind::Blanks => None,
+        SpanKind::End | SpanKind::Place => Some(number),
+        SpanKind::Letters if view.is_letter_place(number) => Some(number),
+        SpanKind::Blanks if view.is_letter_place(number) => view.over_blank(number),
+        SpanKind::Letters | SpanKind::Blanks => None,
     }
 }
 
@@ -32,10 +32,10 @@ pub fn has_place(view: &View<'_>, span: PlaceSpan, place: usize) -> bool
 }
 
 // The number that gives a place in spans of a kind, if one does.
-fn number_of(view: &View<'_>, kind: Kind, place: usize) -> usize
+fn number_of(view: &View<'_>, kind: SpanKind, place: usize) -> usize
     ensures { (number : ℕ) → IsPlaceOf view.now kind number place → number ≡ result }
 {
-    if kind == Kind::Blanks && view.is_blank(place) {
+    if kind == SpanKind::Blanks && view.is_blank(place) {
         prove!(place < view.bytes().len());
         return place + 1;
     }

@@ -4,17 +4,17 @@ ghost use Rattle.std.specs.Prelude.{◌≡◌, ◌∷◌, [], ◌+◌};
 ghost use Rattle.lic_view.specs.PlaceSets.{ArePlaced};
 
 use crate::view::View;
-use lic_spans::span::{Kind, PlaceSpan};
+use lic_spans::span::{PlaceSpan, SpanKind};
 
 /// One place, with the last token of a match.
 pub fn single(place: usize, last: usize) -> PlaceSpan
-    ensures { result ≡ record { low = place; high = place; last = last; kind = Kind.Place } }
+    ensures { result ≡ record { low = place; high = place; last = last; kind = SpanKind.Place } }
 {
     PlaceSpan {
         low: place,
         high: place,
         last,
-        kind: Kind::Place,
+        kind: SpanKind::Place,
     }
 }
 

@@ -6,7 +6,7 @@ ghost use Rattle.lic_view.specs.Views.{IsFirstFrom};
 ghost use Rattle.lic_view.specs.Wide.{AreStretchesOf, stretch_of as the_stretch_of};
 
 use lic_spans::each::with_each_last;
-use lic_spans::span::{Kind, PlaceSpan};
+use lic_spans::span::{PlaceSpan, SpanKind};
 use std::alloc::{AllocError, Global};
 
 /// The stretches in which the places of the spans of many places lie: apart from each other, in rising order.
@@ -31,7 +31,7 @@ fn stretch_of(span: PlaceSpan) -> PlaceSpan
         low: span.low.saturating_sub(1),
         high: span.high,
         last: 0,
-        kind: Kind::Letters,
+        kind: SpanKind::Letters,
     }
 }
 

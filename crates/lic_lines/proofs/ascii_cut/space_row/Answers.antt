@@ -14,7 +14,7 @@ returns-clause-row c =
     let many = length-walked side c.args.line.now in
     let known = c.spaces-count.ensures in
     longest_spaces rules side line n (omega arith) known.all (known.stop (omega arith))
-    (ap (may_open rules side) (sym c.byte_at.ensures) ∙ c.quick_look.ensures c.if-quick_look.false)
+    (ap (may_open rules side) (sym c.byte_at.ensures) ∙ c.quick_table.ensures c.if-quick_table.false)
     (λ lt. c.three_alike.ensures c.if-three_alike.false (omega arith))
 
 pub returns-then-count-line-clause-row : goal.returns-then-count-line-clause-row

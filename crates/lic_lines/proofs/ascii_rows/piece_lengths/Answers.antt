@@ -4,14 +4,14 @@ use Rattle.std.specs.List.{list_any}
 use Rattle.std.specs.Prelude.{bit_or}
 use Rattle.std.proofs.lemmas.List.{get_or-drop}
 use Rattle.lic_lines.specs.LineRules.{rules_of}
-use Rattle.lic_lines.specs.PieceLengths.{stands_with, stands_spaced}
+use Rattle.lic_lines.specs.PieceLengths.{begins_with_length, begins_with_spaced}
 use Rattle.lic_lines.specs.Walks.{walked, may_open}
 use Rattle.lic_lines.proofs.PieceLengths.{NoRun, no_run_at, all_lengths, space_lengths, has_bit_or}
 use Rattle.lic_lines.proofs.Walking.{length-walked}
 use Rattle.lic_lines.proofs.ascii_rows.piece_lengths.Goals as goal
 
-pub returns-then-not-quick_look : goal.returns-then-not-quick_look
-returns-then-not-quick_look c =
+pub returns-then-not-quick_table : goal.returns-then-not-quick_table
+returns-then-not-quick_table c =
     let rules = rules_of c.args.rules.now in
     let side = c.args.side in
     let line = walked side c.args.line.now in
@@ -22,7 +22,7 @@ returns-then-not-quick_look c =
     let first : get_or way 0 0 ≡ c.byte_at-c.result = get_or-drop place line 0 0 ∙ ap (λ k. get_or line k 0) start ∙ sym c.byte_at-c.ensures in
     let apart : NoRun way = no_run_at line place (⊎_elim (λ light. inl light) (λ other. inr (λ far. other (omega arith))) (c.is_run.ensures c.if-is_run.false)) in
     space_lengths rules side way c.space_length-space.result (omega (arith, length-drop place line)) apart
-    (ap (may_open rules side) first ∙ c.quick_look.ensures c.if-not-quick_look.true)
+    (ap (may_open rules side) first ∙ c.quick_table.ensures c.if-not-quick_table.true)
     (λ n. c.space_length-space.ensures n ∙ ap (λ b. is_whitespace b && (n == 1)) (sym first))
 
 pub returns : goal.returns
@@ -45,7 +45,7 @@ returns c =
     ∙ ap₂ (λ a b. a || b)
     (has_bit_or space texts n
     ∙ ap₂ (λ a b. a || b) (c.space_length-space.ensures n ∙ ap (λ b. is_whitespace b && (n == 1)) (sym first))
-    (c.in_ok-texts.ensures n ∙ ap (list_any (λ t. stands_with n way (walked side t))) c.side_texts.ensures))
+    (c.in_ok-texts.ensures n ∙ ap (list_any (λ t. begins_with_length n way (walked side t))) c.side_texts.ensures))
     (has_bit_or spaced repeated n
-    ∙ ap₂ (λ a b. a || b) (c.in_ok-spaced.ensures n ∙ ap (list_any (λ t. stands_spaced n way (walked side t))) c.side_spaced.ensures)
+    ∙ ap₂ (λ a b. a || b) (c.in_ok-spaced.ensures n ∙ ap (list_any (λ t. begins_with_spaced n way (walked side t))) c.side_spaced.ensures)
     (c.in_ok-repeated.ensures.mask n)))

@@ -3,7 +3,7 @@ use Rattle.std.specs.List.{list_any}
 use Rattle.std.proofs.lemmas.List.{take_all}
 use Rattle.std.proofs.lemmas.List.Folds.{list_any_more}
 use Rattle.lic_lines.specs.LineRules.{texts_of}
-use Rattle.lic_lines.specs.PieceLengths.{has_bit, stands_spaced}
+use Rattle.lic_lines.specs.PieceLengths.{has_bit, begins_with_spaced}
 use Rattle.lic_lines.specs.Walks.{walked}
 use Rattle.lic_lines.proofs.PieceLengths.{has_bit_zero}
 use Rattle.lic_lines.proofs.ascii_rows.spaced_lengths.Goals as goal
@@ -16,7 +16,7 @@ loop-i-preserved c = λ n.
     let way = drop c.args.place (walked c.args.side c.args.line.now) in
     let texts = texts_of c.args.texts.now in
     let i = c.loop-i.i in
-    let test = λ (t : List ℕ). stands_spaced n way (walked c.args.side t) in
+    let test = λ (t : List ℕ). begins_with_spaced n way (walked c.args.side t) in
     c.in_ok-mask.ensures n
     ∙ ap (λ t. has_bit c.loop-i.mask n || test t) c.characters.ensures
     ∙ ap (λ b. b || test (get_or texts i [])) (c.loop-i.invariant n)
@@ -26,4 +26,4 @@ pub returns : goal.returns
 returns c = λ n.
     let way = drop c.args.place (walked c.args.side c.args.line.now) in
     let texts = texts_of c.args.texts.now in
-    c.loop-i.invariant n ∙ ap (list_any (λ t. stands_spaced n way (walked c.args.side t))) (take_all c.loop-i.i texts (omega arith))
+    c.loop-i.invariant n ∙ ap (list_any (λ t. begins_with_spaced n way (walked c.args.side t))) (take_all c.loop-i.i texts (omega arith))

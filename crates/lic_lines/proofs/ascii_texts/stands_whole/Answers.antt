@@ -4,7 +4,7 @@ use Rattle.std.specs.Prelude.{slice_index}
 use Rattle.std.proofs.lemmas.List.{get_or-drop}
 use Rattle.lic_lines.specs.Walks.{walked}
 use Rattle.lic_lines.proofs.PieceLengths.{stands_each}
-use Rattle.lic_lines.proofs.StandingTexts.{stands_short, stands_other}
+use Rattle.lic_lines.proofs.BeginningTexts.{stands_short, stands_other}
 use Rattle.lic_lines.proofs.Walking.{length-walked}
 use Rattle.lic_lines.proofs.ascii_texts.stands_whole.Goals as goal
 

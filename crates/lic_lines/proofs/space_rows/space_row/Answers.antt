@@ -6,8 +6,8 @@ use Rattle.lic_lines.proofs.SpaceRows.{longest_spaces, longest_standing, longest
 use Rattle.lic_lines.proofs.Walking.{length-walked_chars}
 use Rattle.lic_lines.proofs.space_rows.space_row.Goals as goal
 
-pub returns-then-not-quick_look-clause-row : goal.returns-then-not-quick_look-clause-row
-returns-then-not-quick_look-clause-row c =
+pub returns-then-not-quick_table-clause-row : goal.returns-then-not-quick_table-clause-row
+returns-then-not-quick_table-clause-row c =
     let rules = rules_of c.args.rules.now in
     let side = c.args.side in
     let line = walked side (chars_of c.args.line.now) in
@@ -15,7 +15,7 @@ returns-then-not-quick_look-clause-row c =
     let many = length-walked_chars side c.args.line.now in
     let known = c.spaces-count.ensures in
     longest_spaces rules side line n (omega arith) known.all (known.stop (omega arith))
-    (ap (may_open rules side) (sym c.char_at.ensures) ∙ c.quick_look.ensures c.if-not-quick_look.true)
+    (ap (may_open rules side) (sym c.char_at.ensures) ∙ c.quick_table.ensures c.if-not-quick_table.true)
     (λ lt. c.three_alike.ensures c.if-three_alike.false (omega arith))
 
 pub returns-clause-row : goal.returns-clause-row
@@ -27,7 +27,7 @@ returns-clause-row c =
     let many = length-walked_chars side c.args.line.now in
     let known = c.spaces-count.ensures in
     longest_standing rules side line n (omega arith) known.all (known.stop (omega arith))
-    (sym c.may_stand_at.ensures ∙ c.if-may_stand_at.false)
+    (sym c.may_begin_with_any.ensures ∙ c.if-may_begin_with_any.false)
     (λ lt. c.three_alike.ensures c.if-three_alike.false (omega arith))
 
 pub returns-then-count-line-clause-row : goal.returns-then-count-line-clause-row

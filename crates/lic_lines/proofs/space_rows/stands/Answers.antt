@@ -1,7 +1,7 @@
 use Rattle.std.proofs.Common.{◌∙◌, drop, sym, length-drop, arith}
 use Rattle.lic_lines.specs.Sources.{chars_of}
 use Rattle.lic_lines.specs.Walks.{walked}
-use Rattle.lic_lines.proofs.StandingTexts.{stands_short, text_stands}
+use Rattle.lic_lines.proofs.BeginningTexts.{stands_short, text_stands}
 use Rattle.lic_lines.proofs.Walking.{length-walked, length-walked_chars}
 use Rattle.lic_lines.proofs.space_rows.stands.Goals as goal
 

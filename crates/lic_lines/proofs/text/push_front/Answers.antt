@@ -25,14 +25,14 @@ returns-in_ok-push-in-Word-clause-tokens c =
     (words_row rules c.args.after_blank text n row.within
     (some_front _ text n c.requires (sym c.kind_of.ensures ∙ c.in-Word.is) row.stop) row.words row.stop)
 
-pub returns-in_ok-blank_behind-in-Mark-clause-tokens : goal.returns-in_ok-blank_behind-in-Mark-clause-tokens
-returns-in_ok-blank_behind-in-Mark-clause-tokens c =
+pub returns-in_ok-blank_after-in-Mark-clause-tokens : goal.returns-in_ok-blank_after-in-Mark-clause-tokens
+returns-in_ok-blank_after-in-Mark-clause-tokens c =
     let rules = rules_of c.args.rules.now in
     let text = c.args.text.now in
     let old = tokens_in c.args.out.now.items in
     let n = c.mark_count-length.result in
     let row = c.mark_count-length.ensures in
-    let told = c.in_ok-blank_behind-in-Mark.ensures in
+    let told = c.in_ok-blank_after-in-Mark.ensures in
     let gs = groups both_words (runs_joined rules (map cell_of (take n text))) in
     ap₂ (λ l b. l ++ tokens_after rules b (drop n text)) told.tokens told.blank
     ∙ append_assoc old (tokens_from c.args.after_blank gs) _

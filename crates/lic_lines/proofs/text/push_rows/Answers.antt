@@ -6,7 +6,7 @@ use Rattle.lic_lines.specs.Tokens.{Token, single_signs, tokens_after, tokens_in}
 use Rattle.lic_lines.proofs.TokenLemmas.{no_tokens_after}
 use Rattle.lic_lines.proofs.text.push_rows.Goals as goal
 
--- one row more: its tokens, and those of what is left behind it
+-- one row more: its tokens, and those of what is left after it
 row_more : (rules : LineRules) (text : List SourceChar) (n m : ℕ) (before behind : Bool) (old new whole : List Token)
     → new ++ tokens_after rules behind (drop m (take (length text - n) (drop n text)))
     ≡ old ++ tokens_after rules before (take (length text - n) (drop n text))
@@ -25,15 +25,15 @@ loop-length-preserved c =
     record {
       within = omega (arith, c.in_ok-row.ensures.within, ap length (take_rest text n), length-drop n text);
       told =
-          row_more (rules_of c.args.rules.now) text n row.length c.loop-length.blank_behind row.blank_behind (tokens_in c.loop-length.out.items)
+          row_more (rules_of c.args.rules.now) text n row.length c.loop-length.blank_after row.blank_after (tokens_in c.loop-length.out.items)
           (tokens_in c.push_front.new.out.items) _ c.in_ok-row.ensures.tokens c.loop-length.invariant.told;
     }
 
 pub returns-after-loop-length-clause-apart : goal.returns-after-loop-length-clause-apart
 returns-after-loop-length-clause-apart c =
     let tokens = tokens_in c.loop-length.out.items in
-    let none = ap (tokens_after (rules_of c.args.rules.now) c.loop-length.blank_behind)
+    let none = ap (tokens_after (rules_of c.args.rules.now) c.loop-length.blank_after)
     (drop_all c.loop-length.length c.args.text.now c.loop-length-test.false)
-    ∙ no_tokens_after (rules_of c.args.rules.now) c.loop-length.blank_behind in
+    ∙ no_tokens_after (rules_of c.args.rules.now) c.loop-length.blank_after in
     ap (λ l. single_signs (tokens ++ l)) none ∙ ap single_signs (append-nil tokens)
     ∙ sym (ap (λ l. single_signs tokens ++ single_signs l) none ∙ append-nil (single_signs tokens))

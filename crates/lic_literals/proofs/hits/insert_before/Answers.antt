@@ -1,4 +1,4 @@
--- The number stands between those that are less and those that are greater.
+-- The number is between those that are less and those that are greater.
 use Rattle.std.proofs.Common.{ℕ, ◌<◌, ◌≤◌, length, get_or, sym, subst}
 use Rattle.std.specs.Prelude.{Err}
 use Rattle.std.specs.List.{Contains}

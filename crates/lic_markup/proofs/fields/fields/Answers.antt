@@ -4,7 +4,7 @@ use Rattle.lic_ere.specs.Located.{Located}
 use Rattle.lic_markup.specs.Rules.{field_or_none}
 use Rattle.lic_markup.specs.Views.{values_of}
 use Rattle.lic_markup.proofs.FaultLemmas.{Gives-err}
-use Rattle.lic_markup.proofs.FieldLemmas.{read-shorter, trim_front-shorter, fields-end, fields_turn, fields_fail, fields-refused, fields-open}
+use Rattle.lic_markup.proofs.FieldLemmas.{read-shorter, trim_start-shorter, fields-end, fields_turn, fields_fail, fields-refused, fields-open}
 use Rattle.lic_markup.proofs.fields.fields.Goals as goal
 
 pub returns-then-begins_with_two : goal.returns-then-begins_with_two
@@ -28,21 +28,21 @@ returns-in_err-rest c =
     Gives-err _ _ _ _ _ c.from_residual.ensures.1
     (λ e is. sym c.loop-after.invariant
     ∙ fields_fail c.args.rule c.args.tag
-    (values_of c.loop-after.values) _ _ c.loop-after.rest.now c.trim_front.result.now e c.in-Some.ensures.cases.0 c.trim_front.ensures (sym c.begins_with_two.ensures ∙ c.if-begins_with_two.false) (sym c.begins_with.ensures ∙ c.if-not-begins_with.false) is)
+    (values_of c.loop-after.values) _ _ c.loop-after.rest.now c.trim_start.result.now e c.in-Some.ensures.cases.0 c.trim_start.ensures (sym c.begins_with_two.ensures ∙ c.if-begins_with_two.false) (sym c.begins_with.ensures ∙ c.if-not-begins_with.false) is)
     c.in_err-rest.ensures
 
 pub loop-after-preserved : goal.loop-after-preserved
 loop-after-preserved c =
     fields_turn c.args.rule c.args.tag
-    (values_of c.loop-after.values) _ _ c.loop-after.rest.now c.trim_front.result.now _ _ _ c.in-Some.ensures.cases.0 c.trim_front.ensures (sym c.begins_with_two.ensures ∙ c.if-begins_with_two.false) (sym c.begins_with.ensures ∙ c.if-not-begins_with.false) c.in_ok-rest.ensures c.loop-after.invariant
+    (values_of c.loop-after.values) _ _ c.loop-after.rest.now c.trim_start.result.now _ _ _ c.in-Some.ensures.cases.0 c.trim_start.ensures (sym c.begins_with_two.ensures ∙ c.if-begins_with_two.false) (sym c.begins_with.ensures ∙ c.if-not-begins_with.false) c.in_ok-rest.ensures c.loop-after.invariant
 
 pub loop-after-smaller : goal.loop-after-smaller
 loop-after-smaller c =
-    let front = c.trim_front.result.now in
+    let front = c.trim_start.result.now in
     let one : length c.in_ok-rest.rest.now ≤ length front =
     read-shorter front (field_or_none c.args.rule c.args.tag
     (values_of c.loop-after.values) front) _ _ c.in_ok-rest.ensures in
-    let two : length front ≤ length c.in-Some.after.now = trim_front-shorter _ _ c.trim_front.ensures in
+    let two : length front ≤ length c.in-Some.after.now = trim_start-shorter _ _ c.trim_start.ensures in
     omega (arith, one, two, ap length c.in-Some.ensures.cases.0)
 
 pub returns : goal.returns

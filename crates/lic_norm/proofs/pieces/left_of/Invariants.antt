@@ -7,7 +7,7 @@ use Rattle.lic_norm.specs.Edges.{HasEdges}
 use Rattle.lic_norm.specs.Pieces.{piece_cells, piece_tokens}
 use Rattle.lic_norm.proofs.pieces.left_of.Given as goal
 
--- the edges of the list and the tokens of the lines so far, and those of the rest behind them
+-- the edges of the list and the tokens of the lines so far, and those of the rest after them
 abbrev pub invariant-loop-at : goal.invariant-loop-at
 invariant-loop-at l = record {
   edges : (cells : List Cell) × HasEdges l.left.edges cells

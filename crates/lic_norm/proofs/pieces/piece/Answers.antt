@@ -15,8 +15,8 @@ use Rattle.lic_norm.proofs.SpellingPlaces.{texts_of-reported}
 use Rattle.lic_norm.proofs.TokenTexts.{piece-texts, rewritten-all}
 use Rattle.lic_norm.proofs.pieces.piece.Goals as goal
 
-pub with_room-requires : goal.with_room-requires
-with_room-requires c = subst HaveTokenTexts (sym c.phrases.ensures) c.spellings_are_token_texts.ensures
+pub with_capacity-requires : goal.with_capacity-requires
+with_capacity-requires c = subst HaveTokenTexts (sym c.phrases.ensures) c.spellings_are_token_texts.ensures
 
 pub take-requires-clause-before : goal.take-requires-clause-before
 take-requires-clause-before c = record { taken = []; has = c.in_ok-rewriting.ensures.taken }

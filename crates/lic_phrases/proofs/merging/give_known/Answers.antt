@@ -3,7 +3,7 @@ use Rattle.std.proofs.Common.{◌≡◌, ◌≤◌, ◌<◌, ◌⊎◌, ◌∙�
 use Rattle.std.specs.Prelude.{option_map, IfSome}
 use Rattle.lic_lines.specs.Tokens.{small_bytes, tokens_in}
 use Rattle.lic_phrases.specs.PhraseLists.{longest_from}
-use Rattle.lic_phrases.specs.Waiting.{texts_of, front_phrase, phrase_found}
+use Rattle.lic_phrases.specs.Waiting.{texts_of, first_phrase, phrase_found}
 use Rattle.lic_phrases.proofs.MergingLemmas.{GivesMore-first}
 use Rattle.lic_phrases.proofs.merging.give_known.Goals as goal
 use Rattle.lic_phrases.proofs.merging.give_known.Goals.{else-not-at_end-via-then-not-at_end+else-len-most, else-not-at_end-via-else-not-at_end}
@@ -28,8 +28,8 @@ loop-first-preserved c =
       | else-not-at_end-via-else-not-at_end w ↦ inl w.if-not-at_end.false
     ] in
     let at_most : c.min.result ≡ min most (length items) = omega arith in
-    let found : option_map (phrase_found list.spellings tokens) c.in_ok-found.found ≡ front_phrase list.phrases (texts_of tokens) (min most (length items)) =
-    c.in_ok-found.ensures.found ∙ ap (front_phrase list.phrases (texts_of tokens)) at_most in
+    let found : option_map (phrase_found list.spellings tokens) c.in_ok-found.found ≡ first_phrase list.phrases (texts_of tokens) (min most (length items)) =
+    c.in_ok-found.ensures.found ∙ ap (first_phrase list.phrases (texts_of tokens)) at_most in
     let within : IfSome c.in_ok-found.found (λ f. (0 < f.count) × (f.count ≤ min most (length items))) =
     subst (λ n. IfSome c.in_ok-found.found (λ f. (0 < f.count) × (f.count ≤ n))) at_most c.in_ok-found.ensures.within in
     let step = GivesMore-first list c.args.at_end c.loop-first.output.items items first most c.in_ok-found.found c.give_first.new.output.items c.give_first.new.waiting.items

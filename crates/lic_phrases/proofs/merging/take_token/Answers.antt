@@ -3,7 +3,7 @@ use Rattle.std.proofs.Common.{◌≡◌, ◌≤◌, ◌++◌, ◌∷◌, ◌∙�
 use Rattle.std.proofs.lemmas.Bool.{eqb-true}
 use Rattle.lic_lines.specs.Tokens.{small_bytes, tokens_in}
 use Rattle.lic_phrases.specs.PhraseLists.{longest_from}
-use Rattle.lic_phrases.specs.Waiting.{texts_of, front_phrase, GivesMore}
+use Rattle.lic_phrases.specs.Waiting.{texts_of, first_phrase, GivesMore}
 use Rattle.lic_phrases.proofs.MergingLemmas.{empty_list, GivesMore-first, OnOk-one}
 use Rattle.lic_phrases.proofs.merging.take_token.Goals as goal
 
@@ -25,5 +25,5 @@ returns-then-most_from-eq0-clause-given c =
     (λ more.
     subst (λ l. GivesMore list false given (l ++ one) given' items) (sym empty)
     (GivesMore-first list false given one token 0 None given' items (omega arith) refl c.most_from.ensures.some (omega arith) (inr (omega arith))
-    (ap (front_phrase list.phrases (texts_of (tokens_in one))) zero_is) tt empty (more list.spellings)))
+    (ap (first_phrase list.phrases (texts_of (tokens_in one))) zero_is) tt empty (more list.spellings)))
     c.give_alone.ensures.given

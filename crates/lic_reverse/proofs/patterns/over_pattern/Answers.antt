@@ -13,7 +13,7 @@ use Rattle.lic_reverse.proofs.TidyPassing.{tidy-answer}
 use Rattle.lic_reverse.proofs.patterns.over_pattern.Goals as goal
 use Rattle.lic_reverse.proofs.patterns.over_pattern.Goals.{In_ok-append}
 
--- the places that are not behind a blank of the word
+-- the places that are not after a blank of the word
 answer : (c : In_ok-append) → IsBack c.args.keep c.args.view.now (λ w. Language (tree_words (tree_of c.args.ere.now)) w × IsTidy w) c.args.spans.items c.append.new.self.items
 answer c =
     let begin : Ways = record { nothing = c.args.spans; letter = c.new.result; blank = c.new-2.result } in

@@ -1,7 +1,7 @@
 -- Of the tokens that begin up to the last place the last one begins in the span, or none does.
 use Rattle.std.proofs.Common.{◌≡◌, ◌-◌, ◌<◌, ◌≤◌, length, refl, arith, rules}
 use Rattle.lic_norm.specs.Places.{place_start}
-use Rattle.lic_spans.specs.declared.span.Kind.TheVariants.{End}
+use Rattle.lic_spans.specs.declared.span.SpanKind.TheVariants.{End}
 use Rattle.lic_search.proofs.MatchSpans.{end-begins, greatest-first, some-first}
 use Rattle.lic_view.proofs.ViewPlaces.{starts-order}
 use Rattle.lic_view.proofs.ViewSpans.{last-one}

@@ -2,7 +2,7 @@
 use Rattle.std.proofs.Common.{◌≡◌, sym, ◌∙◌, true, IsTrue, rules}
 use Rattle.std.proofs.lemmas.Bool.{true≢false}
 use Rattle.lic_places.specs.Places.{is_blank_at, spelling_of}
-use Rattle.lic_spans.specs.declared.span.Kind.TheVariants.{Place}
+use Rattle.lic_spans.specs.declared.span.SpanKind.TheVariants.{Place}
 use Rattle.lic_search.proofs.MatchSpans.{begins-over, begins-plain, high-before, high-blank}
 use Rattle.lic_search.proofs.matches.last_start.Goals as goal
 use Rattle.lic_search.proofs.matches.last_start.Goals.{else-eq-via-then-eq+else-is_blank, else-eq-via-else-eq}

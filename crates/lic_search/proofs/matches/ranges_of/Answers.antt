@@ -2,7 +2,7 @@
 use Rattle.std.proofs.Common.{◌≡◌, ◌+◌, [], ◌∷◌, ◌++◌, get_or, take, sym, subst, subst₂, ap, ◌∙◌, Vec, Global}
 use Rattle.std.proofs.lemmas.List.{take_all, take_more}
 use Rattle.std.proofs.lemmas.List.Elements.{Contains-get_or}
-use Rattle.lic_spans.specs.declared.span.Kind.TheVariants.{End}
+use Rattle.lic_spans.specs.declared.span.SpanKind.TheVariants.{End}
 use Rattle.lic_spans.specs.declared.span.PlaceSpan.{PlaceSpan}
 use Rattle.lic_search.specs.declared.range.Range.{Range}
 use Rattle.lic_search.specs.Beginnings.{BeginsIn}

@@ -1,7 +1,7 @@
 -- One span more, and then all.
 use Rattle.std.proofs.Common.{◌↔◌, ℕ, ◌<◌, List, arith, get_or, inl, inr, length, subst, sym, take, ⊎_elim}
 use Rattle.std.proofs.lemmas.List.{take_all, take_more}
-use Rattle.lic_spans.specs.declared.span.Kind.TheVariants.{End}
+use Rattle.lic_spans.specs.declared.span.SpanKind.TheVariants.{End}
 use Rattle.lic_spans.specs.declared.span.PlaceSpan.{PlaceSpan}
 use Rattle.lic_spans.specs.Spans.{AreBefore, Holds, StartsBefore}
 use Rattle.lic_spans.proofs.Lasts.{AreBefore-later}

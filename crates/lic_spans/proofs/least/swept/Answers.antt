@@ -4,7 +4,7 @@ use Rattle.std.proofs.Math.Seq.{take-length}
 use Rattle.std.proofs.lemmas.List.{take_more}
 use Rattle.std.proofs.lemmas.Result.{IfOk-weaker}
 use Rattle.std.specs.BinaryHeap.{heap_items}
-use Rattle.lic_spans.specs.declared.span.Kind.TheVariants.{End}
+use Rattle.lic_spans.specs.declared.span.SpanKind.TheVariants.{End}
 use Rattle.lic_spans.specs.declared.span.PlaceSpan.{PlaceSpan}
 use Rattle.lic_spans.specs.Spans.{BeginsBefore, rank}
 use Rattle.lic_spans.specs.Sweeps.{IsLeastOf, IsSweepOf}

@@ -3,7 +3,7 @@ use Rattle.std.proofs.Common.{inl, inr, [], ◌∙◌, sym, subst}
 use Rattle.std.proofs.lemmas.Bool.{false≢true}
 use Rattle.lic_view.specs.PlaceSets.{Reaches}
 use Rattle.lic_vars.specs.Cuts.{ReadsFrom}
-use Rattle.lic_vars.proofs.HopLemmas.{cut-places, letter-here}
+use Rattle.lic_vars.proofs.StepOverLemmas.{cut-places, letter-here}
 use Rattle.lic_vars.proofs.cut.have_cut.Goals as goal
 
 pub returns-else-have_place : goal.returns-else-have_place

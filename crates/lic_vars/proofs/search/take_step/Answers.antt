@@ -20,8 +20,8 @@ walk_at : (tokens : List TokenValue) (steps : List Step) (n : ℕ) (step one : S
 walk_at tokens steps n step one record_ cut some within is same walk =
     subst (λ (ms : List Move). IsWalk tokens (moves_of steps) ms record_ cut) (sym (moves-of_step steps n step one some within is same)) walk
 
-pub behind_text-walk-requires : goal.behind_text-walk-requires
-behind_text-walk-requires c =
+pub after_text-walk-requires : goal.after_text-walk-requires
+after_text-walk-requires c =
     let walk = walk_at c.args.view.now c.args.steps.now c.args.walk.now.left c.index-steps-steps.result _ c.args.walk.now.record.items c.args.walk.now.cut
     c.requires.more c.requires.within c.index-steps-steps.is c.in-Text.is c.requires.walk in
     text-read c.args.view.now c.tokens_have_texts.ensures (moves_of c.args.steps.now) (last_moves c.args.steps.now (c.args.walk.now.left - 1))
@@ -32,22 +32,22 @@ returns-in-Text-clause-walk c =
     let walk = walk_at c.args.view.now c.args.steps.now c.args.walk.now.left c.index-steps-steps.result _ c.args.walk.now.record.items c.args.walk.now.cut
     c.requires.more c.requires.within c.index-steps-steps.is c.in-Text.is c.requires.walk in
     walk-text c.args.view.now c.tokens_have_texts.ensures (moves_of c.args.steps.now) (last_moves c.args.steps.now (c.args.walk.now.left - 1))
-    c.args.walk.now.record.items c.args.walk.now.cut (chars c.in-Text.text.now) c.behind_text-walk.result walk c.behind_text-walk.ensures
+    c.args.walk.now.record.items c.args.walk.now.cut (chars c.in-Text.text.now) c.after_text-walk.result walk c.after_text-walk.ensures
 
-pub behind_shortest-requires-clause-alone : goal.behind_shortest-requires-clause-alone
-behind_shortest-requires-clause-alone c =
+pub after_shortest-requires-clause-alone : goal.after_shortest-requires-clause-alone
+after_shortest-requires-clause-alone c =
     let n = c.args.walk.now.left in
     piece-at c.args.steps.now (length c.args.steps.now - n) c.index-steps-steps.result _ c.requires.pieces (omega (arith, c.requires.more, c.requires.within)) c.index-steps-steps.is c.in-Variable.is
 
-pub behind_shortest-requires-clause-placed : goal.behind_shortest-requires-clause-placed
-behind_shortest-requires-clause-placed c = c.requires.rest.placed
+pub after_shortest-requires-clause-placed : goal.after_shortest-requires-clause-placed
+after_shortest-requires-clause-placed c = c.requires.rest.placed
 
-pub behind_shortest-requires-clause-open : goal.behind_shortest-requires-clause-open
-behind_shortest-requires-clause-open c =
+pub after_shortest-requires-clause-open : goal.after_shortest-requires-clause-open
+after_shortest-requires-clause-open c =
     open-can c.args.view.now c.tokens_have_texts.ensures (last_moves c.args.steps.now c.args.walk.now.left) c.args.walk.now.cut c.requires.walk.can
 
-pub behind_shortest-requires-clause-can : goal.behind_shortest-requires-clause-can
-behind_shortest-requires-clause-can c =
+pub after_shortest-requires-clause-can : goal.after_shortest-requires-clause-can
+after_shortest-requires-clause-can c =
     let tokens = c.args.view.now in
     let steps = c.args.steps.now in
     let left = c.args.walk.now.left in

@@ -17,13 +17,13 @@ use Rattle.lic_literals.proofs.groups.Groups.numbers.Goals.{in-Some+in_ok-extend
 pub loop-one-preserved : goal.loop-one-preserved
 loop-one-preserved c =
     let self = c.args.self.now in
-    let standing = c.standing-one-items.result.now in
+    let occurrences = c.occurrences-one-items.result.now in
     let i = c.loop-one.one-index in
     let one = c.one-item.result in
     let lists = self.sharing.items in
-    let windows = map (λ s. s.window) (take i standing) in
+    let windows = map (λ s. s.window) (take i occurrences) in
     let before = c.loop-one.invariant in
-    let more : map (λ s. s.window) (take (i + 1) standing) ≡ windows ++ one.window ∷ [] = map_more (λ s. s.window) standing i one c.loop-one-test.true c.one-item.is in
+    let more : map (λ s. s.window) (take (i + 1) occurrences) ≡ windows ++ one.window ∷ [] = map_more (λ s. s.window) occurrences i one c.loop-one-test.true c.one-item.is in
     elim c.match-get.branch [
       | in-Some+in_ok-extend_from_slice w ↦
           let added = w.deref-in-Some.result.now in
@@ -71,14 +71,14 @@ returns-clause-complete c = λ k candidate.
     let hits = c.args.hits.now in
     let sorted = c.sort_unstable.new.self.items in
     let numbers = c.loop-one.numbers.items in
-    let standing = c.standing-one-items.result.now in
+    let occurrences = c.occurrences-one-items.result.now in
     let kept : c.dedup.new.self.items ≡ dedup nat_eq sorted = dedup_is nat_eq sorted c.dedup.new.self.items c.dedup.ensures.filtered in
     let there : Contains numbers k =
     ⊎_elim
     (λ (short : Contains self.short.items k). c.loop-one.invariant.short k short)
     (λ (shares : (window : ℕ) × Contains (windows_of hits) window × Contains (sharing_of self window) k).
-    let all : windows_of hits ≡ map (λ s. s.window) (take c.loop-one.one-index standing) =
-    ap (map (λ s. s.window)) (sym c.standing-one-items.ensures ∙ sym (take_all c.loop-one.one-index standing c.loop-one-test.false)) in
+    let all : windows_of hits ≡ map (λ s. s.window) (take c.loop-one.one-index occurrences) =
+    ap (map (λ s. s.window)) (sym c.occurrences-one-items.ensures ∙ sym (take_all c.loop-one.one-index occurrences c.loop-one-test.false)) in
     c.loop-one.invariant.sharing shares.0 k (subst (λ ws. Contains ws shares.0) all shares.1) shares.2)
     candidate in
     subst (λ xs. Contains xs k) (sym kept) (Contains-dedup_nat sorted k (Contains-permutation numbers sorted k c.sort_unstable.ensures.permutation there))

@@ -10,6 +10,6 @@ note_more-requires c =
     let old = c.args.self.now in
     let slot = c.in-Some.slot in
     let at : slot_of old c.args.window ≡ Some slot = sym c.get.ensures.value ∙ sym c.copied.ensures ∙ c.in-Some.is in
-    let within : slot < length (map (λ s. s.window) old.standing.items) =
-    slice_get_within (map (λ s. s.window) old.standing.items) slot c.args.window (old.placed c.args.window slot at) in
-    omega (arith, within, length-map old.standing.items (λ s. s.window))
+    let within : slot < length (map (λ s. s.window) old.occurrences.items) =
+    slice_get_within (map (λ s. s.window) old.occurrences.items) slot c.args.window (old.placed c.args.window slot at) in
+    omega (arith, within, length-map old.occurrences.items (λ s. s.window))

@@ -7,7 +7,7 @@ use Rattle.std.proofs.lemmas.List.{length-map, map-append}
 use Rattle.std.proofs.lemmas.List.Elements.{All-push, Contains-push}
 use Rattle.std.proofs.Math.Logic.{⊎_elim}
 use Rattle.lic_literals.specs.Hits.{IsListed, lists_of, slot_of}
-use Rattle.lic_literals.specs.declared.hits.Standing.{Standing}
+use Rattle.lic_literals.specs.declared.hits.Occurrence.{Occurrence}
 use Rattle.lic_literals.proofs.HitsLemmas.{first_kept, first_noted, slot_cases}
 use Rattle.lic_literals.proofs.Lists.{read_before, read_last}
 use Rattle.lic_literals.proofs.hits.Hits.note_first.Goals as goal
@@ -19,14 +19,14 @@ one_rises xs p is = subst IsStrictlyIncreasing (sym is) (λ k h. absurd (omega a
 pub invariant_of-self-in-Break-branch-3 : goal.invariant_of-self-in-Break-branch-3
 invariant_of-self-in-Break-branch-3 c =
     let old = c.args.self.now in
-    let one : Standing = record { window = c.args.window; places = c.in_ok-places.places } in
-    let windows = map (λ s. s.window) old.standing.items in
+    let one : Occurrence = record { window = c.args.window; places = c.in_ok-places.places } in
+    let windows = map (λ s. s.window) old.occurrences.items in
     let more : map (λ s. s.window) c.push.new.self.items ≡ windows ++ c.args.window ∷ [] =
-    ap (map (λ s. s.window)) c.in_ok-push.ensures.items ∙ map-append (λ s. s.window) old.standing.items (one ∷ []) in
+    ap (map (λ s. s.window)) c.in_ok-push.ensures.items ∙ map-append (λ s. s.window) old.occurrences.items (one ∷ []) in
     record {
       rising =
           subst (λ list. All (λ s. IsStrictlyIncreasing s.places.items) list) (sym c.in_ok-push.ensures.items)
-          (All-push (λ s. IsStrictlyIncreasing s.places.items) old.standing.items one old.rising
+          (All-push (λ s. IsStrictlyIncreasing s.places.items) old.occurrences.items one old.rising
           (one_rises c.in_ok-places.places.items c.args.place c.in_ok-places.ensures.items));
       placed = λ i slot at.
           ap (λ list. slice_get list slot) more
@@ -36,19 +36,19 @@ invariant_of-self-in-Break-branch-3 c =
 pub invariant_of-self-2 : goal.invariant_of-self-2
 invariant_of-self-2 c =
     let old = c.args.self.now in
-    let one : Standing = record { window = c.args.window; places = c.in_ok-places.places } in
-    let windows = map (λ s. s.window) old.standing.items in
+    let one : Occurrence = record { window = c.args.window; places = c.in_ok-places.places } in
+    let windows = map (λ s. s.window) old.occurrences.items in
     let slots = slot_of old in
     let lists = lists_of old in
     let last = c.len-slot.result in
     let more : map (λ s. s.window) c.push.new.self.items ≡ windows ++ c.args.window ∷ [] =
-    ap (map (λ s. s.window)) c.in_ok-push.ensures.items ∙ map-append (λ s. s.window) old.standing.items (one ∷ []) in
-    let count : last ≡ length lists = omega (arith, c.len-slot.ensures, old.standing.ok, length-map old.standing.items (λ s. s.places.items)) in
-    let end : last ≡ length windows = omega (arith, c.len-slot.ensures, old.standing.ok, length-map old.standing.items (λ s. s.window)) in
+    ap (map (λ s. s.window)) c.in_ok-push.ensures.items ∙ map-append (λ s. s.window) old.occurrences.items (one ∷ []) in
+    let count : last ≡ length lists = omega (arith, c.len-slot.ensures, old.occurrences.ok, length-map old.occurrences.items (λ s. s.places.items)) in
+    let end : last ≡ length windows = omega (arith, c.len-slot.ensures, old.occurrences.ok, length-map old.occurrences.items (λ s. s.window)) in
     record {
       rising =
           subst (λ list. All (λ s. IsStrictlyIncreasing s.places.items) list) (sym c.in_ok-push.ensures.items)
-          (All-push (λ s. IsStrictlyIncreasing s.places.items) old.standing.items one old.rising
+          (All-push (λ s. IsStrictlyIncreasing s.places.items) old.occurrences.items one old.rising
           (one_rises c.in_ok-places.places.items c.args.place c.in_ok-places.ensures.items));
       placed = λ i slot at.
           ap (λ list. slice_get list slot) more
@@ -61,16 +61,16 @@ invariant_of-self-2 c =
 pub returns : goal.returns
 returns c =
     let old = c.args.self.now in
-    let one : Standing = record { window = c.args.window; places = c.in_ok-places.places } in
+    let one : Occurrence = record { window = c.args.window; places = c.in_ok-places.places } in
     let slots = slot_of old in
     let lists = lists_of old in
     let now = c.in_ok-places.places.items in
     let last = c.len-slot.result in
     let count = c.saturating_add-self.result in
     let new = λ (j : ℕ). lookup (nat_eq j) c.insert.new.self.entries in
-    let end : last ≡ length lists = omega (arith, c.len-slot.ensures, old.standing.ok, length-map old.standing.items (λ s. s.places.items)) in
+    let end : last ≡ length lists = omega (arith, c.len-slot.ensures, old.occurrences.ok, length-map old.occurrences.items (λ s. s.places.items)) in
     let more : map (λ s. s.places.items) c.push.new.self.items ≡ lists ++ now ∷ [] =
-    ap (map (λ s. s.places.items)) c.in_ok-push.ensures.items ∙ map-append (λ s. s.places.items) old.standing.items (one ∷ []) in
+    ap (map (λ s. s.places.items)) c.in_ok-push.ensures.items ∙ map-append (λ s. s.places.items) old.occurrences.items (one ∷ []) in
     let has : Contains now c.args.place = subst (λ xs. Contains xs c.args.place) (sym c.in_ok-places.ensures.items) (Contains-push [] c.args.place) in
     record {
       noted =

@@ -6,7 +6,7 @@ use Rattle.std.proofs.lemmas.List.{get_or-map, length-map, map-set}
 use Rattle.std.proofs.lemmas.List.Elements.{All-set}
 use Rattle.std.proofs.Math.Seq.{map-set_same}
 use Rattle.lic_literals.specs.Hits.{IsListed, lists_of, slot_of}
-use Rattle.lic_literals.specs.declared.hits.Standing.{Standing}
+use Rattle.lic_literals.specs.declared.hits.Occurrence.{Occurrence}
 use Rattle.lic_literals.proofs.HitsLemmas.{more_kept, more_noted}
 use Rattle.lic_literals.proofs.hits.Hits.note_more.Goals as goal
 
@@ -14,12 +14,12 @@ pub invariant_of-self : goal.invariant_of-self
 invariant_of-self c =
     let old = c.args.self.now in
     let was = c.index_mut-one.result.now in
-    let one : Standing = record { window = was.window; places = c.insert.new.numbers } in
+    let one : Occurrence = record { window = was.window; places = c.insert.new.numbers } in
     record {
-      rising = All-set (λ s. IsStrictlyIncreasing s.places.items) old.standing.items c.args.slot one c.insert.ensures.rising old.rising;
+      rising = All-set (λ s. IsStrictlyIncreasing s.places.items) old.occurrences.items c.args.slot one c.insert.ensures.rising old.rising;
       placed = λ i slot at.
           ap (λ windows. slice_get windows slot)
-          (map-set_same (λ s. s.window) old.standing.items c.args.slot one was (ap (λ s. s.window) c.index_mut-one.ensures.value))
+          (map-set_same (λ s. s.window) old.occurrences.items c.args.slot one was (ap (λ s. s.window) c.index_mut-one.ensures.value))
           ∙ old.placed i slot at;
     }
 
@@ -27,12 +27,12 @@ pub invariant_of-self-2 : goal.invariant_of-self-2
 invariant_of-self-2 c =
     let old = c.args.self.now in
     let was = c.index_mut-one.result.now in
-    let one : Standing = record { window = was.window; places = c.insert.new.numbers } in
+    let one : Occurrence = record { window = was.window; places = c.insert.new.numbers } in
     record {
-      rising = All-set (λ s. IsStrictlyIncreasing s.places.items) old.standing.items c.args.slot one c.insert.ensures.rising old.rising;
+      rising = All-set (λ s. IsStrictlyIncreasing s.places.items) old.occurrences.items c.args.slot one c.insert.ensures.rising old.rising;
       placed = λ i slot at.
           ap (λ windows. slice_get windows slot)
-          (map-set_same (λ s. s.window) old.standing.items c.args.slot one was (ap (λ s. s.window) c.index_mut-one.ensures.value))
+          (map-set_same (λ s. s.window) old.occurrences.items c.args.slot one was (ap (λ s. s.window) c.index_mut-one.ensures.value))
           ∙ old.placed i slot at;
     }
 
@@ -43,14 +43,14 @@ returns c = λ window at.
     let slot = c.args.slot in
     let was = c.index_mut-one.result.now in
     let now = c.insert.new.numbers.items in
-    let one : Standing = record { window = was.window; places = c.insert.new.numbers } in
+    let one : Occurrence = record { window = was.window; places = c.insert.new.numbers } in
     let count = c.saturating_add-self.result in
-    let within : slot < length lists = omega (arith, length-map old.standing.items (λ s. s.places.items), c.requires) in
+    let within : slot < length lists = omega (arith, length-map old.occurrences.items (λ s. s.places.items), c.requires) in
     let before : was.places.items ≡ get_or lists slot [] =
-    ap (λ s. s.places.items) c.index_mut-one.ensures.value ∙ sym (get_or-map (λ s. s.places.items) old.standing.items slot was [] c.requires) in
+    ap (λ s. s.places.items) c.index_mut-one.ensures.value ∙ sym (get_or-map (λ s. s.places.items) old.occurrences.items slot was [] c.requires) in
     let kept : (p : ℕ) → Contains (get_or lists slot []) p → Contains now p =
     λ p h. c.insert.ensures.kept p (subst (λ xs. Contains xs p) (sym before) h) in
-    let after : map (λ s. s.places.items) (set old.standing.items slot one) ≡ set lists slot now = map-set (λ s. s.places.items) old.standing.items slot one in
+    let after : map (λ s. s.places.items) (set old.occurrences.items slot one) ≡ set lists slot now = map-set (λ s. s.places.items) old.occurrences.items slot one in
     record {
       noted =
           subst (λ ls. IsListed (slot_of old) ls count window c.args.place) (sym after)

@@ -1,4 +1,4 @@
--- A window that begins one place earlier is noted, if it stands there.
+-- A window that begins one place earlier is noted, if it is there.
 use Rattle.std.proofs.Common.{◌≡◌, ℕ, ◌+◌, ◌-◌, sym, ◌∙◌, subst, arith}
 use Rattle.std.proofs.lemmas.Bool.{false≢true}
 use Rattle.lic_literals.specs.Hashes.{hash_of, start_mark}

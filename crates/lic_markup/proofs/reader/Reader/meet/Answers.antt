@@ -4,18 +4,18 @@ use Rattle.lic_markup.specs.declared.elements.Element.{Element}
 use Rattle.lic_markup.specs.Faults.{Fails}
 use Rattle.lic_markup.specs.Reading.{State, meet}
 use Rattle.lic_markup.specs.Views.{element_of, state_of}
-use Rattle.lic_markup.proofs.FaultLemmas.{Fails-told}
+use Rattle.lic_markup.proofs.FaultLemmas.{Fails-reported}
 use Rattle.lic_markup.proofs.PartTextLemmas.{meet_variable-texts, meet_end-texts}
 use Rattle.lic_markup.proofs.reader.Reader.meet.Goals as goal
 
 pub returns-in-Refused-clause-state : goal.returns-in-Refused-clause-state
 unfolding meet
 returns-in-Refused-clause-state c =
-    let f = c.told_again.result in
+    let f = c.reported_again.result in
     subst (λ (e : Element). Fails f.cause f.place
     (meet (rules_of c.args.rules.now) c.args.words.now (element_of e) c.args.follows
     (state_of c.args.self.now))) (sym c.in-Refused.is)
-    (Fails-told State c.in-Refused.fault f c.told_again.ensures)
+    (Fails-reported State c.in-Refused.fault f c.reported_again.ensures)
 
 pub returns-in-Rule-Variable-clause-texts : goal.returns-in-Rule-Variable-clause-texts
 returns-in-Rule-Variable-clause-texts c =

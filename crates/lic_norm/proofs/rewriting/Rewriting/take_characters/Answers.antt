@@ -3,9 +3,9 @@ use Rattle.std.specs.Prelude.{string_bytes}
 use Rattle.std.proofs.lemmas.List.{drop-drop, drop_all, take_rest}
 use Rattle.std.proofs.lemmas.List.Elements.{All-head}
 use Rattle.lic_lines.specs.LineRules.{rules_of}
-use Rattle.lic_lines.specs.TextFronts.{IsTextFront}
+use Rattle.lic_lines.specs.TextStarts.{IsTextStart}
 use Rattle.lic_lines.specs.Tokens.{Token, single_signs, text_tokens_after}
-use Rattle.lic_lines.specs.declared.text_front.TextFront.TheVariants as front
+use Rattle.lic_lines.specs.declared.text_start.TextStart.TheVariants as front
 use Rattle.lic_lines.proofs.ItemLemmas.{none}
 use Rattle.lic_lines.proofs.TokenLemmas.{no_tokens_after}
 use Rattle.lic_phrases.specs.Settling.{Settles}
@@ -41,8 +41,8 @@ loop-place-preserved-in-Blank c =
     let known = c.loop-place.invariant in
     let here = take (length text - place) (drop place text) in
     let rest : here ≡ drop place text = take_rest text place in
-    let told : IsTextFront front.Blank (string_bytes c.front_of_text.new.letters) here =
-    subst (λ f. IsTextFront f (string_bytes c.front_of_text.new.letters) here) c.in-Blank.is c.in_ok-front_of_text.ensures in
+    let told : IsTextStart front.Blank (string_bytes c.start_of_text.new.letters) here =
+    subst (λ f. IsTextStart f (string_bytes c.start_of_text.new.letters) here) c.in-Blank.is c.in_ok-start_of_text.ensures in
     record {
       within = omega arith;
       taken = λ taken has.
@@ -68,8 +68,8 @@ take_text-requires-clause-text c =
     let place = c.loop-place.place in
     let n = c.in-Token.length in
     let here = take (length text - place) (drop place text) in
-    let told : IsTextFront (front.Token n) (string_bytes c.front_of_text.new.letters) here =
-    subst (λ f. IsTextFront f (string_bytes c.front_of_text.new.letters) here) c.in-Token.is c.in_ok-front_of_text.ensures in
+    let told : IsTextStart (front.Token n) (string_bytes c.start_of_text.new.letters) here =
+    subst (λ f. IsTextStart f (string_bytes c.start_of_text.new.letters) here) c.in-Token.is c.in_ok-start_of_text.ensures in
     subst IsTokenText (sym c.as_str.ensures.value)
     (All-head (λ t. IsTokenText t.text) _ _
     (subst HaveTexts (sym (told.2 rules c.loop-place.after_blank none)) (after-texts rules c.loop-place.after_blank here)))
@@ -86,8 +86,8 @@ loop-place-preserved-in-Token c =
     let known = c.loop-place.invariant in
     let here = take (length text - place) (drop place text) in
     let rest : here ≡ drop place text = take_rest text place in
-    let told : IsTextFront (front.Token n) (string_bytes c.front_of_text.new.letters) here =
-    subst (λ f. IsTextFront f (string_bytes c.front_of_text.new.letters) here) c.in-Token.is c.in_ok-front_of_text.ensures in
+    let told : IsTextStart (front.Token n) (string_bytes c.start_of_text.new.letters) here =
+    subst (λ f. IsTextStart f (string_bytes c.start_of_text.new.letters) here) c.in-Token.is c.in_ok-start_of_text.ensures in
     let token_with = λ (letters : List ℕ). let t : Token = record {
       text = letters;
       start = (get_or here 0 none).start;
@@ -131,7 +131,7 @@ loop-place-preserved c =
             before.0 ++ more.0,
             subst (HasTaken c.take_front.new.self) (append_assoc taken before.0 more.0) more.1,
             append_assoc before.0 more.0 _
-                ∙ ap (λ l. before.0 ++ l) (ap (λ l. more.0 ++ text_tokens_after rules part.blank_behind l)
+                ∙ ap (λ l. before.0 ++ l) (ap (λ l. more.0 ++ text_tokens_after rules part.blank_after l)
                 (sym (ap (drop part.length) rest ∙ drop-drop part.length place text))
                 ∙ more.2 ∙ ap (text_tokens_after rules c.loop-place.after_blank) rest)
                 ∙ before.2,

@@ -5,7 +5,7 @@ use Rattle.std.proofs.lemmas.List.{length-map, drop_all}
 use Rattle.std.proofs.lemmas.Result.{err_from_is_err_and}
 use Rattle.std.specs.List.{slice_split}
 use Rattle.std.specs.Str.{chars}
-use Rattle.lic_phrases.specs.Classes.{AreHeads}
+use Rattle.lic_phrases.specs.Classes.{AreRepresentatives}
 use Rattle.lic_phrases.specs.Listed.{phrases_in}
 use Rattle.lic_phrases.specs.WordLists.{fault_from, phrase_texts, split_phrases}
 use Rattle.lic_phrases.specs.WordReading.{HasRead}
@@ -87,8 +87,8 @@ returns-clause-read c = λ lines before.
     (phrases_in c.loop-phrase.self.phrases.items) heads.items c.loop-phrase.numbers.items) whole
     (known.read lines before))
     as_long
-    (λ ls h. subst (λ (l : List ℕ). AreHeads (ls ++ l ∷ []) c.join_line.new.heads) c.deref.ensures.value
-    (c.join_line.ensures.joined ls (subst (AreHeads (ls ++ [] ∷ [])) (sym c.deref_mut.ensures.value) h))))
+    (λ ls h. subst (λ (l : List ℕ). AreRepresentatives (ls ++ l ∷ []) c.join_line.new.heads) c.deref.ensures.value
+    (c.join_line.ensures.joined ls (subst (AreRepresentatives (ls ++ [] ∷ [])) (sym c.deref_mut.ensures.value) h))))
 
 pub returns-clause-sound : goal.returns-clause-sound
 returns-clause-sound c = λ number later.

@@ -10,12 +10,12 @@ pub place_of-requires : goal.place_of-requires
 place_of-requires c =
     within-one c.args.view.now c.args.span c.args.number c.requires.placed c.requires.low c.requires.high
 
-pub returns-then-is_behind_blank-clause-none : goal.returns-then-is_behind_blank-clause-none
-returns-then-is_behind_blank-clause-none c = λ keep.
+pub returns-then-is_after_blank-clause-none : goal.returns-then-is_after_blank-clause-none
+returns-then-is_after_blank-clause-none c = λ keep.
     let tokens = c.args.view.now in
     back-behind_blank keep tokens c.in_ok-place.place c.args.span.last (IsOfNumber tokens c.args.span c.args.number)
     (number-at tokens c.args.span c.args.number c.in_ok-place.place c.in_ok-place.ensures)
-    (c.is_behind_blank.ensures.0 c.if-is_behind_blank.true)
+    (c.is_after_blank.ensures.0 c.if-is_after_blank.true)
 
 pub returns-then-place-eq0-clause-none : goal.returns-then-place-eq0-clause-none
 returns-then-place-eq0-clause-none c = λ keep.
@@ -32,4 +32,4 @@ returns-clause-some c = λ keep.
     c.in_ok-place.ensures in
     back-counted keep tokens place span.last (IsOfNumber tokens span c.args.number) (number-at tokens span c.args.number place c.in_ok-place.ensures)
     c.tokens_have_texts.ensures lies (omega (arith, c.if-place-eq0.false))
-    (λ behind. true≢false (sym (c.is_behind_blank.ensures.1 behind) ∙ c.if-is_behind_blank.false)) (c.in_ok-place.ensures, refl)
+    (λ behind. true≢false (sym (c.is_after_blank.ensures.1 behind) ∙ c.if-is_after_blank.false)) (c.in_ok-place.ensures, refl)

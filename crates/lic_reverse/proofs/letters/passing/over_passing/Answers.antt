@@ -1,8 +1,8 @@
 use Rattle.std.proofs.Common.{◌≡◌, ◌⊎◌, ap, get_or, inl, inr, subst, sym}
 use Rattle.std.proofs.lemmas.List.Elements.{Contains-get_or}
 use Rattle.lic_spans.specs.Spans.{gap_of}
-use Rattle.lic_spans.specs.declared.span.Kind.{Kind}
-use Rattle.lic_spans.specs.declared.span.Kind.TheVariants.{Blanks, End, Letters}
+use Rattle.lic_spans.specs.declared.span.SpanKind.{SpanKind}
+use Rattle.lic_spans.specs.declared.span.SpanKind.TheVariants.{Blanks, End, Letters}
 use Rattle.lic_spans.specs.declared.span.PlaceSpan.{PlaceSpan}
 use Rattle.lic_view.specs.Backward.{AddsBack}
 use Rattle.lic_reverse.specs.PassingPlaces.{LeadsToSome}
@@ -19,7 +19,7 @@ loop-span-init c = spans-none c.args.keep c.args.view.now (IsPassing (passes_of 
 pub add_passing-requires : goal.add_passing-requires
 add_passing-requires c = placed-one c.args.view.now c.args.spans.now c.loop-span.span-index _ c.loop-span-test.true c.requires
 
-wide : (kind : Kind) → (kind ≡ Letters) ⊎ (kind ≡ Blanks) → gap_of kind ≡ 1
+wide : (kind : SpanKind) → (kind ≡ Letters) ⊎ (kind ≡ Blanks) → gap_of kind ≡ 1
 wide kind (inl is) = ap gap_of is
 wide kind (inr is) = ap gap_of is
 

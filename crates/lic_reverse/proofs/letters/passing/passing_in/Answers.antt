@@ -1,4 +1,4 @@
--- Where the place is one of the span's, what leads to it is a letter in front of it.
+-- Where the place is one of the span's, what leads to it is a letter before it.
 use Rattle.lic_ere.specs.Trees.{tree_of}
 use Rattle.lic_reverse.specs.Passing.{passes_of}
 use Rattle.lic_reverse.proofs.EreLemmas.{option-changed}

@@ -3,7 +3,7 @@ use Rattle.std.proofs.Common.{subst, sym}
 use Rattle.lic_ere.specs.Trees.{tree_of}
 use Rattle.lic_reverse.specs.Passing.{passes_of}
 use Rattle.lic_reverse.specs.PassingPlaces.{LeadsToSome}
-use Rattle.lic_spans.specs.declared.span.Kind.TheVariants.{End}
+use Rattle.lic_spans.specs.declared.span.SpanKind.TheVariants.{End}
 use Rattle.lic_spans.specs.declared.span.PlaceSpan.{PlaceSpan}
 use Rattle.lic_view.specs.Wide.{AreStretchesOf}
 use Rattle.lic_view.proofs.StretchLemmas.{stretch-within, those-all, those-more, those-none, those-of}

@@ -5,7 +5,7 @@ use Rattle.lic_reverse.specs.Passing.{passes_of}
 use Rattle.lic_reverse.specs.Runs.{IsChain}
 use Rattle.lic_reverse.proofs.letters.run.run_back.Given as goal
 
--- so many letters that pass stand from there up to the place
+-- so many letters that pass are from there up to the place
 abbrev pub invariant-loop-low : goal.invariant-loop-low
 invariant-loop-low l = (l.number ≤ l.count) × IsChain (spelling_of l.view) (passes_of (tree_of l.ere)) l.number l.low l.place
 

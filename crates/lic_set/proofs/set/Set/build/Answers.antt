@@ -3,8 +3,8 @@ use Rattle.std.proofs.lemmas.List.Sorted.{answers_always, ranks_by}
 use Rattle.std.specs.List.{AllAdjacentBelow}
 use Rattle.std.specs.Ordering.{is_lt}
 use Rattle.std.specs.String.{string_cmp, string_cmp_total, string_bytes}
-use Rattle.lic_set.specs.Sets.{RepeatsAt, StandsTwice, pairs_known}
-use Rattle.lic_set.proofs.Ordering.{IsSetOf-from_sort, StandsTwice-from_repeat}
+use Rattle.lic_set.specs.Sets.{RepeatsAt, OccursTwice, pairs_known}
+use Rattle.lic_set.proofs.Ordering.{IsSetOf-from_sort, OccursTwice-from_repeat}
 use Rattle.lic_set.proofs.set.Set.build.Goals as goal
 
 pub returns-in-Some-clause-twice : goal.returns-in-Some-clause-twice
@@ -12,10 +12,10 @@ returns-in-Some-clause-twice c = λ id same.
     let moved = c.sort_unstable_by.new.self.items in
     let taken = c.swap_remove-id.result in
     let repeats : RepeatsAt moved c.in-Some.k = rw c.deref.ensures.value at c.in-Some.ensures.found in
-    let twice = StandsTwice-from_repeat c.args.templates.items moved c.in-Some.k taken c.sort_unstable_by.ensures.permutation repeats in
+    let twice = OccursTwice-from_repeat c.args.templates.items moved c.in-Some.k taken c.sort_unstable_by.ensures.permutation repeats in
     let alike : get_or moved c.in-Some.k taken ≡ taken = sym c.swap_remove-id.ensures.value in
     let told : taken.0 ≡ id = cc in
-    (omega arith, subst (λ i. StandsTwice (string_bytes i) (pairs_known c.args.templates.items)) (ap (λ p. p.0) alike ∙ told) twice)
+    (omega arith, subst (λ i. OccursTwice (string_bytes i) (pairs_known c.args.templates.items)) (ap (λ p. p.0) alike ∙ told) twice)
 
 pub returns-in_err-assemble-clause-memory : goal.returns-in_err-assemble-clause-memory
 returns-in_err-assemble-clause-memory c = λ _.

@@ -2,7 +2,7 @@
 use Rattle.std.proofs.Common.{◌≡◌, ℕ, List, [], ◌∷◌, ◌++◌, sym, ◌∙◌, subst, arith, length, ◌+◌, ◌<◌, ◌^◌}
 use Rattle.std.proofs.lemmas.List.Sorted.{length_permutation}
 use Rattle.std.specs.BinaryHeap.{heap_items}
-use Rattle.lic_spans.specs.declared.span.Kind.{Kind}
+use Rattle.lic_spans.specs.declared.span.SpanKind.{SpanKind}
 use Rattle.lic_spans.specs.declared.span.PlaceSpan.{PlaceSpan}
 use Rattle.lic_spans.specs.Sweeps.{Active, IsSweepOf}
 use Rattle.lic_spans.proofs.Sweeping.{IsSweepOf-advanced, IsSweepOf-push}
@@ -25,7 +25,7 @@ returns-clause-sweep c = λ taken h.
     let pushed : IsSweepOf (taken ++ s ∷ []) s.kind s.low (heap_items c.push.new.self) new =
     IsSweepOf-push taken active new s bounded (heap_items c.push.new.self) c.in_ok-push.ensures.permutation
     (subst (λ k. IsSweepOf taken k s.low active new) c.in_ok-reach.ensures.kind there) in
-    let P : Kind → ℕ → Type 0 = λ k at. IsSweepOf (taken ++ s ∷ []) k at (heap_items c.push.new.self) new in
+    let P : SpanKind → ℕ → Type 0 = λ k at. IsSweepOf (taken ++ s ∷ []) k at (heap_items c.push.new.self) new in
     subst (λ at. P c.settle.new.self.kind at) (sym e.at) (subst (λ k. P k s.low) (sym kind) pushed)
 
 pub returns-clause-few : goal.returns-clause-few

@@ -1,6 +1,6 @@
 use Rattle.std.proofs.Common.{◌≤◌, [], ◌∷◌, ◌++◌, arith, ap, sym, subst, ◌∙◌}
 use Rattle.std.proofs.lemmas.List.{append-nil}
-use Rattle.lic_view.specs.PlaceSets.{LiesInFront}
+use Rattle.lic_view.specs.PlaceSets.{LiesBefore}
 use Rattle.lic_view.proofs.ViewSpans.{Holds-one, last-one}
 use Rattle.lic_view.proofs.BlankLemmas.{IsBlank}
 use Rattle.lic_view.proofs.Numbers.{below-all, below-first, below-more}
@@ -18,7 +18,7 @@ loop-number-preserved c =
     let number = c.loop-number.number in
     let from : span.low ≤ number = c.loop-number.auto.number in
     let to : number ≤ span.high = omega (arith, c.loop-number-test.true, c.end_of-number-end.ensures) in
-    let front = subst (λ k. LiesInFront tokens k number span.last) c.requires.kind (c.requires.placed.front span.kind number span.last (Holds-one span number from to)) in
+    let front = subst (λ k. LiesBefore tokens k number span.last) c.requires.kind (c.requires.placed.front span.kind number span.last (Holds-one span number from to)) in
     elim c.match-over_blank.branch [
       | in-Some+in_ok-push w ↦
           below-more c.args.keep tokens IsBlank span number c.args.found.now.items c.loop-number.found.items c.match-over_blank.found.items (single w.in-Some.place span.last ∷ []) from

@@ -1,6 +1,6 @@
 use Rattle.std.proofs.Common.{◌≡◌, ◌⊎◌, ◌≤◌, [], ◌∷◌, ◌++◌, false, inl, inr, arith, ap, refl, sym, subst, ◌∙◌}
 use Rattle.std.proofs.lemmas.List.{append-nil}
-use Rattle.lic_spans.specs.declared.span.Kind.TheVariants.{End, Place}
+use Rattle.lic_spans.specs.declared.span.SpanKind.TheVariants.{End, Place}
 use Rattle.lic_places.specs.Places.{spelling_of}
 use Rattle.lic_literals.specs.Ends.{EndsAt}
 use Rattle.lic_view.specs.PlaceSets.{IsPlaceOf}

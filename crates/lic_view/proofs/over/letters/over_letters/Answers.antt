@@ -3,8 +3,8 @@ use Rattle.std.proofs.lemmas.List.Elements.{Contains-get_or}
 use Rattle.lic_places.specs.Places.{spelling_of}
 use Rattle.lic_literals.specs.Ends.{EndsAt}
 use Rattle.lic_spans.specs.Spans.{gap_of}
-use Rattle.lic_spans.specs.declared.span.Kind.{Kind}
-use Rattle.lic_spans.specs.declared.span.Kind.TheVariants.{Blanks, End, Letters}
+use Rattle.lic_spans.specs.declared.span.SpanKind.{SpanKind}
+use Rattle.lic_spans.specs.declared.span.SpanKind.TheVariants.{Blanks, End, Letters}
 use Rattle.lic_spans.specs.declared.span.PlaceSpan.{PlaceSpan}
 use Rattle.lic_view.specs.Wide.{HoldThoseOf}
 use Rattle.lic_view.specs.Backward.{AddsBack}
@@ -19,7 +19,7 @@ loop-span-init c = spans-none c.args.keep c.args.view.now (IsWordOf c.args.lette
 pub add_single-requires-clause-placed : goal.add_single-requires-clause-placed
 add_single-requires-clause-placed c = placed-one c.args.view.now c.args.spans.now c.loop-span.span-index _ c.loop-span-test.true c.requires.placed
 
-wide : (kind : Kind) → (kind ≡ Letters) ⊎ (kind ≡ Blanks) → gap_of kind ≡ 1
+wide : (kind : SpanKind) → (kind ≡ Letters) ⊎ (kind ≡ Blanks) → gap_of kind ≡ 1
 wide kind (inl is) = ap gap_of is
 wide kind (inr is) = ap gap_of is
 

@@ -2,7 +2,7 @@
 use Rattle.std.proofs.Common.{subst, sym}
 use Rattle.lic_places.specs.Places.{spelling_of}
 use Rattle.lic_literals.specs.Ends.{EndsAt}
-use Rattle.lic_spans.specs.declared.span.Kind.TheVariants.{End}
+use Rattle.lic_spans.specs.declared.span.SpanKind.TheVariants.{End}
 use Rattle.lic_spans.specs.declared.span.PlaceSpan.{PlaceSpan}
 use Rattle.lic_view.specs.Wide.{AreStretchesOf}
 use Rattle.lic_view.proofs.StretchLemmas.{stretch-within, those-all, those-more, those-none, those-of}

@@ -2,7 +2,7 @@
 use Rattle.std.proofs.Common.{◌≡◌, ◌+◌, ◌++◌, ◌∷◌, [], ap, arith, get_or, take, refl, subst, sym, ◌∙◌}
 use Rattle.std.proofs.lemmas.List.{take_all}
 use Rattle.lic_spans.specs.Spans.{gap_of}
-use Rattle.lic_spans.specs.declared.span.Kind.TheVariants.{End}
+use Rattle.lic_spans.specs.declared.span.SpanKind.TheVariants.{End}
 use Rattle.lic_spans.specs.declared.span.PlaceSpan.{PlaceSpan}
 use Rattle.lic_view.proofs.StretchLemmas.{AreStretched, stretched-more, stretched-none, stretched-ordered, stretched-single, stretches-joined}
 use Rattle.lic_view.proofs.sets.wide.stretches_of.Goals as goal

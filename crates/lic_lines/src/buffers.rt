@@ -1,0 +1,26 @@
+//! Room for the work on a line.
+
+use crate::cell::Cell;
+use crate::runs::Runs;
+use std::alloc::Global;
+
+/// Room for the work on a line, kept from one line to the next. What it holds has no effect.
+#[derive(Drop)]
+pub struct Buffers {
+    /// The cells of a row of marks.
+    pub(crate) cells: Vec<Cell>,
+    pub(crate) runs: Runs,
+    /// The letters of a token.
+    pub(crate) letters: String,
+}
+
+impl Buffers {
+    /// Room that takes no memory yet.
+    pub fn new(alloc: Global) -> Buffers {
+        Buffers {
+            cells: Vec::new(alloc),
+            runs: Runs::new(alloc),
+            letters: String::new(alloc),
+        }
+    }
+}
