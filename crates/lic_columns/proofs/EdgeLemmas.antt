@@ -4,16 +4,17 @@ use Rattle.std.specs.Prelude.{IsAscii}
 use Rattle.std.specs.List.{flat_map}
 use Rattle.std.proofs.lemmas.Bool.{cases_lt}
 use Rattle.std.proofs.lemmas.List.{append-nil, map-append, length-map, length-take-le, length-drop, length-replicate, get_or-replicate, get_or_append_left, get_or-append_right, ext_get_or, take-append-drop}
-use Rattle.lic_lines.specs.declared.source.SourceChar.{SourceChar}
-use Rattle.lic_lines.specs.Sources.{placed, chars_of}
+use Rattle.lic_trim.specs.declared.source.SourceChar.{SourceChar}
+use Rattle.lic_trim.specs.Sources.{placed, chars_of}
 use Rattle.lic_kind.specs.LineRules.{LineRules}
 use Rattle.lic_lines.specs.declared.cell.Cell.{Cell}
 use Rattle.lic_lines.specs.declared.cell.Cell.TheVariants.{Blank}
-use Rattle.lic_lines.specs.declared.cut.LineCut.{LineCut}
-use Rattle.lic_lines.specs.Lines.{cell_of, whole_line, cut_of, blank_for, left_of, cells_of_cut, line_cells}
+use Rattle.lic_trim.specs.declared.cut.LineCut.{LineCut}
+use Rattle.lic_trim.specs.Lines.{whole_line, cut_of}
+use Rattle.lic_lines.specs.Cells.{cell_of, blank_for, left_of, cells_of_cut, line_cells}
 use Rattle.lic_lines.specs.Runs.{runs_joined}
 use Rattle.lic_lines.specs.Tokens.{Token, first_tokens}
-use Rattle.lic_lines.proofs.AsciiLemmas.{chars_of-placed, length-placed}
+use Rattle.lic_trim.proofs.AsciiLemmas.{chars_of-placed, length-placed}
 use Rattle.lic_lines.proofs.Gaps.{is_word, is_mark, no_runs, runs_joined-gap, first_tokens-gap}
 use Rattle.lic_columns.specs.Flags.{cleared, is_within}
 use Rattle.lic_columns.specs.Known.{Known, blanked, known_of}

@@ -8,16 +8,17 @@ use Rattle.std.proofs.lemmas.List.{append-nil, map-append, length-map, length-ta
 use Rattle.std.proofs.lemmas.Str.{len_utf8_ascii}
 use Rattle.lic_kind.specs.Kinds.{is_dropped}
 use Rattle.lic_kind.specs.LineRules.{LineRules}
-use Rattle.lic_lines.specs.Lines.{cell_of, whole_line, is_lead_piece, is_tail_piece, is_item_form, lets_item, item_length, lead_length, item_after_lead, tail_length, cut_of, line_cells, cells_of}
+use Rattle.lic_trim.specs.Lines.{whole_line, is_lead_piece, is_tail_piece, is_item_form, lets_item, item_length, lead_length, item_after_lead, tail_length, cut_of}
+use Rattle.lic_lines.specs.Cells.{cell_of, line_cells, cells_of}
 use Rattle.lic_lines.specs.Runs.{runs_joined}
-use Rattle.lic_lines.specs.Sources.{placed, lines_of, without_dropped}
-use Rattle.lic_lines.specs.Texts.{is_row, cut_after}
+use Rattle.lic_trim.specs.Sources.{placed, lines_of, without_dropped}
+use Rattle.lic_trim.specs.Texts.{is_row, cut_after}
 use Rattle.lic_lines.specs.Tokens.{first_tokens}
 use Rattle.lic_lines.specs.declared.cell.Cell.{Cell}
-use Rattle.lic_lines.specs.declared.cut.LineCut.{LineCut}
-use Rattle.lic_lines.specs.declared.source.SourceChar.{SourceChar}
-use Rattle.lic_lines.proofs.AsciiLemmas.{chars_of-placed, length-placed}
-use Rattle.lic_lines.proofs.TailRows.{greatest_le}
+use Rattle.lic_trim.specs.declared.cut.LineCut.{LineCut}
+use Rattle.lic_trim.specs.declared.source.SourceChar.{SourceChar}
+use Rattle.lic_trim.proofs.AsciiLemmas.{chars_of-placed, length-placed}
+use Rattle.lic_trim.proofs.TailRows.{greatest_le}
 use Rattle.lic_columns.specs.Bytes.{is_word, is_mark, is_feed}
 use Rattle.lic_columns.specs.Edges.{byte_lines, edges_blanked, lines_blanked}
 use Rattle.lic_columns.specs.Flags.{cleared}

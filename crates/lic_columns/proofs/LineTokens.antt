@@ -10,13 +10,13 @@ use Rattle.lic_kind.specs.declared.Kind.TheVariants as kind
 use Rattle.lic_kind.specs.Kinds.{kind_of, is_word_kind, is_mark_kind, is_dash, is_quote, letter_of, spell}
 use Rattle.lic_kind.proofs.LetterLemmas.{spell-Mark}
 use Rattle.lic_kind.proofs.WordFoldings.{spell-ascii}
-use Rattle.lic_lines.specs.Texts.{groups}
-use Rattle.lic_lines.specs.declared.source.SourceChar.{SourceChar}
-use Rattle.lic_lines.specs.Sources.{placed}
+use Rattle.lic_trim.specs.Texts.{groups}
+use Rattle.lic_trim.specs.declared.source.SourceChar.{SourceChar}
+use Rattle.lic_trim.specs.Sources.{placed}
 use Rattle.lic_kind.specs.LineRules.{LineRules}
 use Rattle.lic_lines.specs.declared.cell.Cell.{Cell}
 use Rattle.lic_lines.specs.declared.cell.Cell.TheVariants.{Blank, Mark, Word}
-use Rattle.lic_lines.specs.Lines.{cell_of}
+use Rattle.lic_lines.specs.Cells.{cell_of}
 use Rattle.lic_lines.specs.Runs.{runs_joined, with_joined, without_separators}
 use Rattle.lic_lines.specs.Tokens.{both_words, tokens_from, tokens_after}
 use Rattle.lic_lines.proofs.Gaps.{is_word, is_mark}

@@ -4,9 +4,9 @@ use Rattle.std.specs.Prelude.{IsAscii, slice_index}
 use Rattle.std.proofs.lemmas.List.{length-map}
 use Rattle.std.proofs.lemmas.List.FromFn.{length-map-range_with_len}
 use Rattle.lic_kind.specs.LineRules.{LineRules}
-use Rattle.lic_lines.specs.Lines.{cells_of}
+use Rattle.lic_lines.specs.Cells.{cells_of}
 use Rattle.lic_lines.specs.Runs.{runs_joined}
-use Rattle.lic_lines.specs.Sources.{placed}
+use Rattle.lic_trim.specs.Sources.{placed}
 use Rattle.lic_lines.specs.Tokens.{first_tokens}
 use Rattle.lic_columns.specs.Bytes.{letter}
 use Rattle.lic_columns.specs.Cells.{Cell, cell_of, spans, starts_of, ends_of}

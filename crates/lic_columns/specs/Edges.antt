@@ -1,9 +1,9 @@
 -- What the line rules take away: bytes that count as blanks.
 use Rattle.std.specs.Prelude.{ℕ, ◌+◌, ◌-◌, List, [], ◌∷◌, length}
 use Rattle.lic_kind.specs.LineRules.{LineRules}
-use Rattle.lic_lines.specs.Lines.{cut_of, whole_line}
-use Rattle.lic_lines.specs.Texts.{cut_after}
-use Rattle.lic_lines.specs.declared.cut.LineCut.{LineCut}
+use Rattle.lic_trim.specs.Lines.{cut_of, whole_line}
+use Rattle.lic_trim.specs.Texts.{cut_after}
+use Rattle.lic_trim.specs.declared.cut.LineCut.{LineCut}
 use Rattle.lic_columns.specs.Bytes.{is_feed}
 use Rattle.lic_columns.specs.Known.{Known, blanked}
 

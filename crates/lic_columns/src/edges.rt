@@ -5,8 +5,8 @@ ghost use Rattle.lic_columns.specs.Edges.{byte_lines, edges_blanked, lines_blank
 ghost use Rattle.lic_columns.specs.Known.{known_of};
 
 use crate::columns::Columns;
-use lic_lines::cut::LineCut;
-use lic_lines::{Rules, SourceChar, cut_of_ascii};
+use lic_lines::Rules;
+use lic_trim::{LineCut, SourceChar, cut_of_ascii};
 use std::alloc::{AllocError, Global};
 
 /// Takes lead, item and tail of a line away, which is from `at` to `end`.

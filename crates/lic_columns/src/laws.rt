@@ -1,11 +1,12 @@
 //! Laws of what is known of bytes, each the contract of a function that does nothing.
 ghost use Rattle.std.specs.Prelude.{◌≡◌, ◌↔◌, ℕ, suc, ◌+◌, ◌≤◌, Bool, true, List, length, IsAscii};
 ghost use Rattle.lic_kind.specs.LineRules.{LineRules};
-ghost use Rattle.lic_lines.specs.Lines.{cells_of, cut_of, line_cells, whole_line};
+ghost use Rattle.lic_trim.specs.Lines.{cut_of, whole_line};
+ghost use Rattle.lic_lines.specs.Cells.{cells_of, line_cells};
 ghost use Rattle.lic_lines.specs.Runs.{runs_joined};
-ghost use Rattle.lic_lines.specs.Sources.{placed};
+ghost use Rattle.lic_trim.specs.Sources.{placed};
 ghost use Rattle.lic_lines.specs.Tokens.{first_tokens, tokens_after};
-ghost use Rattle.lic_lines.specs.declared.cut.LineCut.{LineCut};
+ghost use Rattle.lic_trim.specs.declared.cut.LineCut.{LineCut};
 ghost use Rattle.lic_columns.specs.Edges.{byte_lines, edges_blanked, lines_blanked};
 ghost use Rattle.lic_columns.specs.Known.{Known, IsText, known_of, blanked};
 ghost use Rattle.lic_columns.specs.Marks.{is_same_as_next, same_as_next, middles, is_in_separator};

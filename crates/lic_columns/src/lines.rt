@@ -1,9 +1,9 @@
 //! The tokens of lines of ASCII.
 ghost use Rattle.std.specs.Prelude.{◌≡◌, ℕ, ◌+◌, ◌^◌, ◌<◌, ◌≤◌, [], true, length, map, slice_index, string_bytes, OnOk, IsAscii};
-ghost use Rattle.lic_lines.specs.LineRules.{rules_of};
-ghost use Rattle.lic_lines.specs.Lines.{cells_of};
+ghost use Rattle.lic_kind.specs.LineRules.{rules_of};
+ghost use Rattle.lic_lines.specs.Cells.{cells_of};
 ghost use Rattle.lic_lines.specs.Runs.{runs_joined};
-ghost use Rattle.lic_lines.specs.Sources.{placed};
+ghost use Rattle.lic_trim.specs.Sources.{placed};
 ghost use Rattle.lic_lines.specs.Tokens.{first_tokens};
 ghost use Rattle.lic_columns.specs.Bytes.{letter};
 ghost use Rattle.lic_columns.specs.Cells.{starts_of, ends_of};
@@ -15,7 +15,8 @@ use crate::columns::Columns;
 use crate::edges::clear_lines;
 use crate::marks::Marks;
 use crate::tokens::push_tokens;
-use lic_lines::{Rules, SourceChar};
+use lic_lines::Rules;
+use lic_trim::SourceChar;
 use std::alloc::{AllocError, Global};
 use std::marker::Model;
 use std::str::from_utf8;

@@ -2,9 +2,9 @@
 use Rattle.std.proofs.Common.{◌≡◌, Bool, true, false, cond, List, [], ◌∷◌, ◌++◌, refl, ap, ◌∙◌}
 use Rattle.std.specs.List.{flat_map}
 use Rattle.std.proofs.lemmas.List.Concat.{flat_map-append}
-use Rattle.lic_lines.specs.Texts.{groups}
-use Rattle.lic_lines.specs.Lines.{Cell, Blank, Mark, Word}
-use Rattle.lic_lines.specs.LineRules.{LineRules}
+use Rattle.lic_trim.specs.Texts.{groups}
+use Rattle.lic_lines.specs.Cells.{Cell, Blank, Mark, Word}
+use Rattle.lic_kind.specs.LineRules.{LineRules}
 use Rattle.lic_lines.specs.Runs.{same_mark, same_family, without_separator, without_separators, joined, with_joined, runs_joined}
 use Rattle.lic_lines.specs.Tokens.{both_words, token_of, tokens_from, first_tokens}
 use Rattle.lic_lines.proofs.GroupLemmas.{groups_alone}

@@ -7,15 +7,15 @@ use Rattle.std.proofs.lemmas.List.{append-nil, map-append, length-take, get_or-t
 use Rattle.lic_kind.specs.Kinds.{kind_of, is_dash, is_quote, is_word_kind, is_mark_kind}
 use Rattle.lic_kind.specs.declared.Kind.{Kind}
 use Rattle.lic_kind.specs.declared.Kind.TheVariants as kind
-use Rattle.lic_lines.specs.Texts.{groups, join_group}
-use Rattle.lic_lines.specs.Sources.{SourceChar}
-use Rattle.lic_lines.specs.LineRules.{LineRules}
-use Rattle.lic_lines.specs.Lines.{Cell, Blank, Mark, Word, cell_of}
+use Rattle.lic_trim.specs.Texts.{groups, join_group}
+use Rattle.lic_trim.specs.declared.source.SourceChar.{SourceChar}
+use Rattle.lic_kind.specs.LineRules.{LineRules}
+use Rattle.lic_lines.specs.Cells.{Cell, Blank, Mark, Word, cell_of}
 use Rattle.lic_lines.specs.Runs.{may_join, same_mark, same_family, without_separator, without_separators, joined, with_joined, runs_joined}
 use Rattle.lic_lines.specs.Tokens.{both_words, token_of, tokens_from, blank_after, tokens_after}
 use Rattle.lic_lines.proofs.GroupLemmas.{join_alone, groups_head}
 use Rattle.lic_lines.proofs.Gaps.{is_word, is_mark, no_family_before, no_mark_before, no_runs, without_separators-at, with_joined-at, runs_joined-at}
-use Rattle.lic_lines.proofs.ItemLemmas.{none}
+use Rattle.lic_trim.proofs.ItemLemmas.{none}
 use Rattle.lic_lines.proofs.Seams.{runs_joined-seam}
 
 -- the first of these, where there is one, fails

@@ -7,15 +7,18 @@ use Rattle.std.proofs.lemmas.Bool.{cases_Bool, cases_lt, cond-true, cond-false, 
 use Rattle.std.proofs.lemmas.List.{append-nil, map-append, length-map, length-take, drop_at, drop-append-le, drop_all}
 use Rattle.std.proofs.lemmas.List.Concat.{flat_map-append}
 use Rattle.lic_kind.specs.Kinds.{is_dropped}
-use Rattle.lic_lines.specs.Texts.{is_row, longest_end, cut_after, groups}
-use Rattle.lic_lines.specs.Sources.{SourceChar, chars_of, lines_of, without_dropped}
-use Rattle.lic_lines.specs.LineRules.{LineRules}
-use Rattle.lic_lines.specs.Lines.{LinePart, whole_line, Cell, Blank, Mark, Word, is_tail_piece, item_length, is_item_form, lets_item, lead_length, item_after_lead, tail_length, blank_for, cells_of_cut, cell_of, line_cells, cells_of}
+use Rattle.lic_trim.specs.Texts.{is_row, longest_end, cut_after, groups}
+use Rattle.lic_trim.specs.declared.source.SourceChar.{SourceChar}
+use Rattle.lic_trim.specs.Sources.{chars_of, lines_of, without_dropped}
+use Rattle.lic_kind.specs.LineRules.{LineRules}
+use Rattle.lic_trim.specs.declared.line_part.LinePart.{LinePart}
+use Rattle.lic_trim.specs.Lines.{whole_line, is_tail_piece, item_length, is_item_form, lets_item, lead_length, item_after_lead, tail_length}
+use Rattle.lic_lines.specs.Cells.{Cell, Blank, Mark, Word, blank_for, cells_of_cut, cell_of, line_cells, cells_of}
 use Rattle.lic_lines.specs.Runs.{runs_joined}
 use Rattle.lic_lines.specs.Tokens.{Token, both_words, tokens_from, first_tokens, is_text, is_sign_in_parentheses, sign_from, as_sign, single_signs, tokens_of_cells, line_tokens, text_tokens}
 use Rattle.lic_lines.proofs.Gaps.{no_runs, runs_joined-gap, first_tokens-gap}
-use Rattle.lic_lines.proofs.ItemLemmas.{char_of, item_none, few_behind}
-use Rattle.lic_lines.proofs.TailRows.{greatest_ge}
+use Rattle.lic_trim.proofs.ItemLemmas.{char_of, item_none, few_behind}
+use Rattle.lic_trim.proofs.TailRows.{greatest_ge}
 
 -- ---- the lines
 module _ {A : Type 0} (ends : A → Bool) where

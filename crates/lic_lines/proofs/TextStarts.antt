@@ -5,10 +5,10 @@ use Rattle.std.proofs.lemmas.Bool.{cond-false}
 use Rattle.std.proofs.lemmas.List.{append-nil, length-take-le, get_or-take}
 use Rattle.lic_kind.specs.Kinds.{kind_of, spell}
 use Rattle.lic_kind.specs.declared.Kind.TheVariants as kind
-use Rattle.lic_lines.specs.Texts.{groups}
-use Rattle.lic_lines.specs.Sources.{SourceChar}
-use Rattle.lic_lines.specs.LineRules.{LineRules}
-use Rattle.lic_lines.specs.Lines.{Mark, Word, cell_of}
+use Rattle.lic_trim.specs.Texts.{groups}
+use Rattle.lic_trim.specs.declared.source.SourceChar.{SourceChar}
+use Rattle.lic_kind.specs.LineRules.{LineRules}
+use Rattle.lic_lines.specs.Cells.{Mark, Word, cell_of}
 use Rattle.lic_lines.specs.Runs.{may_join, runs_joined, without_separators, with_joined}
 use Rattle.lic_lines.specs.TextStarts.{text_token}
 use Rattle.lic_lines.specs.Tokens.{Token, both_words, blank_after, letters_of, is_text, single_signs, text_tokens_after, tokens_after, tokens_from}

@@ -1,16 +1,17 @@
 -- Letters of cells, tokens of stretches, and single signs, step by step.
-use Rattle.std.proofs.Common.{◌≡◌, ℕ, zero, suc, ◌+◌, ◌-◌, ◌<◌, ◌≤◌, Bool, true, false, List, [], ◌∷◌, ◌++◌, Result, Ok, Err, length, take, drop, map, get_or, set, refl, sym, ap, ap₂, ◌∙◌, ⊎_elim, append_assoc, arith}
-use Rattle.std.specs.Prelude.{encode_utf8_all, IfOk}
+use Rattle.std.proofs.Common.{◌≡◌, ℕ, zero, suc, ◌+◌, ◌-◌, ◌<◌, ◌≤◌, Bool, true, false, List, [], ◌∷◌, ◌++◌, length, take, drop, map, get_or, set, refl, sym, ap, ap₂, ◌∙◌, ⊎_elim, append_assoc, arith}
+use Rattle.std.specs.Prelude.{encode_utf8_all}
 use Rattle.std.specs.Char.{encode_utf8}
 use Rattle.std.specs.List.{swap}
 use Rattle.std.proofs.lemmas.Bool.{cases_lt, cond-true, cond-false}
 use Rattle.std.proofs.lemmas.Grind.{flat_map-append}
 use Rattle.std.proofs.lemmas.List.{append-nil, map-append, take-map, drop-map, length-map, length-append, length-drop, drop_more, take_more, take-set-le, drop-set-lt, get_or-set_same, get_or-set_other, get_or_default, length-set, take_at, drop_at, get_or-drop}
 use Rattle.lic_kind.specs.Kinds.{spell}
-use Rattle.lic_lines.specs.Sources.{SourceChar}
-use Rattle.lic_lines.specs.LineRules.{LineRules}
-use Rattle.lic_lines.specs.Texts.{groups}
-use Rattle.lic_lines.specs.Lines.{Cell, Blank, Word, cell_of, blank_for, LineCut, left_of, cells_of_cut}
+use Rattle.lic_trim.specs.declared.source.SourceChar.{SourceChar}
+use Rattle.lic_kind.specs.LineRules.{LineRules}
+use Rattle.lic_trim.specs.Texts.{groups}
+use Rattle.lic_trim.specs.declared.cut.LineCut.{LineCut}
+use Rattle.lic_lines.specs.Cells.{Cell, Blank, Word, cell_of, blank_for, left_of, cells_of_cut}
 use Rattle.lic_lines.specs.Runs.{end_after, runs_joined}
 use Rattle.lic_lines.specs.Tokens.{Token, both_words, tokens_after, tokens_from, cell_letters, letters_of, first_tokens, stretch_tokens, tokens_of_cells, is_sign_in_parentheses, sign_from, as_sign, single_signs, token_in, tokens_in}
 use Rattle.lic_lines.specs.declared.tokens.FirstToken.{FirstToken}
@@ -97,10 +98,6 @@ left_of-range cut line =
     let size : length line - cut.tail - (cut.lead + cut.item) ≡ length (drop (cut.lead + cut.item) line) - cut.tail =
     omega (arith, length-drop (cut.lead + cut.item) line) in
     ap (λ n. take n (drop (cut.lead + cut.item) line)) size
-
-pub IfOk-map : {T E : Type 0} {P Q : T → Type 0} (r : Result T E) → ((x : T) → P x → Q x) → IfOk r P → IfOk r Q
-IfOk-map (Ok x) f h = f x h
-IfOk-map (Err e) f h = h
 
 -- tokens after those that were there
 pub tokens_behind : (old pushed : List FirstToken) (more : List Token) → tokens_in pushed ≡ tokens_in old ++ more → length old ≤ length pushed

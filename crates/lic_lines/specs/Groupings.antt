@@ -1,6 +1,6 @@
 -- Which neighbours belong to one group, as a value of the code.
 use Rattle.std.specs.Prelude.{Bool}
-use Rattle.lic_lines.specs.Lines.{Cell}
+use Rattle.lic_lines.specs.Cells.{Cell}
 use Rattle.lic_lines.specs.Runs.{same_mark, same_family}
 use Rattle.lic_lines.specs.Tokens.{both_words}
 use Rattle.lic_lines.specs.declared.runs.Grouping.{Grouping}

@@ -1,11 +1,6 @@
-pub mod Texts
-pub mod Sources
-pub mod LineRules
-pub mod Lines
+pub mod Cells
 pub mod Runs
 pub mod SmallStrings
 pub mod Tokens
 pub mod Groupings
-pub mod Walks
-pub mod PieceLengths
 pub mod TextStarts

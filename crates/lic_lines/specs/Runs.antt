@@ -2,9 +2,9 @@
 use Rattle.std.specs.Prelude.{ℕ, Bool, false, ◌&&◌, ◌||◌, ◌==◌, nat_le, if◌then◌else◌, List, [], ◌∷◌, length}
 use Rattle.std.specs.List.{flat_map}
 use Rattle.lic_kind.specs.Kinds.{is_dash, is_quote}
-use Rattle.lic_lines.specs.Texts.{groups}
-use Rattle.lic_lines.specs.LineRules.{LineRules}
-use Rattle.lic_lines.specs.Lines.{Cell, Blank, Mark, Word}
+use Rattle.lic_trim.specs.Texts.{groups}
+use Rattle.lic_kind.specs.LineRules.{LineRules}
+use Rattle.lic_lines.specs.Cells.{Cell, Blank, Mark, Word}
 
 -- two marks that are the same source character
 abbrev pub same_mark : Cell → Cell → Bool

@@ -1,7 +1,7 @@
 -- What is known of the start of a text of which nothing is taken.
 use Rattle.std.specs.Prelude.{◌≡◌, ℕ, ◌-◌, ◌<◌, ◌≤◌, Bool, true, false, List, ◌∷◌, length, drop, slice_index_or}
-use Rattle.lic_lines.specs.LineRules.{LineRules}
-use Rattle.lic_lines.specs.Sources.{SourceChar}
+use Rattle.lic_kind.specs.LineRules.{LineRules}
+use Rattle.lic_trim.specs.declared.source.SourceChar.{SourceChar}
 use Rattle.lic_lines.specs.Tokens.{Token, text_tokens_after}
 pub use Rattle.lic_lines.specs.declared.text_start.TextStart.{TextStart}
 use Rattle.lic_lines.specs.declared.text_start.TextStart.TheVariants as front

@@ -2,10 +2,11 @@
 use Rattle.std.specs.Prelude.{ℕ, Bool, true, false, not, ◌&&◌, if◌then◌else◌, List, [], ◌∷◌, map, bytes_eq, codes, encode_utf8_all}
 use Rattle.std.specs.List.{flat_map}
 use Rattle.lic_kind.specs.Kinds.{spell}
-use Rattle.lic_lines.specs.Texts.{groups}
-use Rattle.lic_lines.specs.Sources.{SourceChar}
-use Rattle.lic_lines.specs.LineRules.{LineRules}
-use Rattle.lic_lines.specs.Lines.{Cell, Blank, Mark, Word, cell_of, LinePart, line_cells, cells_of}
+use Rattle.lic_trim.specs.Texts.{groups}
+use Rattle.lic_trim.specs.declared.source.SourceChar.{SourceChar}
+use Rattle.lic_kind.specs.LineRules.{LineRules}
+use Rattle.lic_trim.specs.declared.line_part.LinePart.{LinePart}
+use Rattle.lic_lines.specs.Cells.{Cell, Blank, Mark, Word, cell_of, line_cells, cells_of}
 use Rattle.lic_lines.specs.Runs.{end_after, runs_joined}
 use Rattle.lic_lines.specs.SmallStrings.{bytes_at}
 use Rattle.lic_lines.specs.declared.small_string.SmallString.{SmallString}

@@ -1,5 +1,5 @@
 //! What a character is to the steps after the line rules.
-use crate::source::SourceChar;
+use lic_trim::SourceChar;
 
 /// A blank, a mark or a word character.
 #[derive(Clone, Copy, Debug, PartialEq, Eq)]

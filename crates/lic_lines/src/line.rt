@@ -1,20 +1,18 @@
 //! From a line to its tokens.
 ghost use Rattle.std.specs.Prelude.{◌≡◌, ◌++◌, true, map, IfOk, OnOk};
-ghost use Rattle.lic_lines.specs.LineRules.{rules_of};
-ghost use Rattle.lic_lines.specs.Lines.{cell_of, blank_for, line_cells};
+ghost use Rattle.lic_kind.specs.LineRules.{rules_of};
+ghost use Rattle.lic_lines.specs.Cells.{cell_of, blank_for, line_cells};
 ghost use Rattle.lic_lines.specs.Runs.{runs_joined};
 ghost use Rattle.lic_lines.specs.Tokens.{line_tokens, text_tokens_after, tokens_in};
 
 use crate::buffers::Buffers;
 use crate::cell::Cell;
-use crate::cut::cut_line;
-use crate::line_part::LinePart;
 use crate::runs::Runs;
 use crate::signs::join_single_signs;
-use crate::source::SourceChar;
 use crate::text::push_text;
 use crate::tokens::FirstToken;
 use lic_kind::{Kind, Rules, kind_of};
+use lic_trim::{LinePart, SourceChar, cut_line};
 use std::alloc::{AllocError, Global};
 
 /// What a character is to the steps after the line rules.

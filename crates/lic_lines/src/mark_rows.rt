@@ -3,8 +3,8 @@ ghost use Rattle.std.specs.Prelude.{◌≡◌, ◌<◌, ◌≤◌, ◌-◌, ℕ,
 ghost use Rattle.lic_kind.specs.Kinds.{kind_of};
 ghost use Rattle.lic_lines.specs.Runs.{may_join};
 
-use crate::source::SourceChar;
 use lic_kind::{Kind, is_dash, is_quote, kind_of};
+use lic_trim::SourceChar;
 
 /// Whether two marks may be joined, or be of one separator.
 #[inline(always)]

@@ -1,13 +1,13 @@
 //! Runs of marks: separators become blanks, quotes one quote, dashes one dash.
 ghost use Rattle.std.specs.Prelude.{◌≡◌, ◌∷◌, ◌++◌, ◌<◌, ◌≤◌, length, drop, IfOk, OnOk, slice_range};
-ghost use Rattle.lic_lines.specs.Texts.{groups};
-ghost use Rattle.lic_lines.specs.LineRules.{rules_of};
+ghost use Rattle.lic_trim.specs.Texts.{groups};
+ghost use Rattle.lic_kind.specs.LineRules.{rules_of};
 ghost use Rattle.lic_lines.specs.Runs.{same_mark, same_family, without_separator, without_separators, with_joined, joined, end_after};
 ghost use Rattle.lic_lines.specs.Groupings.{together};
 
 use crate::cell::Cell;
-use crate::source::SourceChar;
 use lic_kind::{Rules, is_dash, is_quote};
+use lic_trim::SourceChar;
 use std::alloc::{AllocError, Global};
 
 /// Which neighbours belong to one group.

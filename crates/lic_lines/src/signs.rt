@@ -1,6 +1,6 @@
 //! Single copyright signs.
 ghost use Rattle.std.specs.Prelude.{◌≡◌, ◌+◌, ◌++◌, ◌<◌, ◌≤◌, List, IsTrue, length, false, take, drop, codes};
-ghost use Rattle.lic_lines.specs.Lines.{Cell};
+ghost use Rattle.lic_lines.specs.Cells.{Cell};
 ghost use Rattle.lic_lines.specs.Tokens.{is_text, is_sign_in_parentheses, as_sign, single_signs, token_in, tokens_from, tokens_in};
 
 use crate::small_string::SmallString;

@@ -1,9 +1,9 @@
 //! From characters of which nothing is taken to their first tokens.
 ghost use Rattle.std.specs.Prelude.{◌≡◌, ◌≢◌, ◌++◌, ◌≤◌, ◌<◌, ℕ, length, map, drop, slice_index_or, All, IfOk, OnOk};
 ghost use Rattle.lic_kind.specs.Kinds.{kind_of};
-ghost use Rattle.lic_lines.specs.Texts.{groups};
-ghost use Rattle.lic_lines.specs.LineRules.{rules_of};
-ghost use Rattle.lic_lines.specs.Lines.{cell_of};
+ghost use Rattle.lic_trim.specs.Texts.{groups};
+ghost use Rattle.lic_kind.specs.LineRules.{rules_of};
+ghost use Rattle.lic_lines.specs.Cells.{cell_of};
 ghost use Rattle.lic_lines.specs.Runs.{runs_joined};
 ghost use Rattle.lic_lines.specs.Tokens.{both_words, tokens_from, blank_after, single_signs, text_tokens_after, tokens_after, stretch_tokens, tokens_in};
 
@@ -12,9 +12,9 @@ use crate::cell::Cell;
 use crate::line::push_cells;
 use crate::mark_rows::mark_count;
 use crate::signs::{join_single_signs, signs_end};
-use crate::source::SourceChar;
 use crate::tokens::{FirstToken, mark_token, push_first_tokens, spell_word, word_token};
 use lic_kind::{Kind, Rules, kind_of};
+use lic_trim::SourceChar;
 use std::alloc::{AllocError, Global};
 
 /// A part at the start of a text across whose end nothing is joined.

@@ -5,9 +5,9 @@ ghost use Rattle.lic_lines.specs.Runs.{may_join};
 ghost use Rattle.lic_lines.specs.TextStarts.{IsTextStart};
 
 use crate::mark_rows::goes_on;
-use crate::source::SourceChar;
 use crate::tokens::spell_word;
 use lic_kind::{Kind, kind_of, mark_letter};
+use lic_trim::SourceChar;
 use std::alloc::{AllocError, Global};
 
 /// What a text begins with.

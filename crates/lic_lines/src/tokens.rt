@@ -1,15 +1,15 @@
 //! First tokens.
 ghost use Rattle.std.specs.Prelude.{◌≡◌, ◌≢◌, ◌++◌, ◌∷◌, ◌<◌, ◌≤◌, [], ℕ, IfOk, IsTrue, OnOk, false, length, map, take, slice_index_or, string_bytes, encode_utf8_all};
 ghost use Rattle.lic_kind.specs.Kinds.{kind_of, is_word_kind, spell};
-ghost use Rattle.lic_lines.specs.Texts.{groups};
-ghost use Rattle.lic_lines.specs.Lines.{Mark, Word};
+ghost use Rattle.lic_trim.specs.Texts.{groups};
+ghost use Rattle.lic_lines.specs.Cells.{Mark, Word};
 ghost use Rattle.lic_lines.specs.Tokens.{both_words, cell_letters, letters_of, token_of, tokens_from, blank_after, token_in, tokens_in};
 
 use crate::cell::Cell;
 use crate::runs::{Grouping, end_after, group_end};
 use crate::small_string::SmallString;
-use crate::source::SourceChar;
 use lic_kind::{Kind, kind_of, spell, word_letter};
+use lic_trim::SourceChar;
 use std::alloc::{AllocError, Global};
 
 /// A token: its text, its span in bytes of the input, and whether a blank precedes it.

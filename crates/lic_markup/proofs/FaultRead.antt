@@ -6,7 +6,7 @@ use Rattle.lic_ere.specs.declared.fault.EreFault.{EreFault}
 use Rattle.lic_ere.specs.Located.{located}
 use Rattle.lic_ere.specs.Trees.{Tree}
 use Rattle.lic_ere.proofs.Complete.{IsPattern-read}
-use Rattle.lic_lines.specs.LineRules.{LineRules}
+use Rattle.lic_kind.specs.LineRules.{LineRules}
 use Rattle.lic_phrases.specs.Rewriting.{Phrase}
 use Rattle.lic_markup.specs.declared.fault.MarkupFault.{MarkupFault}
 use Rattle.lic_markup.specs.declared.fault.MarkupCause.TheVariants.{EndWithoutBegin, NotEnded, NoLetter, TooHeavy, TooLong, TooDeep}

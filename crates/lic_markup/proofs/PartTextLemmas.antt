@@ -4,7 +4,7 @@ use Rattle.std.specs.Prelude.{OnOk}
 use Rattle.std.specs.Str.{IsUtf8}
 use Rattle.lic_ere.specs.Trees.{Tree}
 use Rattle.lic_ere.specs.declared.fault.EreFault.{EreFault}
-use Rattle.lic_lines.specs.LineRules.{LineRules}
+use Rattle.lic_kind.specs.LineRules.{LineRules}
 use Rattle.lic_phrases.specs.Rewriting.{Phrase}
 use Rattle.lic_phrases.specs.TokenTexts.{IsTokenText}
 use Rattle.lic_norm.specs.PieceTexts.{IsPieceText}

@@ -5,10 +5,10 @@ use Rattle.std.specs.String.{string_bytes}
 use Rattle.std.specs.Str.{chars, IsUtf8}
 use Rattle.std.proofs.lemmas.Bool.{cases_Bool, cond-false, and_parts, true≢false}
 use Rattle.std.proofs.lemmas.Str.{IsUtf8-append, chars-append, chars-nil}
-use Rattle.lic_lines.specs.Texts.{groups, join_group}
+use Rattle.lic_trim.specs.Texts.{groups, join_group}
 use Rattle.lic_lines.specs.declared.cell.Cell.{Cell}
 use Rattle.lic_lines.specs.declared.cell.Cell.TheVariants.{Blank, Mark, Word}
-use Rattle.lic_lines.specs.LineRules.{LineRules}
+use Rattle.lic_kind.specs.LineRules.{LineRules}
 use Rattle.lic_lines.specs.Tokens.{both_words, tokens_from, single_signs}
 use Rattle.lic_phrases.specs.Rewriting.{Phrase, rewritten}
 use Rattle.lic_phrases.specs.Spelling.{blank_if, spelled}

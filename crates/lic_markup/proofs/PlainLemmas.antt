@@ -11,7 +11,7 @@ use Rattle.std.proofs.lemmas.List.{get_or-append-add}
 use Rattle.memchr.specs.Find.{IsFirstByte, is_byte}
 use Rattle.lic_ere.specs.Located.{Located, located, located_from, with_remaining}
 use Rattle.lic_phrases.specs.Rewriting.{Phrase}
-use Rattle.lic_lines.specs.LineRules.{LineRules}
+use Rattle.lic_kind.specs.LineRules.{LineRules}
 use Rattle.lic_norm.specs.Pieces.{piece_of}
 use Rattle.lic_norm.specs.declared.pieces.Next.TheVariants.{LineEnd}
 use Rattle.lic_markup.specs.declared.fault.MarkupFault.{MarkupFault}

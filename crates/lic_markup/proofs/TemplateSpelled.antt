@@ -10,7 +10,7 @@ use Rattle.lic_ere.specs.Trees.{Tree}
 use Rattle.lic_ere.specs.Reading as ere
 use Rattle.lic_ere.proofs.Complete.{IsPattern-read}
 use Rattle.lic_ere.proofs.Sound.{reading-IsPattern}
-use Rattle.lic_lines.specs.LineRules.{LineRules}
+use Rattle.lic_kind.specs.LineRules.{LineRules}
 use Rattle.lic_phrases.specs.Rewriting.{Phrase}
 use Rattle.lic_norm.specs.Pieces.{piece_of}
 use Rattle.lic_norm.specs.declared.pieces.Next.{Next}

@@ -1,6 +1,6 @@
 -- What a template denotes: a set of words over letters and blanks.
 use Rattle.std.specs.Prelude.{ℕ, Bool, true, List, map, chars}
-use Rattle.lic_lines.specs.LineRules.{LineRules}
+use Rattle.lic_kind.specs.LineRules.{LineRules}
 use Rattle.lic_phrases.specs.Rewriting.{Phrase, rewritten}
 use Rattle.lic_norm.specs.Pieces.{piece_tokens}
 use Rattle.lic_norm.specs.declared.pieces.Next.{Next}

@@ -6,7 +6,7 @@ use Rattle.lic_ere.specs.declared.fault.EreCause.TheVariants.{OutOfMemory}
 use Rattle.lic_ere.specs.Trees.{Tree}
 use Rattle.lic_ere.specs.Located.{Located, located}
 use Rattle.lic_ere.specs.Reading as ere
-use Rattle.lic_lines.specs.LineRules.{LineRules}
+use Rattle.lic_kind.specs.LineRules.{LineRules}
 use Rattle.lic_phrases.specs.Rewriting.{Phrase}
 use Rattle.lic_norm.specs.Pieces.{piece_of}
 use Rattle.lic_norm.specs.declared.pieces.Next.{Next}

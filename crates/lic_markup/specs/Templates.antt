@@ -4,7 +4,7 @@ use Rattle.std.specs.Prelude.{◌≡◌, ℕ, suc, ◌<◌, ◌≤◌, Bool, tru
 use Rattle.lic_ere.specs.Grammar.{IsPattern}
 use Rattle.lic_ere.specs.Located.{Located, located}
 use Rattle.lic_ere.specs.Trees.{Tree}
-use Rattle.lic_lines.specs.LineRules.{LineRules}
+use Rattle.lic_kind.specs.LineRules.{LineRules}
 use Rattle.lic_phrases.specs.Rewriting.{Phrase}
 use Rattle.lic_norm.specs.Pieces.{piece_of}
 use Rattle.lic_norm.specs.declared.pieces.Next.{Next}

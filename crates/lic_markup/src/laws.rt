@@ -6,7 +6,7 @@ ghost use Rattle.std.specs.List.{concat, filter, list_any};
 ghost use Rattle.std.specs.Str.{IsUtf8};
 ghost use Rattle.std.specs.String.{string_bytes};
 ghost use Rattle.lic_ere.specs.Located.{Located, located};
-ghost use Rattle.lic_lines.specs.LineRules.{LineRules};
+ghost use Rattle.lic_kind.specs.LineRules.{LineRules};
 ghost use Rattle.lic_phrases.specs.Rewriting.{Phrase};
 ghost use Rattle.lic_phrases.specs.TokenTexts.{HaveTokenTexts, IsTokenText};
 ghost use Rattle.lic_norm.specs.Pieces.{piece_of};

@@ -3,10 +3,10 @@ use Rattle.std.proofs.Common.{◌≡◌, ℕ, List, ap, sym, ◌∙◌}
 use Rattle.std.specs.Prelude.{IsAscii}
 use Rattle.std.specs.Str.{IsUtf8}
 use Rattle.std.proofs.lemmas.Str.{chars-IsAscii}
-use Rattle.lic_lines.specs.LineRules.{LineRules}
-use Rattle.lic_lines.specs.Lines.{cells_of}
+use Rattle.lic_kind.specs.LineRules.{LineRules}
+use Rattle.lic_lines.specs.Cells.{cells_of}
 use Rattle.lic_lines.specs.Runs.{runs_joined}
-use Rattle.lic_lines.specs.Sources.{placed}
+use Rattle.lic_trim.specs.Sources.{placed}
 use Rattle.lic_lines.specs.Tokens.{first_tokens, single_signs, text_tokens}
 use Rattle.lic_norm.specs.Tokens.{first_tokens_of}
 use Rattle.lic_norm.proofs.AnyBytes.{source_of-utf8}

@@ -7,14 +7,15 @@ use Rattle.std.proofs.lemmas.Bool.{cases_Bool, cond-true, cond-false}
 use Rattle.std.proofs.lemmas.Str.{length-encode, len_utf8_bounds}
 use Rattle.std.proofs.lemmas.List.Elements.{Contains-append_left, Contains-append_right}
 use Rattle.lic_kind.specs.Kinds.{kind_of, is_word_kind, is_mark_kind}
-use Rattle.lic_lines.specs.Texts.{cut_after, groups, join_group}
-use Rattle.lic_lines.specs.Sources.{chars_of, without_dropped, lines_of}
-use Rattle.lic_lines.specs.declared.source.SourceChar.{SourceChar}
+use Rattle.lic_trim.specs.Texts.{cut_after, groups, join_group}
+use Rattle.lic_trim.specs.Sources.{chars_of, without_dropped, lines_of}
+use Rattle.lic_trim.specs.declared.source.SourceChar.{SourceChar}
 use Rattle.lic_lines.specs.declared.cell.Cell.{Cell}
 use Rattle.lic_lines.specs.declared.cell.Cell.TheVariants.{Blank, Mark, Word}
-use Rattle.lic_lines.specs.declared.line_part.LinePart.{LinePart}
-use Rattle.lic_lines.specs.LineRules.{LineRules}
-use Rattle.lic_lines.specs.Lines.{whole_line, blank_for, cell_of, cut_of, line_cells, cells_of}
+use Rattle.lic_trim.specs.declared.line_part.LinePart.{LinePart}
+use Rattle.lic_kind.specs.LineRules.{LineRules}
+use Rattle.lic_trim.specs.Lines.{whole_line, cut_of}
+use Rattle.lic_lines.specs.Cells.{blank_for, cell_of, line_cells, cells_of}
 use Rattle.lic_lines.specs.Runs.{same_mark, same_family, end_after, without_separator, without_separators, joined, runs_joined}
 use Rattle.lic_norm.specs.Sources.{AreSourceChars, source_of}
 use Rattle.lic_norm.specs.Spans.{EndsAt}

@@ -5,19 +5,19 @@ use Rattle.std.specs.Char.{is_whitespace}
 use Rattle.std.proofs.lemmas.Bool.{false≢true, eqb-true}
 use Rattle.std.proofs.lemmas.List.{map-append, reverse-append}
 use Rattle.std.proofs.lemmas.List.Folds.{list_all-append}
-use Rattle.lic_lines.specs.Texts.{ends_in}
-use Rattle.lic_lines.specs.Sources.{chars_of}
-use Rattle.lic_lines.specs.declared.source.SourceChar.{SourceChar}
+use Rattle.lic_trim.specs.Texts.{ends_in}
+use Rattle.lic_trim.specs.Sources.{chars_of}
+use Rattle.lic_trim.specs.declared.source.SourceChar.{SourceChar}
 use Rattle.lic_lines.specs.declared.cell.Cell.{Cell}
 use Rattle.lic_lines.specs.declared.cell.Cell.TheVariants.{Blank}
-use Rattle.lic_lines.specs.declared.line_part.LinePart.{LinePart}
-use Rattle.lic_lines.specs.LineRules.{LineRules}
-use Rattle.lic_lines.specs.Lines.{line_cells}
+use Rattle.lic_trim.specs.declared.line_part.LinePart.{LinePart}
+use Rattle.lic_kind.specs.LineRules.{LineRules}
+use Rattle.lic_lines.specs.Cells.{line_cells}
 use Rattle.lic_lines.specs.Runs.{runs_joined}
 use Rattle.lic_lines.proofs.Gaps.{no_runs, runs_joined-gap}
-use Rattle.lic_lines.proofs.ItemLemmas.{char_of}
+use Rattle.lic_trim.proofs.ItemLemmas.{char_of}
 use Rattle.lic_lines.proofs.LineByLine.{line_ends}
-use Rattle.lic_lines.proofs.PieceEnds.{ends_in-snoc}
+use Rattle.lic_trim.proofs.PieceEnds.{ends_in-snoc}
 use Rattle.lic_norm.specs.declared.pieces.Edges.{Edges}
 use Rattle.lic_norm.specs.Edges.{HasEdges}
 use Rattle.lic_norm.specs.Pieces.{ends_in_feed, is_blank, begins_in_blank, ends_in_blank}

@@ -6,14 +6,15 @@ use Rattle.std.proofs.lemmas.List.Concat.{flat_map-append}
 use Rattle.std.proofs.lemmas.List.Elements.{All-nil, All-cons, All-head, All-tail, All-filter, filter-append}
 use Rattle.std.proofs.lemmas.List.{map-append}
 use Rattle.lic_kind.specs.Kinds.{is_dropped}
-use Rattle.lic_lines.specs.Texts.{cut_after}
-use Rattle.lic_lines.specs.Sources.{chars_of, without_dropped, lines_of}
-use Rattle.lic_lines.specs.declared.source.SourceChar.{SourceChar}
-use Rattle.lic_lines.specs.LineRules.{LineRules}
-use Rattle.lic_lines.specs.Lines.{whole_line, tail_length, line_cells, cells_of_cut}
+use Rattle.lic_trim.specs.Texts.{cut_after}
+use Rattle.lic_trim.specs.Sources.{chars_of, without_dropped, lines_of}
+use Rattle.lic_trim.specs.declared.source.SourceChar.{SourceChar}
+use Rattle.lic_kind.specs.LineRules.{LineRules}
+use Rattle.lic_trim.specs.Lines.{whole_line, tail_length}
+use Rattle.lic_lines.specs.Cells.{line_cells, cells_of_cut}
 use Rattle.lic_lines.specs.Tokens.{first_tokens, single_signs, line_tokens, text_tokens, tokens_of_cells}
 use Rattle.lic_lines.proofs.Gaps.{no_runs}
-use Rattle.lic_lines.proofs.ItemLemmas.{item_none, few_behind}
+use Rattle.lic_trim.proofs.ItemLemmas.{item_none, few_behind}
 use Rattle.lic_lines.proofs.LineByLine.{text_tokens-lines}
 use Rattle.lic_norm.specs.LineEnds.{IsFirstLine}
 use Rattle.lic_norm.specs.Sources.{source_of}

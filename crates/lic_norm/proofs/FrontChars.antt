@@ -5,8 +5,8 @@ use Rattle.std.proofs.lemmas.Bool.{cond-true}
 use Rattle.std.proofs.lemmas.List.{drop_all}
 use Rattle.std.proofs.lemmas.List.Elements.{filter-append}
 use Rattle.lic_kind.specs.Kinds.{is_dropped}
-use Rattle.lic_lines.specs.Sources.{placed, without_dropped}
-use Rattle.lic_lines.specs.declared.source.SourceChar.{SourceChar}
+use Rattle.lic_trim.specs.Sources.{placed, without_dropped}
+use Rattle.lic_trim.specs.declared.source.SourceChar.{SourceChar}
 use Rattle.lic_norm.specs.Sources.{source_of}
 use Rattle.lic_norm.proofs.AnyBytes.{source_of-none, source_of-text, source_of-byte}
 

@@ -6,8 +6,8 @@ use Rattle.std.proofs.lemmas.Str.{encode_same, length-encode, len_utf8_bounds}
 use Rattle.std.proofs.lemmas.Bool.{cond-true, cond-false}
 use Rattle.std.proofs.lemmas.List.{length-append}
 use Rattle.lic_kind.specs.Kinds.{is_dropped}
-use Rattle.lic_lines.specs.Sources.{without_dropped}
-use Rattle.lic_lines.specs.declared.source.SourceChar.{SourceChar}
+use Rattle.lic_trim.specs.Sources.{without_dropped}
+use Rattle.lic_trim.specs.declared.source.SourceChar.{SourceChar}
 
 -- what is left is the character that came, and the others
 pub record IsNext (cs : List ℕ) (c : ℕ) (rest : List ℕ) : Type 0 where

@@ -6,20 +6,21 @@ use Rattle.std.specs.Char.{is_whitespace}
 use Rattle.std.proofs.lemmas.Bool.{cond-true}
 use Rattle.std.proofs.lemmas.List.{map-append, take-append-drop, drop-drop, drop_all}
 use Rattle.std.proofs.lemmas.Str.{chars-nil, chars-append, IsUtf8-take, IsUtf8-drop}
-use Rattle.lic_lines.specs.Texts.{ends_in}
-use Rattle.lic_lines.specs.Sources.{chars_of, unplaced, without_dropped, lines_of}
-use Rattle.lic_lines.specs.declared.source.SourceChar.{SourceChar}
+use Rattle.lic_trim.specs.Texts.{ends_in}
+use Rattle.lic_trim.specs.Sources.{chars_of, unplaced, without_dropped, lines_of}
+use Rattle.lic_trim.specs.declared.source.SourceChar.{SourceChar}
 use Rattle.lic_lines.specs.declared.cell.Cell.{Cell}
-use Rattle.lic_lines.specs.declared.line_part.LinePart.{LinePart}
+use Rattle.lic_trim.specs.declared.line_part.LinePart.{LinePart}
 use Rattle.lic_lines.specs.declared.cell.Cell.TheVariants.{Blank}
-use Rattle.lic_lines.specs.LineRules.{LineRules}
-use Rattle.lic_lines.specs.Lines.{cut_of, cells_of_cut, line_cells}
+use Rattle.lic_kind.specs.LineRules.{LineRules}
+use Rattle.lic_trim.specs.Lines.{cut_of}
+use Rattle.lic_lines.specs.Cells.{cells_of_cut, line_cells}
 use Rattle.lic_lines.specs.Runs.{runs_joined}
 use Rattle.lic_lines.specs.Tokens.{Token, line_tokens, tokens_of_cells}
 use Rattle.lic_lines.proofs.Gaps.{no_runs, runs_joined-gap}
-use Rattle.lic_lines.proofs.ItemLemmas.{char_of, item_none, few_behind}
+use Rattle.lic_trim.proofs.ItemLemmas.{char_of, item_none, few_behind}
 use Rattle.lic_lines.proofs.LineByLine.{line_ends, tokens_of_cells-blank}
-use Rattle.lic_lines.proofs.PieceEnds.{ends_in-snoc}
+use Rattle.lic_trim.proofs.PieceEnds.{ends_in-snoc}
 use Rattle.lic_norm.specs.declared.pieces.Next.{Next}
 use Rattle.lic_norm.specs.declared.pieces.Next.TheVariants.{LineEnd, Var, Optional}
 use Rattle.lic_norm.specs.LineEnds.{IsFirstLine}

@@ -4,7 +4,7 @@ use Rattle.std.specs.List.{slice_range}
 use Rattle.std.proofs.lemmas.List.{map-append, take-append-le, drop-append-le, drop_all, length-map}
 use Rattle.std.proofs.lemmas.List.Elements.{All-append, All-drop, All-get_or, All-nil}
 use Rattle.memchr.specs.Find.{IsLastByte, is_byte}
-use Rattle.lic_lines.specs.LineRules.{LineRules, rules_of}
+use Rattle.lic_kind.specs.LineRules.{LineRules, rules_of}
 use Rattle.lic_phrases.specs.Rewriting.{rewritten}
 use Rattle.lic_phrases.specs.Settling.{left_of}
 use Rattle.lic_norm.specs.Feeding.{FeederValue, settled_in, AreLines, AreFirst, lines_read}

@@ -2,11 +2,11 @@
 use Rattle.std.proofs.Common.{◌≡◌, ℕ, zero, suc, ◌<◌, List, [], ◌∷◌, ◌++◌, map, length, get_or, sym, ap, subst, ◌∙◌, append-nil, arith}
 use Rattle.std.proofs.lemmas.List.{map-append}
 use Rattle.std.proofs.lemmas.List.Elements.{All-head, All-tail}
-use Rattle.lic_lines.specs.LineRules.{LineRules}
-use Rattle.lic_lines.specs.Lines.{whole_line}
-use Rattle.lic_lines.specs.Sources.{without_dropped}
+use Rattle.lic_kind.specs.LineRules.{LineRules}
+use Rattle.lic_trim.specs.Lines.{whole_line}
+use Rattle.lic_trim.specs.Sources.{without_dropped}
 use Rattle.lic_lines.specs.Tokens.{Token, line_tokens, small_bytes, token_in, tokens_in}
-use Rattle.lic_lines.specs.declared.source.SourceChar.{SourceChar}
+use Rattle.lic_trim.specs.declared.source.SourceChar.{SourceChar}
 use Rattle.lic_lines.specs.declared.tokens.FirstToken.{FirstToken}
 use Rattle.lic_phrases.specs.Rewriting.{SpannedText}
 use Rattle.lic_phrases.specs.TokenTexts.{IsTokenText}

@@ -6,7 +6,7 @@ use Rattle.std.proofs.lemmas.Bool.{cond-true, cond-false}
 use Rattle.lic_columns.specs.Marks.{is_joining}
 use Rattle.lic_columns.specs.SpanTokens.{span_tokens, spans_by, token_text}
 use Rattle.lic_lines.specs.Tokens.{Token, is_text, is_sign_in_parentheses, sign_from, as_sign, single_signs}
-use Rattle.lic_lines.proofs.TextLemmas.{bytes_eq-other}
+use Rattle.lic_trim.proofs.TextLemmas.{bytes_eq-other}
 use Rattle.lic_norm.specs.Stretches.{begins_sign}
 
 -- ---- one of the tokens

@@ -1,6 +1,6 @@
 -- Spans and texts of the tokens of an input that was read.
 use Rattle.std.proofs.Common.{◌≡◌, ℕ, List, sym, subst, ◌∙◌, ap}
-use Rattle.lic_lines.specs.LineRules.{LineRules}
+use Rattle.lic_kind.specs.LineRules.{LineRules}
 use Rattle.lic_phrases.specs.Rewriting.{Phrase}
 use Rattle.lic_phrases.specs.TokenTexts.{HaveTokenTexts}
 use Rattle.lic_norm.specs.Tokens.{TokenValue, tokens_of}

@@ -15,14 +15,15 @@ use Rattle.lic_kind.specs.declared.Kind.{Kind}
 use Rattle.lic_kind.specs.declared.Kind.TheVariants.{Blank as BlankKind, Dropped as DroppedKind, Mark as MarkKind, Word as WordKind}
 use Rattle.lic_kind.proofs.KindLemmas.{is_word_kind-true, kind_of-white}
 use Rattle.lic_kind.proofs.LetterLemmas.{spell-Mark, mark_letters, word_letters_are_not_white, word_has_letters}
-use Rattle.lic_lines.specs.Texts.{groups}
-use Rattle.lic_lines.specs.Sources.{chars_of, without_dropped, lines_of, unplaced}
-use Rattle.lic_lines.specs.declared.source.SourceChar.{SourceChar}
+use Rattle.lic_trim.specs.Texts.{groups}
+use Rattle.lic_trim.specs.Sources.{chars_of, without_dropped, lines_of, unplaced}
+use Rattle.lic_trim.specs.declared.source.SourceChar.{SourceChar}
 use Rattle.lic_lines.specs.declared.cell.Cell.{Cell}
 use Rattle.lic_lines.specs.declared.cell.Cell.TheVariants.{Blank, Mark, Word}
-use Rattle.lic_lines.specs.declared.line_part.LinePart.{LinePart}
-use Rattle.lic_lines.specs.LineRules.{LineRules}
-use Rattle.lic_lines.specs.Lines.{whole_line, blank_for, cell_of, cut_of, cells_of, line_cells}
+use Rattle.lic_trim.specs.declared.line_part.LinePart.{LinePart}
+use Rattle.lic_kind.specs.LineRules.{LineRules}
+use Rattle.lic_trim.specs.Lines.{whole_line, cut_of}
+use Rattle.lic_lines.specs.Cells.{blank_for, cell_of, cells_of, line_cells}
 use Rattle.lic_lines.specs.Runs.{same_mark, same_family, without_separator, without_separators, joined, runs_joined}
 use Rattle.lic_lines.specs.Tokens.{Token, both_words, letters_of, tokens_from, first_tokens, is_text, is_sign_in_parentheses, sign_from, as_sign, single_signs, text_tokens_after}
 use Rattle.lic_phrases.specs.Rewriting.{Phrase, both_signs, sign_of_row, sign_rows, begins_authority, https_as_http, begin_with_texts, longer, longest_phrase, count_after, first_as, phrases_after, phrases_joined, spanned, rewritten, SpannedText}

@@ -5,10 +5,10 @@ use Rattle.std.proofs.lemmas.Bool.{cond-true, cond-false, false_from_ne_true}
 use Rattle.std.proofs.lemmas.List.Concat.{flat_map-append}
 use Rattle.std.proofs.lemmas.List.Elements.{All-head, All-tail, filter-append}
 use Rattle.lic_kind.specs.Kinds.{is_dropped}
-use Rattle.lic_lines.specs.Sources.{without_dropped, lines_of}
-use Rattle.lic_lines.specs.declared.source.SourceChar.{SourceChar}
-use Rattle.lic_lines.specs.LineRules.{LineRules}
-use Rattle.lic_lines.specs.Lines.{whole_line}
+use Rattle.lic_trim.specs.Sources.{without_dropped, lines_of}
+use Rattle.lic_trim.specs.declared.source.SourceChar.{SourceChar}
+use Rattle.lic_kind.specs.LineRules.{LineRules}
+use Rattle.lic_trim.specs.Lines.{whole_line}
 use Rattle.lic_lines.specs.Tokens.{line_tokens, text_tokens}
 use Rattle.lic_lines.proofs.LineByLine.{cut_after-end, text_tokens-lines}
 use Rattle.lic_norm.specs.Feeding.{AreLines, lines_read}

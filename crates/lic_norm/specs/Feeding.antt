@@ -1,7 +1,7 @@
 -- An input that comes in pieces.
 use Rattle.std.specs.Prelude.{◌≡◌, ◌⊎◌, ℕ, ◌==◌, if◌then◌else◌, List, [], ◌∷◌, ◌++◌, Option, Some, None}
 use Rattle.std.specs.List.{list_any}
-use Rattle.lic_lines.specs.LineRules.{LineRules}
+use Rattle.lic_kind.specs.LineRules.{LineRules}
 use Rattle.lic_phrases.specs.Rewriting.{Phrase}
 use Rattle.lic_norm.specs.Tokens.{TokenValue}
 use Rattle.lic_norm.specs.declared.fault.TextFault.{TextFault}

@@ -2,14 +2,14 @@
 use Rattle.std.specs.Prelude.{ℕ, Bool, true, false, ◌==◌, if◌then◌else◌, List, [], ◌∷◌, ◌++◌, map, reverse, Option, Some, None}
 use Rattle.std.specs.Str.{chars}
 use Rattle.std.specs.List.{list_all}
-use Rattle.lic_lines.specs.Texts.{ends_in}
-use Rattle.lic_lines.specs.Sources.{chars_of, unplaced, without_dropped, lines_of}
-use Rattle.lic_lines.specs.declared.source.SourceChar.{SourceChar}
-use Rattle.lic_lines.specs.declared.line_part.LinePart.{LinePart}
+use Rattle.lic_trim.specs.Texts.{ends_in}
+use Rattle.lic_trim.specs.Sources.{chars_of, unplaced, without_dropped, lines_of}
+use Rattle.lic_trim.specs.declared.source.SourceChar.{SourceChar}
+use Rattle.lic_trim.specs.declared.line_part.LinePart.{LinePart}
 use Rattle.lic_lines.specs.declared.cell.Cell.{Cell}
 use Rattle.lic_lines.specs.declared.cell.Cell.TheVariants.{Blank, Mark, Word}
-use Rattle.lic_lines.specs.LineRules.{LineRules}
-use Rattle.lic_lines.specs.Lines.{line_cells}
+use Rattle.lic_kind.specs.LineRules.{LineRules}
+use Rattle.lic_lines.specs.Cells.{line_cells}
 use Rattle.lic_lines.specs.Runs.{runs_joined}
 use Rattle.lic_lines.specs.Tokens.{Token, first_tokens, single_signs}
 use Rattle.lic_phrases.specs.Rewriting.{Phrase, rewritten}

@@ -1,6 +1,6 @@
 -- How far the reading of an input has come.
 use Rattle.std.specs.Prelude.{◌≡◌, ◌≢◌, ◌≤◌, List, length, take, drop, map, All}
-use Rattle.lic_lines.specs.LineRules.{rules_of}
+use Rattle.lic_kind.specs.LineRules.{rules_of}
 use Rattle.lic_lines.specs.Tokens.{Token}
 use Rattle.lic_phrases.specs.Rewriting.{SpannedText}
 use Rattle.lic_phrases.specs.Settling.{Settles}

@@ -3,7 +3,7 @@ use Rattle.std.specs.Prelude.{◌≡◌, ℕ, zero, suc, ◌+◌, ◌-◌, List,
 use Rattle.std.specs.Option.{option_map_or}
 use Rattle.std.specs.Char.{len_utf8, encode_utf8, IsScalar}
 use Rattle.std.specs.Str.{is_utf8, chars, StartsWithNoChar}
-use Rattle.lic_lines.specs.declared.source.SourceChar.{SourceChar}
+use Rattle.lic_trim.specs.declared.source.SourceChar.{SourceChar}
 
 -- how many bytes the character takes that begins these bytes, if one does (Unicode, table 3-7)
 abbrev pub width_of_first : List ℕ → Option ℕ

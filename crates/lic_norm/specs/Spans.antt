@@ -1,6 +1,6 @@
 -- Where tokens lie in their source, and what their texts are.
 use Rattle.std.specs.Prelude.{◌≡◌, ℕ, ◌≤◌, ◌<◌, List, [], ◌∷◌, length, All, Contains}
-use Rattle.lic_lines.specs.declared.source.SourceChar.{SourceChar}
+use Rattle.lic_trim.specs.declared.source.SourceChar.{SourceChar}
 use Rattle.lic_lines.specs.Tokens.{Token}
 pub use Rattle.lic_phrases.specs.TokenTexts.{IsTokenText}
 use Rattle.lic_norm.specs.Sources.{source_of}

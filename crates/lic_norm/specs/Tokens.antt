@@ -1,8 +1,8 @@
 -- From an input to its tokens.
 use Rattle.std.specs.Prelude.{ℕ, List, map}
-use Rattle.lic_lines.specs.Sources.{without_dropped}
-use Rattle.lic_lines.specs.LineRules.{LineRules}
-use Rattle.lic_lines.specs.Lines.{whole_line}
+use Rattle.lic_trim.specs.Sources.{without_dropped}
+use Rattle.lic_kind.specs.LineRules.{LineRules}
+use Rattle.lic_trim.specs.Lines.{whole_line}
 use Rattle.lic_lines.specs.Tokens.{Token, line_tokens, text_tokens}
 use Rattle.lic_phrases.specs.Rewriting.{Phrase, SpannedText, rewritten}
 use Rattle.lic_norm.specs.Sources.{source_of}

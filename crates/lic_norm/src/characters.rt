@@ -3,11 +3,11 @@ ghost use Rattle.std.specs.Prelude.{◌≡◌, ◌+◌, ◌++◌, ◌<◌, ◌�
 ghost use Rattle.std.specs.Char.{len_utf8};
 ghost use Rattle.std.specs.Str.{chars, StartsWithNoChar};
 ghost use Rattle.lic_kind.specs.Kinds.{is_dropped};
-ghost use Rattle.lic_lines.specs.Sources.{placed, without_dropped};
+ghost use Rattle.lic_trim.specs.Sources.{placed, without_dropped};
 ghost use Rattle.lic_norm.specs.Sources.{source_of};
 
 use lic_kind::is_dropped;
-use lic_lines::SourceChar;
+use lic_trim::SourceChar;
 use simdutf8::compat::from_utf8;
 use std::alloc::AllocError;
 

@@ -2,7 +2,7 @@
 
 ghost use Rattle.std.specs.Prelude.{◌≡◌, ◌≢◌, ◌<◌, ◌≤◌, ◌+◌, ◌++◌, ℕ, [], List, length, slice_index_or, IfOk, IfErr, OnOk, Some, None};
 ghost use Rattle.std.specs.List.{flat_map};
-ghost use Rattle.lic_lines.specs.LineRules.{rules_of};
+ghost use Rattle.lic_kind.specs.LineRules.{rules_of};
 ghost use Rattle.lic_norm.specs.Refusal.{refusal_of};
 ghost use Rattle.lic_norm.specs.Spans.{AreSpans, AreTokenTexts};
 ghost use Rattle.lic_norm.specs.Tokens.{tokens_of};
@@ -27,7 +27,7 @@ pub struct Feeder<'w> {
 
 impl<'w> Model for Feeder<'w> {
     ghost use Rattle.std.specs.Prelude.{ℕ, ◌≡◌, ◌≤◌, List, length, None};
-    ghost use Rattle.lic_lines.specs.LineRules.{rules_of};
+    ghost use Rattle.lic_kind.specs.LineRules.{rules_of};
     ghost use Rattle.lic_norm.specs.Feeding.{FeederValue, settled_in};
     ghost use Rattle.lic_norm.specs.Reading.{HasReadLines};
     ghost use Rattle.lic_norm.specs.Refusal.{max_bytes};
@@ -47,7 +47,7 @@ impl<'w> Model for Feeder<'w> {
 }
 
 impl<'w> Feeder<'w> {
-    ghost use Rattle.lic_lines.specs.LineRules.{rules_of};
+    ghost use Rattle.lic_kind.specs.LineRules.{rules_of};
     ghost use Rattle.lic_norm.specs.Feeding.{AreFirst, lines_read};
     ghost use Rattle.lic_norm.specs.Refusal.{refusal_of};
     ghost use Rattle.lic_norm.specs.Spans.{AreSpans, AreTokenTexts};

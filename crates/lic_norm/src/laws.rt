@@ -1,8 +1,8 @@
 //! Laws of texts and of source characters, each the contract of a function that does nothing.
 
 ghost use Rattle.std.specs.Prelude.{◌≡◌, ◌↔◌, ℕ, List, IsUtf8, chars};
-ghost use Rattle.lic_lines.specs.Sources.{placed};
-ghost use Rattle.lic_lines.specs.declared.source.SourceChar.{SourceChar};
+ghost use Rattle.lic_trim.specs.Sources.{placed};
+ghost use Rattle.lic_trim.specs.declared.source.SourceChar.{SourceChar};
 ghost use Rattle.lic_norm.specs.Sources.{AreSourceChars, source_of};
 
 pub use crate::text::{tokens_are_token_texts, tokens_are_utf8, tokens_have_spans};

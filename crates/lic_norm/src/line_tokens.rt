@@ -1,7 +1,7 @@
 //! The first tokens of lines of an input.
 
 ghost use Rattle.std.specs.Prelude.{◌≡◌, ◌+◌, ◌++◌, ◌<◌, ◌≤◌, ◌^◌, List, length, IfSome, OnOk, IsAscii, IsUtf8};
-ghost use Rattle.lic_lines.specs.LineRules.{rules_of};
+ghost use Rattle.lic_kind.specs.LineRules.{rules_of};
 ghost use Rattle.lic_lines.specs.Tokens.{Token};
 ghost use Rattle.lic_norm.specs.Reading.{HasTaken, HasTakenSome};
 ghost use Rattle.lic_norm.specs.Tokens.{first_tokens_of, line_tokens_of};
@@ -10,7 +10,8 @@ use crate::characters::read_characters;
 use crate::rewriting::{PartBuffers, Rewriting};
 use crate::stretch::Stretch;
 use lic_columns::Lines;
-use lic_lines::{Buffers, LinePart, Rules, SourceChar, left_of_line};
+use lic_lines::{Buffers, Rules, left_of_line};
+use lic_trim::{LinePart, SourceChar};
 use simdutf8::compat::from_utf8;
 use std::alloc::{AllocError, Global};
 

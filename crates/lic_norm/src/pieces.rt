@@ -2,8 +2,8 @@
 ghost use Rattle.std.specs.Prelude.{◌≡◌, true, List, [], ◌++◌, map, All, IfOk, OnOk, IsUtf8, string_bytes};
 ghost use Rattle.std.specs.List.{list_all};
 ghost use Rattle.lic_lines.specs.declared.cell.Cell.{Cell};
-ghost use Rattle.lic_lines.specs.LineRules.{rules_of};
-ghost use Rattle.lic_lines.specs.Lines.{line_cells};
+ghost use Rattle.lic_kind.specs.LineRules.{rules_of};
+ghost use Rattle.lic_lines.specs.Cells.{line_cells};
 ghost use Rattle.lic_lines.specs.Runs.{runs_joined};
 ghost use Rattle.lic_lines.specs.Tokens.{line_tokens, tokens_in};
 ghost use Rattle.lic_phrases.specs.Rewriting.{rewritten};
@@ -14,11 +14,9 @@ ghost use Rattle.lic_norm.specs.Pieces.{ends_in_feed, part_of, piece_cells, piec
 use crate::lines::text_line_end;
 use crate::rewriting::Rewriting;
 use crate::words::Words;
-use lic_lines::{
-    Buffers, Cell, FirstToken, LinePart, Rules, SourceChar, cells_of_line, push_tokens_of_line,
-    unplaced,
-};
+use lic_lines::{Buffers, Cell, FirstToken, Rules, cells_of_line, push_tokens_of_line};
 use lic_phrases::laws::spellings_are_token_texts;
+use lic_trim::{LinePart, SourceChar, unplaced};
 use std::alloc::{AllocError, Global};
 
 /// What follows a piece of a template's text in its line.

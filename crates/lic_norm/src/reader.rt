@@ -1,6 +1,6 @@
 //! Reads an input by lines, as its bytes come.
 ghost use Rattle.std.specs.Prelude.{◌≡◌, ◌≢◌, ◌++◌, ◌<◌, ◌≤◌, ◌^◌, [], false, All, IfOk, IfErr, IsTrue, OnOk, Some, length, take, drop, slice_range};
-ghost use Rattle.lic_lines.specs.LineRules.{rules_of};
+ghost use Rattle.lic_kind.specs.LineRules.{rules_of};
 ghost use Rattle.lic_norm.specs.LineEnds.{IsFirstLine};
 ghost use Rattle.lic_norm.specs.Reading.{HasTaken, HasRead, HasReadLines};
 ghost use Rattle.lic_norm.specs.Refusal.{max_bytes, refusal_of};

@@ -1,6 +1,6 @@
 //! From first tokens to the tokens of the rewriting, as they are kept.
 ghost use Rattle.std.specs.Prelude.{◌≡◌, ◌++◌, ◌∷◌, ◌<◌, ◌≤◌, [], true, List, length, drop, take, map, IfOk, IsAscii, OnOk};
-ghost use Rattle.lic_lines.specs.LineRules.{rules_of};
+ghost use Rattle.lic_kind.specs.LineRules.{rules_of};
 ghost use Rattle.lic_lines.specs.Tokens.{Token, single_signs, text_tokens_after, token_in, tokens_in};
 ghost use Rattle.lic_phrases.specs.Rewriting.{rewritten};
 ghost use Rattle.lic_phrases.specs.TokenTexts.{HaveTokenTexts, IsTokenText};
@@ -11,10 +11,10 @@ ghost use Rattle.lic_norm.specs.Tokens.{reported};
 use crate::stretch::Stretch;
 use crate::token_list::TokenList;
 use lic_lines::{
-    Buffers, FirstToken, FrontPart, Rules, SmallString, SourceChar, TextStart, front_part,
-    start_of_text,
+    Buffers, FirstToken, FrontPart, Rules, SmallString, TextStart, front_part, start_of_text,
 };
 use lic_phrases::{FinalToken, Phrases, Rewriter};
+use lic_trim::SourceChar;
 use std::alloc::{AllocError, Global};
 
 /// Room for the work on a part of a line, kept from one part to the next. What it holds has no effect.

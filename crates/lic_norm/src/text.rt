@@ -33,7 +33,7 @@ impl Model for Text {
 }
 
 impl Text {
-    ghost use Rattle.lic_lines.specs.LineRules.{rules_of};
+    ghost use Rattle.lic_kind.specs.LineRules.{rules_of};
     ghost use Rattle.lic_norm.specs.Places.{place_end, place_start, texts_of};
     ghost use Rattle.lic_norm.specs.Reading.{HasReadLines};
     ghost use Rattle.lic_norm.specs.Refusal.{refusal_of};

@@ -1,7 +1,7 @@
 -- Groups of neighbours.
 use Rattle.std.proofs.Common.{◌≡◌, Bool, List, [], ◌∷◌, refl, ⊎_elim}
 use Rattle.std.proofs.lemmas.Bool.{cases_Bool, cond-true, cond-false}
-use Rattle.lic_lines.specs.Texts.{groups, join_group}
+use Rattle.lic_trim.specs.Texts.{groups, join_group}
 
 module _ {A : Type 0} (together : A → A → Bool) where
   -- an element is the first of its group

@@ -10,10 +10,10 @@ use Rattle.lic_kind.specs.Kinds.{kind_of, is_mark_kind, is_word_kind, spell}
 use Rattle.lic_kind.proofs.LetterLemmas.{spell-Mark, mark_letters, word_has_letters, word_letters}
 use Rattle.lic_lines.specs.declared.cell.Cell.{Cell}
 use Rattle.lic_lines.specs.declared.cell.Cell.TheVariants.{Blank, Mark, Word}
-use Rattle.lic_lines.specs.declared.source.SourceChar.{SourceChar}
-use Rattle.lic_lines.specs.Sources.{unplaced, without_dropped}
-use Rattle.lic_lines.specs.Texts.{groups, join_group}
-use Rattle.lic_lines.specs.Lines.{cell_of}
+use Rattle.lic_trim.specs.declared.source.SourceChar.{SourceChar}
+use Rattle.lic_trim.specs.Sources.{unplaced, without_dropped}
+use Rattle.lic_trim.specs.Texts.{groups, join_group}
+use Rattle.lic_lines.specs.Cells.{cell_of}
 use Rattle.lic_lines.specs.Runs.{without_separator, without_separators, joined, with_joined, same_mark, same_family}
 use Rattle.lic_lines.specs.Tokens.{Token, both_words, letters_of, tokens_from, first_tokens, is_text, is_sign_in_parentheses, as_sign, sign_from, single_signs}
 use Rattle.lic_phrases.specs.Keys.{HasNoBlank, HaveNoBlank}

@@ -1,9 +1,9 @@
 -- The tokens of a phrase.
 use Rattle.std.proofs.Common.{◌≡◌, ℕ, false, List, [], ◌∷◌, None, refl, ap, ◌∙◌, ◌-◌, length, take, drop, map, append-nil, take_all, arith}
-use Rattle.lic_lines.specs.declared.source.SourceChar.{SourceChar}
-use Rattle.lic_lines.specs.declared.line_part.LinePart.{LinePart}
-use Rattle.lic_lines.specs.LineRules.{LineRules}
-use Rattle.lic_lines.specs.Lines.{cell_of, line_cells}
+use Rattle.lic_trim.specs.declared.source.SourceChar.{SourceChar}
+use Rattle.lic_trim.specs.declared.line_part.LinePart.{LinePart}
+use Rattle.lic_kind.specs.LineRules.{LineRules}
+use Rattle.lic_lines.specs.Cells.{cell_of, line_cells}
 use Rattle.lic_phrases.specs.WordLists.{texts_of}
 use Rattle.lic_lines.specs.Tokens.{Token}
 use Rattle.lic_phrases.specs.Waiting.{spanned_in}

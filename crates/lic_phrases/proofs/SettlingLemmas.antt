@@ -4,7 +4,7 @@ use Rattle.std.specs.Prelude.{codes, Result, Ok, Err, OnOk}
 use Rattle.std.specs.List.{flat_map}
 use Rattle.std.proofs.lemmas.Bool.{cases_Bool, cond-true, cond-false, false≢true}
 use Rattle.std.proofs.lemmas.List.{length-map, map-append}
-use Rattle.lic_lines.specs.Texts.{groups, join_group}
+use Rattle.lic_trim.specs.Texts.{groups, join_group}
 use Rattle.lic_lines.specs.Tokens.{Token, is_text, token_in, tokens_in}
 use Rattle.lic_lines.specs.declared.tokens.FirstToken.{FirstToken}
 use Rattle.lic_phrases.specs.Rewriting.{Phrase, SpannedText, spanned, is_sign, both_signs, sign_of_row, sign_rows, https_as_http, longest_phrase, count_after, first_as, phrases_after, phrases_joined, rewritten}

@@ -2,7 +2,7 @@
 use Rattle.std.proofs.Common.{◌≡◌, ◌&&◌, true, false, List, [], ◌∷◌, refl, sym, ap, ◌∙◌, ⊎_elim}
 use Rattle.std.specs.List.{flat_map}
 use Rattle.std.proofs.lemmas.Bool.{cases_Bool, cond-true, cond-false, and_parts}
-use Rattle.lic_lines.specs.Texts.{groups, join_group}
+use Rattle.lic_trim.specs.Texts.{groups, join_group}
 use Rattle.lic_lines.specs.Tokens.{Token}
 use Rattle.lic_phrases.specs.Rewriting.{is_sign, both_signs, sign_of_row, sign_rows}
 use Rattle.lic_phrases.proofs.GroupLemmas.{groups-head}

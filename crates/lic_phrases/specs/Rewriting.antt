@@ -1,7 +1,7 @@
 -- The rewriting of a text's tokens: rows of signs, the scheme of web addresses, and phrases of equivalent words.
 use Rattle.std.specs.Prelude.{ℕ, zero, suc, ◌-◌, Bool, true, false, ◌&&◌, nat_lt, if◌then◌else◌, List, [], ◌∷◌, length, take, map, codes, Option, Some, None}
 use Rattle.std.specs.List.{flat_map}
-use Rattle.lic_lines.specs.Texts.{groups}
+use Rattle.lic_trim.specs.Texts.{groups}
 use Rattle.lic_lines.specs.Tokens.{Token, is_text}
 
 -- where the last of the tokens t ∷ ts ends

@@ -5,9 +5,9 @@ use Rattle.std.specs.Str.{chars}
 use Rattle.std.specs.List.{flat_map, slice_split, Contains}
 use Rattle.std.specs.Option.{option_map_or}
 use Rattle.lic_kind.specs.Kinds.{is_dropped}
-use Rattle.lic_lines.specs.Sources.{unplaced, without_dropped}
-use Rattle.lic_lines.specs.LineRules.{profile}
-use Rattle.lic_lines.specs.Lines.{cell_of}
+use Rattle.lic_trim.specs.Sources.{unplaced, without_dropped}
+use Rattle.lic_kind.specs.LineRules.{profile}
+use Rattle.lic_lines.specs.Cells.{cell_of}
 use Rattle.lic_lines.specs.Tokens.{Token, tokens_of_cells}
 use Rattle.lic_phrases.specs.Rewriting.{Phrase, sign_rows, https_as_http}
 use Rattle.lic_phrases.specs.Spelling.{spelled}

@@ -1,9 +1,9 @@
 //! The tokens of a phrase.
 ghost use Rattle.std.specs.Prelude.{◌≡◌, [], IfOk, OnOk, length, map};
 ghost use Rattle.std.specs.Str.{chars};
-ghost use Rattle.lic_lines.specs.LineRules.{profile, rules_of};
-ghost use Rattle.lic_lines.specs.Lines.{cell_of};
-ghost use Rattle.lic_lines.specs.Sources.{unplaced, without_dropped};
+ghost use Rattle.lic_kind.specs.LineRules.{profile, rules_of};
+ghost use Rattle.lic_lines.specs.Cells.{cell_of};
+ghost use Rattle.lic_trim.specs.Sources.{unplaced, without_dropped};
 ghost use Rattle.lic_lines.specs.Tokens.{tokens_in, tokens_of_cells};
 ghost use Rattle.lic_phrases.specs.Keys.{texts_in};
 ghost use Rattle.lic_phrases.specs.Rewriting.{SpannedText, rewritten};
@@ -14,7 +14,8 @@ ghost use Rattle.lic_phrases.specs.WordLists.{phrase_texts};
 use crate::final_token::FinalToken;
 use crate::phrases::Phrases;
 use crate::rewriter::Rewriter;
-use lic_lines::{Buffers, FirstToken, LinePart, Rules, push_tokens_of_line, unplaced};
+use lic_lines::{Buffers, FirstToken, Rules, push_tokens_of_line};
+use lic_trim::{LinePart, unplaced};
 use std::alloc::{AllocError, Global};
 
 /// The texts of a phrase's tokens: the line rules are left out, signs are joined and `https` is

@@ -1,8 +1,9 @@
 //! A plain reader to compare with: one character after another, one line after another, and the rewriting of all its tokens.
 
 use lic_kind::{Rules, is_dropped};
-use lic_lines::{Buffers, FirstToken, LinePart, SourceChar, push_tokens_of_line};
+use lic_lines::{Buffers, FirstToken, push_tokens_of_line};
 use lic_phrases::{FinalToken, Phrases, Rewriter, TokenText, Words};
+use lic_trim::{LinePart, SourceChar};
 use std::alloc::{AllocError, Global};
 use std::fmt::Write;
 use std::str::from_utf8;

@@ -2,9 +2,9 @@
 -- independent program.
 use Rattle.std.specs.Prelude.{◌≡◌, ℕ, List, [], ◌∷◌, ◌++◌, map, codes, refl}
 use Rattle.lic_kind.specs.Kinds.{kind_of}
-use Rattle.lic_lines.specs.Sources.{placed}
-use Rattle.lic_lines.specs.LineRules.{profile}
-use Rattle.lic_lines.specs.Lines.{Cell, Blank, Mark, Word, cells_of}
+use Rattle.lic_trim.specs.Sources.{placed}
+use Rattle.lic_kind.specs.LineRules.{profile}
+use Rattle.lic_lines.specs.Cells.{Cell, Blank, Mark, Word, cells_of}
 
 abbrev shown_cell : Cell → ℕ
 shown_cell Blank = 0x20

@@ -4,8 +4,8 @@ use Rattle.std.specs.Prelude.{◌≡◌, ℕ, List, [], ◌∷◌, ◌++◌, map
 use Rattle.std.specs.Char.{encode_utf8}
 use Rattle.caseless.proofs.Computing.{caseless}
 use Rattle.lic_kind.specs.Kinds.{kind_of, spell}
-use Rattle.lic_lines.specs.Sources.{placed}
-use Rattle.lic_lines.specs.LineRules.{profile}
+use Rattle.lic_trim.specs.Sources.{placed}
+use Rattle.lic_kind.specs.LineRules.{profile}
 use Rattle.lic_lines.specs.Tokens.{text_tokens}
 
 -- each token's text and span

@@ -1,6 +1,6 @@
 use Rattle.std.proofs.Common.{◌∙◌, sym, ap}
-use Rattle.lic_lines.specs.LineRules.{rules_of}
-use Rattle.lic_lines.specs.Lines.{cells_of_cut}
+use Rattle.lic_kind.specs.LineRules.{rules_of}
+use Rattle.lic_lines.specs.Cells.{cells_of_cut}
 use Rattle.lic_lines.specs.Tokens.{single_signs, stretch_tokens, tokens_of_cells}
 use Rattle.lic_lines.proofs.TokenLemmas.{tokens_of_cut, left_of-range}
 use Rattle.lic_lines.proofs.line.left_of_line.Goals as goal

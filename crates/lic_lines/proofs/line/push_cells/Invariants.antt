@@ -1,5 +1,5 @@
 use Rattle.std.proofs.Common.{◌≡◌, ◌++◌, map, take}
-use Rattle.lic_lines.specs.Lines.{cell_of}
+use Rattle.lic_lines.specs.Cells.{cell_of}
 use Rattle.lic_lines.proofs.line.push_cells.Given as goal
 
 abbrev pub invariant-loop-s : goal.invariant-loop-s

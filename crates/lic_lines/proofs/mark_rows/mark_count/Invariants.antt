@@ -1,7 +1,7 @@
 use Rattle.std.proofs.Common.{◌≡◌, ℕ, ◌-◌, ◌<◌, ◌≤◌, length, get_or}
 use Rattle.lic_kind.specs.Kinds.{kind_of}
 use Rattle.lic_kind.specs.declared.Kind.TheVariants as kind
-use Rattle.lic_lines.specs.Sources.{SourceChar}
+use Rattle.lic_trim.specs.declared.source.SourceChar.{SourceChar}
 use Rattle.lic_lines.proofs.mark_rows.mark_count.Given as goal
 
 abbrev pub invariant-loop-count : goal.invariant-loop-count

@@ -1,5 +1,5 @@
 use Rattle.std.proofs.Common.{◌∙◌, sym, arith}
-use Rattle.lic_lines.specs.Lines.{Blank}
+use Rattle.lic_lines.specs.Cells.{Blank}
 use Rattle.lic_lines.specs.Groupings.{together}
 use Rattle.lic_lines.proofs.GroupLemmas.{group_at}
 use Rattle.lic_lines.proofs.runs.group_end.Goals as goal

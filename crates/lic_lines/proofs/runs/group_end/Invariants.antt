@@ -1,5 +1,5 @@
 use Rattle.std.proofs.Common.{◌≡◌, ℕ, ◌+◌, ◌-◌, ◌<◌, ◌≤◌, true, length, get_or}
-use Rattle.lic_lines.specs.Lines.{Blank}
+use Rattle.lic_lines.specs.Cells.{Blank}
 use Rattle.lic_lines.specs.Groupings.{together}
 use Rattle.lic_lines.proofs.runs.group_end.Given as goal
 

@@ -1,9 +1,9 @@
 use Rattle.std.proofs.Common.{◌∙◌, ◌++◌, ◌∷◌, [], false, sym, ap, ap₂, take, drop, map, append_assoc}
 use Rattle.std.proofs.lemmas.List.{map-append}
-use Rattle.lic_lines.specs.LineRules.{rules_of}
-use Rattle.lic_lines.specs.Lines.{cell_of}
+use Rattle.lic_kind.specs.LineRules.{rules_of}
+use Rattle.lic_lines.specs.Cells.{cell_of}
 use Rattle.lic_lines.specs.Runs.{runs_joined}
-use Rattle.lic_lines.specs.Texts.{groups}
+use Rattle.lic_trim.specs.Texts.{groups}
 use Rattle.lic_lines.specs.Tokens.{both_words, tokens_from, tokens_after, tokens_in, token_in}
 use Rattle.lic_lines.proofs.KindRows.{some_front, words_row, marks_row}
 use Rattle.lic_lines.proofs.text.push_front.Goals as goal

@@ -1,7 +1,7 @@
 use Rattle.std.proofs.Common.{◌≡◌, ◌∙◌, ℕ, ◌+◌, ◌-◌, Bool, List, ◌++◌, length, take, drop, ap, sym, subst, arith}
 use Rattle.std.proofs.lemmas.List.{append-nil, drop_all, drop-drop, length-drop, take_rest}
-use Rattle.lic_lines.specs.LineRules.{LineRules, rules_of}
-use Rattle.lic_lines.specs.Sources.{SourceChar}
+use Rattle.lic_kind.specs.LineRules.{LineRules, rules_of}
+use Rattle.lic_trim.specs.declared.source.SourceChar.{SourceChar}
 use Rattle.lic_lines.specs.Tokens.{Token, single_signs, tokens_after, tokens_in}
 use Rattle.lic_lines.proofs.TokenLemmas.{no_tokens_after}
 use Rattle.lic_lines.proofs.text.push_rows.Goals as goal

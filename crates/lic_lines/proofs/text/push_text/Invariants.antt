@@ -1,5 +1,5 @@
 use Rattle.std.proofs.Common.{◌≡◌, ◌-◌, ◌≤◌, ◌++◌, length, drop}
-use Rattle.lic_lines.specs.LineRules.{rules_of}
+use Rattle.lic_kind.specs.LineRules.{rules_of}
 use Rattle.lic_lines.specs.Tokens.{tokens_after, stretch_tokens, tokens_in}
 use Rattle.lic_lines.proofs.text.push_text.Given as goal
 

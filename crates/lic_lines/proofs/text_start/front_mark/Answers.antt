@@ -3,8 +3,8 @@ use Rattle.std.specs.Prelude.{bytes_eq, codes, encode_utf8_all, string_bytes}
 use Rattle.std.specs.Char.{encode_utf8}
 use Rattle.std.proofs.lemmas.List.{get_or_default, append-nil}
 use Rattle.lic_kind.specs.Kinds.{spell}
-use Rattle.lic_lines.specs.Sources.{SourceChar}
-use Rattle.lic_lines.proofs.ItemLemmas.{none}
+use Rattle.lic_trim.specs.declared.source.SourceChar.{SourceChar}
+use Rattle.lic_trim.proofs.ItemLemmas.{none}
 use Rattle.lic_lines.proofs.TextStarts.{front_mark}
 use Rattle.lic_lines.proofs.text_start.front_mark.Goals as goal
 

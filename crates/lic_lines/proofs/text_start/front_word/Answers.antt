@@ -1,7 +1,7 @@
 use Rattle.std.proofs.Common.{◌∷◌, [], ◌∙◌, sym, ap}
 use Rattle.std.specs.Prelude.{bytes_eq, codes, encode_utf8_all, string_bytes}
 use Rattle.lic_kind.specs.declared.Kind.TheVariants as kind
-use Rattle.lic_lines.proofs.ItemLemmas.{none}
+use Rattle.lic_trim.proofs.ItemLemmas.{none}
 use Rattle.lic_lines.proofs.KindRows.{some_front}
 use Rattle.lic_lines.proofs.TextStarts.{front_word}
 use Rattle.lic_lines.proofs.text_start.front_word.Goals as goal

@@ -2,7 +2,7 @@ use Rattle.std.proofs.Common.{◌≡◌, sym, ◌∙◌, ⊎_elim, get_or}
 use Rattle.lic_kind.specs.Kinds.{kind_of}
 use Rattle.lic_kind.specs.declared.Kind.{Kind}
 use Rattle.lic_kind.specs.declared.Kind.TheVariants as kind
-use Rattle.lic_lines.proofs.ItemLemmas.{none}
+use Rattle.lic_trim.proofs.ItemLemmas.{none}
 use Rattle.lic_lines.proofs.TextStarts.{front_blank}
 use Rattle.lic_lines.proofs.text_start.start_of_text.Goals as goal
 

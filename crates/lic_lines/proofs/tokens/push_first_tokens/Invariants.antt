@@ -1,5 +1,5 @@
 use Rattle.std.proofs.Common.{◌≡◌, ◌-◌, ◌≤◌, ◌++◌, length, drop}
-use Rattle.lic_lines.specs.Texts.{groups}
+use Rattle.lic_trim.specs.Texts.{groups}
 use Rattle.lic_lines.specs.Tokens.{both_words, tokens_from, blank_after, tokens_in}
 use Rattle.lic_lines.proofs.tokens.push_first_tokens.Given as goal
 

@@ -1,6 +1,6 @@
 use Rattle.std.proofs.Common.{◌∙◌, ◌++◌, ◌+◌, sym, ap, drop, get_or, append_assoc}
 use Rattle.std.specs.Prelude.{string_bytes, encode_utf8_all}
-use Rattle.lic_lines.specs.Lines.{Blank}
+use Rattle.lic_lines.specs.Cells.{Blank}
 use Rattle.lic_lines.specs.Tokens.{cell_letters, letters_of}
 use Rattle.lic_lines.proofs.TokenLemmas.{letters_more}
 use Rattle.lic_lines.proofs.tokens.spell_cells.Goals as goal

@@ -5,7 +5,7 @@ use Rattle.std.proofs.lemmas.List.{get_or_default}
 use Rattle.lic_kind.specs.Kinds.{kind_of, spell}
 use Rattle.lic_kind.specs.declared.Kind.TheVariants as kind
 use Rattle.lic_kind.proofs.KindLemmas.{is_word_kind-true}
-use Rattle.lic_lines.proofs.ItemLemmas.{none}
+use Rattle.lic_trim.proofs.ItemLemmas.{none}
 use Rattle.lic_lines.proofs.TokenLemmas.{word_letters_more}
 use Rattle.lic_lines.proofs.tokens.spell_word.Goals as goal
 

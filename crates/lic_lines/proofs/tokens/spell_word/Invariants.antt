@@ -2,8 +2,8 @@ use Rattle.std.proofs.Common.{◌≡◌, ℕ, ◌-◌, ◌<◌, ◌≤◌, lengt
 use Rattle.std.specs.Prelude.{string_bytes, encode_utf8_all}
 use Rattle.lic_kind.specs.Kinds.{kind_of}
 use Rattle.lic_kind.specs.declared.Kind.TheVariants as kind
-use Rattle.lic_lines.specs.Sources.{SourceChar}
-use Rattle.lic_lines.specs.Lines.{Word}
+use Rattle.lic_trim.specs.declared.source.SourceChar.{SourceChar}
+use Rattle.lic_lines.specs.Cells.{Word}
 use Rattle.lic_lines.specs.Tokens.{letters_of}
 use Rattle.lic_lines.proofs.tokens.spell_word.Given as goal
 

@@ -1,5 +1,5 @@
 use Rattle.std.proofs.Common.{◌++◌, ap, ◌∙◌, arith}
-use Rattle.lic_lines.specs.Sources.{without_dropped}
+use Rattle.lic_trim.specs.Sources.{without_dropped}
 use Rattle.lic_norm.specs.Sources.{source_of}
 use Rattle.lic_norm.proofs.FrontChars.{text_read, byte_read}
 use Rattle.std.proofs.Common.{length, drop, ◌+◌}

@@ -3,7 +3,7 @@ use Rattle.std.specs.Str.{chars, encode_utf8_all}
 use Rattle.std.specs.Char.{encode_utf8, len_utf8}
 use Rattle.std.specs.Str.Iter.{chars_rest}
 use Rattle.std.proofs.lemmas.Str.{encodes-chars, length-encode}
-use Rattle.lic_lines.specs.Sources.{placed, without_dropped}
+use Rattle.lic_trim.specs.Sources.{placed, without_dropped}
 use Rattle.lic_norm.proofs.NextChars.{next_char, none_left, kept, left_out}
 use Rattle.lic_norm.proofs.characters.push_text.Goals as goal
 

@@ -1,7 +1,7 @@
 use Rattle.std.proofs.Common.{◌≡◌, ℕ, ◌+◌, ◌++◌, List, length}
 use Rattle.std.specs.Str.{chars, encode_utf8_all}
 use Rattle.std.specs.Str.Iter.{chars_rest}
-use Rattle.lic_lines.specs.Sources.{placed, without_dropped}
+use Rattle.lic_trim.specs.Sources.{placed, without_dropped}
 use Rattle.lic_norm.proofs.characters.push_text.Given as goal
 
 -- the characters so far, and those that are left

@@ -1,7 +1,7 @@
 use Rattle.std.proofs.Common.{◌≡◌, ◌++◌, [], ap, sym, ◌∙◌}
 use Rattle.std.specs.Str.{chars}
 use Rattle.std.proofs.lemmas.Result.{on_ok_weaker}
-use Rattle.lic_lines.specs.Sources.{placed, without_dropped}
+use Rattle.lic_trim.specs.Sources.{placed, without_dropped}
 use Rattle.lic_norm.proofs.AnyBytes.{source_of-utf8}
 use Rattle.lic_norm.proofs.characters.read_characters.Goals as goal
 

@@ -1,6 +1,6 @@
 use Rattle.std.proofs.Common.{◌≡◌, None, take}
 use Rattle.std.specs.List.{flat_map}
-use Rattle.lic_lines.specs.LineRules.{rules_of}
+use Rattle.lic_kind.specs.LineRules.{rules_of}
 use Rattle.lic_norm.proofs.feeder.read_pieces.Given as goal
 
 -- the pieces so far were fed

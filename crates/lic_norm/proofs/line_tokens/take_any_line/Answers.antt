@@ -1,7 +1,7 @@
 use Rattle.std.proofs.Common.{◌++◌, ◌∙◌, ap, subst, refl}
-use Rattle.lic_lines.specs.LineRules.{rules_of}
-use Rattle.lic_lines.specs.Lines.{whole_line}
-use Rattle.lic_lines.specs.Sources.{without_dropped}
+use Rattle.lic_kind.specs.LineRules.{rules_of}
+use Rattle.lic_trim.specs.Lines.{whole_line}
+use Rattle.lic_trim.specs.Sources.{without_dropped}
 use Rattle.lic_lines.specs.Tokens.{line_tokens}
 use Rattle.lic_norm.specs.Reading.{HasTaken}
 use Rattle.lic_norm.specs.Sources.{source_of}

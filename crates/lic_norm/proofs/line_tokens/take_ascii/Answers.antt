@@ -1,6 +1,6 @@
 use Rattle.std.proofs.Common.{◌++◌, ap, sym, subst, ◌∙◌}
-use Rattle.lic_lines.specs.LineRules.{rules_of}
-use Rattle.lic_lines.specs.Sources.{placed}
+use Rattle.lic_kind.specs.LineRules.{rules_of}
+use Rattle.lic_trim.specs.Sources.{placed}
 use Rattle.lic_lines.specs.Tokens.{single_signs}
 use Rattle.lic_norm.specs.Reading.{HasTaken}
 use Rattle.lic_norm.specs.Spans.{HaveTexts}

@@ -2,10 +2,10 @@ use Rattle.std.proofs.Common.{◌≡◌, ◌+◌, ◌++◌, [], refl, true, take
 use Rattle.std.specs.List.{slice_range}
 use Rattle.std.specs.Str.{IsCharBoundary, chars}
 use Rattle.std.proofs.lemmas.Str.{IsCharBoundary-from_rest, IsCharBoundary-start}
-use Rattle.lic_lines.specs.LineRules.{rules_of}
-use Rattle.lic_lines.specs.Lines.{line_cells}
+use Rattle.lic_kind.specs.LineRules.{rules_of}
+use Rattle.lic_lines.specs.Cells.{line_cells}
 use Rattle.lic_lines.specs.Runs.{runs_joined}
-use Rattle.lic_lines.specs.Sources.{unplaced, without_dropped}
+use Rattle.lic_trim.specs.Sources.{unplaced, without_dropped}
 use Rattle.lic_lines.specs.Tokens.{tokens_in}
 use Rattle.lic_norm.specs.Edges.{HasEdges}
 use Rattle.lic_norm.specs.LineEnds.{IsFirstLine}

@@ -1,6 +1,6 @@
 use Rattle.std.proofs.Common.{◌≡◌, ◌-◌, ◌++◌, List, length, drop}
 use Rattle.std.specs.Str.{IsCharBoundary}
-use Rattle.lic_lines.specs.LineRules.{rules_of}
+use Rattle.lic_kind.specs.LineRules.{rules_of}
 use Rattle.lic_lines.specs.Tokens.{tokens_in}
 use Rattle.lic_lines.specs.declared.cell.Cell.{Cell}
 use Rattle.lic_norm.specs.Edges.{HasEdges}

@@ -2,7 +2,7 @@ use Rattle.std.proofs.Common.{◌≡◌, Global, List, ℕ, String, All, map, st
 use Rattle.std.specs.Str.{IsUtf8}
 use Rattle.std.proofs.lemmas.List.Elements.{All-map}
 use Rattle.std.proofs.lemmas.Result.{IfOk-weaker}
-use Rattle.lic_lines.specs.LineRules.{rules_of}
+use Rattle.lic_kind.specs.LineRules.{rules_of}
 use Rattle.lic_lines.specs.Tokens.{tokens_in}
 use Rattle.lic_phrases.specs.Rewriting.{rewritten}
 use Rattle.lic_phrases.specs.Spelling.{spelled}

@@ -1,8 +1,8 @@
 use Rattle.std.proofs.Common.{◌≡◌, map, subst}
 use Rattle.std.specs.Prelude.{IfOk}
 use Rattle.std.specs.Str.{chars}
-use Rattle.lic_lines.specs.Lines.{cell_of}
-use Rattle.lic_lines.specs.Sources.{unplaced, without_dropped}
+use Rattle.lic_lines.specs.Cells.{cell_of}
+use Rattle.lic_trim.specs.Sources.{unplaced, without_dropped}
 use Rattle.lic_lines.specs.Tokens.{tokens_in, tokens_of_cells}
 use Rattle.lic_phrases.proofs.tokens.first_tokens.Goals as goal
 

@@ -2,9 +2,9 @@
 use Rattle.std.proofs.Common.{◌≡◌, ◌∙◌, map, ap, subst}
 use Rattle.std.specs.Prelude.{IfOk}
 use Rattle.std.specs.Str.{chars}
-use Rattle.lic_lines.specs.LineRules.{profile}
-use Rattle.lic_lines.specs.Lines.{cell_of}
-use Rattle.lic_lines.specs.Sources.{unplaced, without_dropped}
+use Rattle.lic_kind.specs.LineRules.{profile}
+use Rattle.lic_lines.specs.Cells.{cell_of}
+use Rattle.lic_trim.specs.Sources.{unplaced, without_dropped}
 use Rattle.lic_lines.specs.Tokens.{tokens_of_cells}
 use Rattle.lic_phrases.specs.Keys.{texts_in}
 use Rattle.lic_phrases.specs.Rewriting.{SpannedText, rewritten}

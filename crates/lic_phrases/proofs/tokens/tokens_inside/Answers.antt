@@ -1,8 +1,8 @@
 use Rattle.std.proofs.Common.{◌++◌, ap, ◌∙◌}
 use Rattle.std.specs.Str.{chars}
-use Rattle.lic_lines.specs.LineRules.{rules_of}
+use Rattle.lic_kind.specs.LineRules.{rules_of}
 use Rattle.lic_lines.specs.Tokens.{line_tokens, tokens_in, tokens_of_cells}
-use Rattle.lic_lines.specs.Sources.{unplaced, without_dropped}
+use Rattle.lic_trim.specs.Sources.{unplaced, without_dropped}
 use Rattle.lic_phrases.proofs.PhraseTokens.{inside, line_cells-inside}
 use Rattle.lic_phrases.proofs.tokens.tokens_inside.Goals as goal
 

@@ -1,6 +1,6 @@
 use Rattle.std.proofs.Common.{◌++◌, List, sym, ◌∙◌, subst}
-use Rattle.lic_lines.specs.LineRules.{rules_of}
-use Rattle.lic_lines.specs.Lines.{line_cells}
+use Rattle.lic_kind.specs.LineRules.{rules_of}
+use Rattle.lic_lines.specs.Cells.{line_cells}
 use Rattle.lic_lines.specs.Runs.{runs_joined}
 use Rattle.lic_lines.specs.declared.cell.Cell.{Cell}
 use Rattle.lic_phrases.proofs.MergingLemmas.{OnOk-one}

@@ -1,6 +1,6 @@
 use Rattle.std.proofs.Common.{◌≡◌, length, drop, map, ap, ap₂, subst, ◌∙◌, arith, take_all}
 use Rattle.std.specs.List.{slice_range}
-use Rattle.lic_lines.specs.LineRules.{rules_of}
+use Rattle.lic_kind.specs.LineRules.{rules_of}
 use Rattle.lic_phrases.specs.Rewriting.{rewritten}
 use Rattle.lic_norm.specs.LineEnds.{IsFirstLine}
 use Rattle.lic_norm.specs.Tokens.{reported, first_tokens_of}

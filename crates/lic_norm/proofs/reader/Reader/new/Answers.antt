@@ -1,5 +1,5 @@
 use Rattle.std.proofs.Common.{refl, sym, subst, arith, inl}
-use Rattle.lic_lines.specs.LineRules.{rules_of}
+use Rattle.lic_kind.specs.LineRules.{rules_of}
 use Rattle.lic_norm.specs.Reading.{HasTaken}
 use Rattle.lic_norm.proofs.FirstLines.{first_tokens_of-none}
 use Rattle.lic_norm.proofs.reader.Reader.new.Goals as goal

@@ -1,6 +1,6 @@
 use Rattle.std.proofs.Common.{◌≢◌, ◌⊎◌, ◌+◌, ◌≤◌, All, length, take, drop, length-drop, ap, ap₂, sym, subst, ◌∙◌, arith}
 use Rattle.std.specs.List.{slice_range}
-use Rattle.lic_lines.specs.LineRules.{rules_of}
+use Rattle.lic_kind.specs.LineRules.{rules_of}
 use Rattle.lic_norm.specs.Feeding.{AreLines}
 use Rattle.lic_norm.specs.LineEnds.{IsFirstLine}
 use Rattle.lic_norm.specs.Reading.{HasRead, HasTaken}

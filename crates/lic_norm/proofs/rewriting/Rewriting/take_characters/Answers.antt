@@ -2,11 +2,11 @@ use Rattle.std.proofs.Common.{◌≡◌, ℕ, ◌++◌, ◌∷◌, ◌-◌, [], 
 use Rattle.std.specs.Prelude.{string_bytes}
 use Rattle.std.proofs.lemmas.List.{drop-drop, drop_all, take_rest}
 use Rattle.std.proofs.lemmas.List.Elements.{All-head}
-use Rattle.lic_lines.specs.LineRules.{rules_of}
+use Rattle.lic_kind.specs.LineRules.{rules_of}
 use Rattle.lic_lines.specs.TextStarts.{IsTextStart}
 use Rattle.lic_lines.specs.Tokens.{Token, single_signs, text_tokens_after}
 use Rattle.lic_lines.specs.declared.text_start.TextStart.TheVariants as front
-use Rattle.lic_lines.proofs.ItemLemmas.{none}
+use Rattle.lic_trim.proofs.ItemLemmas.{none}
 use Rattle.lic_lines.proofs.TokenLemmas.{no_tokens_after}
 use Rattle.lic_phrases.specs.Settling.{Settles}
 use Rattle.lic_phrases.specs.TokenTexts.{IsTokenText}

@@ -1,5 +1,5 @@
 use Rattle.std.proofs.Common.{◌≡◌, ◌-◌, ◌≤◌, ◌++◌, [], List, true, length, drop}
-use Rattle.lic_lines.specs.LineRules.{rules_of}
+use Rattle.lic_kind.specs.LineRules.{rules_of}
 use Rattle.lic_lines.specs.Tokens.{Token, text_tokens_after}
 use Rattle.lic_norm.specs.Reading.{HasTaken}
 use Rattle.lic_norm.proofs.rewriting.Rewriting.take_characters.Given as goal

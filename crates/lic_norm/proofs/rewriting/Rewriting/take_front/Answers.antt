@@ -1,5 +1,5 @@
 use Rattle.std.proofs.Common.{◌∙◌, ◌++◌, sym, subst, ap, drop}
-use Rattle.lic_lines.specs.LineRules.{rules_of}
+use Rattle.lic_kind.specs.LineRules.{rules_of}
 use Rattle.lic_lines.specs.Tokens.{tokens_in, text_tokens_after}
 use Rattle.lic_norm.specs.Spans.{HaveTexts}
 use Rattle.lic_norm.proofs.TokenTexts.{after-texts, front-texts}

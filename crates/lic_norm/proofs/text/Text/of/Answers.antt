@@ -1,5 +1,5 @@
 use Rattle.std.proofs.Common.{ap, sym, ◌∙◌}
-use Rattle.lic_lines.specs.LineRules.{rules_of}
+use Rattle.lic_kind.specs.LineRules.{rules_of}
 use Rattle.lic_norm.specs.Tokens.{tokens_of}
 use Rattle.lic_norm.proofs.TextLemmas.{read-AreSpans, read-AreTokenTexts}
 use Rattle.lic_norm.proofs.text.Text.of.Goals as goal

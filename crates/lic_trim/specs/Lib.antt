@@ -1,0 +1,5 @@
+pub mod Texts
+pub mod Sources
+pub mod Lines
+pub mod Walks
+pub mod PieceLengths

@@ -1,0 +1,205 @@
+//! What is taken from a line of ASCII: each part is mostly decided by a few of its bytes.
+ghost use Rattle.std.specs.Prelude.{◌≡◌, ◌≢◌, ◌==◌, ◌||◌, ◌+◌, ◌<◌, ◌≤◌, ◌^◌, ℕ, true, false, length, slice_index, IfOk, IfSome, IsAscii, IsTrue};
+ghost use Rattle.std.specs.List.{position_or_len};
+ghost use Rattle.std.specs.Char.{is_whitespace, is_ascii_digit};
+ghost use Rattle.lic_kind.specs.LineRules.{LineRules, rules_of};
+ghost use Rattle.lic_trim.specs.Lines.{cut_of, is_item_form, item_length, whole_line};
+ghost use Rattle.lic_trim.specs.Texts.{is_row, longest_front};
+ghost use Rattle.lic_trim.specs.Walks.{walked, is_walked_piece};
+
+use crate::ascii_rows::row_by_places;
+use crate::cut::LineCut;
+use crate::item::item_length;
+use crate::rows::longest_row;
+use crate::side::Side;
+use crate::source::{SourceChar, place};
+use crate::space_rows::quick_table;
+use lic_kind::Rules;
+use std::alloc::{AllocError, Global};
+
+/// The byte at this place of the way.
+#[inline(always)]
+pub(crate) fn byte_at(line: &[u8], side: Side, place: usize) -> u8
+    requires { place < length line.now }
+    ensures { result ≡ slice_index (walked side line.now) place }
+{
+    match side {
+        Side::Front => line[place],
+        Side::End => line[line.len() - 1 - place],
+    }
+}
+
+/// How many bytes on the way from a side are white space.
+#[inline(always)]
+fn spaces(side: Side, line: &[u8]) -> usize
+    ensures within { result ≤ length line.now }
+    ensures all { (i : ℕ) → i < result
+        → is_whitespace (slice_index (walked side line.now) i) ≡ true }
+    ensures stop { result < length line.now
+        → is_whitespace (slice_index (walked side line.now) result) ≡ false }
+{
+    let mut count = 0;
+    while count < line.len() && (byte_at(line, side, count) as char).is_whitespace() {
+        count += 1;
+    }
+    count
+}
+
+/// Whether three of one same byte are at this place of the way.
+#[inline(always)]
+pub(crate) fn three_alike(side: Side, line: &[u8], place: usize) -> bool
+    requires { place < length line.now }
+    ensures { result ≡ false → place + 2 < length line.now
+        → slice_index (walked side line.now) (place + 1) ≡ slice_index (walked side line.now) place
+        → slice_index (walked side line.now) (place + 2)
+        ≢ slice_index (walked side line.now) place }
+{
+    let byte = byte_at(line, side, place);
+    line.len() - place > 2
+        && byte_at(line, side, place + 1) == byte
+        && byte_at(line, side, place + 2) == byte
+}
+
+/// How long the longest row of pieces is where it is white space alone, as far as the byte after that shows.
+#[inline(always)]
+fn space_row(rules: &Rules, side: Side, line: &[u8]) -> Option<usize>
+    ensures row { IfSome result (λ n. n
+        ≡ longest_front (is_row (is_walked_piece (rules_of rules.now) side))
+        (walked side line.now)) }
+    ensures within { IfSome result (λ n. n ≤ length line.now) }
+{
+    let count = spaces(side, line);
+    if count >= line.len() {
+        return Some(count);
+    }
+    if three_alike(side, line, count) {
+        return None;
+    }
+    if quick_table(rules, side, byte_at(line, side, count) as char) {
+        return None;
+    }
+    Some(count)
+}
+
+/// The place of the first white space, or how many bytes there are.
+#[inline(always)]
+fn first_space(line: &[u8]) -> usize
+    ensures within { result ≤ length line.now }
+    ensures place { result ≡ position_or_len is_whitespace line.now }
+{
+    for (place, byte) in line.iter().enumerate() {
+        if (*byte as char).is_whitespace() {
+            return place;
+        }
+    }
+    line.len()
+}
+
+/// Whether an item of two bytes or more may end so.
+fn ends_item(byte: u8) -> bool
+    ensures { result ≡ ((byte == 0x2E) || (byte == 0x29) || (byte == 0x3A)) }
+{
+    matches!(byte, b'.' | b')' | b':')
+}
+
+/// Whether an item of seven bytes or more may begin so.
+fn begins_item(byte: u8) -> bool
+    ensures { result ≡ ((byte == 0x28) || is_ascii_digit byte) }
+{
+    byte == b'(' || byte.is_ascii_digit()
+}
+
+/// Whether this word may have the form of a list item, as far as its length, its first byte and its last show.
+#[inline(always)]
+fn may_be_item(word: &[u8]) -> bool
+    ensures { result ≡ false → is_item_form word.now ≡ false }
+{
+    if word.len() < 2 {
+        return true;
+    }
+    if !ends_item(word[word.len() - 1]) {
+        return false;
+    }
+    if word.len() < 7 {
+        return true;
+    }
+    begins_item(word[0])
+}
+
+/// Whether a line, whose lead is taken already, begins with no list item, as far as its first word shows.
+#[inline(always)]
+fn has_no_item(line: &[u8]) -> bool
+    ensures { IsTrue result → (rules : LineRules) → item_length rules line.now ≡ 0 }
+{
+    let end = first_space(line);
+    end >= line.len() || !may_be_item(&line[..end])
+}
+
+/// How long the longest row of pieces is that is at this side of a line: mostly it is white space alone, or a few texts
+/// and white space. The characters are room for those of the line, whatever they hold.
+#[inline(always)]
+fn row_of_ascii(
+    alloc: Global,
+    rules: &Rules,
+    side: Side,
+    line: &[u8],
+    characters: &mut Vec<SourceChar>,
+) -> Result<usize, AllocError>
+    requires ascii { IsAscii line.now }
+    requires fits { length line.now < 2 ^ 32 }
+    ensures row { IfOk result (λ n. n
+        ≡ longest_front (is_row (is_walked_piece (rules_of rules.now) side))
+        (walked side line.now)) }
+    ensures within { IfOk result (λ n. n ≤ length line.now) }
+{
+    if let Some(count) = space_row(rules, side, line) {
+        return Ok(count);
+    }
+    if let Some(count) = row_by_places(rules, side, line) {
+        return Ok(count);
+    }
+    place(characters, 0, line)?;
+    longest_row(alloc, rules, side, characters)
+}
+
+/// How long the list item is at the start of a line, whose lead is taken already: mostly there is none. The characters are
+/// room for those of the line, whatever they hold.
+#[inline(always)]
+fn item_of_ascii(
+    rules: &Rules,
+    line: &[u8],
+    characters: &mut Vec<SourceChar>,
+) -> Result<usize, AllocError>
+    requires ascii { IsAscii line.now }
+    requires fits { length line.now < 2 ^ 32 }
+    ensures item { IfOk result (λ n. n ≡ item_length (rules_of rules.now) line.now) }
+    ensures within { IfOk result (λ n. n ≤ length line.now) }
+{
+    if has_no_item(line) {
+        return Ok(0);
+    }
+    place(characters, 0, line)?;
+    Ok(item_length(rules, characters, None))
+}
+
+/// What is taken from a whole line of ASCII. The characters are room for those of the line, whatever they hold.
+///
+/// The error is that memory ran out.
+pub fn cut_of_ascii(
+    alloc: Global,
+    rules: &Rules,
+    line: &[u8],
+    characters: &mut Vec<SourceChar>,
+) -> Result<LineCut, AllocError>
+    requires ascii { IsAscii line.now }
+    requires fits { length line.now < 2 ^ 32 }
+    ensures cut { IfOk result (λ cut. cut ≡ cut_of (rules_of rules.now) whole_line line.now) }
+    ensures within { IfOk result (λ cut. cut.lead + cut.item + cut.tail ≤ length line.now) }
+{
+    let lead = row_of_ascii(alloc, rules, Side::Front, line, characters)?;
+    let rest = &line[lead..];
+    let item = item_of_ascii(rules, rest, characters)?;
+    let left = &rest[item..];
+    let tail = row_of_ascii(alloc, rules, Side::End, left, characters)?;
+    Ok(LineCut { lead, item, tail })
+}

@@ -1,0 +1,59 @@
+//! Whether a text of the line rules is at a place of a line of ASCII.
+ghost use Rattle.std.specs.Prelude.{◌≡◌, ◌<◌, ◌≤◌, true, false, length, drop, slice_index};
+ghost use Rattle.lic_trim.specs.Walks.{walked, begins_with_text};
+
+use crate::ascii_cut::byte_at;
+use crate::side::Side;
+
+/// The character of a text at this place of the way.
+#[inline(always)]
+fn text_at(text: &[char], side: Side, place: usize) -> char
+    requires { place < length text.now }
+    ensures { result ≡ slice_index (walked side text.now) place }
+{
+    match side {
+        Side::Front => text[place],
+        Side::End => text[text.len() - 1 - place],
+    }
+}
+
+/// Whether the line has a text from this place on, seen from this side, character by character.
+#[inline(never)]
+fn stands_whole(side: Side, text: &[char], line: &[u8], place: usize) -> bool
+    requires { place ≤ length line.now }
+    ensures { result ≡ begins_with_text (drop place (walked side line.now)) (walked side text.now) }
+{
+    if text.len() > line.len() - place {
+        return false;
+    }
+    for i in 0..text.len() {
+        if byte_at(line, side, place + i) as char != text_at(text, side, i) {
+            return false;
+        }
+    }
+    true
+}
+
+/// Whether the line has another first character at this place than the text.
+#[inline(always)]
+fn begins_otherwise(side: Side, text: &[char], line: &[u8], place: usize) -> bool
+    requires { place ≤ length line.now }
+    ensures { result ≡ true → begins_with_text (drop place (walked side line.now)) (walked side text.now) ≡ false }
+{
+    if text.is_empty() || place >= line.len() {
+        return false;
+    }
+    byte_at(line, side, place) as char != text_at(text, side, 0)
+}
+
+/// Whether the line has a text from this place on, seen from this side. Mostly its first character shows that it has not.
+#[inline(always)]
+pub(crate) fn stands(side: Side, text: &[char], line: &[u8], place: usize) -> bool
+    requires { place ≤ length line.now }
+    ensures { result ≡ begins_with_text (drop place (walked side line.now)) (walked side text.now) }
+{
+    if begins_otherwise(side, text, line, place) {
+        return false;
+    }
+    stands_whole(side, text, line, place)
+}

@@ -1,0 +1,19 @@
+//! What the line rules take from a line: its lead, a list item and its tail.
+#![tactic(auto)]
+
+mod ascii_cut;
+mod ascii_rows;
+mod ascii_texts;
+pub mod cut;
+mod item;
+pub mod laws;
+pub mod line_part;
+mod rows;
+mod side;
+pub mod source;
+mod space_rows;
+
+pub use ascii_cut::cut_of_ascii;
+pub use cut::{LineCut, cut_line};
+pub use line_part::LinePart;
+pub use source::{SourceChar, unplaced};
