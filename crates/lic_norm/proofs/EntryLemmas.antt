@@ -13,7 +13,7 @@ use Rattle.lic_norm.specs.Spans.{AreTokenTexts}
 use Rattle.lic_norm.specs.Tokens.{TokenValue}
 use Rattle.lic_norm.specs.Views.{AreEntries, IsKept, entry_values, text_from}
 use Rattle.lic_norm.specs.declared.token.Span.{Span}
-use Rattle.lic_norm.specs.declared.token_list.Entry.{Entry}
+use Rattle.lic_norm.specs.declared.rewriting.token_list.Entry.{Entry}
 use Rattle.lic_norm.proofs.SpellingPlaces.{AreTexts, AreTexts-snoc, are_texts, slice_parts, spelled-snoc, stands, stands_at}
 
 -- ---- the tokens of entries

@@ -4,7 +4,7 @@ use Rattle.lic_phrases.specs.Spelling.{spelled}
 use Rattle.lic_norm.specs.Places.{texts_of}
 use Rattle.lic_norm.specs.Spans.{AreTokenTexts}
 use Rattle.lic_norm.specs.Tokens.{TokenValue}
-use Rattle.lic_norm.specs.declared.token_list.Entry.{Entry}
+use Rattle.lic_norm.specs.declared.rewriting.token_list.Entry.{Entry}
 
 -- a source, and its tokens
 pub record TextValue : Type 0 where

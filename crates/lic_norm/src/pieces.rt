@@ -11,7 +11,7 @@ ghost use Rattle.lic_phrases.specs.TokenTexts.{IsTokenText};
 ghost use Rattle.lic_norm.specs.Edges.{HasEdges, is_empty};
 ghost use Rattle.lic_norm.specs.Pieces.{ends_in_feed, part_of, piece_cells, piece_tokens, is_blank, begins_in_blank, ends_in_blank, with_edges, piece_of};
 
-use crate::lines::text_line_end;
+use crate::reader::lines::text_line_end;
 use crate::rewriting::Rewriting;
 use crate::words::Words;
 use lic_lines::{Buffers, Cell, FirstToken, Rules, cells_of_line, push_tokens_of_line};

@@ -6,12 +6,16 @@ ghost use Rattle.lic_norm.specs.Reading.{HasTaken, HasRead, HasReadLines};
 ghost use Rattle.lic_norm.specs.Refusal.{max_bytes, refusal_of};
 ghost use Rattle.lic_norm.specs.Tokens.{first_tokens_of, tokens_of};
 
+pub(crate) mod characters;
+pub(crate) mod line_tokens;
+pub(crate) mod lines;
+
 use crate::fault::TextFault;
-use crate::line_tokens::{LineBuffers, ascii_text, take_any_line, take_ascii};
-use crate::lines::{line_end, lines_end};
+use crate::reader::line_tokens::{LineBuffers, ascii_text, take_any_line, take_ascii};
+use crate::reader::lines::{line_end, lines_end};
 use crate::refusal::MAX_BYTES;
 use crate::rewriting::Rewriting;
-use crate::token_list::TokenList;
+use crate::rewriting::token_list::TokenList;
 use crate::words::Words;
 use lic_lines::Rules;
 use lic_phrases::laws::spellings_are_token_texts;

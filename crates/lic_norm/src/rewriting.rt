@@ -8,8 +8,11 @@ ghost use Rattle.lic_norm.specs.Reading.{HasTaken, HasTakenSome};
 ghost use Rattle.lic_norm.specs.Spans.{HaveTexts};
 ghost use Rattle.lic_norm.specs.Tokens.{reported};
 
-use crate::stretch::Stretch;
-use crate::token_list::TokenList;
+pub(crate) mod stretch;
+pub(crate) mod token_list;
+
+use crate::rewriting::stretch::Stretch;
+use crate::rewriting::token_list::TokenList;
 use lic_lines::{
     Buffers, FirstToken, FrontPart, Rules, SmallString, TextStart, front_part, start_of_text,
 };

@@ -6,7 +6,7 @@ use Rattle.std.proofs.lemmas.Slice.Eq.{bytes_eq-Decides}
 use Rattle.std.specs.List.{All, list_any, position_or_len, zip}
 use Rattle.std.proofs.lemmas.List.Elements.{All-push}
 use Rattle.std.proofs.lemmas.Slice.Zip.{length-zip, get_or-zip}
-use Rattle.lic_phrases.specs.declared.phrase.ListedPhrase.{ListedPhrase}
+use Rattle.lic_phrases.specs.declared.words.phrase.ListedPhrase.{ListedPhrase}
 use Rattle.lic_phrases.specs.Keys.{texts_in, key_of, HaveNoBlank, AreWithoutBlanks}
 use Rattle.lic_phrases.specs.Spelling.{spelled}
 use Rattle.lic_phrases.specs.TokenTexts.{IsTokenText}

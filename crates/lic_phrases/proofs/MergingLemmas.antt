@@ -10,7 +10,7 @@ use Rattle.lic_lines.specs.declared.tokens.FirstToken.{FirstToken}
 use Rattle.lic_phrases.specs.Rewriting.{Phrase, SpannedText, spanned, end_of_last, longest_phrase, count_after, first_as, phrases_joined}
 use Rattle.lic_phrases.specs.PhraseLists.{PhraseList, HaveTokens, longest_from, phrase_with, phrase_of, key_of, key_texts, IsKey}
 use Rattle.lic_phrases.specs.Waiting.{texts_of, first_phrase, phrase_found, count_found, first_given, spanned_in, GivesMore}
-use Rattle.lic_phrases.specs.declared.merging.Found.{Found}
+use Rattle.lic_phrases.specs.declared.rewriter.merging.Found.{Found}
 use Rattle.lic_phrases.specs.declared.final_token.FinalToken.{FinalToken}
 use Rattle.lic_phrases.proofs.PhraseKeyLemmas.{HaveNoSeparator, HaveNoSeparator-take, utf8_has_none, key_texts-key_of, IsKey-key_of}
 use Rattle.lic_phrases.proofs.PhraseLemmas.{StandWithin, StandWithin-min, StandWithin-from, StandWithin-length, first_phrase-longest, longest_phrase-decided, phrases_joined-first}

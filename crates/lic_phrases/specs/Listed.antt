@@ -8,7 +8,7 @@ use Rattle.lic_phrases.specs.TokenTexts.{IsTokenText}
 use Rattle.lic_phrases.specs.WordLists.{fault_from}
 use Rattle.lic_phrases.specs.WordReading.{HasRead}
 use Rattle.lic_phrases.specs.declared.fault.WordsCause.{WordsCause}
-use Rattle.lic_phrases.specs.declared.phrase.ListedPhrase.{ListedPhrase}
+use Rattle.lic_phrases.specs.declared.words.phrase.ListedPhrase.{ListedPhrase}
 
 -- the texts of the tokens of each phrase
 abbrev pub phrases_in : List ListedPhrase → List (List (List ℕ))

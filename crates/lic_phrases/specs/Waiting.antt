@@ -9,7 +9,7 @@ use Rattle.lic_phrases.specs.PhraseLists.{PhraseList, phrase_with}
 use Rattle.lic_phrases.specs.declared.final_token.TokenText.{TokenText}
 use Rattle.lic_phrases.specs.declared.final_token.TokenText.TheVariants.{Own, Class}
 use Rattle.lic_phrases.specs.declared.final_token.FinalToken.{FinalToken}
-use Rattle.lic_phrases.specs.declared.merging.Found.{Found}
+use Rattle.lic_phrases.specs.declared.rewriter.merging.Found.{Found}
 
 abbrev pub texts_of : List Token → List (List ℕ)
 texts_of = map (λ t. t.text)

@@ -1,17 +1,11 @@
 //! Lists of equivalent words, and the rewriting of a text's tokens by them.
 #![tactic(auto)]
 
-mod address;
 mod fault;
 mod final_token;
-mod joining;
 pub mod laws;
-mod merging;
-mod phrase;
 mod phrases;
-mod reader;
 mod rewriter;
-mod sign_rows;
 mod spelling;
 mod tokens;
 mod words;

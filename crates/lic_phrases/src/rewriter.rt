@@ -5,11 +5,15 @@ ghost use Rattle.lic_phrases.specs.Rewriting.{SpannedText, rewritten, spanned};
 ghost use Rattle.lic_phrases.specs.Settling.{Settles, GivesRows, IsShort, nothing_kept};
 ghost use Rattle.lic_phrases.specs.Waiting.{spanned_in, AreKnown};
 
-use crate::address::{is_https, pop_settled};
+pub(crate) mod address;
+pub(crate) mod merging;
+pub(crate) mod sign_rows;
+
 use crate::final_token::FinalToken;
-use crate::merging::{give_known, take_token};
 use crate::phrases::Phrases;
-use crate::sign_rows::{is_sign, join_sign};
+use crate::rewriter::address::{is_https, pop_settled};
+use crate::rewriter::merging::{give_known, take_token};
+use crate::rewriter::sign_rows::{is_sign, join_sign};
 use lic_lines::FirstToken;
 use std::alloc::{AllocError, Global};
 use std::collections::VecDeque;

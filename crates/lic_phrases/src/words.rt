@@ -6,10 +6,14 @@ ghost use Rattle.lic_phrases.specs.PhraseLists.{with_added};
 ghost use Rattle.lic_phrases.specs.TokenTexts.{HaveTokenTexts, IsTokenText};
 ghost use Rattle.lic_phrases.specs.WordLists.{AreWords, first_fault, out_of_memory, phrase_lines};
 
+pub(crate) mod joining;
+pub(crate) mod phrase;
+pub(crate) mod reader;
+
 use crate::fault::WordsFault;
-use crate::phrase::ListedPhrase;
 use crate::phrases::Phrases;
-use crate::reader::Reader;
+use crate::words::phrase::ListedPhrase;
+use crate::words::reader::Reader;
 use std::alloc::{AllocError, Global};
 use std::marker::Model;
 

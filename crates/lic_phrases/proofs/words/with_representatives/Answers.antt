@@ -2,7 +2,7 @@ use Rattle.std.proofs.Common.{◌≡◌, ◌+◌, ◌<◌, ◌≤◌, [], ◌∷
 use Rattle.std.proofs.lemmas.Iterator.Adapters.{YieldsList-from_vec}
 use Rattle.std.proofs.lemmas.Iterator.Consumers.{YieldsList-turn, YieldsList-end}
 use Rattle.std.proofs.lemmas.List.{length-map, length-take-le}
-use Rattle.lic_phrases.specs.declared.phrase.ListedPhrase.{ListedPhrase}
+use Rattle.lic_phrases.specs.declared.words.phrase.ListedPhrase.{ListedPhrase}
 use Rattle.lic_phrases.specs.Keys.{texts_in}
 use Rattle.lic_phrases.specs.Listed.{phrases_in, spellings_in, with_representatives}
 use Rattle.lic_phrases.specs.PhraseLists.{with_added}

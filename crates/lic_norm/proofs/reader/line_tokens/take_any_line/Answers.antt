@@ -1,0 +1,18 @@
+use Rattle.std.proofs.Common.{◌++◌, ◌∙◌, ap, subst, refl}
+use Rattle.lic_kind.specs.LineRules.{rules_of}
+use Rattle.lic_trim.specs.Lines.{whole_line}
+use Rattle.lic_trim.specs.Sources.{without_dropped}
+use Rattle.lic_lines.specs.Tokens.{line_tokens}
+use Rattle.lic_norm.specs.Reading.{HasTaken}
+use Rattle.lic_norm.specs.Sources.{source_of}
+use Rattle.lic_norm.proofs.ReadingLemmas.{line_tokens_of-is}
+use Rattle.lic_norm.proofs.reader.line_tokens.take_any_line.Goals as goal
+
+pub returns-clause-taken : goal.returns-clause-taken
+returns-clause-taken c = λ taken has.
+    let rules = rules_of c.args.rules.now in
+    let characters = without_dropped (source_of c.args.at c.args.line.now) in
+    subst (λ ts. HasTaken c.take_characters.new.self (taken ++ ts))
+    (line_tokens_of-is rules c.args.at c.args.line.now characters _
+    (c.in_ok-left.ensures ∙ ap (line_tokens rules whole_line) (c.deref.ensures.value ∙ c.in_ok-read_characters.ensures)) refl)
+    (c.in_ok-take_characters.ensures.taken taken has)

@@ -1,0 +1,29 @@
+use Rattle.std.proofs.Common.{◌+◌, ◌<◌, not, ◌&&◌, codes, length, get_or, length-drop, ap, sym, ◌∙◌, arith}
+use Rattle.lic_lines.specs.Tokens.{is_text}
+use Rattle.lic_norm.proofs.StretchTokens.{no_sign, no_token, sign_after_parenthesis}
+use Rattle.lic_norm.proofs.rewriting.stretch.Stretch.ends_sign.Goals as goal
+
+pub returns-then-len-i-lt3 : goal.returns-then-len-i-lt3
+returns-then-len-i-lt3 c =
+    let tokens = c.args.self.now in
+    sym (no_sign tokens c.args.i (omega (arith, length-drop c.args.i tokens, c.if-len-i-lt3.true, c.len.ensures)))
+
+pub returns-then-goes_on : goal.returns-then-goes_on
+returns-then-goes_on c =
+    let tokens = c.args.self.now in
+    let i = c.args.i in
+    let third = get_or tokens (i + 2) no_token in
+    let three : i + 2 < length tokens = omega (arith, c.if-len-i-lt3.false, c.len.ensures, c.requires.within) in
+    c.goes_on-then-goes_on.ensures no_token
+    ∙ ap (λ v. v && (is_text (codes ")") third && not third.after_blank)) (sym (sym (c.goes_on.ensures no_token) ∙ c.if-goes_on.true))
+    ∙ sign_after_parenthesis tokens i no_token three (c.requires.parenthesis no_token)
+
+pub returns-else-goes_on : goal.returns-else-goes_on
+returns-else-goes_on c =
+    let tokens = c.args.self.now in
+    let i = c.args.i in
+    let third = get_or tokens (i + 2) no_token in
+    let three : i + 2 < length tokens = omega (arith, c.if-len-i-lt3.false, c.len.ensures, c.requires.within) in
+    c.if-goes_on.false
+    ∙ ap (λ v. v && (is_text (codes ")") third && not third.after_blank)) (sym (sym (c.goes_on.ensures no_token) ∙ c.if-goes_on.false))
+    ∙ sign_after_parenthesis tokens i no_token three (c.requires.parenthesis no_token)

@@ -1,0 +1,129 @@
+//! The first tokens of lines of an input.
+
+ghost use Rattle.std.specs.Prelude.{◌≡◌, ◌+◌, ◌++◌, ◌<◌, ◌≤◌, ◌^◌, List, length, IfSome, OnOk, IsAscii, IsUtf8};
+ghost use Rattle.lic_kind.specs.LineRules.{rules_of};
+ghost use Rattle.lic_lines.specs.Tokens.{Token};
+ghost use Rattle.lic_norm.specs.Reading.{HasTaken, HasTakenSome};
+ghost use Rattle.lic_norm.specs.Tokens.{first_tokens_of, line_tokens_of};
+
+use crate::reader::characters::read_characters;
+use crate::rewriting::stretch::Stretch;
+use crate::rewriting::{PartBuffers, Rewriting};
+use lic_columns::Lines;
+use lic_lines::{Buffers, Rules, left_of_line};
+use lic_trim::{LinePart, SourceChar};
+use simdutf8::compat::from_utf8;
+use std::alloc::{AllocError, Global};
+
+/// A line of a whole input.
+const WHOLE_LINE: LinePart = LinePart {
+    has_front: true,
+    has_end: true,
+    behind: None,
+};
+
+/// These bytes as a text, where all of them are ASCII.
+pub(crate) fn ascii_text(bytes: &[u8]) -> Option<&str>
+    ensures utf8 { IfSome result (λ text. IsUtf8 text.now) }
+    ensures same { IfSome result (λ text. text.now ≡ bytes.now) }
+    ensures ascii { IfSome result (λ text. IsAscii text.now) }
+{
+    if !bytes.is_ascii() {
+        return None;
+    }
+    from_utf8(bytes).ok()
+}
+
+/// So many characters there may be room for from one line to the next.
+const MAX_KEPT: usize = 65_536;
+
+/// Room for the work on lines, kept from one to the next. What it holds has no effect.
+#[derive(Drop)]
+pub(crate) struct LineBuffers {
+    /// The characters of a line that is not ASCII.
+    characters: Vec<SourceChar>,
+    /// The letters of a token of such a line.
+    letters: String,
+    room: PartBuffers,
+    /// Lines of ASCII.
+    lines: Lines,
+}
+
+impl LineBuffers {
+    /// Room that takes no memory yet.
+    pub(crate) fn new(alloc: Global) -> LineBuffers {
+        LineBuffers {
+            characters: Vec::new(alloc),
+            letters: String::new(alloc),
+            room: PartBuffers {
+                room: Buffers::new(alloc),
+                tokens: Vec::new(alloc),
+            },
+            lines: Lines::new(alloc),
+        }
+    }
+}
+
+/// Lets go of the characters of a long line.
+fn give_back(alloc: Global, characters: &mut Vec<SourceChar>)
+    ensures { length characters.new.items ≤ length characters.old.items }
+{
+    if characters.len() > MAX_KEPT {
+        *characters = Vec::new(alloc);
+    }
+}
+
+/// Takes the first tokens, by these line rules, of a line of any bytes that begins at this byte of the input. What the room
+/// holds has no effect.
+pub(crate) fn take_any_line(
+    alloc: Global,
+    rules: &Rules,
+    at: u32,
+    line: &[u8],
+    room: &mut LineBuffers,
+    rewriting: &mut Rewriting<'_>,
+) -> Result<(), AllocError>
+    requires fits { at + length line.now < 2 ^ 32 }
+    requires before { HasTakenSome rewriting.old }
+    ensures taken { OnOk result ((taken : List Token) → HasTaken rewriting.old taken
+        → HasTaken rewriting.new (taken ++ line_tokens_of (rules_of rules.now) at line.now)) }
+    ensures phrases { rewriting.new.phrases.now ≡ rewriting.old.phrases.now }
+{
+    let LineBuffers {
+        characters,
+        letters,
+        room,
+        ..
+    } = room;
+    read_characters(characters, at, line)?;
+    let left = left_of_line(alloc, rules, WHOLE_LINE, characters)?;
+    rewriting.take_characters(alloc, rules, left, letters, room)?;
+    give_back(alloc, characters);
+    Ok(())
+}
+
+/// Takes the first tokens, by these line rules, of a text of ASCII that begins at this byte of the input: whole lines, or a part of the
+/// last. What the room holds has no effect.
+pub(crate) fn take_ascii(
+    alloc: Global,
+    rules: &Rules,
+    at: u32,
+    text: &str,
+    room: &mut LineBuffers,
+    rewriting: &mut Rewriting<'_>,
+) -> Result<(), AllocError>
+    requires ascii { IsAscii text.now }
+    requires fits { at + length text.now + 65 ≤ 2 ^ 32 }
+    requires before { HasTakenSome rewriting.old }
+    ensures taken { OnOk result ((taken : List Token) → HasTaken rewriting.old taken
+        → HasTaken rewriting.new (taken ++ first_tokens_of (rules_of rules.now) at text.now)) }
+    ensures phrases { rewriting.new.phrases.now ≡ rewriting.old.phrases.now }
+{
+    let lines = &mut room.lines;
+    lines.read(alloc, rules, at, text)?;
+    rewriting.take_stretch(alloc, &Stretch::of(at, lines))?;
+    if text.len() > MAX_KEPT {
+        *lines = Lines::new(alloc);
+    }
+    Ok(())
+}

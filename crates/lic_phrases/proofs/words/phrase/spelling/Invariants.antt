@@ -1,0 +1,7 @@
+use Rattle.std.proofs.Common.{◌≡◌, take, string_bytes}
+use Rattle.lic_phrases.specs.Keys.{texts_in}
+use Rattle.lic_phrases.specs.Spelling.{spelled}
+use Rattle.lic_phrases.proofs.words.phrase.spelling.Given as goal
+
+abbrev pub invariant-loop-place : goal.invariant-loop-place
+invariant-loop-place l = string_bytes l.spelling ≡ spelled (take l.place (texts_in l.texts))
