@@ -2,11 +2,17 @@
 
 ghost use Rattle.std.specs.Prelude.{◌≡◌, ◌+◌, ◌≤◌, length, IfOk};
 
-use crate::grams::hash;
+use crate::grams::{LONG_GRAM, SHORT_GRAM, hash};
 use std::alloc::{AllocError, Global};
 
-// How many counters there are: the highest bits of a hash are the number of one.
-const COUNTERS: usize = 1 << 16;
+// How many bits of a hash, the highest, are the number of a counter.
+const COUNTER_BITS: u32 = 16;
+
+// How many counters there are.
+const COUNTERS: usize = 1 << COUNTER_BITS;
+
+// By how many bits the hash of the first bytes is turned before that of the last ones is put onto it.
+const TURN: u32 = 23;
 
 // How many windows of a literal are counted, the first ones: one of these is rare enough, and a set of long texts is made soon.
 const MOST_WINDOWS: usize = 512;
@@ -71,8 +77,12 @@ impl Counts {
 fn counter_of(window: &[u8]) -> usize
     requires { 4 ≤ length window.now }
 {
-    let gram = if window.len() < 8 { 4 } else { 8 };
+    let gram = if window.len() < LONG_GRAM {
+        SHORT_GRAM
+    } else {
+        LONG_GRAM
+    };
     let last = hash(&window[window.len() - gram..]);
-    let spread = hash(window).rotate_left(23) ^ last;
-    (spread >> 48) as usize
+    let spread = hash(window).rotate_left(TURN) ^ last;
+    (spread >> (u64::BITS - COUNTER_BITS)) as usize
 }

@@ -4,8 +4,25 @@ ghost use Rattle.std.specs.Prelude.{◌≡◌, ◌<◌, ◌≤◌, length, take}
 ghost use Rattle.std.specs.Int.{w32, w64, from_le_bytes};
 ghost use Rattle.lic_literals.specs.Hashes.{hash_of, gram_mark, start_mark};
 
+use crate::marks::MARKS;
+
 // An odd number, the bits of which follow no pattern: a word times it spreads over the high bits of a hash.
 const SPREAD: u64 = 0x9E37_79B9_7F4A_7C15;
+
+/// How many bytes of a gram are hashed, if it has so many.
+pub const LONG_GRAM: usize = 8;
+
+/// How many bytes of a shorter gram are hashed.
+pub const SHORT_GRAM: usize = 4;
+
+// How far up in a hash the bits are that number a mark: the highest 18.
+const MARK_BITS: u32 = 46;
+
+// How far up in a hash the bits are that number a mark together with a place: the next 15.
+const NEXT_BITS: u32 = 31;
+
+// How many places in a window a mark tells apart.
+const STARTS: usize = 8;
 
 /// The hash of a gram: its first eight bytes, or its first four where it has fewer, as a word, times a number.
 #[inline(always)]
@@ -13,7 +30,7 @@ pub fn hash(gram: &[u8]) -> u64
     requires { 4 ≤ length gram.now }
     ensures { result ≡ hash_of gram.now }
 {
-    let word = if gram.len() < 8 {
+    let word = if gram.len() < LONG_GRAM {
         u64::from(short_word(gram))
     } else {
         long_word(gram)
@@ -45,7 +62,7 @@ pub fn mark_of(hash: u64) -> usize
     ensures value { result ≡ gram_mark hash }
     ensures below { result < 262144 }
 {
-    (hash >> 46) as usize % 262_144
+    (hash >> MARK_BITS) as usize % MARKS
 }
 
 /// The mark of a gram with this hash that begins at this byte of a window.
@@ -55,5 +72,5 @@ pub fn start_mark_of(hash: u64, start: usize) -> usize
     ensures value { result ≡ start_mark hash start }
     ensures below { result < 262144 }
 {
-    (hash >> 31) as usize % 32_768 * 8 + start
+    (hash >> NEXT_BITS) as usize % (MARKS / STARTS) * STARTS + start
 }

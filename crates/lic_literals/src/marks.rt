@@ -7,6 +7,9 @@ use std::alloc::{AllocError, Global};
 /// How many marks there are.
 pub const MARKS: usize = 1 << 18;
 
+// How many bits a word has.
+const WORD: usize = 64;
+
 /// A set of marks.
 #[derive(Debug, Drop)]
 pub struct Marks {
@@ -22,7 +25,7 @@ impl Marks {
         ensures { IfOk result (λ marks. marks.words.items ≡ replicate 4096 0) }
     {
         Ok(Marks {
-            words: vec![in alloc; 0u64; MARKS / 64]?,
+            words: vec![in alloc; 0u64; MARKS / WORD]?,
         })
     }
 
@@ -32,7 +35,7 @@ impl Marks {
         requires { mark < 262144 }
         ensures { IsTrue result ↔ Has self.now mark }
     {
-        self.words[mark / 64] >> (mark % 64) & 1 == 1
+        self.words[mark / WORD] >> (mark % WORD) & 1 == 1
     }
 
     /// Adds a mark.
@@ -41,6 +44,6 @@ impl Marks {
         ensures added { Has self.new mark }
         ensures kept { (other : ℕ) → Has self.old other → Has self.new other }
     {
-        self.words[mark / 64] |= 1 << (mark % 64);
+        self.words[mark / WORD] |= 1 << (mark % WORD);
     }
 }
