@@ -1,8 +1,9 @@
 """Proves crates of this repository by the gate's command, `rt ci`, on copies of them without must-fail edits.
 
-The longest chain of crates that stand on each other decides how long all take. So its crates are proved in turn, each on all cores, and the
-others beside them on what the chain leaves. That is for a kit whose `rt ci` keeps what it proved for each later run over the same files, so that it
-is proved once, whether by the first command or by the gate. With another kit all crates are proved in one run."""
+The longest chain of crates that stand on each other decides how long all take. So of the crates whose libraries are proved the one is begun next
+on which the longest chain stands, and two or three are proved side by side: the one with the longest chain on all cores, the others on what it
+leaves. That is for a kit whose `rt ci` keeps what it proved for each later run over the same files, so that it is proved once, whether by the
+first command or by the gate. With another kit all crates are proved in one run."""
 import os
 import re
 import resource
@@ -21,6 +22,8 @@ FUNCTIONS = re.compile(rb"logic=proved functions=(\d+)")
 PROVED = re.compile(rb"rt: (\w+) proved$")
 # `rt ci` keeps what it proved if the same proof once more takes less than this part of its processor time: without that, proving apart is dear
 KEPT = 0.5
+# the proof of a crate takes up to this
+MEMORY_OF_A_CRATE = 6_000_000_000
 
 
 def say(text):
@@ -110,13 +113,19 @@ def lines_of(top, name):
     return count
 
 
-def longest_chain(top, crates, names):
-    """The crates of the chain with the most lines, the lowest first."""
-    best = {}
-    for name in from_the_ground(crates, names):
-        below = max((best[it] for it in crates[name]), default=(0, []))
-        best[name] = below[0] + lines_of(top, name), [*below[1], name]
-    return max(best[name] for name in names)[1]
+def chains_above(top, crates, names):
+    """How many lines the longest chain has that begins with each of these crates and goes up from library to user."""
+    lines = {}
+    for name in reversed(from_the_ground(crates, names)):
+        above = max((lines[it] for it in lines if name in crates[it]), default=0)
+        lines[name] = above + lines_of(top, name)
+    return lines
+
+
+def workers():
+    """How many crates are proved at a time."""
+    memory = os.sysconf("SC_PAGE_SIZE") * os.sysconf("SC_PHYS_PAGES")
+    return max(2, min(3, (os.cpu_count() or 1) - 1, memory // MEMORY_OF_A_CRATE))
 
 
 class Proving:
@@ -126,18 +135,21 @@ class Proving:
         self.top, self.log, self.when_proved, self.start = top, log, when_proved, time.monotonic()
         self.crates = read_crates(top)
         self.all = from_the_ground(self.crates, names)
-        chain = longest_chain(top, self.crates, names)
-        self.left = {0: chain, 10: [name for name in self.all if name not in chain]}
-        self.proved, self.functions, self.has_failed, self.change = set(), 0, False, threading.Condition()
+        self.chains = chains_above(top, self.crates, names)
+        self.left, self.begun, self.proved = set(self.all), set(), set()
+        self.functions, self.has_failed, self.change = 0, False, threading.Condition()
 
-    def take(self, nice):
-        """The next crate of these whose libraries are proved, or None where none is left."""
+    def take(self):
+        """The next crate whose libraries are proved, and how nice its proof is to the others, or None where none is left."""
         with self.change:
-            while self.left[nice] and not self.has_failed:
-                for name in self.left[nice]:
-                    if self.proved.issuperset(self.crates[name]):
-                        self.left[nice].remove(name)
-                        return name
+            while self.left and not self.has_failed:
+                ready = [name for name in self.left if self.proved.issuperset(self.crates[name])]
+                if ready:
+                    name = max(ready, key=self.chains.get)
+                    is_first = all(self.chains[it] < self.chains[name] for it in self.begun - self.proved)
+                    self.left.remove(name)
+                    self.begun.add(name)
+                    return name, 0 if is_first else 10
                 self.change.wait()
             return None
 
@@ -155,15 +167,17 @@ class Proving:
         if not status:
             self.when_proved(name)
 
-    def work(self, nice):
-        while name := self.take(nice):
-            self.prove(name, nice)
+    def work(self):
+        while taken := self.take():
+            self.prove(*taken)
 
     def run(self):
         """Proves all, and says whether all are proved."""
         open(self.log, "wb").close()
-        beside = threading.Thread(target=self.work, args=(10,))
-        beside.start()
-        self.work(0)
-        beside.join()
+        beside = [threading.Thread(target=self.work) for _ in range(workers() - 1)]
+        for thread in beside:
+            thread.start()
+        self.work()
+        for thread in beside:
+            thread.join()
         return not self.has_failed
