@@ -2,7 +2,7 @@
 """Writes a draft of debian/copyright: licscan scan .. | debian.py [--name NAME]
 
 Each file has its texts, notices, tags and fields, or its mentions where it has nothing else; a family is left out beside a version of it. Names
-are Debian's. Years and holders are those of the files' own notices. The most frequent answer is that of `Files: *`; a folder whose files all have
+are Debian's. Years and holders are those of the files' own notices, each holder once. The most frequent answer is that of `Files: *`; a folder whose files all have
 another one is one glob, so a file without an answer goes with its folder. Licences end the page: a reference to /usr/share/common-licenses, or the text as a file has it, or FIXME.
 It is run in the folder of the files. What it writes is to be read: a file's licences may be a choice or a sum, and FIXME stands where nothing is known.
 """
@@ -94,7 +94,7 @@ def page(found, name):
     texts = {name_of(one.id): one for it in found.values() for one in it if lines.SUFFIX.sub("", one.id) == one.id and one.licence}
     written = [f"Format: {FORMAT}" + (f"\nUpstream-Name: {name}" if name else "")]
     for answer, patterns in globs(answers).items() if answers else ():
-        holders = dict.fromkeys(itertools.chain.from_iterable(notices.read(file) for file in sorted(answers) if answers[file] == answer))
+        holders = notices.merged(itertools.chain.from_iterable(notices.read(file) for file in sorted(answers) if answers[file] == answer))
         written.append("Files: " + "\n ".join(patterns) + "\nCopyright: " + "\n ".join(holders or ["FIXME"]) + f"\nLicense: {answer}")
     names = sorted({it for answer in answers.values() for it in re.split(r",? (?:and|or) ", answer)})
     for it in names:

@@ -6,6 +6,8 @@ MAX_BYTES = 1_000_000
 NOTICE = re.compile(r"(?:copyright|\(c\)|©)[\s:]*(?:copyright|\(c\)|©|[\s:,])*((?:19|20)\d\d[-–—\d,\s]*)(?:by\s+)?([^\d\s].*)", re.IGNORECASE)
 # what does not belong to a holder: a comment's end, and sentences that follow
 END = re.compile(r"\s*(?:\*+/|-->|\*/|[|*#/]+\s*$|\ball rights reserved\b.*|\blicen[cs]ed under\b.*|\bpermission is hereby\b.*)", re.IGNORECASE)
+# a year, or from a year to another one, `1999-2004` or `1999-04`
+SPAN = re.compile(r"(?<!\d)(\d{4})(?:-(\d{4}|\d\d))?(?![\d-])")
 
 
 def read(path):
@@ -20,8 +22,27 @@ def found(text):
     for line in text.split("\n"):
         match = NOTICE.search(line)
         if match:
-            years = re.sub(r"\s*[-–—]\s*", "-", " ".join(match[1].split())).strip(" ,-")
+            years = re.sub(r"\s*[-–—]+\s*", "-", " ".join(match[1].split())).strip(" ,-")
             holder = END.sub("", match[2]).strip(" \t\r,.;\"'")
             if holder and re.search(r"[^\W\d_]{2}", holder):
                 notices.append(f"{years} {' '.join(holder.split())}")
     return list(dict.fromkeys(notices))
+
+
+def merged(notices):
+    """One notice for each holder, with all its years, in the order of the holders' first notices. One whose years are spelled otherwise stays."""
+    years = {}
+    for notice in notices:
+        spans, holder = re.fullmatch(r"([\d,\s-]*\d) (.*)", notice).groups()
+        if SPAN.sub("", spans).strip(", "):
+            years.setdefault(notice, set())
+        for first, last in [] if notice in years else SPAN.findall(spans):
+            years.setdefault(holder, set()).update(range(int(first), int(first[:4 - len(last)] + last) + 1))
+    return [f"{spelled(it)} {holder}".strip() for holder, it in years.items()]
+
+
+def spelled(years):
+    """Years as they are written: `1999, 2001-2004`."""
+    firsts = sorted(it for it in years if it - 1 not in years)
+    lasts = sorted(it for it in years if it + 1 not in years)
+    return ", ".join(str(first) if first == last else f"{first}-{last}" for first, last in zip(firsts, lasts))

@@ -43,6 +43,12 @@ GLOBS = [
 NOTICES = [
     (" * Copyright (C) 2019-2024 A. Author <a@b.c>", ["2019-2024 A. Author <a@b.c>"]), ("/* (c) 2001, 2003 by Z. Zed. All rights reserved. */", ["2001, 2003 Z. Zed"]),
     ("# Copyright: 2012 Xa Y\n# Copyright: 2012 Xa Y", ["2012 Xa Y"]), ("\u00a9 1999 - 2001, Firma", ["1999-2001 Firma"]), ("// copyright law of 1976", []),
+    ("Copyright (c) 1997--2022 M", []), ("Copyright (c) 1997--2022 Mn", ["1997-2022 Mn"]),
+]
+# notices of several files, and those of their holders
+MERGED = [
+    (["2001 A", "1999-2001 B", "2003-04 A", "2002 A", "1999, 2002 B"], ["2001-2004 A", "1999-2002 B"]), (["2001 A", "2004 A"], ["2001, 2004 A"]),
+    (["20010203 A", "2001 A", "2001-2-3 A"], ["20010203 A", "2001 A", "2001-2-3 A"]), ([], []),
 ]
 # the templates that are found in a file, and its answer
 FILES = [
@@ -59,6 +65,7 @@ def main():
     cases += [(names, spdx.in_file(names), ids) for names, _, ids in FIELDS]
     cases += [(answers, debian.globs(answers), globs) for answers, globs in GLOBS]
     cases += [(text, notices.found(text), expected) for text, expected in NOTICES]
+    cases += [(them, notices.merged(them), expected) for them, expected in MERGED]
     cases += [(ids, lines.answer([lines.Match("f", id, 0) for id in ids]), answer) for ids, answer in FILES]
     for what, came, expected in cases:
         tally.add(what, [] if came == expected else [f"{came}, expected {expected}"])

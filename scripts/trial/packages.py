@@ -1,5 +1,5 @@
 #!/usr/bin/env python3
-"""Draws Debian source packages by a seed, and fetches them: packages.py FOLDER [--seed N] [--count N] [--without NAME ..] [--only NAME ..]
+"""Draws Debian source packages by a seed, and fetches them: packages.py FOLDER [--seed N] [--count N] [--without NAME ..] [--without-seeds N ..] [--only NAME ..]
 
 Packages are drawn from apt's list of sources, each of another section where that can be, those above 5 MB left out, and are unpacked to
 FOLDER/NAME. Those that cannot be fetched, or whose debian/copyright is not machine-readable, are left out, and the next one is drawn.
@@ -19,8 +19,10 @@ Dir::State::lists "{0}/lists";
 Dir::Cache "{0}/cache";
 """
 MAX_BYTES = 5_000_000
-# drawn at most, for each that is wanted
-TRIES = 4
+# drawn at most, for each that is wanted: of some copies of Debian's archive most packages cannot be fetched
+TRIES = 30
+# how many of the first that another seed draws are left out
+OF_A_SEED = 240
 
 
 def prepare(folder, suite):
@@ -63,6 +65,12 @@ def drawn(found, seed, without):
     return [rows[section][at] for at in range(max(map(len, rows.values()))) for section in sections if at < len(rows[section])]
 
 
+def wanted_of(asked, found):
+    """The packages to be tried, in this order."""
+    earlier = [drawn(found, seed, set())[:OF_A_SEED] for seed in asked.without_seeds]
+    return drawn(found, asked.seed, set(asked.without).union(*earlier))[:TRIES * asked.count]
+
+
 def fetch(folder, name, environment):
     """Whether the package is there, unpacked and machine-readable."""
     place = os.path.join(folder, name)
@@ -87,10 +95,11 @@ def main():
     parser.add_argument("--count", type=int, default=12)
     parser.add_argument("--suite", default="bookworm")
     parser.add_argument("--without", nargs="*", default=[], help="packages that are not drawn, such as those that were looked at")
+    parser.add_argument("--without-seeds", type=int, nargs="*", default=[], help="seeds of earlier draws, whose first packages are not drawn")
     parser.add_argument("--only", nargs="*", help="these packages, none is drawn")
     asked = parser.parse_args()
     environment = prepare(asked.folder, asked.suite)
-    names = asked.only or drawn(listed(environment), asked.seed, set(asked.without))[:TRIES * asked.count]
+    names = asked.only or wanted_of(asked, listed(environment))
     wanted = len(names) if asked.only else asked.count
     fetched = 0
     for name in names:
