@@ -22,9 +22,9 @@ MEMORY_OF_A_CHECK = 3_000_000_000
 
 
 def workers():
-    """How many crates' edits are tried at a time."""
+    """How many crates' edits are tried at a time, with memory left for the proofs."""
     memory = os.sysconf("SC_PAGE_SIZE") * os.sysconf("SC_PHYS_PAGES")
-    return max(1, min(os.cpu_count() or 1, memory // (2 * MEMORY_OF_A_CHECK)))
+    return max(1, min(os.cpu_count() or 1, memory // (2 * MEMORY_OF_A_CHECK) - 1))
 
 
 def try_edits(name, start):
