@@ -19,7 +19,7 @@ use crate::texts::text_of;
 use crate::weights::{have_token, parts_weight};
 use lic_ere::{EreCause, EreFault, read};
 use lic_kind::Rules;
-use lic_norm::pieces::{Next, piece};
+use lic_norm::pieces::{Next, PieceBuffers, piece};
 use lic_norm::words::Words;
 use std::alloc::{AllocError, Global};
 use std::mem;
@@ -71,6 +71,7 @@ pub struct Reader {
     pub original: String,
     /// Whether there are only white space and optional rules between the start of the line and here.
     pub at_start: bool,
+    buffers: PieceBuffers,
 }
 
 /// How the fault of a pattern is reported, which begins at a place.
@@ -107,6 +108,7 @@ impl Reader {
             outer: Vec::new(alloc),
             original: String::new(alloc),
             at_start: true,
+            buffers: PieceBuffers::new(alloc),
         }
     }
 
@@ -131,7 +133,15 @@ impl Reader {
             follows
         };
         let text = text_of(alloc, characters)?;
-        let letters = piece(alloc, &text, self.at_start, next, words, rules)?;
+        let letters = piece(
+            alloc,
+            &text,
+            self.at_start,
+            next,
+            words,
+            rules,
+            &mut self.buffers,
+        )?;
         self.level.push_letters(letters)?;
         self.original.push_str(&text)?;
         self.at_start = at_line_start(self.at_start, characters);

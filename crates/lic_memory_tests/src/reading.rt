@@ -5,7 +5,7 @@ use lic_ere::Ere;
 use lic_kind::{Rules, spell};
 use lic_norm::fault::TextFault;
 use lic_norm::feeder::Feeder;
-use lic_norm::pieces::{Next, piece};
+use lic_norm::pieces::{Next, PieceBuffers, piece};
 use lic_norm::text::Text;
 use lic_norm::words::Words;
 use std::alloc::Global;
@@ -33,7 +33,9 @@ fn texts_are_read_when_there_is_memory(rt: HostRuntime) {
     });
     let text = "@@ 1. The Color\n of percent";
     let letters = retried(&rt, || {
-        piece(rt.alloc(), text, true, Next::LineEnd, &words, &rules).map_err(Refused::from)
+        let mut buffers = PieceBuffers::new(rt.alloc());
+        let next = Next::LineEnd;
+        piece(rt.alloc(), text, true, next, &words, &rules, &mut buffers).map_err(Refused::from)
     });
     assert_eq!(rt; letters.as_str(), " 1.the colour of per cent");
     assert!(rt; retried(&rt, || reads_pattern(rt.alloc())));

@@ -18,7 +18,7 @@ use Rattle.lic_lines.proofs.Gaps.{no_runs, runs_joined-gap}
 use Rattle.lic_trim.proofs.ItemLemmas.{char_of}
 use Rattle.lic_lines.proofs.LineByLine.{line_ends}
 use Rattle.lic_trim.proofs.PieceEnds.{ends_in-snoc}
-use Rattle.lic_norm.specs.declared.pieces.Edges.{Edges}
+use Rattle.lic_norm.specs.declared.pieces.cell_edges.Edges.{Edges}
 use Rattle.lic_norm.specs.Edges.{HasEdges}
 use Rattle.lic_norm.specs.Pieces.{ends_in_feed, is_blank, begins_in_blank, ends_in_blank}
 

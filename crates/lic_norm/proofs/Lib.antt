@@ -17,7 +17,10 @@ pub mod ReadingLemmas
 pub mod AsciiLines
 pub mod StretchTokens
 pub mod TextLemmas
+pub mod BareTokens
 pub mod PieceLines
+pub mod EndedLines
+pub mod LineBegins
 pub mod EdgeLemmas
 pub mod SpellingPlaces
 pub mod PartedLemmas

@@ -27,11 +27,11 @@ use Rattle.lic_norm.specs.LineEnds.{IsFirstLine}
 use Rattle.lic_norm.specs.Pieces.{ends_in_feed, part_of, cells_of_lines, piece_cells, piece_tokens, is_line_end, counts_as}
 use Rattle.lic_norm.proofs.FirstLines.{as_line, as_line-some, ends_line, kept_feed, lines_of-first, no_cells_whole, no_tokens}
 
-chars_of-unplaced : (cs : List ℕ) → chars_of (unplaced cs) ≡ cs
+pub chars_of-unplaced : (cs : List ℕ) → chars_of (unplaced cs) ≡ cs
 chars_of-unplaced [] = refl
 chars_of-unplaced (c ∷ cs) = ap (λ l. c ∷ l) (chars_of-unplaced cs)
 
-feed_last : (front : List SourceChar) (feed : SourceChar) → feed.char ≡ 0x0A → ends_in_feed (front ++ feed ∷ []) ≡ true
+pub feed_last : (front : List SourceChar) (feed : SourceChar) → feed.char ≡ 0x0A → ends_in_feed (front ++ feed ∷ []) ≡ true
 feed_last front feed is =
     let last = λ (c : ℕ). c == 0x0A in
     ap (ends_in last (λ front. true)) (map-append char_of front (feed ∷ []))
@@ -108,7 +108,7 @@ module _ (rules : LineRules) {A : Type 0} (made : List Cell → List A) (none : 
       ∙ first_line_made has_front (unplaced (chars line)) (unplaced (chars rest)) (chars line) rest first
       (chars_of-unplaced (chars line)) (λ e. ap (λ r. unplaced (chars r)) e ∙ ap unplaced chars-nil)
 
-runs-blank : (rules : LineRules) (xs ys : List Cell) → runs_joined rules (xs ++ Blank ∷ ys) ≡ runs_joined rules (xs ++ Blank ∷ []) ++ runs_joined rules ys
+pub runs-blank : (rules : LineRules) (xs ys : List Cell) → runs_joined rules (xs ++ Blank ∷ ys) ≡ runs_joined rules (xs ++ Blank ∷ []) ++ runs_joined rules ys
 runs-blank rules xs ys =
     let back = runs_joined rules ys in
     runs_joined-gap rules xs ys

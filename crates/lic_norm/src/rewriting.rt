@@ -164,26 +164,6 @@ impl<'w> Rewriting<'w> {
         })
     }
 
-    /// Takes the next token, and lists those that are settled then: mostly itself, as it is.
-    #[inline(always)]
-    fn take_one(&mut self, token: FirstToken) -> Result<(), AllocError>
-        requires emptied { self.old.settled.items ≡ [] }
-        requires before { HasTakenSome self.old }
-        requires text { IsTokenText (token_in token).text }
-        ensures taken { OnOk result
-            ((taken : List Token) → HasTaken self.old taken
-            → HasTaken self.new (taken ++ token_in token ∷ [])) }
-        ensures phrases { self.new.phrases.now ≡ self.old.phrases.now }
-        ensures emptied { OnOk result (self.new.settled.items ≡ []) }
-    {
-        if self.rewriter.passes(self.phrases, &token) {
-            return self
-                .tokens
-                .push(token.text.as_str(), token.start, token.end);
-        }
-        self.push(token)
-    }
-
     /// Takes these tokens, and lists those that are settled then.
     #[inline(always)]
     fn take_all(&mut self, alloc: Global, tokens: &[FirstToken]) -> Result<(), AllocError>
@@ -299,22 +279,6 @@ impl<'w> Rewriting<'w> {
                     place += part.length;
                 }
             }
-        }
-        Ok(())
-    }
-
-    /// Takes the next tokens, and lists those that are settled then.
-    pub(crate) fn take(&mut self, tokens: Vec<FirstToken>) -> Result<(), AllocError>
-        requires before { HasTakenSome self.old }
-        requires texts { HaveTexts (tokens_in tokens.items) }
-        ensures taken { OnOk result
-            ((taken : List Token) → HasTaken self.old taken
-            → HasTaken self.new (taken ++ tokens_in tokens.items)) }
-        ensures phrases { self.new.phrases.now ≡ self.old.phrases.now }
-    {
-        self.settled.clear();
-        for token in tokens {
-            self.take_one(token)?;
         }
         Ok(())
     }
