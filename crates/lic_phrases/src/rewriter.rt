@@ -111,17 +111,6 @@ impl Rewriter {
         phrases.most_from(text) == 0
     }
 
-    /// Whether `lets_pass` says so of the text of this token.
-    #[inline(always)]
-    pub fn passes(&self, phrases: &Phrases, token: &FirstToken) -> bool
-        ensures { IsTrue result → (settled : List SpannedText) (taken : List Token)
-            → Settles phrases.now.phrases taken settled self.now
-            → Settles phrases.now.phrases (taken ++ token_in token.now ∷ [])
-            (settled ++ spanned (token_in token.now) ∷ []) self.now }
-    {
-        self.lets_pass(phrases, token.text.as_str())
-    }
-
     /// Ends the text: puts the tokens that were kept back at the end of the output. It is then
     /// complete, after the tokens that were given `before`.
     pub fn finish(self, phrases: &Phrases, output: &mut Vec<FinalToken>) -> Result<(), AllocError>
