@@ -92,8 +92,35 @@ impl Rewriter {
         self.take_row(phrases, token, output)
     }
 
-    /// Whether a token of this text that is taken next is settled at once and as it is: none is kept back, and it is no sign, no
-    /// `https` and begins no phrase. It need not be pushed then.
+    /// Whether none is kept back.
+    #[inline(always)]
+    pub fn keeps_none(&self) -> bool
+        ensures { IsTrue result → self.now ≡ nothing_kept }
+    {
+        if self.sign.is_some() || !self.address.is_empty() {
+            return false;
+        }
+        self.waiting.is_empty()
+    }
+
+    /// Whether a token of this text is settled at once and as it is where none is kept back: it is no sign, no `https` and begins
+    /// no phrase.
+    #[inline(always)]
+    pub fn leaves(phrases: &Phrases, text: &str) -> bool
+        ensures { IsTrue result → (settled : List SpannedText) (taken : List Token) (token : Token)
+            → token.text ≡ text.now
+            → Settles phrases.now.phrases taken settled nothing_kept
+            → Settles phrases.now.phrases (taken ++ token ∷ [])
+            (settled ++ spanned token ∷ []) nothing_kept }
+    {
+        if "copyright" == text || "https" == text {
+            return false;
+        }
+        phrases.most_from(text) == 0
+    }
+
+    /// Whether a token of this text that is taken next is settled at once and as it is: none is kept back, and it is left as it
+    /// is. It need not be pushed then.
     #[inline(always)]
     pub fn lets_pass(&self, phrases: &Phrases, text: &str) -> bool
         ensures { IsTrue result → (settled : List SpannedText) (taken : List Token) (token : Token)
@@ -102,13 +129,7 @@ impl Rewriter {
             → Settles phrases.now.phrases (taken ++ token ∷ [])
             (settled ++ spanned token ∷ []) self.now }
     {
-        if self.sign.is_some() || !self.address.is_empty() || !self.waiting.is_empty() {
-            return false;
-        }
-        if "copyright" == text || "https" == text {
-            return false;
-        }
-        phrases.most_from(text) == 0
+        self.keeps_none() && Rewriter::leaves(phrases, text)
     }
 
     /// Ends the text: puts the tokens that were kept back at the end of the output. It is then
