@@ -32,7 +32,7 @@ pub enum EreCause {
 
 impl EreCause {
     /// The short name of the cause.
-    pub fn code(&self) -> &'static str {
+    fn code(&self) -> &'static str {
         match self {
             EreCause::NothingToRepeat => "E1",
             EreCause::TwoSigns => "E2",
@@ -50,7 +50,7 @@ impl EreCause {
     }
 
     /// The cause in words.
-    pub fn text(&self) -> &'static str {
+    fn text(&self) -> &'static str {
         match self {
             EreCause::NothingToRepeat => "nothing to repeat",
             EreCause::TwoSigns => "two repetition signs",
