@@ -64,7 +64,7 @@ WARRANTIES OR CONDITIONS OF ANY KIND, either express or implied. See the License
 the License."""
 HEADS = [MIT, BSD, GPL, LGPL, APACHE, 'SPDX-License-Identifier: MIT', 'SPDX-License-Identifier: GPL-2.0-or-later OR Apache-2.0',
          'This file is part of the library. See LICENSE for terms of use.', 'Use of this source code is governed by a BSD-style license.']
-# how a file of a language is named, and what stands before each line of a comment
+# how a file of a language is named, and what is before each line of a comment
 LANGUAGES = [('.c', ' * '), ('.h', '// '), ('.py', '# '), ('.pl', '# '), ('.js', ' * ')]
 
 

@@ -21,7 +21,7 @@ LINES, WIDTH = 20, 200
 class Case:
     """A run of the program in a folder of its own, and what is expected of it, byte for byte.
 
-    `files` are what the folder holds, as `lay` takes it. `stdin` and `stdout` name a file that stands for the input or for the output. With
+    `files` are what the folder holds, as `lay` takes it. `stdin` and `stdout` name a file that is the input or the output. With
     `at_terminal`, standard error is a terminal.
     """
     name: str

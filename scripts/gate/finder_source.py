@@ -14,7 +14,7 @@ It reads the code of lic_find (crates/lic_find/src: no tests, proofs, clauses or
 
 So that it is known to refuse, the same is asked of copies in which a patch of scripts/gate/wrong_finders is applied, and those faults must be
 found that the patch names. A patch has lines `#` for what it is, `fault:` for a fault that must be found, `file:` for the file that the next
-edits change, and then edits: a line with `-`, whose text stands once in that file, and lines with `+`, which take its place.
+edits change, and then edits: a line with `-`, whose text is once in that file, and lines with `+`, which take its place.
 """
 import os
 import re
@@ -27,7 +27,7 @@ TOP = os.path.dirname(os.path.dirname(HERE))
 FINDER = os.path.join(TOP, "crates", "lic_find", "src")
 MACHINES = os.path.join(TOP, "crates", "lic_auto", "src")
 PATCHES = os.path.join(HERE, "wrong_finders")
-STANDS_ON = ["lic_auto", "lic_norm"]
+DEPENDS_ON = ["lic_auto", "lic_norm"]
 STEPS = "self.noting.saturating_add(self.run.steps())"
 
 
@@ -79,15 +79,15 @@ def functions(code):
 
 
 def calling(code, pattern):
-    """The names of the functions in whose bodies this stands, each as often as it does."""
+    """The names of the functions in whose bodies this is, each as often as it is."""
     return sorted(name for name, body in functions(code) for _ in re.findall(pattern, body))
 
 
 def claims(code, machines, line):
     """What is claimed of the code: its name, what was found, and what is right."""
     every = "\n".join(code.values())
-    yield "crates that the code names", sorted(set(re.findall(r"\b(lic_\w+)\s*::", every))), STANDS_ON
-    yield "of these not in crates.txt", [name for name in STANDS_ON if name not in line], []
+    yield "crates that the code names", sorted(set(re.findall(r"\b(lic_\w+)\s*::", every))), DEPENDS_ON
+    yield "of these not in crates.txt", [name for name in DEPENDS_ON if name not in line], []
     yield "other names of what is imported", re.findall(r"\b(?:use\s+lic_[^;]*\bas\b|type\s[^;]*\b(?:Run|Back)\b)[^;]*;", every), []
     yield "re-exports of lic_marks by lic_auto", re.findall(r"\bpub\s+use\s[^;]*\blic_marks\b[^;]*;", "\n".join(machines.values())), []
     for name in ("id", "template", "parts"):
@@ -114,7 +114,7 @@ def faults(finder):
 
 
 def read_patch(path):
-    """The faults that a patch names, and its edits, each with a file, the text that stands in it once, and the lines in its place."""
+    """The faults that a patch names, and its edits, each with a file, the text that is in it once, and the lines in its place."""
     expected, edits, file = [], [], None
     with open(path, encoding="utf-8") as lines:
         for line in lines.read().splitlines():
@@ -155,7 +155,7 @@ def faults_of_patch(path):
 def main():
     wrong = [f"{what}: {fault}" for what, fault in faults(FINDER).items()]
     if not wrong:
-        print(f"the finder stands on {', '.join(STANDS_ON)}, and its steps are those of one Run and one Back")
+        print(f"the finder depends on {', '.join(DEPENDS_ON)}, and its steps are those of one Run and one Back")
     patches = sorted(name for name in os.listdir(PATCHES) if name.endswith(".patch"))
     for name in patches:
         wrong += faults_of_patch(os.path.join(PATCHES, name))

@@ -4,7 +4,7 @@ from harness import Case, templates
 SCAN = ['scan', '--templates', 'T']
 E_REFUSED = b'licscan: template E: M10 at 0: no letter in it\n'
 
-# the arguments behind the folder of the templates, and the first fault
+# the arguments after the folder of the templates, and the first fault
 FAULTS = [
     (['--limit=1', '--after=x', 'a', 'b'], b'licscan: --after needs --all\n'),
     (['--limit', '1', 'a', 'b'], b'licscan: --limit needs --all\n'),

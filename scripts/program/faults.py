@@ -23,7 +23,7 @@ MARKUP = [
     ('x <<var;name="n";match="[">>', 'M4 at 2: field missing'),
     ('x <<var;name="n";name>>', 'M6 at 17: field without ='),
     ('x <<var;name="x" ;original="o";match="b">>', 'M4 at 2: field missing'),
-    # behind the last rule: an open part, then no letter, then the weight
+    # after the last rule: an open part, then no letter, then the weight
     ('<<beginOptional>> ', 'M3 at 0: optional not ended'),
     ('<<var;name=n;original=o;match=.{65535}>> <<var;name=n;original=o;match=.{65535}{2}>>', 'M7 at 71: E2 at 8: two repetition signs'),
     ('<<var;name=n;original=o;match=(.{65535}){3}>>', 'M10 at 0: no letter in it'),

@@ -46,7 +46,7 @@ TEXTS = [
 
 BYTES = [
     (b'a\xFFb', 'a\uFFFDb 0-3, '),
-    # each byte of a character that is cut, or that no character can begin with, stands by itself
+    # each byte of a character that is cut, or that no character can begin with, is by itself
     (b'\xE2\x80', '\uFFFD\uFFFD 0-2, '),
     (b'\xF0\x9F\x98A', '\uFFFD\uFFFD\uFFFDa 0-4, '),
     (b'\xED\xA0\x80', '\uFFFD\uFFFD\uFFFD 0-3, '),

@@ -3,7 +3,7 @@ from harness import Case
 
 LISTS = [
     ('an empty phrase', 'color,,colour\n', 'Q1 at line 1: empty phrase'),
-    ('nothing behind a comma', 'a\n\nb,', 'Q1 at line 3: empty phrase'),
+    ('nothing after a comma', 'a\n\nb,', 'Q1 at line 3: empty phrase'),
     ('a separator alone', 'a\n # ,\n===', 'Q1 at line 3: empty phrase'),
     ('4,097 phrases', 'w\n' * 4_097, 'Q2 at line 4097: more than 4096 phrases'),
     ('4,096 phrases and an empty one', 'w\n' * 4_096 + ',', 'Q2 at line 4097: more than 4096 phrases'),
@@ -16,7 +16,7 @@ LISTS = [
 RULES = [
     ('no text', 'lead', 'L2 at line 1: bad text'),
     ('neither on nor off', 'items maybe', 'L1 at line 1: unknown rule'),
-    ('nothing behind items', 'items', 'L1 at line 1: unknown rule'),
+    ('nothing after items', 'items', 'L1 at line 1: unknown rule'),
     ('on twice', 'separators on on', 'L1 at line 1: unknown rule'),
     ('a text of two words', 'lead a\n\n# x\nlead a b\nfoo', 'L2 at line 4: bad text'),
     ('an unknown rule before a bad text', 'lead a\nfoo\nlead', 'L1 at line 2: unknown rule'),

@@ -1,6 +1,6 @@
 """The letters of a template's pieces of text: what a template with such a piece weighs, and texts that it describes or does not.
 
-A piece is read as its lines are, and by what stands before and behind it in its line: a rule, another piece or a line's end.
+A piece is read as its lines are, and by what is before and after it in its line: a rule, another piece or a line's end.
 """
 import dataclasses
 
@@ -8,7 +8,7 @@ from rows import of_matches, of_weight
 
 A = '<<var;name=n;original=a;match=a>>'
 X = '<<beginOptional>>x<<endOptional>>'
-# a rule behind text, so that a piece does not stand at its line's start
+# a rule after text, so that a piece is not at its line's start
 IN = 'q<<beginOptional>><<endOptional>>'
 # it does not describe its original text, in which `(c)` is an item before a letter, or a token apart from the word before it
 NO = False
@@ -20,14 +20,14 @@ ROWS = [
     ('x <<var;name="n";original="a;b";match=a\\;b>>', 5, [('x a ; b', '0-3-0 ')]),
     ('a<<beginOptional>> b<<beginOptional>> c<<endOptional>><<endOptional>> d', 7, [('a d', '0-1-0 '), ('a b d', '0-2-0 '), ('a b c d', '0-3-0 '), ('a c d', '')]),
     (f'<<beginOptional>>1. <<endOptional>>foo {A}', 6, [('foo a', '0-1-0 ')]),
-    # a form of an item directly before a rule is none, with a blank behind it it is one
+    # a form of an item directly before a rule is none, with a blank after it it is one
     (f'1.{X}', 3, [('1 . x', '0-1-0 0-2-0 '), ('x', '')]),
     (f'1. {X}', 2, [('x', '0-0-0 ')]),
     # a variable counts as a digit, another rule as a letter
     (f'(c) {X}', 2, [('x', '0-0-0 '), ('copyright x', '1-1-0 ')]),
     (f'(c) {A} x', 13, [('copyright a x', '0-2-0 '), ('a x', '')], NO),
     (f'c) {A} x', 4, [('a x', '0-1-0 ')]),
-    # optional rules and white space do not part a piece from the start of its line; what else stands there does
+    # optional rules and white space do not part a piece from the start of its line; what else is there does
     ('<<beginOptional>><<beginOptional>> 1. <<endOptional>> <<endOptional>>2. foo', 7, [('x 2 . foo', '1-3-0 ')]),
     ('<<beginOptional>> <<endOptional>>2. foo', 5, [('foo', '0-0-0 ')]),
     ('a<<beginOptional>>1. b<<endOptional>>', 4, [('a b', '0-0-0 '), ('a1 . b', '0-2-0 ')]),
@@ -63,7 +63,7 @@ ROWS = [
     ('\uFEFFa\u00AD\u00E9', 2, [('a\u00E9', '0-0-0 ')]),
 ]
 
-# equivalent words, with a rule behind them and without
+# equivalent words, with a rule after them and without
 LIST = {'list': b'sub-license,sub license,sublicense\ncolor,colour\n'}
 BY_WORDS = [
     ('Sub-License', 11, [('sublicense', '0-0-0 ')]),

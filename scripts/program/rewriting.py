@@ -31,7 +31,7 @@ BY_WORDS = [
     ('per cent,percent', 'PerCent', 'per cent 0-7, '),
     ('PER  CENT , percent\nper cent', 'percent', 'per cent 0-7, '),
     ('b,e\nc,d\nx,e,d', 'x d c e b', 'b 0-1, b 2-3, b 4-5, b 6-7, b 8-9, '),
-    # lines that are skipped, one of them behind characters that are dropped
+    # lines that are skipped, one of them after characters that are dropped
     ('# a,b\n \u00AD\u200B# c\n\uFEFF \nd,d', 'b d', 'b 0-1, d 2-3, '),
     ('(c) \u00A9, https://x', 'http://x', 'copyright 0-8, '),
     ('1. a\u00ADb\r\n\u201Cx\u201D -\u2014- y===z', "'x' - y z", "'x'-y z 0-9, "),

@@ -14,7 +14,7 @@ MORE_LEADS = ['C*', 'c*']
 MORE_WORDS = ['rem', 'Rem', '@REM', '@rem', '@c', '@comment']
 MORE_TAILS = [' --']
 
-# a sign needs no white space behind it; and what is none of the profile
+# a sign needs no white space after it; and what is none of the profile
 BESIDE = [
     ('//foo', 'foo 2-5, '),
     ('rem x', 'rem 0-3, x 4-5, '),
@@ -50,7 +50,7 @@ MORE = [*signs(MORE_LEADS, MORE_WORDS, MORE_TAILS), ('"x', "' 0-1, x 1-2, ")]
 # rules, and inputs with their tokens
 SMALL = [
     ('', [('// x', '/ 0-1, / 1-2, x 3-4, '), ITEM, SEPARATOR]),
-    # white space round a line and behind its word, line ends of two bytes, and a comment
+    # white space round a line and after its word, line ends of two bytes, and a comment
     (' \t\r\n # lead x\nlead\u00A0 a\u00E9 \r\nlead a\u00E9',
      [('a\u00E9 foo', 'foo 4-7, '), ('x foo', 'x 0-1, foo 2-5, '), ITEM, SEPARATOR]),
     # the last line counts

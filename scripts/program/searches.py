@@ -1,4 +1,4 @@
-"""All matches of some templates in a text, and those behind a triple."""
+"""All matches of some templates in a text, and those after a triple."""
 from rows import of_matches
 
 OF = '<<var;name="a";original="p";match=".+">> of <<var;name="b";original="q";match=".+">>'
@@ -57,7 +57,7 @@ ROWS = [
       'x <<var;name="a";original="b";match=".+">>'], 'x y', '0-0-2 0-1-3 '),
 ]
 
-# a triple, and the matches behind it
+# a triple, and the matches after it
 MOST = 2 ** 64 - 1
 AFTER = [
     ('0:0:0', '0-0-1 0-1-0 0-2-2 1-1-3 3-3-1 '),
@@ -74,5 +74,5 @@ AFTER = [
 
 CASES = [
     *(of_matches('all matches', *row) for row in ROWS),
-    *(of_matches(f'behind {after}', ['x y', 'x', 'x y z', 'y'], 'X y z x', shown, ['--after', after]) for after, shown in AFTER),
+    *(of_matches(f'after {after}', ['x y', 'x', 'x y z', 'y'], 'X y z x', shown, ['--after', after]) for after, shown in AFTER),
 ]

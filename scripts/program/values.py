@@ -31,7 +31,7 @@ ROWS = [
     # 950 words, five of what is optional, and three values of 20 words, each with an end; the match does without the last word, which is optional
     ('three variables and ten optional parts in 5,024 letters', b''.join(map(template_part, range(10))), b''.join(map(text_part, range(10))),
      lines(1016, 6035, (b'v2', 1716, NAMES), (b'v5', 3542, NAMES), (b'v8', 5362, NAMES))),
-    ('one variable behind 30,000 letters', LOREM * 6000 + variable(b'v', b'.+') + b' stop', LOREM * 6000 + b'the end stop',
+    ('one variable after 30,000 letters', LOREM * 6000 + variable(b'v', b'.+') + b' stop', LOREM * 6000 + b'the end stop',
      lines(6002, 36012, (b'v', 36000, b'the end'))),
     ('plain text of 30,000 letters has no value', LOREM * 6000, LOREM * 6000, lines(5999, 35999)),
     ('nested repetitions take 200 letters', b'x ' + variable(b'v', b'((a*)*)*') + b' y', b'x ' + b'a' * 200 + b' y', lines(2, 204, (b'v', 2, b'a' * 200))),

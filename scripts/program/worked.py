@@ -8,7 +8,7 @@ ROWS = os.path.join(TOP, 'crates', 'lic_command_rows', 'data', 'rows.json')
 
 
 def bytes_of(given):
-    """What stands for nothing, a text, or a list of texts, of bytes by their numbers, and of texts with how often they stand."""
+    """What is meant by nothing, a text, or a list of texts, of bytes by their numbers, and of texts with how often they are repeated."""
     if isinstance(given, str):
         return given.encode()
     pieces = ([piece, 1] if isinstance(piece, (str, int)) else piece for piece in given or [])

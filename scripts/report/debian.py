@@ -4,7 +4,7 @@
 Each file has its texts, notices, tags and fields, or its mentions where it has nothing else; a family is left out beside a version of it. Names
 are Debian's. Years and holders are those of the files' own notices, each holder once. The most frequent answer is that of `Files: *`; a folder whose files all have
 another one is one glob, so a file without an answer goes with its folder. Licences end the page: a reference to /usr/share/common-licenses, or the text as a file has it, or FIXME.
-It is run in the folder of the files. What it writes is to be read: a file's licences may be a choice or a sum, and FIXME stands where nothing is known.
+It is run in the folder of the files. What it writes is to be read: a file's licences may be a choice or a sum, and FIXME is written where nothing is known.
 """
 import argparse
 import collections

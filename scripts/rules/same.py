@@ -1,5 +1,5 @@
 #!/usr/bin/env python3
-"""Looks whether examples/rules/profile.rules is what stands in the proved example, by which its rules are those of the profile."""
+"""Looks whether examples/rules/profile.rules is what the proved example has, by which its rules are those of the profile."""
 import os, re, sys
 
 TOP = os.path.dirname(os.path.dirname(os.path.dirname(os.path.abspath(__file__))))
@@ -14,7 +14,7 @@ def main():
     lines = re.findall(r'codes "((?:[^"\\]|\\.)*)"', proof[proof.index('profile_file =\n'):proof.index('profile_as_file')])
     unescaped = ''.join(lines).replace('\\n', '\n').replace('\\"', '"').replace('\\\\', '\\')
     same = unescaped == text_of('examples', 'rules', 'profile.rules')
-    print('the same' if same else 'profile.rules is not what stands in the proved example')
+    print('the same' if same else 'profile.rules is not what the proved example has')
     sys.exit(not same)
 
 

@@ -22,6 +22,8 @@ LONG_IDENTIFIER = 7
 OPTIONAL_TAG = "SPDX<<beginOptional>>-License-Identifier: <<endOptional>>"
 WORD = "[a-z0-9]+"
 OPERAND = "[-+.()a-z0-9]+"
+# before an operator there is no dash, as there is in `GPL-2.0-or-later`
+LEFT_OPERAND = "[-+.()a-z0-9]*[+.()a-z0-9]"
 OPERATOR = "( (or|and|with) |/)"
 MOST_OPERATORS = 4
 LONGEST_IDENTIFIER = 6
@@ -52,7 +54,7 @@ def expressions():
 def beginnings():
     """Up to an operator, by its number."""
     for count in range(1, MOST_OPERATORS + 1):
-        before = variable("beginning", "MIT" + " OR ISC" * (count - 1), OPERAND + (f"({OPERATOR}{OPERAND}){{{count - 1}}}" if count > 1 else ""))
+        before = variable("beginning", "MIT" + " OR ISC" * (count - 1), LEFT_OPERAND + (f"({OPERATOR}{LEFT_OPERAND}){{{count - 1}}}" if count > 1 else ""))
         for operator in ("OR", "AND", "WITH"):
             yield f"{operator}-expression{LETTERS[count - 1]}", f"{TAG}{before} {operator}"
 

@@ -23,7 +23,7 @@ HERE = os.path.dirname(os.path.abspath(__file__))
 WORDS = os.path.join(HERE, "..", "..", "examples", "words")
 ENDING = starter.ENDING
 
-# how a comment begins, what stands before each line, and how it ends
+# how a comment begins, what is before each line, and how it ends
 STYLES = {
     "plain": ("", "", ""),
     "hash": ("", "# ", ""),
@@ -105,7 +105,7 @@ SENTENCES = [
     ("its GPL code", [], []),
 ]
 
-# what stands in a tag, the template that is to be reported, and the value of its first variable
+# what is in a tag, the template that is to be reported, and the value of its first variable
 TAGS = [
     ("(MIT OR Apache-2.0) AND BSD-3-Clause", "expression-AND-BSD-3-Clause", "(MIT OR Apache-2.0)"),
     ("MIT OR Apache-2.0 AND ISC", "expression-AND-ISC", "MIT OR Apache-2.0"),
@@ -126,6 +126,8 @@ TAGS = [
     ("LicenseRef-A", "LicenseRef-identifier", "A"),
     ("LicenseRef-A-B.2", "LicenseRef-identifier-c", "A-B.2"),
     ("A-1.0", "unknown-identifier", None),
+    ("A-1.0-or-later", "unknown-identifier", None),
+    ("A-1.0-or-later OR LicenseRef-B", "OR-expression", "A-1.0-or-later"),
 ]
 
 

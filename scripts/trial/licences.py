@@ -14,7 +14,9 @@ SUFFIX = re.compile(r"-(identifier|field|notice|mention)(-[b-z])?$")
 
 def name_of(written):
     """One licence in small letters; `+` for 'or later', no `.0` at the end, no exception."""
-    name = re.split(r"[ -]with[ -]|-exception$|~", written.strip().strip("()").lower())[0].strip(" ,()")
+    name = re.split(r"[ _-]with[ _-]|-exception$|~", written.strip().strip("()").lower())[0].strip(" ,()")
+    # without invariant sections, as Debian calls it
+    name = re.sub(r"^gfdl-niv-", "gfdl-", name)
     name = re.sub(r"^(bsd|mit)-(style|like)$", r"\1", name)
     name = re.sub(r"-or-later$", "+", re.sub(r"-only$", "", name))
     name = re.sub(r"^([al]?gpl)v?(\d)", r"\1-\2", name)
