@@ -3,7 +3,7 @@ use Rattle.std.proofs.Common.{◌≡◌, inl, inr, ℕ, suc, false, ◌||◌, Li
 use Rattle.std.proofs.lemmas.Bool.{cases_Bool}
 use Rattle.std.specs.List.{All, list_any}
 use Rattle.lic_kind.specs.Openers.{opens_in, may_open, IsKnown, Grows}
-use Rattle.lic_kind.specs.declared.openers.Openers.{Openers}
+use Rattle.lic_kind.specs.declared.rules.openers.Openers.{Openers}
 
 pub all_grow : (o p : Openers) (g : List ℕ → List ℕ) (texts : List (List ℕ)) → Grows o p → All (λ t. IsKnown o (g t)) texts → All (λ t. IsKnown p (g t)) texts
 all_grow o p g texts grows known = λ k d within c opens. grows c (known k d within c opens)

@@ -1,7 +1,7 @@
 -- Which characters the texts of a side begin in.
 use Rattle.std.specs.Prelude.{◌≡◌, ℕ, Bool, true, false, ◌||◌, ◌==◌, nat_lt, if◌then◌else◌, List, [], ◌∷◌, slice_index_or}
 use Rattle.std.specs.Char.{is_whitespace}
-use Rattle.lic_kind.specs.declared.openers.Openers.{Openers}
+use Rattle.lic_kind.specs.declared.rules.openers.Openers.{Openers}
 
 -- whether a text begins in white space or in this character
 abbrev pub opens_in : ℕ → List ℕ → Bool

@@ -3,8 +3,8 @@ use Rattle.std.specs.Prelude.{ℕ, List, Option, Some, None}
 use Rattle.std.specs.Borrow.{Bor}
 use Rattle.std.specs.Str.{chars}
 use Rattle.lic_kind.specs.RuleFiles.{Line, comment, text, items, separators, unknown}
-use Rattle.lic_kind.specs.declared.rule_line.RuleLine.{RuleLine}
-use Rattle.lic_kind.specs.declared.rule_line.RuleLine.TheVariants.{Comment, Text, Items, Separators, Unknown}
+use Rattle.lic_kind.specs.declared.rules.rule_line.RuleLine.{RuleLine}
+use Rattle.lic_kind.specs.declared.rules.rule_line.RuleLine.TheVariants.{Comment, Text, Items, Separators, Unknown}
 
 -- the characters of a word, if there is one
 abbrev pub read : Option (Bor (List ℕ)) → Option (List ℕ)

@@ -3,7 +3,7 @@ use Rattle.std.specs.Prelude.{ℕ, List, [], ◌∷◌, ◌++◌, map}
 use Rattle.lic_kind.specs.LineRules.{LineRules, RuleKind, Lead, LeadSpace, Tail, TailSpace, TailRepeat}
 use Rattle.lic_kind.specs.RuleFiles.{Line, text_in, items_in, separators_in, last_or}
 use Rattle.lic_kind.specs.declared.rule_text.RuleText.{RuleText}
-use Rattle.lic_kind.specs.declared.reader.Reader.{Reader}
+use Rattle.lic_kind.specs.declared.rules.reader.Reader.{Reader}
 
 -- the characters of these texts
 abbrev pub texts_in : List RuleText → List (List ℕ)

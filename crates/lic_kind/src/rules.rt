@@ -4,9 +4,13 @@ ghost use Rattle.std.specs.List.{All};
 ghost use Rattle.lic_kind.specs.Openers.{IsKnown};
 ghost use Rattle.lic_kind.specs.TextLists.{texts_of};
 
-use crate::openers::Openers;
-use crate::reader::Reader;
+mod openers;
+mod reader;
+mod rule_line;
+
 use crate::rule_kind::RuleKind;
+use crate::rules::openers::Openers;
+use crate::rules::reader::Reader;
 use crate::rules_fault::RulesFault;
 use crate::texts::{FixedText, Texts};
 use std::alloc::Global;

@@ -1,6 +1,6 @@
 use Rattle.std.proofs.Common.{rules}
 use Rattle.std.proofs.lemmas.Str.{chars_from_encodes}
-use Rattle.lic_kind.proofs.reader.character_count.Goals as goal
+use Rattle.lic_kind.proofs.rules.reader.character_count.Goals as goal
 
 pub returns : goal.returns
 returns c = search (rules, chars_from_encodes)

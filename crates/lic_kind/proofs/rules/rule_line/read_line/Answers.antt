@@ -3,7 +3,7 @@ use Rattle.std.specs.Str.{chars, IsUtf8}
 use Rattle.lic_kind.specs.RuleFiles.{line_of, line_of_words, rule_line, single}
 use Rattle.lic_kind.proofs.LineWords.{next_word, no_word}
 use Rattle.lic_kind.proofs.WordLemmas.{comment_line, other_line}
-use Rattle.lic_kind.proofs.rule_line.read_line.Goals as goal
+use Rattle.lic_kind.proofs.rules.rule_line.read_line.Goals as goal
 
 pub returns-in_default : goal.returns-in_default
 returns-in_default c =

@@ -3,7 +3,7 @@ use Rattle.std.specs.Char.{encode_utf8}
 use Rattle.std.specs.Str.{chars}
 use Rattle.lic_kind.specs.RuleFiles.{kind_named}
 use Rattle.lic_kind.proofs.WordLemmas.{other_word, none_named}
-use Rattle.lic_kind.proofs.rule_line.kind_named.Goals as goal
+use Rattle.lic_kind.proofs.rules.rule_line.kind_named.Goals as goal
 
 pub returns-in-lead : goal.returns-in-lead
 unfolding chars

@@ -8,8 +8,8 @@ ghost use Rattle.lic_kind.specs.RuleLines.{read};
 ghost use Rattle.lic_kind.specs.RuleReading.{rules_read, with_text, with_line};
 
 use crate::rule_kind::RuleKind;
-use crate::rule_line::{RuleLine, read_line};
 use crate::rule_text::RuleText;
+use crate::rules::rule_line::{RuleLine, read_line};
 use crate::rules_fault::RulesCause;
 use crate::tables::is_dropped;
 use std::alloc::Global;

@@ -3,7 +3,7 @@ use Rattle.std.specs.Char.{encode_utf8}
 use Rattle.std.specs.Str.{chars}
 use Rattle.lic_kind.specs.RuleFiles.{switched}
 use Rattle.lic_kind.proofs.WordLemmas.{other_word, not_switched}
-use Rattle.lic_kind.proofs.rule_line.switched.Goals as goal
+use Rattle.lic_kind.proofs.rules.rule_line.switched.Goals as goal
 
 pub returns-in-on : goal.returns-in-on
 unfolding chars

@@ -5,7 +5,7 @@ use Rattle.std.specs.Str.{chars}
 use Rattle.lic_kind.specs.RuleFiles.{text, items, separators, unknown, rule_line}
 use Rattle.lic_kind.specs.RuleLines.{read}
 use Rattle.lic_kind.proofs.WordLemmas.{other_word, neither}
-use Rattle.lic_kind.proofs.rule_line.rule_line.Goals as goal
+use Rattle.lic_kind.proofs.rules.rule_line.rule_line.Goals as goal
 
 pub returns-in-Some : goal.returns-in-Some
 unfolding chars

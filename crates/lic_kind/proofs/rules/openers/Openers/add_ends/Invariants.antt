@@ -2,7 +2,7 @@ use Rattle.std.proofs.Common.{ℕ, ◌<◌, List}
 use Rattle.std.specs.Prelude.{slice_index_or, reverse}
 use Rattle.lic_kind.specs.Openers.{IsKnown, Grows}
 use Rattle.lic_kind.specs.TextLists.{texts_of}
-use Rattle.lic_kind.proofs.openers.Openers.add_ends.Given as goal
+use Rattle.lic_kind.proofs.rules.openers.Openers.add_ends.Given as goal
 
 abbrev pub invariant-loop-i : goal.invariant-loop-i
 invariant-loop-i l = record {
