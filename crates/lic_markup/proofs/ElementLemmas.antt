@@ -1,15 +1,18 @@
 -- Cutting a template into pieces and rules, one after another.
-use Rattle.std.proofs.Common.{◌≡◌, ℕ, zero, suc, ◌+◌, List, [], ◌∷◌, ◌++◌, length, drop, Option, Some, None, Result, Ok, Err, refl, sym, ap, ◌∙◌, append_assoc, arith}
+use Rattle.std.proofs.Common.{◌≡◌, ◌≤◌, ℕ, zero, suc, ◌+◌, Bool, true, false, ◌||◌, ◌==◌, List, [], ◌∷◌, ◌++◌, length, drop, Option, Some, None, Result, Ok, Err, refl, sym, ap, ◌∙◌, append_assoc, append-nil, arith}
 use Rattle.std.specs.Option.{option_map}
-use Rattle.std.proofs.lemmas.List.{drop-drop}
+use Rattle.std.proofs.lemmas.List.{drop-drop, length-drop}
 use Rattle.lic_ere.specs.Located.{Located, with_remaining, further}
 use Rattle.lic_markup.specs.declared.tag.Tag.{Tag}
 use Rattle.lic_markup.specs.declared.fault.MarkupFault.{MarkupFault}
 use Rattle.lic_markup.specs.declared.fault.MarkupCause.{MarkupCause}
 use Rattle.lic_markup.specs.declared.fault.MarkupCause.TheVariants.{OutOfMemory}
 use Rattle.lic_markup.specs.Faults.{fault_at, map_ok, Fails}
+use Rattle.lic_markup.specs.Signs.{less}
+use Rattle.lic_markup.specs.Pieces.{has_sign}
 use Rattle.lic_markup.specs.Rules.{Rule, tag_at, rule_at}
 use Rattle.lic_markup.specs.Elements.{Element, text, rule, rule_after, and_then, elements, element_read, after_rule}
+use Rattle.lic_markup.proofs.LocatedLemmas.{same_front}
 
 -- a fault that is not lack of memory is what reading meets
 pub Fails-lasting : {A : Type 0} (cause : MarkupCause) (place : ℕ) (r : Result A MarkupFault)
@@ -67,28 +70,91 @@ step-plain : (piece : List Located) (x : Located) (after : List Located) (t : Op
 step-plain piece x after None is = refl
 step-plain piece x after (Some t) is = absurd cc
 
--- one more character of a piece
-pub cut_plain : (found total : List Element) (piece pushed : List Located) (x : Located) (after rest : List Located)
-    → rest ≡ x ∷ after → pushed ≡ piece ++ x ∷ [] → option_map (with_remaining after) (tag_at x after) ≡ None
-    → found ++ elements piece 0 rest ≡ total → found ++ elements pushed 0 after ≡ total
-cut_plain found total piece pushed x after rest is more none so_far =
-    ap (λ (p : List Located). found ++ elements p 0 after) more
-    ∙ ap (λ es. found ++ es) (sym (elements-step piece x after ∙ step-plain piece x after (tag_at x after) none))
-    ∙ ap (λ (l : List Located). found ++ elements piece 0 l) (sym is) ∙ so_far
+-- the last piece
+pub elements-end : (piece rest : List Located) → length rest ≡ 0 → elements piece 0 rest ≡ text piece ∷ []
+unfolding elements
+elements-end piece [] none = refl
+elements-end piece (x ∷ rest) none = absurd (omega arith)
 
--- a piece and the rule after it
-pub cut_rule : (found now total : List Element) (piece : List Located) (x : Located) (after rest : List Located)
-    (tag : Tag) (behind : List Located) → rest ≡ x ∷ after
-    → Some (tag, behind) ≡ option_map (with_remaining after) (tag_at x after)
-    → now ≡ (found ++ text piece ∷ []) ++ element_read (rule_at x.0 tag behind) ∷ []
-    → found ++ elements piece 0 rest ≡ total → now ++ others behind (rule_at x.0 tag behind) ≡ total
-cut_rule found now total piece x after rest tag behind is tagged pushed so_far =
-    let r : Result (Rule × ℕ) MarkupFault = rule_at x.0 tag behind in
-    ap (λ es. es ++ others behind r) pushed
-    ∙ append_assoc (found ++ text piece ∷ []) (element_read r ∷ []) (others behind r)
-    ∙ append_assoc found (text piece ∷ []) (element_read r ∷ others behind r)
-    ∙ ap (λ es. found ++ es) (sym (elements-step piece x after ∙ step-tagged piece x after tag behind (tag_at x after) tagged))
-    ∙ ap (λ (l : List Located). found ++ elements piece 0 l) (sym is) ∙ so_far
+-- no rule begins with another character than `<`
+neither : (a b : Bool) → (a || b) ≡ false → (a ≡ false) × (b ≡ false)
+neither true b h = absurd cc
+neither false b h = (refl, h)
+
+no_tag : (x : Located) (rest : List Located) → (x.1 == less) ≡ false → tag_at x rest ≡ None
+unfolding tag_at
+no_tag x rest h = rw h refl
+
+pub plain_row : (front plain behind : List Located) → has_sign plain ≡ false
+    → elements front 0 (plain ++ behind) ≡ elements (front ++ plain) 0 behind
+plain_row front [] behind none = ap (λ (p : List Located). elements p 0 behind) (sym (append-nil front))
+plain_row front (x ∷ plain) behind none =
+    let two = neither (x.1 == less) (has_sign plain) none in
+    elements-step front x (plain ++ behind)
+    ∙ ap (step front x (plain ++ behind)) (no_tag x (plain ++ behind) two.0)
+    ∙ plain_row (front ++ x ∷ []) plain behind two.1
+    ∙ ap (λ (p : List Located). elements p 0 behind) (append_assoc front (x ∷ []) plain)
+
+-- ---- the loop
+
+-- the elements so far, and those from the rest of a piece on, are all
+pub record HasCut (found : List Element) (piece rest : List Located) (total : List Element) : Type 0 where
+  pub front : List Located
+  pub parts : front ++ rest ≡ piece
+  pub so_far : found ++ elements front 0 rest ≡ total
+
+pub cut_begins : (found : List Element) (piece all : List Located) → found ≡ [] → piece ≡ all → HasCut found piece piece (elements [] 0 all)
+cut_begins found piece all none is = record { front = []; parts = refl; so_far = λ i. none i ++ elements [] 0 (is i) }
+
+module _ (found : List Element) (piece rest plain here : List Located) (total : List Element) (parts : rest ≡ plain ++ here)
+    (none : has_sign plain ≡ false) (cut : HasCut found piece rest total) where
+  -- up to a `<`
+  cut_to : HasCut found piece here total
+  cut_to =
+      let f = cut.front in
+      record {
+        front = f ++ plain;
+        parts = append_assoc f plain here ∙ ap (λ l. f ++ l) (sym parts) ∙ cut.parts;
+        so_far = ap (λ es. found ++ es) (sym (plain_row f plain here none))
+            ∙ ap (λ (l : List Located). found ++ elements f 0 l) (sym parts) ∙ cut.so_far;
+      }
+
+  module _ (x : Located) (after : List Located) (is : here ≡ x ∷ after) where
+    -- over a `<` at which no rule begins
+    pub cut_on : option_map (with_remaining after) (tag_at x after) ≡ None → HasCut found piece after total
+    cut_on other =
+        let f = cut_to.front in
+        record {
+          front = f ++ x ∷ [];
+          parts = append_assoc f (x ∷ []) after ∙ ap (λ l. f ++ l) (sym is) ∙ cut_to.parts;
+          so_far = ap (λ es. found ++ es) (sym (elements-step f x after ∙ step-plain f x after (tag_at x after) other))
+              ∙ ap (λ (l : List Located). found ++ elements f 0 l) (sym is) ∙ cut_to.so_far;
+        }
+
+    -- a piece and the rule after it
+    pub cut_rule : (now : List Element) (front : List Located) (tag : Tag) (behind : List Located) → front ++ here ≡ piece
+        → Some (tag, behind) ≡ option_map (with_remaining after) (tag_at x after)
+        → now ≡ (found ++ text front ∷ []) ++ element_read (rule_at x.0 tag behind) ∷ []
+        → now ++ others behind (rule_at x.0 tag behind) ≡ total
+    cut_rule now front tag behind before tagged pushed =
+        let r : Result (Rule × ℕ) MarkupFault = rule_at x.0 tag behind in
+        ap (λ es. es ++ others behind r) pushed
+        ∙ append_assoc (found ++ text front ∷ []) (element_read r ∷ []) (others behind r)
+        ∙ append_assoc found (text front ∷ []) (element_read r ∷ others behind r)
+        ∙ ap (λ es. found ++ es) (sym (elements-step front x after ∙ step-tagged front x after tag behind (tag_at x after) tagged))
+        ∙ ap (λ (l : List Located). found ++ elements front 0 l) (sym is)
+        ∙ ap (λ (p : List Located). found ++ elements p 0 here) (same_front front cut_to.front here piece before cut_to.parts)
+        ∙ cut_to.so_far
+
+-- the last piece
+pub cut_ends : (found : List Element) (piece rest : List Located) (total : List Element) → has_sign rest ≡ false
+    → HasCut found piece rest total → found ++ text piece ∷ [] ≡ total
+cut_ends found piece rest total none cut =
+    let f = cut.front in
+    ap (λ p. found ++ text p ∷ []) (sym cut.parts)
+    ∙ ap (λ es. found ++ es)
+    (sym (ap (λ (l : List Located). elements f 0 l) (sym (append-nil rest)) ∙ plain_row f rest [] none ∙ elements-end (f ++ rest) [] refl))
+    ∙ cut.so_far
 
 pub others-none : (rest : List Located) (r : Result (Rule × ℕ) MarkupFault) → after_rule rest r ≡ None → others rest r ≡ []
 others-none rest (Ok y) is = absurd cc
@@ -98,8 +164,16 @@ pub others-some : (rest next : List Located) (r : Result (Rule × ℕ) MarkupFau
 others-some rest next (Ok y) is = ap (λ (o : Option (List Located)). elements [] 0 (elim o [ Some l ↦ l | None ↦ next ])) (sym is)
 others-some rest next (Err e) is = absurd cc
 
--- the last piece
-pub elements-end : (piece rest : List Located) → length rest ≡ 0 → elements piece 0 rest ≡ text piece ∷ []
-unfolding elements
-elements-end piece [] none = refl
-elements-end piece (x ∷ rest) none = absurd (omega arith)
+-- what follows is not longer than what was read
+pub behind-shorter : {A : Type 0} (rest : List Located) (t : Option (A × ℕ)) (a : A) (behind : List Located)
+    → Some (a, behind) ≡ option_map (with_remaining rest) t → length behind ≤ length rest
+behind-shorter rest None a behind is = absurd cc
+behind-shorter {A = A} rest (Some y) a behind is =
+    let two : behind ≡ drop y.1 rest = ap (λ (o : Option (A × List Located)). elim o [ Some z ↦ z.1 | None ↦ behind ]) is in
+    omega (arith, ap length two, length-drop y.1 rest)
+
+pub next-shorter : (rest next : List Located) (r : Result (Rule × ℕ) MarkupFault) → Some next ≡ after_rule rest r → length next ≤ length rest
+next-shorter rest next (Err e) is = absurd cc
+next-shorter rest next (Ok y) is =
+    let two : next ≡ drop y.1 rest = ap (λ (o : Option (List Located)). elim o [ Some z ↦ z | None ↦ next ]) is in
+    omega (arith, ap length two, length-drop y.1 rest)

@@ -1,5 +1,5 @@
 -- What a refusal says of a longer reading.
-use Rattle.std.proofs.Common.{◌≡◌, ℕ, List, ◌++◌, drop, Result, Ok, Err, refl, ap, sym, subst, append_assoc}
+use Rattle.std.proofs.Common.{◌≡◌, ℕ, List, [], ◌++◌, drop, Result, Ok, Err, refl, ap, sym, subst, append_assoc}
 use Rattle.std.specs.Result.{IsErrAnd}
 use Rattle.std.proofs.lemmas.List.{drop-drop}
 use Rattle.lic_markup.specs.declared.fault.MarkupFault.{MarkupFault}
@@ -38,6 +38,10 @@ Gives-same view result r s same h = subst (Gives view result) same h
 -- what is read of the rest, after what was read before
 abbrev pub behind : {A B : Type 0} → List A → Result (List A × B) MarkupFault → Result (List A × B) MarkupFault
 behind front r = map_ok (λ x. (front ++ x.0, x.1)) r
+
+pub behind-none : {A B : Type 0} (r : Result (List A × B) MarkupFault) → behind [] r ≡ r
+behind-none (Ok x) = refl
+behind-none (Err e) = refl
 
 pub behind-behind : {A B : Type 0} (front more : List A) (r : Result (List A × B) MarkupFault) → behind (front ++ more) r ≡ behind front (behind more r)
 behind-behind front more (Ok x) = ap (λ l. Ok (l, x.1)) (append_assoc front more x.0)

@@ -1,5 +1,6 @@
 pub mod Examples
 pub mod LocatedLemmas
+pub mod SignLemmas
 pub mod TextLemmas
 pub mod RuleLemmas
 pub mod FaultLemmas

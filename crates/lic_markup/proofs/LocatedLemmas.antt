@@ -1,34 +1,96 @@
--- What `char_indices` gives is the located characters.
-use Rattle.std.proofs.Common.{◌≡◌, ℕ, ◌+◌, List, ◌∷◌, length, Some, None, ap, sym, ◌∙◌, arith}
+-- The characters of a piece, and of those that it is made of.
+use Rattle.std.proofs.Common.{◌≡◌, ℕ, ◌+◌, ◌-◌, ◌≤◌, List, [], ◌∷◌, ◌++◌, length, take, drop, refl, sym, ap, ap₂, ◌∙◌, subst, arith, append_assoc, append-nil, length-append}
 use Rattle.std.specs.Prelude.{chars}
-use Rattle.std.specs.Str.{IsUtf8}
-use Rattle.std.specs.Char.{len_utf8}
-use Rattle.std.specs.Str.Iter.{char_indices_rest, char_indices_offset, char_indices_steps}
-use Rattle.std.specs.declared.str.CharIndices.{CharIndices}
-use Rattle.std.proofs.lemmas.Str.{chars_past_char, chars-nil, IsUtf8-past_char, length-encode}
-use Rattle.std.proofs.lemmas.List.{nil_from_length}
-use Rattle.std.proofs.lemmas.Iterator.{YieldsList}
-use Rattle.std.proofs.lemmas.Iterator.Splits.{YieldsList-from_shown_while}
+use Rattle.std.specs.Str.{IsUtf8, IsCharBoundary}
+use Rattle.std.specs.Char.{IsScalar, encode_utf8, len_utf8}
+use Rattle.std.proofs.Math.Utf8.{encodes}
+use Rattle.std.proofs.lemmas.Str.{IsUtf8-encode, IsUtf8-take, IsUtf8-nil, IsCharBoundary-at_seam, chars-append, chars-nil, chars_past_char, encodes-chars, length-encode}
+use Rattle.std.proofs.lemmas.List.{append_cancel_right, take_at}
 use Rattle.lic_ere.specs.Located.{Located, located_from}
+use Rattle.lic_markup.specs.declared.piece.Piece.{Piece}
+use Rattle.lic_markup.specs.Pieces.{EndsWith, characters}
+use Rattle.lic_markup.specs.Texts.{text_of}
 
-abbrev shown : CharIndices → List Located
-shown s = located_from (char_indices_offset s) (chars (char_indices_rest s))
+located-append : (place : ℕ) (cs ds : List ℕ) → located_from place (cs ++ ds) ≡ located_from place cs ++ located_from (place + length (encodes cs)) ds
+located-append place [] ds =
+    let same : place ≡ place + 0 = omega arith in
+    ap (λ n. located_from n ds) same
+located-append place (c ∷ cs) ds =
+    let next : (place + len_utf8 c) + length (encodes cs) ≡ place + length (encode_utf8 c ++ encodes cs) =
+    omega (arith, length-encode c, length-append (encode_utf8 c) (encodes cs)) in
+    ap (λ (l : List Located). (place, c) ∷ l)
+    (located-append (place + len_utf8 c) cs ds ∙ ap (λ n. located_from (place + len_utf8 c) cs ++ located_from n ds) next)
 
-shown_none : (s t : CharIndices) → IsUtf8 (char_indices_rest s) → char_indices_steps s None t → length (shown s) ≡ 0
-shown_none s t text step = ap (λ (bs : List ℕ). length (located_from (char_indices_offset s) (chars bs)))
-    (nil_from_length (char_indices_rest s) step.0)
-    ∙ ap (λ (cs : List ℕ). length (located_from (char_indices_offset s) cs)) chars-nil
+-- the characters of a text that is made of two
+pub pieces-append : (place next : ℕ) (text front rest : List ℕ) → IsUtf8 front → text ≡ front ++ rest → next ≡ place + length front
+    → located_from place (chars text) ≡ located_from place (chars front) ++ located_from next (chars rest)
+pieces-append place next text front rest utf8 is at =
+    ap (located_from place) (ap chars is ∙ chars-append front rest utf8)
+    ∙ located-append place (chars front) (chars rest)
+    ∙ ap (λ n. located_from place (chars front) ++ located_from n (chars rest))
+    (ap (λ (l : List ℕ). place + length l) (encodes-chars front utf8) ∙ sym at)
 
-shown_some : (s : CharIndices) (x : Located) (t : CharIndices) → IsUtf8 (char_indices_rest s)
-    → char_indices_steps s (Some x) t → IsUtf8 (char_indices_rest t) × (shown s ≡ x ∷ shown t)
-shown_some s x t text step =
-    let next : char_indices_offset s + len_utf8 x.1 ≡ char_indices_offset t = omega (arith, step.2, length-encode x.1) in (
-      IsUtf8-past_char (char_indices_rest s) (char_indices_rest t) x.1 text step.1,
-      ap (located_from (char_indices_offset s)) (chars_past_char (char_indices_rest s) (char_indices_rest t) x.1 text step.1)
-          ∙ (λ i. (sym step.0 i, x.1) ∷ located_from (next i) (chars (char_indices_rest t))),
-    )
+-- one character at the end
+pub last_left : (place : ℕ) (text front : List ℕ) (c : ℕ) → IsUtf8 front → IsScalar c → text ≡ front ++ encode_utf8 c
+    → located_from place (chars text) ≡ located_from place (chars front) ++ (place + length front, c) ∷ []
+last_left place text front c utf8 scalar is =
+    let one : chars (encode_utf8 c) ≡ c ∷ [] =
+    chars_past_char (encode_utf8 c) [] c (IsUtf8-encode c scalar) (sym (append-nil (encode_utf8 c))) ∙ ap (λ l. c ∷ l) chars-nil in
+    pieces-append place (place + length front) text front (encode_utf8 c) utf8 is refl
+    ∙ ap (λ cs. located_from place (chars front) ++ located_from (place + length front) cs) one
 
-pub YieldsList-from_char_indices : (s : CharIndices) → IsUtf8 (char_indices_rest s) → YieldsList char_indices_steps (λ x. x) s (shown s)
-YieldsList-from_char_indices s text =
-    YieldsList-from_shown_while char_indices_steps (λ x. x) shown (λ t.
-    IsUtf8 (char_indices_rest t)) shown_none shown_some s text
+-- the characters of a text write it
+text_of-located : (place : ℕ) (cs : List ℕ) → text_of (located_from place cs) ≡ encodes cs
+text_of-located place [] = refl
+text_of-located place (c ∷ cs) = ap (λ l. encode_utf8 c ++ l) (text_of-located (place + len_utf8 c) cs)
+
+pub text_of-piece : (place : ℕ) (text : List ℕ) → IsUtf8 text → text_of (located_from place (chars text)) ≡ text
+text_of-piece place text utf8 = text_of-located place (chars text) ∙ encodes-chars text utf8
+
+-- what stands before the same is the same
+pub same_front : (one two rest all : List Located) → one ++ rest ≡ all → two ++ rest ≡ all → one ≡ two
+same_front one two rest all is other = append_cancel_right one two rest (is ∙ sym other)
+
+-- ---- pieces that end alike
+
+pub ends_all : (piece : Piece) → EndsWith piece piece
+ends_all piece = ([], refl, omega arith)
+
+pub ends_on : (all mid rest : Piece) → EndsWith all mid → EndsWith mid rest → EndsWith all rest
+ends_on all mid rest one two = (
+  one.0 ++ two.0,
+  one.1 ∙ ap (λ l. one.0 ++ l) two.1 ∙ sym (append_assoc one.0 two.0 rest.text.now),
+  omega (arith, one.2, two.2, length-append one.0 two.0),
+)
+
+-- ---- what is before a piece
+
+module _ (all rest : Piece) (ends : EndsWith all rest) (all_utf8 : IsUtf8 all.text.now) (rest_utf8 : IsUtf8 rest.text.now) where
+  before_count : length all.text.now - length rest.text.now ≡ length ends.0
+  before_count = omega (arith, ap length ends.1, length-append ends.0 rest.text.now)
+
+  pub before_within : length rest.text.now ≤ length all.text.now
+  before_within = omega (arith, ap length ends.1, length-append ends.0 rest.text.now)
+
+  pub before_seam : IsCharBoundary all.text.now (length all.text.now - length rest.text.now)
+  before_seam = subst (IsCharBoundary all.text.now) (sym before_count) (IsCharBoundary-at_seam all.text.now ends.0 rest.text.now ends.1 rest_utf8)
+
+  module _ (count : ℕ) (text : List ℕ) (counted : count ≡ length all.text.now - length rest.text.now) (taken : text ≡ take (count - 0) all.text.now) where
+    before_text : text ≡ ends.0
+    before_text =
+        let same : count - 0 ≡ length ends.0 = omega (arith, counted, before_count) in
+        taken ∙ ap (λ n. take n all.text.now) same ∙ ap (take (length ends.0)) ends.1 ∙ take_at ends.0 rest.text.now (length ends.0) refl
+
+    pub before_utf8 : IsUtf8 text
+    before_utf8 =
+        let same : count - 0 ≡ length all.text.now - length rest.text.now = omega (arith, counted) in
+        subst IsUtf8 (sym (taken ∙ ap (λ n. take n all.text.now) same))
+        (IsUtf8-take all.text.now (length all.text.now - length rest.text.now) all_utf8 before_seam)
+
+    pub before_fits : length text ≤ length all.text.now
+    before_fits = omega (arith, ap length before_text, before_count)
+
+    pub before_characters : located_from all.place (chars text) ++ characters rest ≡ characters all
+    before_characters =
+        sym (pieces-append all.place rest.place all.text.now text rest.text.now before_utf8
+        (ends.1 ∙ ap (λ l. l ++ rest.text.now) (sym before_text)) (ends.2 ∙ ap (λ (l : List ℕ). all.place + length l) (sym before_text)))

@@ -1,15 +1,20 @@
 -- Reading names, values and fields.
-use Rattle.std.proofs.Common.{◌≡◌, ◌<◌, ℕ, zero, suc, ◌+◌, Bool, true, false, cond, eqb, List, [], ◌∷◌, ◌++◌, length, take, drop, Result, Ok, Err, refl, sym, ap, ◌∙◌, add-one, arith}
+use Rattle.std.proofs.Common.{◌≡◌, ℕ, ◌+◌, Bool, true, false, cond, eqb, List, [], ◌∷◌, ◌++◌, length, take, drop, Option, Some, None, Result, Ok, Err, refl, sym, ap, ◌∙◌, append_assoc, arith}
 use Rattle.std.specs.Char.{is_ascii_alphanumeric}
-use Rattle.std.proofs.lemmas.List.{drop-drop, append-nil}
+use Rattle.std.specs.Option.{option_map}
+use Rattle.std.proofs.lemmas.List.{drop-drop, drop_at, append-nil}
 use Rattle.lic_ere.specs.Located.{Located, with_remaining, further}
 use Rattle.lic_markup.specs.declared.fault.MarkupFault.{MarkupFault}
 use Rattle.lic_markup.specs.declared.fault.MarkupCause.TheVariants.{NotClosed}
-use Rattle.lic_markup.specs.Signs.{equals, backslash}
-use Rattle.lic_markup.specs.Texts.{begins_with}
+use Rattle.lic_markup.specs.declared.tag.Tag.{Tag}
+use Rattle.lic_markup.specs.Signs.{less, equals, backslash}
+use Rattle.lic_markup.specs.Texts.{begins_with, text_of}
 use Rattle.lic_markup.specs.Faults.{fault_at, map_ok}
-use Rattle.lic_markup.specs.Rules.{word_at, at_end, ends_quoted, ends_plain, one_more, open_field, without_equals, name_at, quoted_at, plain_at}
-use Rattle.lic_markup.proofs.FaultLemmas.{behind, behind-behind}
+use Rattle.lic_markup.specs.Rules.{word_at, tag_of, tag_at, at_end, ends_quoted, ends_plain, one_more, open_field, without_equals, name_at, quoted_at, plain_at}
+use Rattle.lic_markup.proofs.FaultLemmas.{behind, behind-none, behind-behind}
+use Rattle.lic_markup.proofs.LocatedLemmas.{same_front}
+
+-- ---- words
 
 -- a word is a front
 pub word_at-front : (xs : List Located) → take (length (word_at xs)) xs ≡ word_at xs
@@ -19,23 +24,68 @@ word_at-front (x ∷ xs) = elim (is_ascii_alphanumeric x.1) as (λ b. take (leng
   | false ↦ refl
 ]
 
--- one character more is passed
-pub take_turn : (all : List Located) (n : ℕ) (x : Located) (after : List Located) → drop n all ≡ x ∷ after → take (n + 1) all ≡ take n all ++ x ∷ []
-take_turn [] zero x after is = absurd cc
-take_turn [] (suc n) x after is = absurd cc
-take_turn (y ∷ ys) zero x after is = ap (λ (l : List Located). elim l [ [] ↦ [] | z ∷ zs ↦ z ∷ [] ]) is
-take_turn (y ∷ ys) (suc n) x after is =
-    ap (λ m. take m (y ∷ ys)) (add-one (suc n))
-    ∙ ap (λ l. y ∷ l) (ap (λ m. take m ys) (sym (add-one n)) ∙ take_turn ys n x after is)
+-- the letters and digits in front were passed
+pub record HasPassedWord (all rest : List Located) : Type 0 where
+  pub front : List Located
+  pub parts : front ++ rest ≡ all
+  pub word : front ++ word_at rest ≡ word_at all
 
-pub drop_turn : (all : List Located) (n : ℕ) (x : Located) (after : List Located) → drop n all ≡ x ∷ after → drop (n + 1) all ≡ after
-drop_turn all n x after is = sym (drop-drop 1 n all) ∙ ap (drop 1) is
+pub no_letter_passed : (all : List Located) → HasPassedWord all all
+no_letter_passed all = record { front = []; parts = refl; word = refl }
 
-pub drop_within : (all : List Located) (n : ℕ) (x : Located) (after : List Located) → drop n all ≡ x ∷ after → n < length all
-drop_within [] zero x after is = absurd cc
-drop_within [] (suc n) x after is = absurd cc
-drop_within (y ∷ ys) zero x after is = omega arith
-drop_within (y ∷ ys) (suc n) x after is = let h : n < length ys = drop_within ys n x after is in omega arith
+pub letter_passed : (all rest : List Located) (x : Located) (after : List Located) → rest ≡ x ∷ after
+    → is_ascii_alphanumeric x.1 ≡ true → HasPassedWord all rest → HasPassedWord all after
+letter_passed all rest x after is letter passed =
+    let f = passed.front in
+    record {
+      front = f ++ x ∷ [];
+      parts = append_assoc f (x ∷ []) after ∙ ap (λ l. f ++ l) (sym is) ∙ passed.parts;
+      word = append_assoc f (x ∷ []) (word_at after) ∙ ap (λ l. f ++ l) (sym (ap word_at is ∙ ap (λ b. cond b (x ∷ word_at after) []) letter)) ∙ passed.word;
+    }
+
+pub no_word : (rest : List Located) (x : Located) (after : List Located) → rest ≡ x ∷ after → is_ascii_alphanumeric x.1 ≡ false → word_at rest ≡ []
+no_word rest x after is other = ap word_at is ∙ ap (λ b. cond b (x ∷ word_at after) []) other
+
+pub no_word-end : (rest : List Located) → length rest ≡ 0 → word_at rest ≡ []
+no_word-end [] none = refl
+no_word-end (x ∷ rest) none = absurd (omega arith)
+
+pub before_none : (all rest : List Located) → length rest ≡ 0 → all ++ rest ≡ all
+before_none all [] none = append-nil all
+before_none all (x ∷ rest) none = absurd (omega arith)
+
+-- the word where it ends, and what follows it
+module _ (all rest front : List Located) (ends : word_at rest ≡ []) (parts : front ++ rest ≡ all) (passed : HasPassedWord all rest) where
+  pub whole_word : front ≡ word_at all
+  whole_word =
+      same_front front passed.front rest all parts passed.parts ∙ sym (append-nil passed.front)
+      ∙ ap (λ l. passed.front ++ l) (sym ends) ∙ passed.word
+
+  pub behind_word : rest ≡ drop (length (word_at all)) all
+  behind_word = sym (drop_at front rest (length front) refl) ∙ (λ i. drop (length (whole_word i)) (parts i))
+
+-- ---- tags
+
+-- a `<` is followed by no other
+pub no_tag : (place : ℕ) (rest : List Located) → begins_with less rest ≡ false → option_map (with_remaining rest) (tag_at (place, less) rest) ≡ None
+unfolding tag_at
+no_tag place rest other = rw other refl
+
+-- it is followed by another, and this by a word
+module _ (place : ℕ) (rest behind_it : List Located) (word : List ℕ) (sign : begins_with less rest ≡ true)
+    (is : text_of (word_at (drop 1 rest)) ≡ word) (others : behind_it ≡ drop (length (word_at (drop 1 rest))) (drop 1 rest)) where
+  pub tag_of_word : (o : Option Tag) → tag_of word ≡ o
+      → option_map (with_remaining rest) (tag_at (place, less) rest) ≡ option_map (λ tag. (tag, behind_it)) o
+  unfolding tag_at
+  tag_of_word o tag =
+      rw sign (ap (λ t. option_map (with_remaining rest) (option_map (λ tag. (tag, 1 + length (word_at (drop 1 rest)))) t)) (ap tag_of is ∙ tag)
+      ∙ by_tag o)
+    where
+      by_tag : (o : Option Tag) → option_map (with_remaining rest) (option_map (λ tag. (tag, 1 + length (word_at (drop 1 rest)))) o) ≡ option_map (λ tag. (tag, behind_it)) o
+      by_tag None = refl
+      by_tag (Some tag) = ap (λ (l : List Located). Some (tag, l)) (sym (others ∙ drop-drop (length (word_at (drop 1 rest))) 1 rest))
+
+-- ---- readers
 
 -- a reading, with what comes after the characters that it takes
 abbrev pub read : {A : Type 0} → List Located → Result (A × ℕ) MarkupFault → Result (A × List Located) MarkupFault
@@ -47,33 +97,46 @@ pub one_more-read : (x : Located) (after : List Located) (r : Result (List Locat
 one_more-read x after (Ok y) = ap (λ (l : List Located). Ok (x ∷ y.0, l)) (sym (drop-drop y.1 1 (x ∷ after)))
 one_more-read x after (Err e) = refl
 
--- a loop that has passed the characters in front, where a reader takes one more
-pub pass : (all : List Located) (n : ℕ) (x : Located) (after : List Located) (rest : List Located)
-    (scan next : List Located → Result (List Located × ℕ) MarkupFault)
-    (total : Result (List Located × List Located) MarkupFault)
-    → rest ≡ x ∷ after → rest ≡ drop n all → scan (x ∷ after) ≡ map_ok (one_more x) (next after)
-    → behind (take n all) (read rest (scan rest)) ≡ total
-    → behind (take (n + 1) all) (read after (next after)) ≡ total
-pass all n x after rest scan next total is at turn so_far =
-    ap (λ (l : List Located). behind l (read after (next after))) (take_turn all n x after (sym at ∙ is))
-    ∙ behind-behind (take n all) (x ∷ []) (read after (next after))
-    ∙ ap (behind (take n all)) (sym (ap (read (x ∷ after)) turn ∙ one_more-read x after (next after)))
-    ∙ ap (λ (l : List Located). behind (take n all) (read l (scan l))) (sym is)
-    ∙ so_far
+-- a loop has passed the characters in front: those and what is read from here on are what is read of all
+pub record HasPassed (all rest : List Located) (here total : Result (List Located × List Located) MarkupFault) : Type 0 where
+  pub front : List Located
+  pub parts : front ++ rest ≡ all
+  pub so_far : behind front here ≡ total
 
--- the loop where the reader stops
-pub stop : (all : List Located) (n : ℕ) (rest behind_it : List Located) (r : Result (List Located × ℕ) MarkupFault)
-    (taken : ℕ) (total : Result (List Located × List Located) MarkupFault)
-    → r ≡ Ok ([], taken) → drop taken rest ≡ behind_it → behind (take n all) (read rest r) ≡ total → total ≡ Ok (take n all, behind_it)
-stop all n rest behind_it r taken total is others so_far =
-    sym so_far ∙ ap (λ (s : Result (List Located × ℕ) MarkupFault). behind (take n all) (read rest s)) is
-    ∙ (λ i. Ok (append-nil (take n all) i, others i))
+pub none_passed : (all : List Located) (here : Result (List Located × List Located) MarkupFault) → HasPassed all all here here
+none_passed all here = record { front = []; parts = refl; so_far = behind-none here }
 
--- the loop where the reader refuses
-pub refuse : (front rest : List Located) (r : Result (List Located × ℕ) MarkupFault) (e : MarkupFault)
+-- where a reader takes one more
+pub pass : (all rest : List Located) (x : Located) (after : List Located) (scan next : List Located → Result (List Located × ℕ) MarkupFault)
     (total : Result (List Located × List Located) MarkupFault)
-    → r ≡ Err e → behind front (read rest r) ≡ total → total ≡ Err e
-refuse front rest r e total is so_far = sym so_far ∙ ap (λ (s : Result (List Located × ℕ) MarkupFault). behind front (read rest s)) is
+    → rest ≡ x ∷ after → scan (x ∷ after) ≡ map_ok (one_more x) (next after)
+    → HasPassed all rest (read rest (scan rest)) total → HasPassed all after (read after (next after)) total
+pass all rest x after scan next total is turn passed =
+    let f = passed.front in
+    record {
+      front = f ++ x ∷ [];
+      parts = append_assoc f (x ∷ []) after ∙ ap (λ l. f ++ l) (sym is) ∙ passed.parts;
+      so_far = behind-behind f (x ∷ []) (read after (next after))
+          ∙ ap (behind f) (sym (ap (read (x ∷ after)) turn ∙ one_more-read x after (next after)))
+          ∙ ap (λ (l : List Located). behind f (read l (scan l))) (sym is)
+          ∙ passed.so_far;
+    }
+
+-- where the reader stops
+pub stop : (all rest front behind_it : List Located) (r : Result (List Located × ℕ) MarkupFault) (taken : ℕ)
+    (total : Result (List Located × List Located) MarkupFault)
+    → r ≡ Ok ([], taken) → drop taken rest ≡ behind_it → front ++ rest ≡ all → HasPassed all rest (read rest r) total
+    → total ≡ Ok (front, behind_it)
+stop all rest front behind_it r taken total is others parts passed =
+    sym passed.so_far ∙ ap (λ (s : Result (List Located × ℕ) MarkupFault). behind passed.front (read rest s)) is
+    ∙ (λ i. Ok ((append-nil passed.front ∙ same_front passed.front front rest all passed.parts parts) i, others i))
+
+-- where the reader refuses
+pub refuse : (all rest : List Located) (r : Result (List Located × ℕ) MarkupFault) (e : MarkupFault)
+    (total : Result (List Located × List Located) MarkupFault)
+    → r ≡ Err e → HasPassed all rest (read rest r) total → total ≡ Err e
+refuse all rest r e total is passed =
+    sym passed.so_far ∙ ap (λ (s : Result (List Located × ℕ) MarkupFault). behind passed.front (read rest s)) is
 
 -- ---- names
 

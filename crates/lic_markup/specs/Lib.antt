@@ -1,5 +1,6 @@
 pub mod Signs
 pub mod Texts
+pub mod Pieces
 pub mod Faults
 pub mod Rules
 pub mod Elements

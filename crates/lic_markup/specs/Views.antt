@@ -8,6 +8,7 @@ use Rattle.lic_markup.specs.declared.rule.Rule.{Rule}
 use Rattle.lic_markup.specs.declared.rule.Rule.TheVariants as coded_rules
 use Rattle.lic_markup.specs.declared.elements.Element.{Element}
 use Rattle.lic_markup.specs.declared.elements.Element.TheVariants as coded_elements
+use Rattle.lic_markup.specs.Pieces.{characters}
 use Rattle.lic_markup.specs.Rules as rules
 use Rattle.lic_markup.specs.Elements as elements
 use Rattle.lic_markup.specs.declared.reader.Level.{Level}
@@ -30,7 +31,7 @@ rule_of (coded_rules.Begin place) = rules.begin place
 rule_of (coded_rules.End place) = rules.finish place
 
 abbrev pub element_of : Element → elements.Element
-element_of (coded_elements.Text piece) = elements.text piece.items
+element_of (coded_elements.Text piece) = elements.text (characters piece)
 element_of (coded_elements.Rule rule) = elements.rule (rule_of rule)
 element_of (coded_elements.Refused e) = elements.refused e
 

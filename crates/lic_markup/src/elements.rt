@@ -1,25 +1,25 @@
 //! A template cut into pieces of plain text and rules.
-ghost use Rattle.std.specs.Prelude.{◌≡◌, ◌≢◌, ◌<◌, ◌≤◌, ◌++◌, ◌∷◌, ℕ, IfOk, OnOk, [], length, map, slice_index_or, Some, None};
+ghost use Rattle.std.specs.Prelude.{◌≡◌, ◌++◌, ◌∷◌, IfOk, IfSome, IfNone, OnOk, [], false, map};
 ghost use Rattle.std.specs.Option.{option_map};
-ghost use Rattle.lic_ere.specs.Located.{Located, located};
+ghost use Rattle.lic_ere.specs.Located.{located};
 ghost use Rattle.lic_markup.specs.Elements.{elements, element_read, after_rule};
-ghost use Rattle.lic_markup.specs.Rules.{rule_at};
 ghost use Rattle.lic_markup.specs.Faults.{IsLasting};
+ghost use Rattle.lic_markup.specs.Pieces.{IsNextSign, characters, has_sign};
+ghost use Rattle.lic_markup.specs.Rules.{rule_at};
 ghost use Rattle.lic_markup.specs.Views.{element_of};
 
 use crate::fault::{MarkupCause, MarkupFault};
+use crate::piece::Piece;
 use crate::rule::{Rule, read_rule};
 use crate::tag::{Tag, read_tag};
-use crate::texts::located;
 use memchr::memchr;
 use std::alloc::{AllocError, Global};
-use std::mem;
 
 /// A part of a template's text.
 #[derive(Drop)]
-pub enum Element {
+pub enum Element<'t> {
     /// The text between two rules, before the first or after the last; it may be empty.
-    Text(Vec<(usize, char)>),
+    Text(Piece<'t>),
     Rule(Rule),
     /// A rule that cannot be read: the last element.
     Refused(MarkupFault),
@@ -36,18 +36,18 @@ fn lasting(fault: MarkupFault) -> Result<MarkupFault, AllocError>
 }
 
 /// Pushes the rule at a place whose tag was read, or its fault, and gives what follows the rule.
-fn push_rule<'a>(
+fn push_rule<'t>(
     alloc: Global,
-    found: &mut Vec<Element>,
+    found: &mut Vec<Element<'t>>,
     place: usize,
     tag: Tag,
-    rest: &'a [(usize, char)],
-) -> Result<Option<&'a [(usize, char)]>, AllocError>
+    rest: Piece<'t>,
+) -> Result<Option<Piece<'t>>, AllocError>
     ensures found { OnOk result
         (map element_of found.new.items
-        ≡ map element_of found.old.items ++ element_read (rule_at place tag rest.now) ∷ []) }
-    ensures behind { IfOk result (λ behind. option_map (λ x. x.now) behind
-        ≡ after_rule rest.now (rule_at place tag rest.now)) }
+        ≡ map element_of found.old.items ++ element_read (rule_at place tag (characters rest.entry)) ∷ []) }
+    ensures behind { IfOk result (λ behind. option_map characters behind
+        ≡ after_rule (characters rest.entry) (rule_at place tag (characters rest.entry))) }
 {
     match read_rule(alloc, place, tag, rest) {
         Ok((rule, behind)) => {
@@ -61,54 +61,42 @@ fn push_rule<'a>(
     }
 }
 
-/// How many characters in front begin no rule, since they are no `<`.
-fn plain_length(rest: &[(usize, char)]) -> usize
-    ensures within { result ≤ length rest.now }
-    ensures plain { (i : ℕ) (d : Located) → i < result → (slice_index_or rest.now i d).1 ≢ 0x3C }
+/// From the first `<` on, and what follows this.
+fn next_sign(rest: Piece<'_>) -> Option<(Piece<'_>, Piece<'_>)>
+    ensures some { IfSome result (λ x. IsNextSign rest.entry x.0 x.1) }
+    ensures none { IfNone result (has_sign (characters rest.entry) ≡ false) }
 {
-    let mut count = 0;
-    while count < rest.len() && rest[count].1 != '<' {
-        count += 1;
-    }
-    count
+    let count = memchr(b'<', rest.text.as_bytes())?;
+    let here = Piece {
+        place: rest.place + count,
+        text: &rest.text[count..],
+    };
+    let after = Piece {
+        place: here.place + 1,
+        text: &here.text[1..],
+    };
+    Some((here, after))
 }
 
-/// Cuts characters into pieces and rules in turn, up to the first rule that cannot be read.
-fn cut(alloc: Global, all: &[(usize, char)]) -> Result<Vec<Element>, AllocError>
-    ensures { IfOk result (λ found. map element_of found.items ≡ elements [] 0 all.now) }
+/// The pieces and rules of a template in turn, up to the first rule that cannot be read.
+pub fn pieces_and_rules(alloc: Global, text: &str) -> Result<Vec<Element<'_>>, AllocError>
+    ensures { IfOk result (λ found. map element_of found.items ≡ elements [] 0 (located text.now)) }
 {
     let mut found = Vec::new(alloc);
-    let mut piece = Vec::new(alloc);
-    let mut rest = all;
-    while let Some((first, after)) = rest.split_first() {
-        let Some((tag, behind)) = read_tag(alloc, *first, after)? else {
-            let count = 1 + plain_length(after);
-            piece.extend_from_slice(&rest[..count])?;
-            rest = &rest[count..];
+    let mut piece = Piece::new(text);
+    let mut rest = piece;
+    while let Some((sign, after)) = next_sign(rest) {
+        let Some((tag, behind)) = read_tag(after) else {
+            rest = after;
             continue;
         };
-        found.push(Element::Text(mem::replace(&mut piece, Vec::new(alloc))))?;
-        let Some(behind) = push_rule(alloc, &mut found, first.0, tag, behind)? else {
+        found.push(Element::Text(piece.up_to(sign)))?;
+        let Some(behind) = push_rule(alloc, &mut found, sign.place, tag, behind)? else {
             return Ok(found);
         };
+        piece = behind;
         rest = behind;
     }
     found.push(Element::Text(piece))?;
     Ok(found)
-}
-
-/// The pieces and rules of a template in turn, up to the first rule that cannot be read. A text without a `<` is one
-/// piece.
-pub fn pieces_and_rules(alloc: Global, text: &str) -> Result<Vec<Element>, AllocError>
-    ensures { IfOk result (λ found. map element_of found.items ≡ elements [] 0 (located text.now)) }
-{
-    let characters = located(alloc, text)?;
-    match memchr(b'<', text.as_bytes()) {
-        Some(_) => cut(alloc, &characters),
-        None => {
-            let mut found = Vec::new(alloc);
-            found.push(Element::Text(characters))?;
-            Ok(found)
-        }
-    }
 }

@@ -2,14 +2,14 @@
 ghost use Rattle.std.specs.Prelude.{◌≡◌, false};
 ghost use Rattle.lic_ere.specs.Located.{with_remaining};
 ghost use Rattle.lic_markup.specs.Faults.{Gives, map_ok};
+ghost use Rattle.lic_markup.specs.Pieces.{characters};
 ghost use Rattle.lic_markup.specs.Rules.{no_values, field_of, at_end, ends_quoted, ends_plain, name_at, quoted_at, plain_at, value_at, field_at, field_or_none, fields_at};
 ghost use Rattle.lic_markup.specs.Views.{values_of};
 
 use crate::fault::{MarkupCause, MarkupFault};
+use crate::piece::Piece;
 use crate::tag::Tag;
-use crate::texts::{
-    begins_with, begins_with_two, place_of, text_of, trim_end, trim_start, unescaped,
-};
+use crate::texts::{begins_with, begins_with_two, place_of, trim_end, trim_start, unescaped};
 use std::alloc::{AllocError, Global};
 
 /// What a field means.
@@ -33,6 +33,7 @@ pub struct Values {
 
 impl Values {
     ghost use Rattle.std.specs.Prelude.{◌≡◌, OnOk};
+    ghost use Rattle.lic_markup.specs.Pieces.{characters};
     ghost use Rattle.lic_markup.specs.Rules.{no_values, has_value, with_value};
     ghost use Rattle.lic_markup.specs.Views.{values_of};
 
@@ -60,19 +61,17 @@ impl Values {
     }
 
     /// Gives a field its value.
-    fn set(
-        &mut self,
-        alloc: Global,
-        field: Field,
-        value: &[(usize, char)],
-    ) -> Result<(), AllocError>
+    fn set(&mut self, alloc: Global, field: Field, value: Piece<'_>) -> Result<(), AllocError>
         ensures { OnOk result (values_of self.new
-            ≡ with_value field value.now (values_of self.old)) }
+            ≡ with_value field (characters value.entry) (values_of self.old)) }
     {
         match field {
             Field::Name => self.name = Some(unescaped(alloc, value)?),
             Field::Original => self.original = Some(unescaped(alloc, value)?),
-            Field::Match => self.pattern = Some((place_of(value), text_of(alloc, value)?)),
+            Field::Match => self.pattern = Some((
+                place_of(value),
+                String::from_str(alloc, value.as_str())?,
+            )),
             Field::Other => {}
         }
         Ok(())
@@ -95,27 +94,22 @@ fn field_of(tag: Tag, name: &str) -> Field
 }
 
 /// Whether the text begins with `;` or `>>`.
-fn at_end(rest: &[(usize, char)]) -> bool
-    ensures { result ≡ at_end rest.now }
+fn at_end(rest: Piece<'_>) -> bool
+    ensures { result ≡ at_end (characters rest.entry) }
 {
     begins_with(rest, ';') || begins_with_two(rest, '>')
 }
 
 /// The name of a field that begins here, with the white space after it, and what follows its `=`.
 /// `rule` and `start` are the places of the rule and of the field.
-fn name(
-    rule: usize,
-    start: usize,
-    all: &[(usize, char)],
-) -> Result<(&[(usize, char)], &[(usize, char)]), MarkupFault>
-    ensures { Gives (λ x. (x.0.now, x.1.now)) result
-        (map_ok (with_remaining all.now) (name_at rule start all.now)) }
+fn name(rule: usize, start: usize, all: Piece<'_>) -> Result<(Piece<'_>, Piece<'_>), MarkupFault>
+    ensures { Gives (λ x. (characters x.0, characters x.1)) result
+        (map_ok (with_remaining (characters all.entry)) (name_at rule start (characters all.entry))) }
 {
-    let mut count = 0;
     let mut rest = all;
     while let Some((_, after)) = rest.split_first() {
         if begins_with(rest, '=') {
-            return Ok((&all[..count], after));
+            return Ok((all.up_to(rest), after));
         }
         if at_end(rest) {
             return Err(MarkupFault {
@@ -123,7 +117,6 @@ fn name(
                 cause: MarkupCause::NoEquals,
             });
         }
-        count += 1;
         rest = after;
     }
     Err(MarkupFault {
@@ -133,30 +126,25 @@ fn name(
 }
 
 /// Whether the text begins with a `"` directly before `;` or `>>`.
-fn ends_quoted(rest: &[(usize, char)]) -> bool
-    ensures { result ≡ ends_quoted rest.now }
+fn ends_quoted(rest: Piece<'_>) -> bool
+    ensures { result ≡ ends_quoted (characters rest.entry) }
 {
-    let [(_, first), after @ ..] = rest else {
-        return false;
-    };
-    *first == '"' && at_end(after)
+    match rest.split_first() {
+        Some(((_, first), after)) => first == '"' && at_end(after),
+        None => false,
+    }
 }
 
 /// A value from after its `"`, and what follows the `"` that ends it.
-fn quoted(
-    rule: usize,
-    all: &[(usize, char)],
-) -> Result<(&[(usize, char)], &[(usize, char)]), MarkupFault>
-    ensures { Gives (λ x. (x.0.now, x.1.now)) result
-        (map_ok (with_remaining all.now) (quoted_at rule all.now)) }
+fn quoted(rule: usize, all: Piece<'_>) -> Result<(Piece<'_>, Piece<'_>), MarkupFault>
+    ensures { Gives (λ x. (characters x.0, characters x.1)) result
+        (map_ok (with_remaining (characters all.entry)) (quoted_at rule (characters all.entry))) }
 {
-    let mut count = 0;
     let mut rest = all;
     while let Some((_, after)) = rest.split_first() {
         if ends_quoted(rest) {
-            return Ok((&all[..count], after));
+            return Ok((all.up_to(rest), after));
         }
-        count += 1;
         rest = after;
     }
     Err(MarkupFault {
@@ -166,28 +154,23 @@ fn quoted(
 }
 
 /// Whether the text begins with `>>`, or with a `;` that is not directly after a backslash.
-fn ends_plain(rest: &[(usize, char)], escaped: bool) -> bool
-    ensures { result ≡ ends_plain escaped rest.now }
+fn ends_plain(rest: Piece<'_>, escaped: bool) -> bool
+    ensures { result ≡ ends_plain escaped (characters rest.entry) }
 {
     begins_with_two(rest, '>') || (begins_with(rest, ';') && !escaped)
 }
 
 /// A value without quotes, with the white space after it, and the `;` or `>>` that ends it with what follows.
-fn plain(
-    rule: usize,
-    all: &[(usize, char)],
-) -> Result<(&[(usize, char)], &[(usize, char)]), MarkupFault>
-    ensures { Gives (λ x. (x.0.now, x.1.now)) result
-        (map_ok (with_remaining all.now) (plain_at rule false all.now)) }
+fn plain(rule: usize, all: Piece<'_>) -> Result<(Piece<'_>, Piece<'_>), MarkupFault>
+    ensures { Gives (λ x. (characters x.0, characters x.1)) result
+        (map_ok (with_remaining (characters all.entry)) (plain_at rule false (characters all.entry))) }
 {
-    let mut count = 0;
     let mut escaped = false;
     let mut rest = all;
     while let Some((first, after)) = rest.split_first() {
         if ends_plain(rest, escaped) {
-            return Ok((&all[..count], rest));
+            return Ok((all.up_to(rest), rest));
         }
-        count += 1;
         escaped = first.1 == '\\';
         rest = after;
     }
@@ -199,15 +182,12 @@ fn plain(
 
 /// The value that begins here, and what follows it.
 #[tactic(auto, unfolding(crate::specs::Rules::value_at))]
-fn value(
-    rule: usize,
-    rest: &[(usize, char)],
-) -> Result<(&[(usize, char)], &[(usize, char)]), MarkupFault>
-    ensures { Gives (λ x. (x.0.now, x.1.now)) result
-        (map_ok (with_remaining rest.now) (value_at rule rest.now)) }
+fn value(rule: usize, rest: Piece<'_>) -> Result<(Piece<'_>, Piece<'_>), MarkupFault>
+    ensures { Gives (λ x. (characters x.0, characters x.1)) result
+        (map_ok (with_remaining (characters rest.entry)) (value_at rule (characters rest.entry))) }
 {
     if begins_with(rest, '"') {
-        return quoted(rule, &rest[1..]);
+        return quoted(rule, rest.without_first());
     }
     let (value, after) = plain(rule, rest)?;
     Ok((trim_end(value), after))
@@ -222,14 +202,13 @@ fn read_field<'a>(
     start: usize,
     tag: Tag,
     values: &mut Values,
-    rest: &'a [(usize, char)],
-) -> Result<&'a [(usize, char)], MarkupFault>
-    ensures { Gives (λ x. (values_of values.new, x.now)) result
-        (map_ok (with_remaining rest.now) (field_at rule start tag (values_of values.old) rest.now)) }
+    rest: Piece<'a>,
+) -> Result<Piece<'a>, MarkupFault>
+    ensures { Gives (λ x. (values_of values.new, characters x)) result
+        (map_ok (with_remaining (characters rest.entry)) (field_at rule start tag (values_of values.old) (characters rest.entry))) }
 {
     let (name, behind) = name(rule, start, rest)?;
-    let name = text_of(alloc, trim_end(name))?;
-    let field = field_of(tag, &name);
+    let field = field_of(tag, trim_end(name).as_str());
     if values.has(field) {
         return Err(MarkupFault {
             place: start,
@@ -247,18 +226,18 @@ fn field_or_none<'a>(
     rule: usize,
     tag: Tag,
     values: &mut Values,
-    rest: &'a [(usize, char)],
-) -> Result<&'a [(usize, char)], MarkupFault>
-    ensures { Gives (λ x. (values_of values.new, x.now)) result
-        (map_ok (with_remaining rest.now) (field_or_none rule tag (values_of values.old) rest.now)) }
+    rest: Piece<'a>,
+) -> Result<Piece<'a>, MarkupFault>
+    ensures { Gives (λ x. (values_of values.new, characters x)) result
+        (map_ok (with_remaining (characters rest.entry)) (field_or_none rule tag (values_of values.old) (characters rest.entry))) }
 {
-    let [(start, _), ..] = rest else {
+    let Some(((start, _), _)) = rest.split_first() else {
         return Ok(rest);
     };
     if at_end(rest) {
         return Ok(rest);
     }
-    read_field(alloc, rule, *start, tag, values, rest)
+    read_field(alloc, rule, start, tag, values, rest)
 }
 
 /// The values of a rule's fields from a place where `;` or `>>` must be, and what follows its `>>`.
@@ -266,16 +245,16 @@ pub fn fields(
     alloc: Global,
     rule: usize,
     tag: Tag,
-    all: &[(usize, char)],
-) -> Result<(Values, &[(usize, char)]), MarkupFault>
-    ensures { Gives (λ x. (values_of x.0, x.1.now)) result
-        (map_ok (with_remaining all.now) (fields_at rule tag no_values 0 all.now)) }
+    all: Piece<'_>,
+) -> Result<(Values, Piece<'_>), MarkupFault>
+    ensures { Gives (λ x. (values_of x.0, characters x.1)) result
+        (map_ok (with_remaining (characters all.entry)) (fields_at rule tag no_values 0 (characters all.entry))) }
 {
     let mut values = Values::none();
     let mut rest = all;
     while let Some((_, after)) = rest.split_first() {
         if begins_with_two(rest, '>') {
-            return Ok((values, &rest[2..]));
+            return Ok((values, after.without_first()));
         }
         if !begins_with(rest, ';') {
             return Err(MarkupFault {

@@ -7,6 +7,7 @@ mod fields;
 pub mod laws;
 mod lines;
 mod part;
+mod piece;
 mod reader;
 mod reading;
 mod rule;

@@ -1,9 +1,11 @@
 //! How the pieces of a template lie in its lines.
 ghost use Rattle.std.specs.Prelude.{◌≡◌, IfOk, map, reverse};
 ghost use Rattle.lic_markup.specs.Lines as lines;
+ghost use Rattle.lic_markup.specs.Pieces.{characters};
 ghost use Rattle.lic_markup.specs.Views.{element_of, placed_of};
 
 use crate::elements::Element;
+use crate::piece::Piece;
 use crate::rule::Rule;
 use lic_kind::is_dropped;
 use lic_norm::pieces::Next;
@@ -18,8 +20,8 @@ fn is_space(character: char) -> bool
 
 /// Whether there is only white space between the start of a line and the end of a piece, where `so_far` says so of
 /// what is before the piece.
-pub fn at_line_start(so_far: bool, piece: &[(usize, char)]) -> bool
-    ensures { result ≡ lines.at_line_start so_far piece.now }
+pub fn at_line_start(so_far: bool, piece: Piece<'_>) -> bool
+    ensures { result ≡ lines.at_line_start so_far (characters piece.entry) }
 {
     let mut front = piece;
     while let Some((last, before)) = front.split_last() {
@@ -36,8 +38,8 @@ pub fn at_line_start(so_far: bool, piece: &[(usize, char)]) -> bool
 
 /// Whether there is only white space from the beginning of a piece to the end of the line, where the flag handed in says
 /// so of what follows the piece.
-fn line_ends(behind: bool, piece: &[(usize, char)]) -> bool
-    ensures { result ≡ lines.line_ends behind piece.now }
+fn line_ends(behind: bool, piece: Piece<'_>) -> bool
+    ensures { result ≡ lines.line_ends behind (characters piece.entry) }
 {
     let mut rest = piece;
     while let Some((first, after)) = rest.split_first() {
@@ -54,18 +56,18 @@ fn line_ends(behind: bool, piece: &[(usize, char)]) -> bool
 
 /// Whether there are only white space and optional rules from an element to the end of the line, where the flag handed
 /// in says so of what follows the element.
-fn line_ends_at(behind: bool, element: &Element) -> bool
+fn line_ends_at(behind: bool, element: &Element<'_>) -> bool
     ensures { result ≡ lines.line_ends_at behind (element_of element.now) }
 {
     match element {
-        Element::Text(piece) => line_ends(behind, piece),
+        Element::Text(piece) => line_ends(behind, *piece),
         Element::Rule(Rule::Variable { .. }) => false,
         Element::Rule(Rule::Begin(_) | Rule::End(_)) | Element::Refused(_) => behind,
     }
 }
 
 /// What an element counts as, if the line continues after it.
-fn counts_as(element: &Element) -> Next
+fn counts_as(element: &Element<'_>) -> Next
     ensures { result ≡ lines.counts_as (element_of element.now) }
 {
     match element {
@@ -75,8 +77,8 @@ fn counts_as(element: &Element) -> Next
 }
 
 /// Whether a piece ends in a line's end.
-pub fn ends_line(piece: &[(usize, char)]) -> bool
-    ensures { result ≡ lines.ends_line piece.now }
+pub fn ends_line(piece: Piece<'_>) -> bool
+    ensures { result ≡ lines.ends_line (characters piece.entry) }
 {
     match piece.split_last() {
         Some((last, _before)) => last.1 == '\n',
@@ -85,9 +87,12 @@ pub fn ends_line(piece: &[(usize, char)]) -> bool
 }
 
 /// Each element with what follows it in its line, the last element first.
-pub fn with_next(alloc: Global, elements: Vec<Element>) -> Result<Vec<(Element, Next)>, AllocError>
+pub fn with_next(
+    alloc: Global,
+    elements: Vec<Element<'_>>,
+) -> Result<Vec<(Element<'_>, Next)>, AllocError>
     ensures { IfOk result (λ placed. map placed_of (reverse placed.items)
-        ≡ lines.with_next (map element_of elements.items)) }
+        ≡ lines.with_next (map element_of elements.entry.items)) }
 {
     let mut elements = elements;
     let mut placed = Vec::new(alloc);

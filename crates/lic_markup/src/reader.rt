@@ -6,6 +6,7 @@ ghost use Rattle.lic_kind.specs.LineRules.{rules_of};
 ghost use Rattle.lic_markup.specs.Faults.{Gives, reported};
 ghost use Rattle.lic_markup.specs.Parts.{GiveToken, part_of, row, template_of, weight_of};
 ghost use Rattle.lic_markup.specs.PartTexts.{HavePieceTexts};
+ghost use Rattle.lic_markup.specs.Pieces.{characters};
 ghost use Rattle.lic_markup.specs.ReadTexts.{HasReadTexts};
 ghost use Rattle.lic_markup.specs.Reading as reading;
 ghost use Rattle.lic_markup.specs.Views.{element_of, level_of, state_of};
@@ -14,8 +15,8 @@ use crate::elements::Element;
 use crate::fault::{MarkupCause, MarkupFault};
 use crate::lines::{at_line_start, ends_line};
 use crate::part::{Part, Template};
+use crate::piece::Piece;
 use crate::rule::Rule;
-use crate::texts::text_of;
 use crate::weights::{have_token, parts_weight};
 use lic_ere::{EreCause, EreFault, read};
 use lic_kind::Rules;
@@ -118,24 +119,23 @@ impl Reader {
         alloc: Global,
         rules: &Rules,
         words: &Words,
-        characters: &[(usize, char)],
+        text: Piece<'_>,
         follows: Next,
     ) -> Result<(), AllocError>
         requires { HasReadTexts (state_of self.old) }
         ensures state { OnOk result (state_of self.new
-            ≡ reading.meet_text (rules_of rules.now) words.now characters.now follows
+            ≡ reading.meet_text (rules_of rules.now) words.now (characters text.entry) follows
             (state_of self.old)) }
         ensures texts { OnOk result (HasReadTexts (state_of self.new)) }
     {
-        let next = if ends_line(characters) {
+        let next = if ends_line(text) {
             Next::LineEnd
         } else {
             follows
         };
-        let text = text_of(alloc, characters)?;
         let letters = piece(
             alloc,
-            &text,
+            text.as_str(),
             self.at_start,
             next,
             words,
@@ -143,8 +143,8 @@ impl Reader {
             &mut self.buffers,
         )?;
         self.level.push_letters(letters)?;
-        self.original.push_str(&text)?;
-        self.at_start = at_line_start(self.at_start, characters);
+        self.original.push_str(text.as_str())?;
+        self.at_start = at_line_start(self.at_start, text);
         Ok(())
     }
 
@@ -215,17 +215,17 @@ impl Reader {
         alloc: Global,
         rules: &Rules,
         words: &Words,
-        element: Element,
+        element: Element<'_>,
         follows: Next,
     ) -> Result<(), MarkupFault>
         requires { HasReadTexts (state_of self.old) }
         ensures state { Gives (λ _. state_of self.new) result
-            (reading.meet (rules_of rules.now) words.now (element_of element) follows
+            (reading.meet (rules_of rules.now) words.now (element_of element.entry) follows
             (state_of self.old)) }
         ensures texts { OnOk result (HasReadTexts (state_of self.new)) }
     {
         match element {
-            Element::Text(characters) => Ok(self.text(alloc, rules, words, &characters, follows)?),
+            Element::Text(text) => Ok(self.text(alloc, rules, words, text, follows)?),
             Element::Rule(
                 Rule::Variable {
                     name,

@@ -26,10 +26,10 @@ fn read_elements(
     alloc: Global,
     rules: &Rules,
     words: &Words,
-    elements: Vec<(Element, Next)>,
+    elements: Vec<(Element<'_>, Next)>,
 ) -> Result<Template, MarkupFault>
     ensures exact { Gives template_of result
-        (read_on (rules_of rules.now) words.now start (map placed_of (reverse elements.items))) }
+        (read_on (rules_of rules.now) words.now start (map placed_of (reverse elements.entry.items))) }
     ensures weighed { IfOk result (λ t. t.weight ≡ weight_of t.parts) }
     ensures light { IfOk result (λ t. t.weight ≤ 131072) }
     ensures some_token { IfOk result (λ t. GiveToken t.parts) }

@@ -1,11 +1,13 @@
 //! Rules.
 ghost use Rattle.lic_ere.specs.Located.{with_remaining};
 ghost use Rattle.lic_markup.specs.Faults.{Gives, map_ok};
+ghost use Rattle.lic_markup.specs.Pieces.{characters};
 ghost use Rattle.lic_markup.specs.Rules as rules;
 ghost use Rattle.lic_markup.specs.Views.{values_of, rule_of};
 
 use crate::fault::{MarkupCause, MarkupFault};
 use crate::fields::{Values, fields};
+use crate::piece::Piece;
 use crate::tag::Tag;
 use crate::texts::trim_start;
 use std::alloc::Global;
@@ -61,10 +63,11 @@ pub fn read_rule(
     alloc: Global,
     place: usize,
     tag: Tag,
-    rest: &[(usize, char)],
-) -> Result<(Rule, &[(usize, char)]), MarkupFault>
-    ensures { Gives (λ x. (rule_of x.0, x.1.now)) result
-        (map_ok (with_remaining rest.now) (rules.rule_at place tag rest.now)) }
+    rest: Piece<'_>,
+) -> Result<(Rule, Piece<'_>), MarkupFault>
+    ensures { Gives (λ x. (rule_of x.0, characters x.1)) result
+        (map_ok (with_remaining (characters rest.entry))
+        (rules.rule_at place tag (characters rest.entry))) }
 {
     let (values, behind) = fields(alloc, place, tag, trim_start(rest))?;
     Ok((complete(place, tag, values)?, behind))

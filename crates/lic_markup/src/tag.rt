@@ -1,11 +1,13 @@
 //! Where a rule begins.
-ghost use Rattle.std.specs.Prelude.{◌≡◌, ◌≤◌, IfOk, length, drop};
+ghost use Rattle.std.specs.Prelude.{◌≡◌, ℕ, length, drop};
 ghost use Rattle.std.specs.Option.{option_map};
 ghost use Rattle.lic_ere.specs.Located.{with_remaining};
+ghost use Rattle.lic_markup.specs.Pieces.{characters};
 ghost use Rattle.lic_markup.specs.Rules.{word_at, tag_of, tag_at};
+ghost use Rattle.lic_markup.specs.Signs.{less};
 
-use crate::texts::{begins_with, text_of};
-use std::alloc::{AllocError, Global};
+use crate::piece::Piece;
+use crate::texts::begins_with;
 
 /// What a rule is.
 #[derive(Clone, Copy, Debug)]
@@ -27,46 +29,33 @@ fn tag_of(word: &str) -> Option<Tag>
     }
 }
 
-/// How many ASCII letters and digits the text begins with.
-fn word_length(all: &[(usize, char)]) -> usize
-    ensures length { result ≡ length (word_at all.now) }
-    ensures within { result ≤ length all.now }
-{
-    let mut count = 0;
-    for (_, character) in all {
-        if !character.is_ascii_alphanumeric() {
-            break;
-        }
-        count += 1;
-    }
-    count
-}
-
 /// The ASCII letters and digits that the text begins with, and what follows them.
-fn split_word(all: &[(usize, char)]) -> (&[(usize, char)], &[(usize, char)])
-    ensures word { result.0.now ≡ word_at all.now }
-    ensures behind { result.1.now ≡ drop (length (word_at all.now)) all.now }
+fn split_word(all: Piece<'_>) -> (Piece<'_>, Piece<'_>)
+    ensures word { characters result.0 ≡ word_at (characters all.entry) }
+    ensures behind { characters result.1
+        ≡ drop (length (word_at (characters all.entry))) (characters all.entry) }
 {
-    all.split_at(word_length(all))
+    let mut rest = all;
+    while let Some((first, after)) = rest.split_first() {
+        if !first.1.is_ascii_alphanumeric() {
+            return (all.up_to(rest), rest);
+        }
+        rest = after;
+    }
+    (all, rest)
 }
 
-/// The tag of the rule that begins with a character, if one does, and what follows the tag.
+/// The tag of the rule that begins with a `<`, if one does, and what follows the tag; given what follows the `<`.
 #[tactic(auto, unfolding(crate::specs::Rules::tag_at))]
-pub fn read_tag(
-    alloc: Global,
-    first: (usize, char),
-    rest: &[(usize, char)],
-) -> Result<Option<(Tag, &[(usize, char)])>, AllocError>
-    ensures { IfOk result (λ found. option_map (λ x. (x.0, x.1.now)) found
-        ≡ option_map (with_remaining rest.now) (tag_at first rest.now)) }
+pub fn read_tag(rest: Piece<'_>) -> Option<(Tag, Piece<'_>)>
+    ensures { (place : ℕ) → option_map (λ x. (x.0, characters x.1)) result
+        ≡ option_map (with_remaining (characters rest.entry))
+        (tag_at (place, less) (characters rest.entry)) }
 {
-    if first.1 != '<' || !begins_with(rest, '<') {
-        return Ok(None);
+    if !begins_with(rest, '<') {
+        return None;
     }
-    let (word, after) = split_word(&rest[1..]);
-    let text = text_of(alloc, word)?;
-    match tag_of(&text) {
-        Some(tag) => Ok(Some((tag, after))),
-        None => Ok(None),
-    }
+    let (word, after) = split_word(rest.without_first());
+    let tag = tag_of(word.as_str())?;
+    Some((tag, after))
 }

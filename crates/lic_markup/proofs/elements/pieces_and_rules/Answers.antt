@@ -1,14 +1,100 @@
-use Rattle.std.proofs.Common.{◌∷◌, ◌++◌, [], List, None, map, sym, ap, ◌∙◌, subst}
-use Rattle.memchr.specs.Find.{IsFirstByte, is_byte}
-use Rattle.lic_ere.specs.Located.{Located}
+use Rattle.std.proofs.Common.{◌≡◌, ◌≤◌, ◌∷◌, ◌++◌, [], List, length, map, refl, sym, ap, ◌∙◌, arith}
+use Rattle.std.proofs.lemmas.List.{map-append, append-nil}
+use Rattle.lic_ere.specs.Located.{located}
 use Rattle.lic_markup.specs.declared.elements.Element.TheVariants.{Text}
-use Rattle.lic_markup.specs.Elements.{text}
+use Rattle.lic_markup.specs.Pieces.{characters}
+use Rattle.lic_markup.specs.Rules.{rule_at}
+use Rattle.lic_markup.specs.Elements.{Element, text, element_read, elements}
+use Rattle.lic_markup.specs.Signs.{less}
 use Rattle.lic_markup.specs.Views.{element_of}
-use Rattle.lic_markup.proofs.PlainLemmas.{whole_piece}
+use Rattle.lic_markup.proofs.ElementLemmas.{none_there, some_there, cut_begins, cut_on, cut_rule, cut_ends, others-none, others-some, behind-shorter, next-shorter}
+use Rattle.lic_markup.proofs.LocatedLemmas.{ends_all, ends_on}
+use Rattle.lic_markup.proofs.SignLemmas.{next_sign-shorter}
 use Rattle.lic_markup.proofs.elements.pieces_and_rules.Goals as goal
 
-pub returns-in_ok-push-in-None : goal.returns-in_ok-push-in-None
-returns-in_ok-push-in-None c =
-    ap (map element_of) (c.in_ok-push-in-None.ensures.items ∙ ap (λ l. l ++ Text c.in_ok-characters.characters ∷ []) c.new-found.ensures.items)
-    ∙ ap (λ (l : List Located). text l ∷ []) c.in_ok-characters.ensures
-    ∙ sym (whole_piece c.args.text.now c.utf8.text (subst (λ bytes. IsFirstByte (is_byte 0x3C) bytes None) c.as_bytes.ensures.value c.in-None.ensures))
+pub loop-sign-init : goal.loop-sign-init
+loop-sign-init c = record {
+  ends = ends_all c.new-piece.result;
+  cut = cut_begins (map element_of c.new-found.result.items) (characters c.new-piece.result) (located c.args.text.now)
+      (ap (map element_of) c.new-found.ensures.items) c.new-piece.ensures;
+}
+
+pub up_to-requires : goal.up_to-requires
+up_to-requires c = ends_on c.loop-sign.piece c.loop-sign.rest c.in-Some.sign c.loop-sign.invariant.ends c.in-Some.ensures.some.ends
+
+pub loop-sign-preserved-in_default-read_tag : goal.loop-sign-preserved-in_default-read_tag
+loop-sign-preserved-in_default-read_tag c =
+    let next = c.in-Some.ensures.some in
+    let inv = c.loop-sign.invariant in
+    record {
+      ends = ends_on c.loop-sign.piece c.loop-sign.rest c.in-Some.after inv.ends next.ends_after;
+      cut = cut_on (map element_of c.loop-sign.found.items) (characters c.loop-sign.piece) (characters c.loop-sign.rest)
+          next.front (characters c.in-Some.sign) _ next.parts next.first inv.cut (c.in-Some.sign.place, less) (characters c.in-Some.after) next.sign
+          (none_there _ _ _ c.in_default-read_tag.not-Some (c.read_tag.ensures c.in-Some.sign.place));
+    }
+
+pub loop-sign-smaller-in_default-read_tag : goal.loop-sign-smaller-in_default-read_tag
+loop-sign-smaller-in_default-read_tag c = next_sign-shorter c.loop-sign.rest c.in-Some.sign c.in-Some.after c.in-Some.ensures.some
+
+pub returns-in_default-2 : goal.returns-in_default-2
+returns-in_default-2 c =
+    let next = c.in-Some.ensures.some in
+    let place = c.in-Some.sign.place in
+    let behind = characters c.in-Some-read_tag.behind in
+    let r = rule_at place c.in-Some-read_tag.tag behind in
+    let F = map element_of c.loop-sign.found.items in
+    let E = map element_of c.push_rule.new.found.items in
+    let now : E ≡ (F ++ text (characters c.up_to.result) ∷ []) ++ element_read r ∷ [] =
+    c.in_ok-behind.ensures.found ∙ ap (λ (es : List Element). es ++ element_read r ∷ [])
+    (ap (map element_of) c.in_ok-push.ensures.items
+    ∙ map-append element_of c.loop-sign.found.items (Text c.up_to.result ∷ [])) in
+    let all = cut_rule F (characters c.loop-sign.piece) (characters c.loop-sign.rest) next.front (characters c.in-Some.sign) _ next.parts next.first
+    c.loop-sign.invariant.cut (place, less) (characters c.in-Some.after) next.sign E (characters c.up_to.result) c.in-Some-read_tag.tag behind
+    c.up_to.ensures (some_there _ _ (c.in-Some-read_tag.tag, c.in-Some-read_tag.behind) _ c.in-Some-read_tag.is (c.read_tag.ensures place)) now in
+    sym (append-nil E) ∙ ap (λ (es : List Element). E ++ es)
+    (sym (others-none behind r (none_there _ _ _ c.in_default-2.not-Some c.in_ok-behind.ensures.behind))) ∙ all
+
+pub loop-sign-preserved : goal.loop-sign-preserved
+loop-sign-preserved c =
+    let next = c.in-Some.ensures.some in
+    let place = c.in-Some.sign.place in
+    let behind = characters c.in-Some-read_tag.behind in
+    let r = rule_at place c.in-Some-read_tag.tag behind in
+    let F = map element_of c.loop-sign.found.items in
+    let E = map element_of c.push_rule.new.found.items in
+    let now : E ≡ (F ++ text (characters c.up_to.result) ∷ []) ++ element_read r ∷ [] =
+    c.in_ok-behind.ensures.found ∙ ap (λ (es : List Element). es ++ element_read r ∷ [])
+    (ap (map element_of) c.in_ok-push.ensures.items
+    ∙ map-append element_of c.loop-sign.found.items (Text c.up_to.result ∷ [])) in
+    let all = cut_rule F (characters c.loop-sign.piece) (characters c.loop-sign.rest) next.front (characters c.in-Some.sign) _ next.parts next.first
+    c.loop-sign.invariant.cut (place, less) (characters c.in-Some.after) next.sign E (characters c.up_to.result) c.in-Some-read_tag.tag behind
+    c.up_to.ensures (some_there _ _ (c.in-Some-read_tag.tag, c.in-Some-read_tag.behind) _ c.in-Some-read_tag.is (c.read_tag.ensures place)) now in
+    record {
+      ends = ends_all c.in-Some-2.behind;
+      cut = record {
+        front = [];
+        parts = refl;
+        so_far = ap (λ (es : List Element). E ++ es)
+            (sym (others-some behind (characters c.in-Some-2.behind) r
+            (some_there _ _ c.in-Some-2.behind _ c.in-Some-2.is c.in_ok-behind.ensures.behind))) ∙ all;
+      };
+    }
+
+pub loop-sign-smaller : goal.loop-sign-smaller
+loop-sign-smaller c =
+    let place = c.in-Some.sign.place in
+    let behind = characters c.in-Some-read_tag.behind in
+    let one = next_sign-shorter c.loop-sign.rest c.in-Some.sign c.in-Some.after c.in-Some.ensures.some in
+    let two : length behind ≤ length (characters c.in-Some.after) =
+    behind-shorter (characters c.in-Some.after) _ c.in-Some-read_tag.tag behind
+    (some_there _ _ (c.in-Some-read_tag.tag, c.in-Some-read_tag.behind) _ c.in-Some-read_tag.is (c.read_tag.ensures place)) in
+    let three : length (characters c.in-Some-2.behind) ≤ length behind =
+    next-shorter behind (characters c.in-Some-2.behind) (rule_at place c.in-Some-read_tag.tag behind)
+    (some_there _ _ c.in-Some-2.behind _ c.in-Some-2.is c.in_ok-behind.ensures.behind) in
+    omega (arith, one, two, three)
+
+pub returns : goal.returns
+returns c =
+    let F = map element_of c.loop-sign.found.items in
+    ap (map element_of) c.in_ok-push-2.ensures.items ∙ map-append element_of c.loop-sign.found.items (Text c.loop-sign.piece ∷ [])
+    ∙ cut_ends F (characters c.loop-sign.piece) (characters c.loop-sign.rest) _ c.in_default.ensures.none c.loop-sign.invariant.cut

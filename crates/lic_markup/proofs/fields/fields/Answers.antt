@@ -1,6 +1,6 @@
-use Rattle.std.proofs.Common.{◌≤◌, List, Ok, sym, ap, ◌∙◌, length, arith}
-use Rattle.std.proofs.lemmas.List.{take_rest}
+use Rattle.std.proofs.Common.{◌≤◌, List, Ok, sym, ap, ◌∙◌, length, drop, arith}
 use Rattle.lic_ere.specs.Located.{Located}
+use Rattle.lic_markup.specs.Pieces.{characters}
 use Rattle.lic_markup.specs.Rules.{field_or_none}
 use Rattle.lic_markup.specs.Views.{values_of}
 use Rattle.lic_markup.proofs.FaultLemmas.{Gives-err}
@@ -10,16 +10,16 @@ use Rattle.lic_markup.proofs.fields.fields.Goals as goal
 pub returns-then-begins_with_two : goal.returns-then-begins_with_two
 returns-then-begins_with_two c =
     let values = values_of c.loop-after.values in
-    let rest = c.loop-after.rest.now in
+    let rest = characters c.loop-after.rest in
     sym c.loop-after.invariant
-    ∙ fields-end c.args.rule c.args.tag values rest _ _ c.in-Some.ensures.cases.0 (sym c.begins_with_two.ensures ∙ c.if-begins_with_two.true)
-    ∙ ap (λ (l : List Located). Ok (values, l)) (sym (take_rest rest 2))
+    ∙ fields-end c.args.rule c.args.tag values rest _ _ c.in-Some.ensures.some (sym c.begins_with_two.ensures ∙ c.if-begins_with_two.true)
+    ∙ ap (λ (l : List Located). Ok (values, l)) (ap (drop 2) c.in-Some.ensures.some ∙ sym c.without_first.ensures)
 
 pub returns-then-not-begins_with : goal.returns-then-not-begins_with
 returns-then-not-begins_with c =
     sym c.loop-after.invariant
     ∙ fields-refused c.args.rule c.args.tag
-    (values_of c.loop-after.values) c.loop-after.rest.now _ _ c.in-Some.ensures.cases.0
+    (values_of c.loop-after.values) (characters c.loop-after.rest) _ _ c.in-Some.ensures.some
     (sym c.begins_with_two.ensures ∙ c.if-begins_with_two.false)
     (sym c.begins_with.ensures ∙ c.if-not-begins_with.true)
 
@@ -28,22 +28,22 @@ returns-in_err-rest c =
     Gives-err _ _ _ _ _ c.from_residual.ensures.1
     (λ e is. sym c.loop-after.invariant
     ∙ fields_fail c.args.rule c.args.tag
-    (values_of c.loop-after.values) _ _ c.loop-after.rest.now c.trim_start.result.now e c.in-Some.ensures.cases.0 c.trim_start.ensures (sym c.begins_with_two.ensures ∙ c.if-begins_with_two.false) (sym c.begins_with.ensures ∙ c.if-not-begins_with.false) is)
+    (values_of c.loop-after.values) _ _ (characters c.loop-after.rest) (characters c.trim_start.result) e c.in-Some.ensures.some c.trim_start.ensures (sym c.begins_with_two.ensures ∙ c.if-begins_with_two.false) (sym c.begins_with.ensures ∙ c.if-not-begins_with.false) is)
     c.in_err-rest.ensures
 
 pub loop-after-preserved : goal.loop-after-preserved
 loop-after-preserved c =
     fields_turn c.args.rule c.args.tag
-    (values_of c.loop-after.values) _ _ c.loop-after.rest.now c.trim_start.result.now _ _ _ c.in-Some.ensures.cases.0 c.trim_start.ensures (sym c.begins_with_two.ensures ∙ c.if-begins_with_two.false) (sym c.begins_with.ensures ∙ c.if-not-begins_with.false) c.in_ok-rest.ensures c.loop-after.invariant
+    (values_of c.loop-after.values) _ _ (characters c.loop-after.rest) (characters c.trim_start.result) _ _ _ c.in-Some.ensures.some c.trim_start.ensures (sym c.begins_with_two.ensures ∙ c.if-begins_with_two.false) (sym c.begins_with.ensures ∙ c.if-not-begins_with.false) c.in_ok-rest.ensures c.loop-after.invariant
 
 pub loop-after-smaller : goal.loop-after-smaller
 loop-after-smaller c =
-    let front = c.trim_start.result.now in
-    let one : length c.in_ok-rest.rest.now ≤ length front =
+    let front = characters c.trim_start.result in
+    let one : length (characters c.in_ok-rest.rest) ≤ length front =
     read-shorter front (field_or_none c.args.rule c.args.tag
     (values_of c.loop-after.values) front) _ _ c.in_ok-rest.ensures in
-    let two : length front ≤ length c.in-Some.after.now = trim_start-shorter _ _ c.trim_start.ensures in
-    omega (arith, one, two, ap length c.in-Some.ensures.cases.0)
+    let two : length front ≤ length (characters c.in-Some.after) = trim_start-shorter _ _ c.trim_start.ensures in
+    omega (arith, one, two, ap length c.in-Some.ensures.some)
 
 pub returns : goal.returns
-returns c = sym c.loop-after.invariant ∙ fields-open c.args.rule c.args.tag (values_of c.loop-after.values) c.loop-after.rest.now c.in_default.ensures.cases
+returns c = sym c.loop-after.invariant ∙ fields-open c.args.rule c.args.tag (values_of c.loop-after.values) (characters c.loop-after.rest) c.in_default.ensures.none

@@ -1,4 +1,5 @@
 use Rattle.std.proofs.Common.{◌≡◌, length}
+use Rattle.lic_markup.specs.Pieces.{characters}
 use Rattle.lic_markup.specs.Rules.{no_values, fields_at}
 use Rattle.lic_markup.specs.Views.{values_of}
 use Rattle.lic_markup.proofs.RuleLemmas.{read}
@@ -7,7 +8,8 @@ use Rattle.lic_markup.proofs.fields.fields.Given as goal
 -- what is read of the rest is what is read of all
 abbrev pub invariant-loop-after : goal.invariant-loop-after
 invariant-loop-after l =
-    read l.rest (fields_at l.rule l.tag (values_of l.values) 0 l.rest) ≡ read l.all (fields_at l.rule l.tag no_values 0 l.all)
+    read (characters l.rest) (fields_at l.rule l.tag (values_of l.values) 0 (characters l.rest))
+    ≡ read (characters l.all) (fields_at l.rule l.tag no_values 0 (characters l.all))
 
 abbrev pub decreases-loop-after : goal.decreases-loop-after
-decreases-loop-after l = length l.rest
+decreases-loop-after l = length (characters l.rest)

@@ -1,34 +1,38 @@
-use Rattle.std.proofs.Common.{sym, ap, ◌∙◌, drop, arith}
+use Rattle.std.proofs.Common.{sym, ap, ◌∙◌, drop}
+use Rattle.lic_markup.specs.Pieces.{characters}
 use Rattle.lic_markup.specs.Rules.{name_at}
-use Rattle.lic_markup.proofs.RuleLemmas.{pass, stop, refuse, drop_turn, drop_within, name-ends, name-refused, name-goes_on, name-open}
+use Rattle.lic_markup.proofs.LocatedLemmas.{ends_all, ends_on}
+use Rattle.lic_markup.proofs.RuleLemmas.{none_passed, pass, stop, refuse, read, name-ends, name-refused, name-goes_on, name-open}
 use Rattle.lic_markup.proofs.fields.name.Goals as goal
+
+pub loop-after-init : goal.loop-after-init
+loop-after-init c =
+    let all = characters c.args.all in
+    record { ends = ends_all c.args.all; passed = none_passed all (read all (name_at c.args.rule c.args.start all)) }
 
 pub returns-then-begins_with : goal.returns-then-begins_with
 returns-then-begins_with c =
-    let is = c.in-Some.ensures.cases.0 in
-    stop c.args.all.now c.loop-after.count _ c.in-Some.after.now _ 1 _
+    let is = c.in-Some.ensures.some in
+    stop _ _ _ _ _ 1 _
     (name-ends c.args.rule c.args.start _ _ _ is (sym c.begins_with.ensures ∙ c.if-begins_with.true))
-    (ap (drop 1) is) c.loop-after.invariant.so_far
+    (ap (drop 1) is) c.up_to.ensures c.loop-after.invariant.passed
 
 pub returns-then-at_end : goal.returns-then-at_end
 returns-then-at_end c =
-    refuse _ _ _ _ _ (name-refused c.args.rule c.args.start _ _ _ c.in-Some.ensures.cases.0
+    refuse _ _ _ _ _ (name-refused c.args.rule c.args.start _ _ _ c.in-Some.ensures.some
     (sym c.begins_with.ensures ∙ c.if-begins_with.false)
-    (sym c.at_end.ensures ∙ c.if-at_end.true)) c.loop-after.invariant.so_far
+    (sym c.at_end.ensures ∙ c.if-at_end.true)) c.loop-after.invariant.passed
 
 pub loop-after-preserved : goal.loop-after-preserved
 loop-after-preserved c =
-    let all = c.args.all.now in
-    let n = c.loop-after.count in
-    let is = c.in-Some.ensures.cases.0 in
-    let at = c.loop-after.invariant.at in
+    let is = c.in-Some.ensures.some in
+    let inv = c.loop-after.invariant in
     record {
-      at = sym (drop_turn all n _ _ (sym at ∙ is));
-      within = omega (arith, drop_within all n _ _ (sym at ∙ is));
-      so_far = pass all n _ _ _ (name_at c.args.rule c.args.start) (name_at c.args.rule c.args.start) _ is at
+      ends = ends_on c.args.all c.loop-after.rest c.in-Some.after inv.ends c.in-Some.ensures.end;
+      passed = pass _ _ _ _ (name_at c.args.rule c.args.start) (name_at c.args.rule c.args.start) _ is
           (name-goes_on c.args.rule c.args.start _ _ _ is (sym c.begins_with.ensures ∙ c.if-begins_with.false)
-          (sym c.at_end.ensures ∙ c.if-at_end.false)) c.loop-after.invariant.so_far;
+          (sym c.at_end.ensures ∙ c.if-at_end.false)) inv.passed;
     }
 
 pub returns : goal.returns
-returns c = refuse _ _ _ _ _ (name-open c.args.rule c.args.start _ c.in_default.ensures.cases) c.loop-after.invariant.so_far
+returns c = refuse _ _ _ _ _ (name-open c.args.rule c.args.start _ c.in_default.ensures.none) c.loop-after.invariant.passed

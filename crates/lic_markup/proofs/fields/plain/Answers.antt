@@ -1,30 +1,34 @@
-use Rattle.std.proofs.Common.{sym, refl, ◌∙◌, arith, eqb}
+use Rattle.std.proofs.Common.{false, sym, refl, ◌∙◌, eqb}
 use Rattle.lic_markup.specs.Signs.{backslash}
+use Rattle.lic_markup.specs.Pieces.{characters}
 use Rattle.lic_markup.specs.Rules.{plain_at}
-use Rattle.lic_markup.proofs.RuleLemmas.{pass, stop, refuse, drop_turn, drop_within, plain-ends, plain-goes_on, plain-open}
+use Rattle.lic_markup.proofs.LocatedLemmas.{ends_all, ends_on}
+use Rattle.lic_markup.proofs.RuleLemmas.{none_passed, pass, stop, refuse, read, plain-ends, plain-goes_on, plain-open}
 use Rattle.lic_markup.proofs.fields.plain.Goals as goal
+
+pub loop-first-init : goal.loop-first-init
+loop-first-init c =
+    let all = characters c.args.all in
+    record { ends = ends_all c.args.all; passed = none_passed all (read all (plain_at c.args.rule false all)) }
 
 pub returns-then-ends_plain : goal.returns-then-ends_plain
 returns-then-ends_plain c =
-    stop c.args.all.now c.loop-first.count _ c.loop-first.rest.now _ 0 _
-    (plain-ends c.args.rule c.loop-first.escaped _ _ _ c.in-Some.ensures.cases.0
-    (sym c.ends_plain.ensures ∙ c.if-ends_plain.true)) refl c.loop-first.invariant.so_far
+    stop _ _ _ _ _ 0 _
+    (plain-ends c.args.rule c.loop-first.escaped _ _ _ c.in-Some.ensures.some
+    (sym c.ends_plain.ensures ∙ c.if-ends_plain.true)) refl c.up_to.ensures c.loop-first.invariant.passed
 
 pub loop-first-preserved : goal.loop-first-preserved
 loop-first-preserved c =
-    let all = c.args.all.now in
-    let n = c.loop-first.count in
-    let x = c.in-Some.first.now in
-    let is = c.in-Some.ensures.cases.0 in
-    let at = c.loop-first.invariant.at in
+    let x = c.in-Some.first in
+    let is = c.in-Some.ensures.some in
+    let inv = c.loop-first.invariant in
     record {
-      at = sym (drop_turn all n _ _ (sym at ∙ is));
-      within = omega (arith, drop_within all n _ _ (sym at ∙ is));
-      so_far = pass all n x _ _ (plain_at c.args.rule c.loop-first.escaped)
-          (plain_at c.args.rule (eqb x.1 backslash)) _ is at
+      ends = ends_on c.args.all c.loop-first.rest c.in-Some.after inv.ends c.in-Some.ensures.end;
+      passed = pass _ _ _ _ (plain_at c.args.rule c.loop-first.escaped)
+          (plain_at c.args.rule (eqb x.1 backslash)) _ is
           (plain-goes_on c.args.rule c.loop-first.escaped _ x _ is
-          (sym c.ends_plain.ensures ∙ c.if-ends_plain.false)) c.loop-first.invariant.so_far;
+          (sym c.ends_plain.ensures ∙ c.if-ends_plain.false)) inv.passed;
     }
 
 pub returns : goal.returns
-returns c = refuse _ _ _ _ _ (plain-open c.args.rule c.loop-first.escaped _ c.in_default.ensures.cases) c.loop-first.invariant.so_far
+returns c = refuse _ _ _ _ _ (plain-open c.args.rule c.loop-first.escaped _ c.in_default.ensures.none) c.loop-first.invariant.passed

@@ -1,17 +1,17 @@
-use Rattle.std.proofs.Common.{◌≡◌, ◌≤◌, length, take, drop, false}
+use Rattle.std.proofs.Common.{length, false}
+use Rattle.lic_markup.specs.Pieces.{EndsWith, characters}
 use Rattle.lic_markup.specs.Rules.{plain_at}
-use Rattle.lic_markup.proofs.FaultLemmas.{behind}
-use Rattle.lic_markup.proofs.RuleLemmas.{read}
+use Rattle.lic_markup.proofs.RuleLemmas.{HasPassed, read}
 use Rattle.lic_markup.proofs.fields.plain.Given as goal
 
 -- what was passed and what is read of the rest are all
 abbrev pub invariant-loop-first : goal.invariant-loop-first
 invariant-loop-first l =
     record {
-      at : l.rest ≡ drop l.count l.all;
-      within : l.count ≤ length l.all;
-      so_far : behind (take l.count l.all) (read l.rest (plain_at l.rule l.escaped l.rest)) ≡ read l.all (plain_at l.rule false l.all);
+      ends : EndsWith l.all l.rest;
+      passed : HasPassed (characters l.all) (characters l.rest) (read (characters l.rest) (plain_at l.rule l.escaped (characters l.rest)))
+          (read (characters l.all) (plain_at l.rule false (characters l.all)));
     }
 
 abbrev pub decreases-loop-first : goal.decreases-loop-first
-decreases-loop-first l = length l.rest
+decreases-loop-first l = length (characters l.rest)

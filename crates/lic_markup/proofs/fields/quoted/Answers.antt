@@ -1,28 +1,32 @@
-use Rattle.std.proofs.Common.{sym, ap, ◌∙◌, drop, arith}
+use Rattle.std.proofs.Common.{sym, ap, ◌∙◌, drop}
+use Rattle.lic_markup.specs.Pieces.{characters}
 use Rattle.lic_markup.specs.Rules.{quoted_at}
-use Rattle.lic_markup.proofs.RuleLemmas.{pass, stop, refuse, drop_turn, drop_within, quoted-ends, quoted-goes_on, quoted-open}
+use Rattle.lic_markup.proofs.LocatedLemmas.{ends_all, ends_on}
+use Rattle.lic_markup.proofs.RuleLemmas.{none_passed, pass, stop, refuse, read, quoted-ends, quoted-goes_on, quoted-open}
 use Rattle.lic_markup.proofs.fields.quoted.Goals as goal
+
+pub loop-after-init : goal.loop-after-init
+loop-after-init c =
+    let all = characters c.args.all in
+    record { ends = ends_all c.args.all; passed = none_passed all (read all (quoted_at c.args.rule all)) }
 
 pub returns-then-ends_quoted : goal.returns-then-ends_quoted
 returns-then-ends_quoted c =
-    let is = c.in-Some.ensures.cases.0 in
-    stop c.args.all.now c.loop-after.count _ c.in-Some.after.now _ 1 _
+    let is = c.in-Some.ensures.some in
+    stop _ _ _ _ _ 1 _
     (quoted-ends c.args.rule _ _ _ is (sym c.ends_quoted.ensures ∙ c.if-ends_quoted.true))
-    (ap (drop 1) is) c.loop-after.invariant.so_far
+    (ap (drop 1) is) c.up_to.ensures c.loop-after.invariant.passed
 
 pub loop-after-preserved : goal.loop-after-preserved
 loop-after-preserved c =
-    let all = c.args.all.now in
-    let n = c.loop-after.count in
-    let is = c.in-Some.ensures.cases.0 in
-    let at = c.loop-after.invariant.at in
+    let is = c.in-Some.ensures.some in
+    let inv = c.loop-after.invariant in
     record {
-      at = sym (drop_turn all n _ _ (sym at ∙ is));
-      within = omega (arith, drop_within all n _ _ (sym at ∙ is));
-      so_far = pass all n _ _ _ (quoted_at c.args.rule) (quoted_at c.args.rule) _ is at
+      ends = ends_on c.args.all c.loop-after.rest c.in-Some.after inv.ends c.in-Some.ensures.end;
+      passed = pass _ _ _ _ (quoted_at c.args.rule) (quoted_at c.args.rule) _ is
           (quoted-goes_on c.args.rule _ _ _ is
-          (sym c.ends_quoted.ensures ∙ c.if-ends_quoted.false)) c.loop-after.invariant.so_far;
+          (sym c.ends_quoted.ensures ∙ c.if-ends_quoted.false)) inv.passed;
     }
 
 pub returns : goal.returns
-returns c = refuse _ _ _ _ _ (quoted-open c.args.rule _ c.in_default.ensures.cases) c.loop-after.invariant.so_far
+returns c = refuse _ _ _ _ _ (quoted-open c.args.rule _ c.in_default.ensures.none) c.loop-after.invariant.passed

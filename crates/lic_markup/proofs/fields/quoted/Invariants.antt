@@ -1,17 +1,17 @@
-use Rattle.std.proofs.Common.{◌≡◌, ◌≤◌, length, take, drop}
+use Rattle.std.proofs.Common.{length}
+use Rattle.lic_markup.specs.Pieces.{EndsWith, characters}
 use Rattle.lic_markup.specs.Rules.{quoted_at}
-use Rattle.lic_markup.proofs.FaultLemmas.{behind}
-use Rattle.lic_markup.proofs.RuleLemmas.{read}
+use Rattle.lic_markup.proofs.RuleLemmas.{HasPassed, read}
 use Rattle.lic_markup.proofs.fields.quoted.Given as goal
 
 -- what was passed and what is read of the rest are all
 abbrev pub invariant-loop-after : goal.invariant-loop-after
 invariant-loop-after l =
     record {
-      at : l.rest ≡ drop l.count l.all;
-      within : l.count ≤ length l.all;
-      so_far : behind (take l.count l.all) (read l.rest (quoted_at l.rule l.rest)) ≡ read l.all (quoted_at l.rule l.all);
+      ends : EndsWith l.all l.rest;
+      passed : HasPassed (characters l.all) (characters l.rest) (read (characters l.rest) (quoted_at l.rule (characters l.rest)))
+          (read (characters l.all) (quoted_at l.rule (characters l.all)));
     }
 
 abbrev pub decreases-loop-after : goal.decreases-loop-after
-decreases-loop-after l = length l.rest
+decreases-loop-after l = length (characters l.rest)

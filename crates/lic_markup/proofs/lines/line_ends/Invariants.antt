@@ -1,9 +1,10 @@
 use Rattle.std.proofs.Common.{◌≡◌, length}
 use Rattle.lic_markup.specs.Lines.{line_ends}
+use Rattle.lic_markup.specs.Pieces.{characters}
 use Rattle.lic_markup.proofs.lines.line_ends.Given as goal
 
 abbrev pub invariant-loop-first : goal.invariant-loop-first
-invariant-loop-first l = line_ends l.behind l.rest ≡ line_ends l.behind l.piece
+invariant-loop-first l = line_ends l.behind (characters l.rest) ≡ line_ends l.behind (characters l.piece)
 
 abbrev pub decreases-loop-first : goal.decreases-loop-first
-decreases-loop-first l = length l.rest
+decreases-loop-first l = length (characters l.rest)

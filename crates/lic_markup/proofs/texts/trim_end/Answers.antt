@@ -4,8 +4,8 @@ use Rattle.lic_markup.proofs.texts.trim_end.Goals as goal
 
 pub loop-last-preserved : goal.loop-last-preserved
 loop-last-preserved c =
-    trim_end_turn _ _ c.in-Some.last.now _ c.in-Some.ensures.cases.0 (sym c.is_whitespace.ensures ∙ c.if-not-is_whitespace.false) c.loop-last.invariant
+    trim_end_turn _ _ c.in-Some.last _ c.in-Some.ensures.some (sym c.is_whitespace.ensures ∙ c.if-not-is_whitespace.false) c.loop-last.invariant
 
 pub returns-then-not-is_whitespace : goal.returns-then-not-is_whitespace
 returns-then-not-is_whitespace c =
-    trim_end_stop _ _ c.in-Some.last.now _ c.in-Some.ensures.cases.0 (sym c.is_whitespace.ensures ∙ c.if-not-is_whitespace.true) c.loop-last.invariant
+    trim_end_stop _ _ c.in-Some.last _ c.in-Some.ensures.some (sym c.is_whitespace.ensures ∙ c.if-not-is_whitespace.true) c.loop-last.invariant

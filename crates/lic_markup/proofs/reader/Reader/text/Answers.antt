@@ -15,7 +15,7 @@ returns-clause-texts c =
     let piece : IsPieceText letters =
     subst IsPieceText (sym c.in_ok-letters.ensures.letters)
     (piece_of-text (rules_of c.args.rules.now) c.args.words.now c.args.self.now.at_start c.if-ends_line.next
-    c.deref.result.now c.in_ok-letters.ensures.utf8 c.in_ok-letters.ensures.token_texts) in (
+    c.as_str.result.now c.in_ok-letters.ensures.utf8 c.in_ok-letters.ensures.token_texts) in (
       subst (λ (l : Level). HavePieceTexts (row l.parts)) (sym c.in_ok-push_letters.ensures)
           (with_letters-texts letters (level_of c.args.self.now.level) (IsUtf8-string_bytes c.in_ok-letters.letters) piece c.requires.0),
       c.requires.1,
