@@ -3,7 +3,6 @@ use Rattle.std.proofs.Common.{◌≡◌, ℕ, zero, suc, ◌+◌, ◌-◌, Bool,
 use Rattle.std.specs.Prelude.{codes, encode_utf8_all, if◌then◌else◌, nat_le}
 use Rattle.std.specs.Char.{len_utf8}
 use Rattle.std.specs.List.{flat_map, onto_first}
-use Rattle.std.specs.Str.{chars, IsUtf8}
 use Rattle.std.proofs.lemmas.List.{drop-map, length-map, map-append, take-map}
 use Rattle.lic_kind.specs.Kinds.{is_dropped, is_mark_kind, is_word_kind, kind_of, spell}
 use Rattle.lic_trim.specs.Texts.{groups, join_group}
@@ -14,11 +13,11 @@ use Rattle.lic_lines.specs.declared.cell.Cell.TheVariants.{Blank, Mark, Word}
 use Rattle.lic_trim.specs.declared.cut.LineCut.{LineCut}
 use Rattle.lic_trim.specs.declared.line_part.LinePart.{LinePart}
 use Rattle.lic_kind.specs.LineRules.{LineRules}
-use Rattle.lic_trim.specs.Lines.{whole_line, cut_of}
-use Rattle.lic_lines.specs.Cells.{blank_for, cell_of, cells_of_cut, left_of, line_cells, cells_of}
+use Rattle.lic_trim.specs.Lines.{cut_of}
+use Rattle.lic_lines.specs.Cells.{blank_for, cell_of, cells_of_cut, left_of, line_cells}
 use Rattle.lic_lines.specs.Runs.{end_after, joined, runs_joined, same_family, same_mark, with_joined, without_separator, without_separators}
-use Rattle.lic_lines.specs.Tokens.{Token, as_sign, both_words, first_tokens, is_sign_in_parentheses, is_text, letters_of, sign_from, single_signs, text_tokens, token_of, tokens_from}
-use Rattle.lic_phrases.specs.Rewriting.{Phrase, SpannedText, begins_authority, both_signs, count_after, end_of_last, first_as, https_as_http, longer, longest_phrase, phrases_after, phrases_joined, rewritten, sign_of_row, sign_rows, spanned, begin_with_texts, without_secure}
+use Rattle.lic_lines.specs.Tokens.{Token, as_sign, both_words, first_tokens, is_sign_in_parentheses, is_text, letters_of, sign_from, single_signs, token_of, tokens_from}
+use Rattle.lic_phrases.specs.Rewriting.{Phrase, begins_authority, both_signs, count_after, end_of_last, first_as, https_as_http, longer, longest_phrase, phrases_after, phrases_joined, rewritten, sign_of_row, sign_rows, spanned, begin_with_texts, without_secure}
 use Rattle.lic_norm.specs.Pieces.{bare_token}
 
 -- ---- lists

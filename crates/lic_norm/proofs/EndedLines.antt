@@ -1,5 +1,5 @@
 -- Whole lines at the front of a piece, each of which ends in U+000A, and what follows them.
-use Rattle.std.proofs.Common.{◌≡◌, ◌≢◌, ℕ, zero, suc, ◌+◌, ◌-◌, ◌<◌, ◌≤◌, ◌==◌, ◌&&◌, Bool, true, false, not, List, [], ◌∷◌, ◌++◌, map, length, take, drop, min, refl, sym, ap, ap₂, subst, ◌∙◌, append_assoc, append-nil, arith, inl, inr, length-take}
+use Rattle.std.proofs.Common.{◌≡◌, ℕ, zero, suc, ◌<◌, ◌≤◌, ◌==◌, Bool, true, false, not, List, [], ◌∷◌, ◌++◌, map, length, take, drop, min, refl, sym, ap, ap₂, subst, ◌∙◌, append_assoc, arith, inl, inr, length-take}
 use Rattle.std.specs.Prelude.{nat_lt, IsAscii}
 use Rattle.std.specs.List.{flat_map, list_all, onto_first}
 use Rattle.std.specs.Str.{IsCharBoundary, IsUtf8, chars}
@@ -9,7 +9,7 @@ use Rattle.std.proofs.lemmas.List.Elements.{filter-append}
 use Rattle.std.proofs.lemmas.Str.{IsCharBoundary-from_take, chars-append, chars-IsAscii}
 use Rattle.lic_kind.specs.Kinds.{is_dropped}
 use Rattle.lic_trim.specs.Texts.{cut_after, groups, join_group}
-use Rattle.lic_trim.specs.Sources.{chars_of, unplaced, placed, without_dropped, lines_of}
+use Rattle.lic_trim.specs.Sources.{unplaced, placed, without_dropped, lines_of}
 use Rattle.lic_trim.specs.declared.source.SourceChar.{SourceChar}
 use Rattle.lic_lines.specs.declared.cell.Cell.{Cell}
 use Rattle.lic_lines.specs.declared.cell.Cell.TheVariants.{Blank, Mark, Word}
@@ -19,7 +19,6 @@ use Rattle.lic_trim.specs.Lines.{whole_line}
 use Rattle.lic_lines.specs.Cells.{line_cells, cells_of}
 use Rattle.lic_lines.specs.Runs.{runs_joined}
 use Rattle.lic_lines.specs.Tokens.{Token, both_words, tokens_from, first_tokens, single_signs, line_tokens, tokens_of_cells}
-use Rattle.lic_lines.proofs.Gaps.{no_runs, runs_joined-gap}
 use Rattle.lic_lines.proofs.LineByLine.{cut_after-end, cut_last, cells_of-line, tokens_of_cells-blank}
 use Rattle.lic_norm.specs.declared.pieces.Next.{Next}
 use Rattle.lic_norm.specs.Pieces.{bare_token, cells_of_lines, counts_as, ends_in_feed, is_blank, is_line_end, part_of, piece_cells, piece_tokens}

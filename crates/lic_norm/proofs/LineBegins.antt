@@ -1,20 +1,19 @@
 -- How the cells of a line begin, and those of lines of which it is the first.
-use Rattle.std.proofs.Common.{◌≡◌, ◌≢◌, ℕ, zero, suc, ◌+◌, ◌-◌, ◌<◌, ◌≤◌, ◌==◌, Bool, true, false, not, List, [], ◌∷◌, ◌++◌, map, length, take, drop, get_or, refl, sym, ap, ap₂, subst, ◌∙◌, append_assoc, append-nil, arith}
+use Rattle.std.proofs.Common.{◌≡◌, ℕ, zero, suc, ◌+◌, ◌-◌, ◌<◌, ◌≤◌, Bool, true, false, not, List, [], ◌∷◌, ◌++◌, map, length, take, drop, get_or, refl, sym, ap, subst, ◌∙◌, arith}
 use Rattle.std.specs.Prelude.{if◌then◌else◌, IsAscii}
 use Rattle.std.specs.List.{flat_map, list_all}
-use Rattle.std.specs.Char.{len_utf8}
 use Rattle.std.proofs.lemmas.Bool.{cond-true, cond-false}
 use Rattle.std.proofs.lemmas.List.{map-append, reverse-append}
 use Rattle.lic_columns.proofs.Lanes.{every_below}
 use Rattle.lic_kind.specs.Kinds.{is_dropped, is_mark_kind, is_word_kind, kind_of}
-use Rattle.lic_trim.specs.Sources.{chars_of, unplaced, placed, without_dropped, lines_of}
+use Rattle.lic_trim.specs.Sources.{unplaced, placed, without_dropped, lines_of}
 use Rattle.lic_trim.specs.declared.source.SourceChar.{SourceChar}
 use Rattle.lic_lines.specs.declared.cell.Cell.{Cell}
 use Rattle.lic_lines.specs.declared.cell.Cell.TheVariants.{Blank, Mark, Word}
 use Rattle.lic_trim.specs.declared.cut.LineCut.{LineCut}
 use Rattle.lic_kind.specs.LineRules.{LineRules}
 use Rattle.lic_trim.specs.Lines.{whole_line, cut_of}
-use Rattle.lic_lines.specs.Cells.{blank_for, cell_of, cells_of, cells_of_cut, left_of, line_cells}
+use Rattle.lic_lines.specs.Cells.{blank_for, cell_of, cells_of, cells_of_cut, line_cells}
 use Rattle.lic_lines.specs.Runs.{runs_joined}
 use Rattle.lic_lines.proofs.Gaps.{is_mark, no_runs, runs_joined-at, runs_joined-gap}
 use Rattle.lic_lines.proofs.LineByLine.{cells_of-line}
@@ -22,8 +21,7 @@ use Rattle.lic_norm.specs.LineEnds.{IsFirstLine}
 use Rattle.lic_norm.specs.Edges.{BeginAs, HasEdges}
 use Rattle.lic_norm.specs.Pieces.{begins_in_blank, ends_in_blank, is_blank}
 use Rattle.lic_norm.specs.declared.pieces.cell_edges.Edges.{Edges}
-use Rattle.lic_norm.proofs.BareTokens.{bare, bare_cell, bare-placed, bare-kept}
-use Rattle.lic_norm.proofs.EndedLines.{bare-blank_cells, runs_joined-unplaced, some_token}
+use Rattle.lic_norm.proofs.EndedLines.{bare-blank_cells, runs_joined-unplaced}
 use Rattle.lic_norm.proofs.FirstLines.{as_line, lines_of-first, no_cells_whole}
 use Rattle.lic_norm.proofs.PieceLines.{chars_of-unplaced}
 

@@ -1,4 +1,4 @@
-use Rattle.std.proofs.Common.{◌≡◌, ◌<◌, ◌≤◌, sym, take, drop, subst, ◌∙◌, arith, length, length-take, ap}
+use Rattle.std.proofs.Common.{◌≡◌, sym, take, drop, subst, ◌∙◌}
 use Rattle.std.specs.Prelude.{IsAscii}
 use Rattle.std.proofs.lemmas.List.{take-append-drop}
 use Rattle.std.proofs.lemmas.Option.{IfSome_then}

@@ -1,6 +1,4 @@
 use Rattle.std.proofs.Common.{◌≡◌, ℕ, zero, suc, List, [], ◌∷◌, refl, ap, sym, take, length, ◌∙◌}
-use Rattle.std.proofs.lemmas.Option.{IfSome_then}
-use Rattle.lic_norm.proofs.pieces.piece_reader.ended_lines.Goals as goal
 
 start_of : (n : ℕ) (xs lines : List ℕ) → lines ≡ take n xs → lines ≡ take (length lines) xs
 start_of n xs lines is = is ∙ by n xs ∙ ap (λ l. take (length l) xs) (sym is)

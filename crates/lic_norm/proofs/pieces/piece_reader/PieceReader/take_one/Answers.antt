@@ -7,7 +7,7 @@ use Rattle.lic_lines.specs.Cells.{line_cells}
 use Rattle.lic_lines.specs.Runs.{runs_joined}
 use Rattle.lic_trim.specs.Sources.{unplaced, without_dropped}
 use Rattle.lic_lines.specs.Tokens.{line_tokens}
-use Rattle.lic_norm.specs.Pieces.{bare_token, part_of, piece_cells, piece_tokens}
+use Rattle.lic_norm.specs.Pieces.{bare_token, part_of, piece_tokens}
 use Rattle.lic_norm.proofs.EndedLines.{line_tokens-bare}
 use Rattle.lic_norm.proofs.PieceLines.{piece_cells-first, piece_tokens-first}
 use Rattle.lic_norm.proofs.pieces.piece_reader.PieceReader.take_one.Goals as goal
