@@ -16,6 +16,7 @@ pub mod ReaderLemmas
 pub mod ReadingLemmas
 pub mod AsciiLines
 pub mod StretchTokens
+pub mod TakenSteps
 pub mod TextLemmas
 pub mod BareTokens
 pub mod PieceLines

@@ -1,7 +1,7 @@
 -- How far the reading of an input has come.
-use Rattle.std.specs.Prelude.{◌≡◌, ◌≢◌, ◌≤◌, List, length, take, drop, map, All}
+use Rattle.std.specs.Prelude.{◌≡◌, ◌≢◌, ◌≤◌, ◌++◌, ℕ, List, length, take, drop, map, All}
 use Rattle.lic_kind.specs.LineRules.{rules_of}
-use Rattle.lic_lines.specs.Tokens.{Token}
+use Rattle.lic_lines.specs.Tokens.{Token, single_signs}
 use Rattle.lic_phrases.specs.Rewriting.{SpannedText}
 use Rattle.lic_phrases.specs.Settling.{Settles}
 use Rattle.lic_phrases.specs.TokenTexts.{HaveTokenTexts}
@@ -19,6 +19,12 @@ pub record HasTaken (rewriting : Rewriting) (taken : List Token) : Type 0 where
   pub listed : rewriting.tokens ≡ map reported settled
   pub known : HaveTokenTexts rewriting.phrases.now.phrases
   pub texts : HaveTexts taken
+
+-- Of these tokens those from the number `i` on and before the number `next` have been taken, each copyright sign as one.
+abbrev pub HasTakenUpTo : List Token → ℕ → ℕ → Rewriting → Rewriting → Type 0
+HasTakenUpTo tokens i next before after =
+    (taken : List Token) → HasTaken before taken → (front : List Token) × HasTaken after (taken ++ front)
+    × (front ++ single_signs (drop next tokens) ≡ single_signs (drop i tokens))
 
 -- some tokens have been taken, or none yet
 pub record HasTakenSome (rewriting : Rewriting) : Type 0 where

@@ -1,10 +1,10 @@
 //! From first tokens to the tokens of the rewriting, as they are kept.
-ghost use Rattle.std.specs.Prelude.{◌≡◌, ◌++◌, ◌∷◌, ◌<◌, ◌≤◌, [], true, List, length, drop, take, map, IfOk, IsAscii, OnOk};
+ghost use Rattle.std.specs.Prelude.{◌≡◌, ◌++◌, ◌∷◌, ◌<◌, ◌≤◌, ◌+◌, [], true, List, length, drop, map, min, IfOk, OnOk};
 ghost use Rattle.lic_kind.specs.LineRules.{rules_of};
 ghost use Rattle.lic_lines.specs.Tokens.{Token, single_signs, text_tokens_after, token_in, tokens_in};
 ghost use Rattle.lic_phrases.specs.Rewriting.{rewritten};
 ghost use Rattle.lic_phrases.specs.TokenTexts.{HaveTokenTexts, IsTokenText};
-ghost use Rattle.lic_norm.specs.Reading.{HasTaken, HasTakenSome};
+ghost use Rattle.lic_norm.specs.Reading.{HasTaken, HasTakenSome, HasTakenUpTo};
 ghost use Rattle.lic_norm.specs.Spans.{HaveTexts};
 ghost use Rattle.lic_norm.specs.Tokens.{reported};
 
@@ -126,44 +126,6 @@ impl<'w> Rewriting<'w> {
         })
     }
 
-    /// Takes the next token, with whose text these letters begin, and lists those that are settled then.
-    #[inline(always)]
-    fn take_letters(
-        &mut self,
-        alloc: Global,
-        text: &str,
-        letters: &str,
-        start: u32,
-        end: u32,
-        after_blank: bool,
-    ) -> Result<(), AllocError>
-        requires emptied { self.old.settled.items ≡ [] }
-        requires before { HasTakenSome self.old }
-        requires text { IsTokenText text.now }
-        requires front { text.now ≡ take (length text.now) letters.now }
-        requires ascii { IsAscii letters.now }
-        ensures taken { OnOk result ((taken : List Token) → HasTaken self.old taken
-            → HasTaken self.new (taken
-            ++ (record {
-              text = text.now;
-              start = start;
-              end = end;
-              after_blank = after_blank;
-            }) ∷ [])) }
-        ensures phrases { self.new.phrases.now ≡ self.old.phrases.now }
-        ensures emptied { OnOk result (self.new.settled.items ≡ []) }
-    {
-        if self.rewriter.lets_pass(self.phrases, text) {
-            return self.tokens.push_front(text, letters, start, end);
-        }
-        self.push(FirstToken {
-            text: SmallString::from_str(alloc, text)?,
-            start,
-            end,
-            after_blank,
-        })
-    }
-
     /// Takes these tokens, and lists those that are settled then.
     #[inline(always)]
     fn take_all(&mut self, alloc: Global, tokens: &[FirstToken]) -> Result<(), AllocError>
@@ -182,6 +144,67 @@ impl<'w> Rewriting<'w> {
         Ok(())
     }
 
+    /// Takes tokens of lines of ASCII, from the number `i` on, as long as each is settled at once and as it is. Gives the number of
+    /// the next.
+    #[inline(never)]
+    fn take_plain(&mut self, stretch: &Stretch<'_>, i: usize) -> Result<usize, AllocError>
+        requires within { i ≤ length stretch.now }
+        requires texts { HaveTexts stretch.now }
+        ensures from { IfOk result (λ next. i ≤ next) }
+        ensures within { IfOk result (λ next. next ≤ length stretch.now) }
+        ensures taken { IfOk result (λ next. HasTakenUpTo stretch.now i next self.old self.new) }
+        ensures phrases { self.new.phrases.now ≡ self.old.phrases.now }
+        ensures settled { self.new.settled.items ≡ self.old.settled.items }
+    {
+        if !self.rewriter.keeps_none() {
+            return Ok(i);
+        }
+        let mut next = i;
+        while next < stretch.len() {
+            let text = stretch.text(next);
+            if stretch.is_sign(next, text) || !Rewriter::leaves(self.phrases, text) {
+                return Ok(next);
+            }
+            let letters = stretch.letters_from(next);
+            let (start, end) = (stretch.start(next), stretch.end(next));
+            self.tokens.push_front(text, letters, start, end)?;
+            next += 1;
+        }
+        Ok(next)
+    }
+
+    /// Takes the token number `i` of lines of ASCII, if there is one, or the copyright sign that begins there, and lists the tokens
+    /// that are settled then. Gives the number of the next.
+    #[inline(never)]
+    fn take_next(
+        &mut self,
+        alloc: Global,
+        stretch: &Stretch<'_>,
+        i: usize,
+    ) -> Result<usize, AllocError>
+        requires within { i ≤ length stretch.now }
+        requires emptied { self.old.settled.items ≡ [] }
+        requires before { HasTakenSome self.old }
+        requires texts { HaveTexts stretch.now }
+        ensures from { IfOk result (λ next. min (i + 1) (length stretch.now) ≤ next) }
+        ensures within { IfOk result (λ next. next ≤ length stretch.now) }
+        ensures taken { IfOk result (λ next. HasTakenUpTo stretch.now i next self.old self.new) }
+        ensures phrases { self.new.phrases.now ≡ self.old.phrases.now }
+        ensures emptied { OnOk result (self.new.settled.items ≡ []) }
+    {
+        if i >= stretch.len() {
+            return Ok(i);
+        }
+        let text = stretch.text(i);
+        let (start, blank) = (stretch.start(i), stretch.after_blank(i));
+        if stretch.is_sign(i, text) {
+            self.take_text(alloc, "copyright", start, stretch.end(i + 2), blank)?;
+            return Ok(i + 3);
+        }
+        self.take_text(alloc, text, start, stretch.end(i), blank)?;
+        Ok(i + 1)
+    }
+
     /// Takes the tokens of lines of ASCII, each copyright sign as one, and lists the tokens that are settled then.
     pub(crate) fn take_stretch(
         &mut self,
@@ -198,16 +221,8 @@ impl<'w> Rewriting<'w> {
         self.tokens.reserve(stretch.len(), stretch.bytes())?;
         let mut i = 0;
         while i < stretch.len() {
-            let text = stretch.text(i);
-            let (start, blank) = (stretch.start(i), stretch.after_blank(i));
-            if stretch.is_sign(i, text) {
-                self.take_text(alloc, "copyright", start, stretch.end(i + 2), blank)?;
-                i += 3;
-            } else {
-                let letters = stretch.letters_from(i);
-                self.take_letters(alloc, text, letters, start, stretch.end(i), blank)?;
-                i += 1;
-            }
+            i = self.take_plain(stretch, i)?;
+            i = self.take_next(alloc, stretch, i)?;
         }
         Ok(())
     }

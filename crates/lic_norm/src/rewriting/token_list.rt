@@ -1,7 +1,7 @@
 //! Tokens as they are kept.
-ghost use Rattle.std.specs.Prelude.{◌≡◌, ◌<◌, ◌≤◌, ◌+◌, ◌++◌, ◌∷◌, [], All, IsAscii, IsOk, IsUtf8, length, map, slice_index_or, take, IfOk, OnOk};
-ghost use Rattle.std.specs.String.{string_bytes, string_capacity, string_len};
-ghost use Rattle.lic_phrases.specs.Spelling.{is_parted, spelled};
+ghost use Rattle.std.specs.Prelude.{◌≡◌, ◌<◌, ◌++◌, ◌∷◌, [], All, IsAscii, IsUtf8, length, map, slice_index_or, take, IfOk, OnOk};
+ghost use Rattle.std.specs.String.{string_bytes};
+ghost use Rattle.lic_phrases.specs.Spelling.{blank_if, is_parted, spelled};
 ghost use Rattle.lic_phrases.specs.TokenTexts.{IsTokenText};
 ghost use Rattle.lic_phrases.specs.Waiting.{AreKnown, spanned_in};
 
@@ -76,8 +76,7 @@ const COPIED: usize = 16;
 fn copy_text(spelling: &mut String, text: &str, letters: &str) -> Result<(), AllocError>
     requires front { text.now ≡ take (length text.now) letters.now }
     requires ascii { IsAscii letters.now }
-    ensures bytes { OnOk result (string_bytes spelling.new ≡ string_bytes spelling.old ++ text.now) }
-    ensures succeeds { string_len spelling.old + (length text.now + COPIED) ≤ string_capacity spelling.old → IsOk result }
+    ensures { OnOk result (string_bytes spelling.new ≡ string_bytes spelling.old ++ text.now) }
 {
     if text.len() > COPIED || letters.len() < COPIED {
         return spelling.push_str(text);
@@ -85,6 +84,38 @@ fn copy_text(spelling: &mut String, text: &str, letters: &str) -> Result<(), All
     let end = spelling.len() + text.len();
     spelling.push_str(&letters[..COPIED])?;
     spelling.truncate(end);
+    Ok(())
+}
+
+/// Adds a text with which these letters begin, after a blank or not, and then its entry.
+#[inline(always)]
+fn add_front(
+    spelling: &mut String,
+    entries: &mut Vec<Entry>,
+    blank: bool,
+    text: &str,
+    letters: &str,
+    start: u32,
+    end: u32,
+) -> Result<(), AllocError>
+    requires front { text.now ≡ take (length text.now) letters.now }
+    requires ascii { IsAscii letters.now }
+    ensures bytes { OnOk result (string_bytes spelling.new ≡ string_bytes spelling.old ++ (blank_if blank ++ text.now)) }
+    ensures entry { OnOk result (entries.new.items ≡ entries.old.items ++ (record {
+      text_end = length (string_bytes spelling.new);
+      start = start;
+      end = end;
+    }) ∷ []) }
+{
+    if blank {
+        spelling.push(' ')?;
+    }
+    copy_text(spelling, text, letters)?;
+    entries.push(Entry {
+        text_end: spelling.len(),
+        start,
+        end,
+    })?;
     Ok(())
 }
 
@@ -158,7 +189,7 @@ impl TokenList {
         Ok(())
     }
 
-    /// Adds a token with whose text these letters begin.
+    /// Adds a token with whose text these letters begin. Where memory lacks, the list is empty then.
     #[inline(always)]
     pub(crate) fn push_front(
         &mut self,
@@ -177,18 +208,15 @@ impl TokenList {
             }) ∷ []) }
     {
         let blank = is_parted(self.spelling.as_str(), text);
-        // Memory for the text comes first: once an entry is added, nothing fails.
-        self.spelling.reserve(1 + (text.len() + COPIED))?;
-        self.entries.push(Entry {
-            text_end: self.spelling.len() + usize::from(blank) + text.len(),
-            start,
-            end,
-        })?;
-        if blank {
-            self.spelling.push(' ')?;
+        let (spelling, entries) = (&mut self.spelling, &mut self.entries);
+        match add_front(spelling, entries, blank, text, letters, start, end) {
+            Ok(()) => Ok(()),
+            Err(error) => {
+                self.spelling.clear();
+                self.entries.clear();
+                Err(error)
+            }
         }
-        copy_text(&mut self.spelling, text, letters)?;
-        Ok(())
     }
 
     /// Adds tokens as the rewriting gives them.

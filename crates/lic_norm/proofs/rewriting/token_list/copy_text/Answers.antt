@@ -19,8 +19,8 @@ truncate-requires c = λ within.
     (subst (λ l. IsSplitPoint l (length old + length text)) (sym pushed)
     (may_be_cut old letters text 16 c.requires.front short c.requires.ascii wide))
 
-pub returns-clause-bytes : goal.returns-clause-bytes
-returns-clause-bytes c =
+pub returns : goal.returns
+returns c =
     let old = string_bytes c.args.spelling.now in
     let text = c.args.text.now in
     let letters = c.args.letters.now in
