@@ -21,6 +21,8 @@ COMMON = "/usr/share/common-licenses"
 # identifiers of SPDX whose names in Debian's format differ by more than `+`
 NAMES = {"MIT": "Expat", "Artistic-1.0-Perl": "Artistic", "BSD-2-Clause": "BSD-2-clause", "BSD-3-Clause": "BSD-3-clause",
          "BSD-4-Clause": "BSD-4-clause", "PSF-2.0": "Python", "Python-2.0": "Python"}
+# a permission beside a licence
+EXCEPTION = re.compile(r"([A-Za-z]+-exception)-([\d.]+-)?notice")
 VERSIONED = re.compile(r"((?:[AL]?GPL|GFDL)-\d+(?:\.\d+)?)(-or-later|-only|\+)?$")
 
 
@@ -52,6 +54,20 @@ def licence_of(names):
     return both.join(parts)
 
 
+def exceptions_of(found):
+    """The permissions beside a licence in a file, each with a match of it."""
+    named = ((EXCEPTION.match(it.id), it) for it in found)
+    return {it[1]: match for it, match in named if it}
+
+
+def licences_of(found):
+    """All that a file has. A permission counts where it is the only one, beside one licence of the GPL's family."""
+    names, exceptions = lines.answer(found), exceptions_of(found)
+    if len(names) == 1 and len(exceptions) == 1 and re.match("[AL]?GPL-", names[0]):
+        return [f"{names[0]} WITH {next(iter(exceptions))}"]
+    return names
+
+
 def globs(answers):
     """The files of each answer, or folders whose files all have it; `*` for the most frequent one, which comes first."""
     below = collections.defaultdict(collections.Counter)
@@ -76,6 +92,7 @@ def paragraph_of(name, text):
     common = name.split(" with ")[0].removesuffix("+")
     if os.path.exists(os.path.join(COMMON, common)):
         body = [f"On Debian systems, the text of this licence is in {COMMON}/{common}."]
+        body += ["", *text.split("\n")] if common != name.removesuffix("+") and text else []
     else:
         body = text.split("\n") if text else ["FIXME"]
     return f"License: {name}\n" + "\n".join(f" {line.rstrip()}" if line.strip() else " ." for line in body)
@@ -90,8 +107,11 @@ def text_of(match):
 
 def page(found, name):
     """The whole file, of the matches of each file."""
-    answers = {file: licence_of(lines.answer(it)) or "FIXME" for file, it in found.items() if any(one.licence != "" for one in it)}
+    answers = {file: licence_of(licences_of(it)) or "FIXME" for file, it in found.items() if any(one.licence != "" for one in it)}
     texts = {name_of(one.id): one for it in found.values() for one in it if lines.SUFFIX.sub("", one.id) == one.id and one.licence}
+    for file, answer in answers.items():
+        if " with " in answer and exceptions_of(found[file]):
+            texts.setdefault(answer, next(iter(exceptions_of(found[file]).values())))
     written = [f"Format: {FORMAT}" + (f"\nUpstream-Name: {name}" if name else "")]
     for answer, patterns in globs(answers).items() if answers else ():
         holders = notices.merged(itertools.chain.from_iterable(notices.read(file) for file in sorted(answers) if answers[file] == answer))

@@ -55,6 +55,13 @@ FILES = [
     (["MIT-mention", "GPL-2.0-or-later-notice"], ["GPL-2.0-or-later"]), (["GPL-mention", "GPL-2.0-mention"], ["GPL-2.0"]), (["BSD-mention"], ["BSD"]),
     (["no-grant-mention"], []), (["MIT", "ISC-identifier"], ["ISC", "MIT"]), (["unknown-identifier"], ["unknown"]),
 ]
+# the templates that are found in a file, and its field of debian/copyright
+PERMISSIONS = [
+    (["GPL-2.0-or-later-notice", "Autoconf-exception-notice"], "GPL-2+ with Autoconf exception"), (["MIT", "Autoconf-exception-notice"], "Expat"),
+    (["GPL-3.0-or-later-notice-b", "GCC-exception-3.1-notice", "GPL-mention"], "GPL-3+ with GCC exception"),
+    (["GPL-2.0-or-later-notice", "Autoconf-exception-notice", "Libtool-exception-notice"], "GPL-2+"),
+    (["FSFULLR-notice", "GPL-2.0-or-later-notice", "Libtool-exception-notice"], "FSFULLR and GPL-2+"),
+]
 
 
 def main():
@@ -67,6 +74,7 @@ def main():
     cases += [(text, notices.found(text), expected) for text, expected in NOTICES]
     cases += [(them, notices.merged(them), expected) for them, expected in MERGED]
     cases += [(ids, lines.answer([lines.Match("f", id, 0) for id in ids]), answer) for ids, answer in FILES]
+    cases += [(ids, debian.licence_of(debian.licences_of([lines.Match("f", id, 0) for id in ids])), field) for ids, field in PERMISSIONS]
     for what, came, expected in cases:
         tally.add(what, [] if came == expected else [f"{came}, expected {expected}"])
     return tally.end()
