@@ -6,11 +6,14 @@ ghost use Rattle.lic_lines.specs.SmallStrings.{bytes_at};
 use arrayvec::ArrayString;
 use std::alloc::{AllocError, Global};
 
+/// How many bytes of a string lie in the value itself at most.
+const MOST_HERE: usize = 24;
+
 /// Where the bytes of a string lie.
 #[derive(Drop)]
 enum Place {
     /// In the value itself.
-    Here(ArrayString<24>),
+    Here(ArrayString<MOST_HERE>),
     Apart(String),
 }
 
@@ -40,7 +43,7 @@ impl SmallString {
     pub fn from_str(alloc: Global, text: &str) -> Result<SmallString, AllocError>
         ensures { IfOk result (λ string. small_bytes string ≡ text.now) }
     {
-        if text.len() <= 24 {
+        if text.len() <= MOST_HERE {
             return Ok(SmallString::short(text));
         }
         Ok(SmallString {

@@ -2,6 +2,8 @@ pub mod Rewriting
 pub mod Settling
 pub mod Held
 pub mod PhraseLists
+pub mod FirstTexts
+pub mod Firsts
 pub mod Waiting
 pub mod Spelling
 pub mod Keys

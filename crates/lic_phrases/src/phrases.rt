@@ -1,13 +1,15 @@
 //! Lists of phrases in classes of equivalent words.
 ghost use Rattle.std.specs.Prelude.{◌≡◌, ◌≤◌, ◌<◌, ◌∷◌, ◌++◌, [], IfOk, IfSome, OnOk, OnErr, length, map};
-ghost use Rattle.std.specs.Prelude.{option_map, slice_index_or, string_bytes, unwrap_or};
-ghost use Rattle.indexmap.specs.IndexMap.{get_by_text, IsUnchanged};
+ghost use Rattle.std.specs.Prelude.{option_map, slice_index_or, string_bytes};
 ghost use Rattle.lic_phrases.specs.PhraseLists.{no_phrases, phrase_with, with_added, longest_from};
 ghost use Rattle.lic_phrases.specs.PhraseLists.{key_of, key_texts, phrase_of, IsKey};
-ghost use Rattle.lic_phrases.specs.PhraseLists.{IsRaised, HaveTokens};
+ghost use Rattle.lic_phrases.specs.PhraseLists.{HaveTokens};
 ghost use Rattle.lic_phrases.specs.Waiting.{IsKnownText, spanned_in};
 
+mod firsts;
+
 use crate::final_token::{FinalToken, TokenText};
+use crate::phrases::firsts::Firsts;
 use indexmap::IndexMap;
 use std::alloc::{AllocError, Global};
 use std::marker::Model;
@@ -25,13 +27,13 @@ pub struct Phrases {
     /// The class of each phrase, by its key.
     classes: IndexMap<Vec<u8>, usize>,
     /// For each text that begins a phrase, how many tokens such a phrase has at most.
-    most_from: IndexMap<String, usize>,
+    most_from: Firsts,
     spellings: Vec<String>,
 }
 
 impl Model for Phrases {
-    ghost use Rattle.std.specs.Prelude.{map, string_bytes, unwrap_or};
-    ghost use Rattle.indexmap.specs.IndexMap.{get_by_text};
+    ghost use Rattle.std.specs.Prelude.{map, string_bytes};
+    ghost use Rattle.lic_phrases.specs.Firsts.{bound_from};
     ghost use Rattle.lic_phrases.specs.PhraseLists.{PhraseList, phrases_in, IsStored};
 
     ghost Value = { PhraseList };
@@ -42,8 +44,7 @@ impl Model for Phrases {
     } };
 
     ghost invariant = { λ a. IsStored (λ k. k.items) a.classes.entries
-        (map string_bytes a.spellings.items)
-        (λ text. unwrap_or (get_by_text a.most_from text) 0) };
+        (map string_bytes a.spellings.items) (bound_from a.most_from) };
 }
 
 /// The key of a phrase with these texts.
@@ -58,25 +59,6 @@ fn key_of(alloc: Global, texts: &[String]) -> Result<Vec<u8>, AllocError>
     Ok(key)
 }
 
-/// Raises the bound on how many tokens a phrase has that begins with this text.
-fn raise(
-    alloc: Global,
-    most_from: &mut IndexMap<String, usize>,
-    text: &str,
-    count: usize,
-) -> Result<(), AllocError>
-    requires { count ≤ 8 }
-    ensures raised { OnOk result (IsRaised text.now count
-        (λ t. unwrap_or (get_by_text most_from.old t) 0)
-        (λ t. unwrap_or (get_by_text most_from.new t) 0)) }
-    ensures err { OnErr result (IsUnchanged most_from.old most_from.new) }
-{
-    let most = most_from.get(text).copied().unwrap_or(0).max(count);
-    let first = String::from_str(alloc, text)?;
-    most_from.insert(first, most)?;
-    Ok(())
-}
-
 impl Phrases {
     /// A list without phrases.
     pub fn new(alloc: Global) -> Phrases
@@ -84,7 +66,7 @@ impl Phrases {
     {
         Phrases {
             classes: IndexMap::new(alloc),
-            most_from: IndexMap::new(alloc),
+            most_from: Firsts::new(alloc),
             spellings: Vec::new(alloc),
         }
     }
@@ -118,7 +100,7 @@ impl Phrases {
         ensures err { OnErr result (self.new ≡ self.old) }
     {
         let key = key_of(alloc, texts)?;
-        raise(alloc, &mut self.most_from, texts[0].as_str(), texts.len())?;
+        self.most_from.raise(alloc, texts[0].as_str(), texts.len())?;
         self.classes.insert(key, class)?;
         Ok(())
     }
@@ -143,15 +125,13 @@ impl Phrases {
 
     /// How many tokens a phrase has at most that begins with a token of this text: 0 where there is
     /// no such phrase.
+    #[inline(always)]
     pub(crate) fn most_from(&self, text: &str) -> usize
         ensures bound { longest_from self.now.phrases text.now ≤ result }
         ensures short { result ≤ MAX_TOKENS }
         ensures some { HaveTokens self.now.phrases }
     {
-        if self.most_from.is_empty() {
-            return 0;
-        }
-        self.most_from.get(text).copied().unwrap_or(0)
+        self.most_from.most_from(text)
     }
 
     /// The class of the phrase with this key.

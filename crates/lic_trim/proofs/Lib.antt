@@ -12,6 +12,7 @@ pub mod Stops
 pub mod SpaceRows
 pub mod BeginningTexts
 pub mod PieceLengths
+pub mod SeparatorLengths
 pub mod RowPlaces
 pub mod ItemLemmas
 pub mod NoItems

@@ -13,7 +13,7 @@ use Rattle.lic_kind.specs.Kinds.{kind_of, is_mark_kind}
 use Rattle.lic_kind.proofs.KindLemmas.{kind_of-white}
 use Rattle.lic_kind.specs.LineRules.{LineRules}
 use Rattle.lic_trim.specs.Lines.{is_space, is_separator, repeats}
-use Rattle.lic_trim.specs.PieceLengths.{has_bit, begins_with_length, begins_with_spaced, goes_on, AreLengths}
+use Rattle.lic_trim.specs.PieceLengths.{has_bit, begins_with_length, begins_with_separator, begins_with_spaced, goes_on, AreLengths}
 use Rattle.lic_trim.specs.Texts.{ends_in}
 use Rattle.lic_trim.specs.Walks.{Side, Front, End, walked, is_walked_piece, side_texts, side_spaced, side_repeated, begins_with_text, opens_in, may_open}
 use Rattle.lic_trim.proofs.PieceEnds.{ends_in-snoc, separator_parts}
@@ -169,7 +169,7 @@ repeated_is way (c ∷ rest) n some le off = same_truth _ _
     (repeats_parts c rest (reverse (take n way)) h))
     (repeats_here way c rest n le)
 
--- ---- white space and separators
+-- ---- white space
 
 space_is : (way : List ℕ) (n : ℕ) → 0 < n → n ≤ length way → is_space (take n way) ≡ (is_whitespace (get_or way 0 0) && (n == 1))
 space_is way zero some le = absurd (omega arith)
@@ -179,53 +179,26 @@ space_is (c ∷ []) (suc (suc n)) some le = absurd (omega arith)
 space_is (c ∷ d ∷ way) (suc (suc n)) some le =
     sym (ap (λ b. is_whitespace c && b) (apart (suc (suc n)) 1 (λ e. omega arith)) ∙ and-false (is_whitespace c))
 
--- white space comes first, or no three of one same character
-abbrev pub NoRun : List ℕ → Type 0
-NoRun way = (is_whitespace (get_or way 0 0) ≡ true) ⊎ (2 < length way → get_or way 1 0 ≡ get_or way 0 0 → get_or way 2 0 ≢ get_or way 0 0)
-
-no_separator : (way : List ℕ) (n : ℕ) → n ≤ length way → NoRun way → is_separator (take n way) ≡ false
-no_separator way n le apart = ⊎_elim (λ h. absurd (never h)) (λ none. none) (cases_Bool (is_separator (take n way)))
-  where
-    never : is_separator (take n way) ≡ true → ⊥
-    never h =
-        let parts = separator_parts (take n way) h in
-        let size : length (take n way) ≡ n = length-take-le n way le in
-        let long : 3 ≤ length (take n way) = parts.0 in
-        let each = λ (i : ℕ) (lt : i < 3). sym (get_or-take n way i 0 (omega (arith, long, size))) ∙ parts.3 i (omega (arith, long, size)) in
-        ⊎_elim
-        (λ light. false≢true (ap is_mark_kind (sym (kind_of-white (get_or way 0 0) light))
-        ∙ ap (λ d. is_mark_kind (kind_of d)) (each 0 (omega arith)) ∙ parts.2))
-        (λ other. other (omega (arith, long, size)) (each 1 (omega arith) ∙ sym (each 0 (omega arith))) (each 2 (omega arith) ∙ sym (each 0 (omega arith))))
-        apart
-
--- the same at a place of a line
-pub no_run_at : (line : List ℕ) (place : ℕ) → (is_whitespace (get_or line place 0) ≡ true)
-    ⊎ (place + 2 < length line → get_or line (place + 1) 0 ≡ get_or line place 0 → get_or line (place + 2) 0 ≢ get_or line place 0)
-    → NoRun (drop place line)
-no_run_at line place how =
-    let at = λ (i : ℕ). get_or-drop place line i 0 in
-    let start : place + 0 ≡ place = omega arith in
-    let first : get_or (drop place line) 0 0 ≡ get_or line place 0 = at 0 ∙ ap (λ k. get_or line k 0) start in
-    ⊎_elim
-    (λ light. inl (ap is_whitespace first ∙ light))
-    (λ other. inr (λ far same thrice. other (omega (arith, length-drop place line)) (sym (at 1) ∙ same ∙ first) (sym (at 2) ∙ thrice ∙ first)))
-    how
-
 -- ---- pieces
+
+-- whether a white space character comes first and is all, or a separator
+abbrev pub blank : LineRules → List ℕ → ℕ → Bool
+blank rules way n = (is_whitespace (get_or way 0 0) && (n == 1)) || begins_with_separator rules.separators n way
 
 -- which lengths the pieces have, kind by kind
 abbrev pub lengths : LineRules → Side → List ℕ → ℕ → Bool
 lengths rules side way n =
-    ((is_whitespace (get_or way 0 0) && (n == 1)) || list_any (λ t. begins_with_length n way (walked side t)) (side_texts rules side))
+    (blank rules way n || list_any (λ t. begins_with_length n way (walked side t)) (side_texts rules side))
     || (list_any (λ t. begins_with_spaced n way (walked side t)) (side_spaced rules side) || list_any (λ t. begins_with_length n way (reverse t)) (side_repeated rules side))
 
-piece_is : (rules : LineRules) (side : Side) (way : List ℕ) (n : ℕ) → 0 < n → n ≤ length way → NoRun way
+piece_is : (rules : LineRules) (side : Side) (way : List ℕ) (n : ℕ) → 0 < n → n ≤ length way
     → list_any (goes_on way) (side_repeated rules side) ≡ false → is_walked_piece rules side (take n way) ≡ lengths rules side way n
-piece_is rules side way n some le apart off =
+piece_is rules side way n some le off =
     let x = take n way in
-    let spaces : (is_space x || (rules.separators && is_separator x)) ≡ (is_whitespace (get_or way 0 0) && (n == 1)) =
-    ap₂ (λ a b. a || (rules.separators && b)) (space_is way n some le) (no_separator way n le apart)
-    ∙ ap (λ b. (is_whitespace (get_or way 0 0) && (n == 1)) || b) (and-false rules.separators) ∙ or-false (is_whitespace (get_or way 0 0) && (n == 1)) in
+    let marks : (rules.separators && is_separator x) ≡ begins_with_separator rules.separators n way =
+    sym (ap (λ b. b && (rules.separators && is_separator x)) (le-leb n (length way) le)) in
+    let spaces : (is_space x || (rules.separators && is_separator x)) ≡ blank rules way n =
+    ap₂ (λ a b. a || b) (space_is way n some le) marks in
     walked_piece rules side x
     ∙ ap₂ (λ a b. a || b)
     (ap₂ (λ a b. a || b) spaces (same_any _ _ (side_texts rules side) (λ t. text_is way (walked side t) n le)))
@@ -255,20 +228,24 @@ no_space_beyond n way some far = ⊎_elim
     (λ none. none)
     (cases_Bool (is_whitespace (get_or way 0 0) && (n == 1)))
 
+no_blank_beyond : (rules : LineRules) (n : ℕ) (way : List ℕ) → 0 < length way → length way < n → blank rules way n ≡ false
+no_blank_beyond rules n way some far =
+    ap₂ (λ a b. a || b) (no_space_beyond n way some far) (ap (λ b. b && (rules.separators && is_separator (take n way))) (lt-leb n (length way) far))
+
 -- the bits of all kinds are the lengths of the pieces
-pub all_lengths : (rules : LineRules) (side : Side) (way : List ℕ) (mask : ℕ) → 0 < length way → NoRun way
+pub all_lengths : (rules : LineRules) (side : Side) (way : List ℕ) (mask : ℕ) → 0 < length way
     → list_any (goes_on way) (side_repeated rules side) ≡ false → ((n : ℕ) → has_bit mask n ≡ lengths rules side way n) → AreLengths rules side way mask
-all_lengths rules side way mask long apart off is = record {
+all_lengths rules side way mask long off is = record {
   each = λ n some. is n ∙ ⊎_elim
       (λ far. none n far ∙ sym (ap (λ b. b && is_walked_piece rules side (take n way)) (lt-leb n (length way) far)))
-      (λ near. sym (piece_is rules side way n some near apart off) ∙ sym (ap (λ b. b && is_walked_piece rules side (take n way)) (le-leb n (length way) near)))
+      (λ near. sym (piece_is rules side way n some near off) ∙ sym (ap (λ b. b && is_walked_piece rules side (take n way)) (le-leb n (length way) near)))
       (cases_lt (length way) n);
 }
   where
     none : (n : ℕ) → length way < n → lengths rules side way n ≡ false
     none n far =
         ap₂ (λ a b. a || b)
-        (ap₂ (λ a b. a || b) (no_space_beyond n way long far) (no_any _ (side_texts rules side) (λ t. no_text_beyond n way (walked side t) far)))
+        (ap₂ (λ a b. a || b) (no_blank_beyond rules n way long far) (no_any _ (side_texts rules side) (λ t. no_text_beyond n way (walked side t) far)))
         (ap₂ (λ a b. a || b) (no_any _ (side_spaced rules side) (λ t. no_spaced_beyond n way (walked side t) far))
         (no_any _ (side_repeated rules side) (λ t. no_text_beyond n way (reverse t) far)))
 
@@ -339,9 +316,9 @@ absorbed false false true false e f g = sym (f refl)
 absorbed false true c d e f g = absurd (false≢true (sym e))
 absorbed false false c true e f g = absurd (false≢true (sym g))
 
-pub space_lengths : (rules : LineRules) (side : Side) (way : List ℕ) (mask : ℕ) → 0 < length way → NoRun way → may_open rules side (get_or way 0 0) ≡ false
-    → ((n : ℕ) → has_bit mask n ≡ (is_whitespace (get_or way 0 0) && (n == 1))) → AreLengths rules side way mask
-space_lengths rules side way mask long apart closed is =
+pub space_lengths : (rules : LineRules) (side : Side) (way : List ℕ) (mask : ℕ) → 0 < length way → may_open rules side (get_or way 0 0) ≡ false
+    → ((n : ℕ) → has_bit mask n ≡ blank rules way n) → AreLengths rules side way mask
+space_lengths rules side way mask long closed is =
     let c = get_or way 0 0 in
     let texts = list_any (λ t. opens_in c (walked side t)) (side_texts rules side) in
     let spaced = list_any (λ t. opens_in c (walked side t)) (side_spaced rules side) in
@@ -350,10 +327,10 @@ space_lengths rules side way mask long apart closed is =
     let second = or_none spaced repeated first.1 in
     record {
       each = λ n some. is n ∙ ⊎_elim
-          (λ far. no_space_beyond n way long far ∙ sym (ap (λ b. b && is_walked_piece rules side (take n way)) (lt-leb n (length way) far)))
-          (λ near. sym (piece_is rules side way n some near apart (none_goes_on side second.1)
-          ∙ absorbed (is_whitespace c && (n == 1)) _ _ _ (any_not_opened n way (walked side) (side_texts rules side) some long first.0)
-          (any_not_opened_spaced n way (walked side) (side_spaced rules side) long second.0) (none_repeated n some side second.1))
+          (λ far. no_blank_beyond rules n way long far ∙ sym (ap (λ b. b && is_walked_piece rules side (take n way)) (lt-leb n (length way) far)))
+          (λ near. sym (piece_is rules side way n some near (none_goes_on side second.1)
+          ∙ absorbed (blank rules way n) _ _ _ (any_not_opened n way (walked side) (side_texts rules side) some long first.0)
+          (λ h. or_left (is_whitespace c && (n == 1)) _ (any_not_opened_spaced n way (walked side) (side_spaced rules side) long second.0 h)) (none_repeated n some side second.1))
           ∙ sym (ap (λ b. b && is_walked_piece rules side (take n way)) (le-leb n (length way) near)))
           (cases_lt (length way) n);
     }

@@ -3,6 +3,7 @@ use Rattle.std.specs.Prelude.{ℕ, suc, Bool, false, ◌≡◌, ◌<◌, ◌&&�
 use Rattle.std.specs.Char.{is_whitespace}
 use Rattle.std.specs.Int.{bit_at}
 use Rattle.lic_kind.specs.LineRules.{LineRules}
+use Rattle.lic_trim.specs.Lines.{is_separator}
 use Rattle.lic_trim.specs.Walks.{Side, is_walked_piece, begins_with_text}
 
 -- whether bit n of a mask is set
@@ -12,6 +13,10 @@ has_bit mask n = bit_at mask n == 1
 -- whether this way begins with the text, which has n characters
 abbrev pub begins_with_length : ℕ → List ℕ → List ℕ → Bool
 begins_with_length n way text = begins_with_text way text && (length text == n)
+
+-- whether this way begins with a separator of n characters, where separators are pieces
+abbrev pub begins_with_separator : Bool → ℕ → List ℕ → Bool
+begins_with_separator separators n way = nat_le n (length way) && (separators && is_separator (take n way))
 
 -- whether this way begins with the text and a white space character, n characters in all
 abbrev pub begins_with_spaced : ℕ → List ℕ → List ℕ → Bool

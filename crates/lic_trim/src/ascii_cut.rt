@@ -47,7 +47,7 @@ fn spaces(side: Side, line: &[u8]) -> usize
 
 /// Whether three of one same byte are at this place of the way.
 #[inline(always)]
-pub(crate) fn three_alike(side: Side, line: &[u8], place: usize) -> bool
+fn three_alike(side: Side, line: &[u8], place: usize) -> bool
     requires { place < length line.now }
     ensures { result ≡ false → place + 2 < length line.now
         → slice_index (walked side line.now) (place + 1) ≡ slice_index (walked side line.now) place

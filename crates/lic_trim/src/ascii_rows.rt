@@ -1,23 +1,29 @@
 //! The longest row of pieces at a side of a line of ASCII, from one place where a row ends to the next.
-ghost use Rattle.std.specs.Prelude.{◌≡◌, ◌≢◌, ◌+◌, ◌<◌, ◌≤◌, ◌&&◌, ◌||◌, ◌==◌, ◌⊎◌, ℕ, suc, true, false, if◌then◌else◌, IfSome};
+ghost use Rattle.std.specs.Prelude.{◌≡◌, ◌≢◌, ◌+◌, ◌<◌, ◌≤◌, ◌&&◌, ◌||◌, ◌==◌, ℕ, suc, true, false, if◌then◌else◌, IfSome};
 ghost use Rattle.std.specs.Prelude.{nat_le, length, take, drop, reverse, slice_index};
 ghost use Rattle.std.specs.Char.{is_whitespace};
 ghost use Rattle.std.specs.List.{list_any};
 ghost use Rattle.lic_kind.specs.LineRules.{texts_of, rules_of};
-ghost use Rattle.lic_trim.specs.PieceLengths.{has_bit, begins_with_length, begins_with_spaced, goes_on, AreLengths};
+ghost use Rattle.lic_trim.specs.PieceLengths.{has_bit, begins_with_length, begins_with_separator, begins_with_spaced, goes_on, AreLengths};
 ghost use Rattle.lic_trim.specs.Texts.{is_row, longest_front};
 ghost use Rattle.lic_trim.specs.Walks.{walked, is_walked_piece, side_repeated};
 ghost use Rattle.lic_trim.specs.Walks.{End};
 
-use crate::ascii_cut::{byte_at, three_alike};
+use crate::ascii_cut::byte_at;
 use crate::ascii_texts::stands;
-use crate::rows::{side_spaced, side_texts};
+use crate::rows::{is_mark, side_spaced, side_texts};
 use crate::side::Side;
 use crate::space_rows::quick_table;
 use lic_kind::{RuleKind, Rules, Texts};
 
 /// The longest text whose length is given by a bit.
 const LONGEST: usize = 62;
+
+/// The longest separator. A longer one is walked over once, and not from each of its places.
+const LONGEST_SEPARATOR: usize = 16;
+
+/// The shortest separator.
+const SHORTEST_SEPARATOR: usize = 3;
 
 /// Bit 1 where the character is white space, which is a piece by itself.
 #[inline(always)]
@@ -151,19 +157,45 @@ fn repeated_lengths(rules: &Rules, side: Side, line: &[u8], place: usize) -> Opt
     }
 }
 
-/// Whether three of one same byte that is no white space are at this place of the way.
+/// How many of one same byte are at this place of the way and right after it.
 #[inline(always)]
-fn is_run(side: Side, line: &[u8], place: usize) -> bool
+fn run_length(side: Side, line: &[u8], place: usize) -> usize
     requires { place < length line.now }
-    ensures { result ≡ false → (is_whitespace (slice_index (walked side line.now) place) ≡ true)
-        ⊎ (place + 2 < length line.now
-        → slice_index (walked side line.now) (place + 1) ≡ slice_index (walked side line.now) place
-        → slice_index (walked side line.now) (place + 2) ≢ slice_index (walked side line.now) place) }
+    ensures within { place + result ≤ length line.now }
+    ensures same { (i : ℕ) → i < result
+        → slice_index (walked side line.now) (place + i) ≡ slice_index (walked side line.now) place }
+    ensures stop { place + result < length line.now
+        → slice_index (walked side line.now) (place + result) ≢ slice_index (walked side line.now) place }
 {
-    if (byte_at(line, side, place) as char).is_whitespace() {
-        return false;
+    let byte = byte_at(line, side, place);
+    let mut count = 1;
+    while count < line.len() - place && byte_at(line, side, place + count) == byte {
+        count += 1;
     }
-    three_alike(side, line, place)
+    count
+}
+
+/// The lengths of the separators that come after this place of the way. Nothing is said where one is very long.
+#[inline(always)]
+fn separator_lengths(rules: &Rules, side: Side, line: &[u8], place: usize) -> Option<u64>
+    requires { place < length line.now }
+    ensures { IfSome result (λ mask. (n : ℕ) → has_bit mask n
+        ≡ begins_with_separator (rules_of rules.now).separators n (drop place (walked side line.now))) }
+{
+    if !rules.separators() {
+        return Some(0);
+    }
+    if !is_mark(byte_at(line, side, place) as char) {
+        return Some(0);
+    }
+    let run = run_length(side, line, place);
+    if run < SHORTEST_SEPARATOR {
+        return Some(0);
+    }
+    if run > LONGEST_SEPARATOR {
+        return None;
+    }
+    Some((1 << (run + 1)) - (1 << SHORTEST_SEPARATOR))
 }
 
 /// The lengths of the pieces that come after this place of the way. Nothing is said where that takes more than a look.
@@ -171,18 +203,16 @@ fn piece_lengths(rules: &Rules, side: Side, line: &[u8], place: usize) -> Option
     requires { place < length line.now }
     ensures { IfSome result (λ mask. AreLengths (rules_of rules.now) side (drop place (walked side line.now)) mask) }
 {
-    if is_run(side, line, place) {
-        return None;
-    }
     let c = byte_at(line, side, place) as char;
     let space = space_length(c);
+    let separators = separator_lengths(rules, side, line, place)?;
     if !quick_table(rules, side, c) {
-        return Some(space);
+        return Some(space | separators);
     }
     let texts = text_lengths(side, side_texts(rules, side), line, place)?;
     let spaced = spaced_lengths(side, side_spaced(rules, side), line, place)?;
     let repeated = repeated_lengths(rules, side, line, place)?;
-    Some((space | texts) | (spaced | repeated))
+    Some(((space | separators) | texts) | (spaced | repeated))
 }
 
 /// The place where a row ends, if one does here by the lowest bit, or else the one before.

@@ -13,7 +13,7 @@ use crate::source::SourceChar;
 use lic_kind::{Kind, RuleKind, Rules, Texts, kind_of};
 use std::alloc::{AllocError, Global};
 
-fn is_mark(c: char) -> bool
+pub(crate) fn is_mark(c: char) -> bool
     ensures { result ≡ is_mark_kind (kind_of c) }
 {
     kind_of(c) == Kind::Mark

@@ -1,4 +1,4 @@
-use Rattle.std.proofs.Common.{◌≡◌, ◌+◌, ◌&&◌, ◌||◌, ◌==◌, inl, inr, drop, get_or, ap, ap₂, sym, ◌∙◌, ⊎_elim, arith, length-drop}
+use Rattle.std.proofs.Common.{◌≡◌, ◌+◌, ◌&&◌, ◌||◌, ◌==◌, drop, get_or, ap, ap₂, sym, ◌∙◌, arith, length-drop}
 use Rattle.std.specs.Char.{is_whitespace}
 use Rattle.std.specs.List.{list_any}
 use Rattle.std.specs.Prelude.{bit_or}
@@ -6,7 +6,7 @@ use Rattle.std.proofs.lemmas.List.{get_or-drop}
 use Rattle.lic_kind.specs.LineRules.{rules_of}
 use Rattle.lic_trim.specs.PieceLengths.{begins_with_length, begins_with_spaced}
 use Rattle.lic_trim.specs.Walks.{walked, may_open}
-use Rattle.lic_trim.proofs.PieceLengths.{NoRun, no_run_at, all_lengths, space_lengths, has_bit_or}
+use Rattle.lic_trim.proofs.PieceLengths.{all_lengths, space_lengths, has_bit_or}
 use Rattle.lic_trim.proofs.Walking.{length-walked}
 use Rattle.lic_trim.proofs.ascii_rows.piece_lengths.Goals as goal
 
@@ -20,10 +20,12 @@ returns-then-not-quick_table c =
     let many = length-walked side c.args.line.now in
     let start : place + 0 ≡ place = omega arith in
     let first : get_or way 0 0 ≡ c.byte_at-c.result = get_or-drop place line 0 0 ∙ ap (λ k. get_or line k 0) start ∙ sym c.byte_at-c.ensures in
-    let apart : NoRun way = no_run_at line place (⊎_elim (λ light. inl light) (λ other. inr (λ far. other (omega arith))) (c.is_run.ensures c.if-is_run.false)) in
-    space_lengths rules side way c.space_length-space.result (omega (arith, length-drop place line)) apart
+    let space = c.space_length-space.result in
+    let separators = c.in_ok-separators.separators in
+    space_lengths rules side way (bit_or space separators) (omega (arith, length-drop place line))
     (ap (may_open rules side) first ∙ c.quick_table.ensures c.if-not-quick_table.true)
-    (λ n. c.space_length-space.ensures n ∙ ap (λ b. is_whitespace b && (n == 1)) (sym first))
+    (λ n. has_bit_or space separators n
+    ∙ ap₂ (λ a b. a || b) (c.space_length-space.ensures n ∙ ap (λ b. is_whitespace b && (n == 1)) (sym first)) (c.in_ok-separators.ensures n))
 
 pub returns : goal.returns
 returns c =
@@ -35,16 +37,19 @@ returns c =
     let many = length-walked side c.args.line.now in
     let start : place + 0 ≡ place = omega arith in
     let first : get_or way 0 0 ≡ c.byte_at-c.result = get_or-drop place line 0 0 ∙ ap (λ k. get_or line k 0) start ∙ sym c.byte_at-c.ensures in
-    let apart : NoRun way = no_run_at line place (⊎_elim (λ light. inl light) (λ other. inr (λ far. other (omega arith))) (c.is_run.ensures c.if-is_run.false)) in
     let space = c.space_length-space.result in
     let texts = c.in_ok-texts.texts in
     let spaced = c.in_ok-spaced.spaced in
     let repeated = c.in_ok-repeated.repeated in
-    all_lengths rules side way (bit_or (bit_or space texts) (bit_or spaced repeated)) (omega (arith, length-drop place line)) apart c.in_ok-repeated.ensures.once
-    (λ n. has_bit_or (bit_or space texts) (bit_or spaced repeated) n
+    let separators = c.in_ok-separators.separators in
+    let blank = bit_or space separators in
+    all_lengths rules side way (bit_or (bit_or blank texts) (bit_or spaced repeated)) (omega (arith, length-drop place line)) c.in_ok-repeated.ensures.once
+    (λ n. has_bit_or (bit_or blank texts) (bit_or spaced repeated) n
     ∙ ap₂ (λ a b. a || b)
-    (has_bit_or space texts n
-    ∙ ap₂ (λ a b. a || b) (c.space_length-space.ensures n ∙ ap (λ b. is_whitespace b && (n == 1)) (sym first))
+    (has_bit_or blank texts n
+    ∙ ap₂ (λ a b. a || b)
+    (has_bit_or space separators n
+    ∙ ap₂ (λ a b. a || b) (c.space_length-space.ensures n ∙ ap (λ b. is_whitespace b && (n == 1)) (sym first)) (c.in_ok-separators.ensures n))
     (c.in_ok-texts.ensures n ∙ ap (list_any (λ t. begins_with_length n way (walked side t))) c.side_texts.ensures))
     (has_bit_or spaced repeated n
     ∙ ap₂ (λ a b. a || b) (c.in_ok-spaced.ensures n ∙ ap (list_any (λ t. begins_with_spaced n way (walked side t))) c.side_spaced.ensures)

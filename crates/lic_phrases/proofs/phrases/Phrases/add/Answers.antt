@@ -1,8 +1,8 @@
 -- One more phrase.
 use Rattle.std.proofs.Common.{◌≡◌, ◌<◌, ◌∙◌, [], ℕ, List, length, map, get_or, sym, ap, subst, string_bytes, arith}
-use Rattle.std.specs.Prelude.{unwrap_or, slice_index_or}
+use Rattle.std.specs.Prelude.{slice_index_or}
 use Rattle.std.proofs.lemmas.List.{get_or-map, length-map}
-use Rattle.indexmap.specs.IndexMap.{get_by_text}
+use Rattle.lic_phrases.specs.Firsts.{bound_from}
 use Rattle.lic_phrases.specs.Rewriting.{Phrase}
 use Rattle.lic_phrases.specs.PhraseLists.{PhraseList, IsStored, phrases_in, phrase_of, with_added, key_texts, key_of}
 use Rattle.lic_phrases.proofs.PhraseKeyLemmas.{strings_have_none, IsEntry-key_of, key_texts-key_of}
@@ -13,8 +13,8 @@ pub invariant_of-self-2 : goal.invariant_of-self-2
 invariant_of-self-2 c =
     let fields = c.self.inside in
     let spellings = map string_bytes fields.spellings.items in
-    let old : List ℕ → ℕ = λ text. unwrap_or (get_by_text fields.most_from text) 0 in
-    let new : List ℕ → ℕ = λ text. unwrap_or (get_by_text c.raise.new.most_from text) 0 in
+    let old = bound_from fields.most_from in
+    let new = bound_from c.raise.new.self in
     let texts = map string_bytes c.args.texts.now in
     let none = strings_have_none c.args.texts.now in
     let key = c.in_ok-key.key in

@@ -1,8 +1,7 @@
 -- One more class.
 use Rattle.std.proofs.Common.{◌∷◌, ◌++◌, ◌∙◌, [], ℕ, List, map, sym, ap, subst, string_bytes}
-use Rattle.std.specs.Prelude.{unwrap_or}
 use Rattle.std.proofs.lemmas.List.{map-append}
-use Rattle.indexmap.specs.IndexMap.{get_by_text}
+use Rattle.lic_phrases.specs.Firsts.{bound_from}
 use Rattle.lic_phrases.specs.Rewriting.{Phrase}
 use Rattle.lic_phrases.specs.PhraseLists.{PhraseList, IsStored, phrases_in}
 use Rattle.lic_phrases.proofs.PhraseListLemmas.{IsStored-class, phrases_in-more}
@@ -11,10 +10,9 @@ use Rattle.lic_phrases.proofs.phrases.Phrases.add_class.Goals as goal
 pub invariant_of-self-2 : goal.invariant_of-self-2
 invariant_of-self-2 c =
     let fields = c.self.inside in
-    let most_from : List ℕ → ℕ = λ text. unwrap_or (get_by_text fields.most_from text) 0 in
     let grown = ap (map string_bytes) c.in_ok-push.ensures.items ∙ map-append string_bytes fields.spellings.items (c.args.spelling ∷ []) in
-    subst (λ spellings. IsStored (λ k. k.items) fields.classes.entries spellings most_from) (sym grown)
-    (IsStored-class (λ k. k.items) fields.classes.entries (map string_bytes fields.spellings.items) most_from (string_bytes c.args.spelling) c.self.invariant)
+    subst (λ spellings. IsStored (λ k. k.items) fields.classes.entries spellings (bound_from fields.most_from)) (sym grown)
+    (IsStored-class (λ k. k.items) fields.classes.entries (map string_bytes fields.spellings.items) (bound_from fields.most_from) (string_bytes c.args.spelling) c.self.invariant)
 
 pub returns-clause-added : goal.returns-clause-added
 returns-clause-added c =

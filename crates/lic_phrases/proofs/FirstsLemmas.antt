@@ -1,0 +1,57 @@
+-- What the prefilter of first texts says no to has no bound.
+use Rattle.std.proofs.Common.{◌≡◌, ◌∙◌, ◌<◌, ◌*◌, ◌%◌, ◌^◌, ℕ, suc, min, List, [], ◌∷◌, length, get_or, Bool, true, false, ◌||◌, ◌==◌, inl, inr, refl, sym, ap, arith, true≢false}
+use Rattle.std.proofs.lemmas.Bool.{cases_Bool, cases_eq, cond-false, eq-eqb, or_left, or_right}
+use Rattle.std.proofs.lemmas.List.{get_or-set_same, get_or-set_other}
+use Rattle.std.specs.Prelude.{slice_set, bit_or}
+use Rattle.lic_trim.specs.PieceLengths.{has_bit}
+use Rattle.lic_trim.proofs.PieceLengths.{has_bit_set}
+use Rattle.std.proofs.lemmas.Slice.Eq.{bytes_eq-Decides}
+use Rattle.std.specs.Prelude.{bytes_eq}
+use Rattle.lic_phrases.specs.FirstTexts.{may_have, HasAll}
+use Rattle.lic_phrases.specs.PhraseLists.{IsRaised}
+
+-- the table with one more bit
+abbrev pub with_bit : List ℕ → ℕ → ℕ → List ℕ
+with_bit lengths first n = slice_set lengths first (bit_or (get_or lengths first 0) (1 * 2 ^ n % 2 ^ 64))
+
+here : (lengths : List ℕ) (first n m : ℕ) → first < length lengths → n < 64
+    → has_bit (get_or (with_bit lengths first n) first 0) m ≡ (has_bit (get_or lengths first 0) m || (n == m))
+here lengths first n m within small =
+    ap (λ x. has_bit x m) (get_or-set_same lengths first (bit_or (get_or lengths first 0) (1 * 2 ^ n % 2 ^ 64)) 0 within)
+    ∙ has_bit_set (get_or lengths first 0) n m small
+
+pub may_have-added : (lengths bytes : List ℕ) (n : ℕ) → 0 < length bytes → get_or bytes 0 0 < length lengths
+    → n ≡ min (length bytes) 63 → may_have (with_bit lengths (get_or bytes 0 0) n) bytes ≡ true
+may_have-added lengths [] n some within is = absurd (omega arith)
+may_have-added lengths (first ∷ rest) n some within is =
+    let m = min (suc (length rest)) 63 in
+    here lengths first n m within (omega arith) ∙ or_right (has_bit (get_or lengths first 0) m) (n == m) (eq-eqb n m is)
+
+pub may_have-grows : (lengths : List ℕ) (first n : ℕ) → first < length lengths → n < 64 → (text : List ℕ)
+    → may_have lengths text ≡ true → may_have (with_bit lengths first n) text ≡ true
+may_have-grows lengths first n within small [] had = refl
+may_have-grows lengths first n within small (b ∷ rest) had =
+    let m = min (suc (length rest)) 63 in
+    elim (cases_eq b first) [
+      | inl same ↦
+          ap (λ k. has_bit (get_or (with_bit lengths first n) k 0) m) same ∙ here lengths first n m within small
+          ∙ or_left (has_bit (get_or lengths first 0) m) (n == m) (ap (λ k. has_bit (get_or lengths k 0) m) (sym same) ∙ had)
+      | inr other ↦
+          ap (λ x. has_bit x m) (get_or-set_other lengths first b (bit_or (get_or lengths first 0) (1 * 2 ^ n % 2 ^ 64)) 0 other) ∙ had
+    ]
+
+-- what a table did not have, one that has grown to a text did not have before
+not_before : (old new : List ℕ) → ((t : List ℕ) → may_have old t ≡ true → may_have new t ≡ true)
+    → (text : List ℕ) → may_have new text ≡ false → may_have old text ≡ false
+not_before old new grows text none = elim (cases_Bool (may_have old text)) [
+  | inl had ↦ absurd (true≢false (sym (grows text had) ∙ none))
+  | inr not_had ↦ not_had
+]
+
+pub HasAll-raised : (old new first : List ℕ) (count : ℕ) (most_from raised : List ℕ → ℕ) → HasAll old most_from
+    → IsRaised first count most_from raised → may_have new first ≡ true
+    → ((t : List ℕ) → may_have old t ≡ true → may_have new t ≡ true) → HasAll new raised
+HasAll-raised old new first count most_from raised all r added grows text none = elim (cases_Bool (bytes_eq first text)) [
+  | inl same ↦ absurd (true≢false (sym added ∙ ap (may_have new) ((bytes_eq-Decides first text).0 same) ∙ none))
+  | inr other ↦ r.at_text text ∙ cond-false (bytes_eq first text) _ _ other ∙ all text (not_before old new grows text none)
+]

@@ -1,0 +1,23 @@
+-- The bit of one more text.
+use Rattle.std.proofs.Common.{◌≡◌, ◌==◌, ◌<◌, ◌∙◌, ℕ, zero, suc, true, false, length, get_or, sym, ap, subst, arith}
+use Rattle.lic_phrases.specs.FirstTexts.{may_have}
+use Rattle.lic_phrases.proofs.FirstsLemmas.{with_bit, may_have-added, may_have-grows}
+use Rattle.lic_phrases.proofs.phrases.firsts.add.Goals as goal
+
+not_empty : (n : ℕ) → (n == 0) ≡ false → 0 < n
+not_empty zero some = absurd (let two : true ≡ false = some in cc)
+not_empty (suc n) some = omega arith
+
+pub returns-clause-added : goal.returns-clause-added
+returns-clause-added c =
+    let bytes = c.as_bytes-bytes.result.now in
+    let some : 0 < length bytes = not_empty (length bytes) (sym c.is_empty.ensures ∙ c.if-is_empty.false) in
+    let first : get_or bytes 0 0 < 256 = omega (arith, (c.type_inv.text 0).fits, ap (λ l. get_or l 0 0) c.as_bytes-bytes.ensures.value) in
+    subst (λ text. may_have (with_bit c.args.lengths.now (get_or bytes 0 0) c.min.result) text ≡ true) c.as_bytes-bytes.ensures.value
+    (may_have-added c.args.lengths.now bytes c.min.result some (omega (arith, first)) (omega arith))
+
+pub returns-clause-grows : goal.returns-clause-grows
+returns-clause-grows c =
+    let bytes = c.as_bytes-bytes.result.now in
+    let first : get_or bytes 0 0 < 256 = omega (arith, (c.type_inv.text 0).fits, ap (λ l. get_or l 0 0) c.as_bytes-bytes.ensures.value) in
+    may_have-grows c.args.lengths.now (get_or bytes 0 0) c.min.result (omega (arith, first)) (omega arith)

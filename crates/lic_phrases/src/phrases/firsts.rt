@@ -1,0 +1,100 @@
+//! How many tokens a phrase has at most, by the text that it begins with.
+ghost use Rattle.std.specs.Prelude.{◌≡◌, ℕ, List, true, unwrap_or};
+ghost use Rattle.indexmap.specs.IndexMap.{get_by_text};
+ghost use Rattle.lic_phrases.specs.FirstTexts.{may_have, HasAll};
+
+use indexmap::IndexMap;
+use std::alloc::{AllocError, Global};
+
+/// The bit of a mask that is for texts of so many bytes and more.
+const LONG: usize = 63;
+
+/// For each text that begins a phrase, how many tokens such a phrase has at most.
+#[derive(Drop)]
+pub(crate) struct Firsts {
+    most: IndexMap<String, usize>,
+    /// A prefilter: for each first byte, how long the texts are that begin with it, a bit for each length.
+    lengths: [u64; 256],
+    ghost all: { HasAll lengths (λ text. unwrap_or (get_by_text most text) 0) },
+}
+
+/// Whether there is a bit for the first byte of this text and its length.
+#[inline(always)]
+fn may_have(lengths: &[u64; 256], text: &str) -> bool
+    ensures { result ≡ may_have lengths.now text.now }
+{
+    let bytes = text.as_bytes();
+    if bytes.is_empty() {
+        return true;
+    }
+    (lengths[bytes[0] as usize] >> bytes.len().min(LONG)) & 1 == 1
+}
+
+/// Adds a bit for the first byte of this text and its length.
+fn add(lengths: &mut [u64; 256], text: &str)
+    ensures added { may_have lengths.new text.now ≡ true }
+    ensures grows { (t : List ℕ) → may_have lengths.old t ≡ true → may_have lengths.new t ≡ true }
+{
+    let bytes = text.as_bytes();
+    if bytes.is_empty() {
+        return;
+    }
+    lengths[bytes[0] as usize] |= 1 << bytes.len().min(LONG);
+}
+
+impl Firsts {
+    ghost use Rattle.std.specs.Prelude.{◌≤◌, OnOk, OnErr};
+    ghost use Rattle.indexmap.specs.IndexMap.{IsUnchanged};
+    ghost use Rattle.lic_phrases.specs.Firsts.{bound_from};
+    ghost use Rattle.lic_phrases.specs.PhraseLists.{IsRaised};
+
+    /// No text.
+    pub(crate) fn new(alloc: Global) -> Firsts
+        ensures { (text : List ℕ) → bound_from result text ≡ 0 }
+    {
+        Firsts {
+            most: IndexMap::new(alloc),
+            lengths: [0; 256],
+        }
+    }
+
+    /// Raises the bound on how many tokens a phrase has that begins with this text. Lack of memory changes nothing.
+    pub(crate) fn raise(
+        &mut self,
+        alloc: Global,
+        text: &str,
+        count: usize,
+    ) -> Result<(), AllocError>
+        requires { count ≤ 8 }
+        ensures raised { OnOk result (IsRaised text.now count (bound_from self.old) (bound_from self.new)) }
+        ensures err { OnErr result (IsUnchanged self.old.most self.new.most) }
+    {
+        let most = self.listed(text).max(count);
+        let first = String::from_str(alloc, text)?;
+        self.most.insert(first, most)?;
+        add(&mut self.lengths, text);
+        Ok(())
+    }
+
+    /// How many tokens a phrase has at most that begins with this text.
+    #[inline(never)]
+    fn listed(&self, text: &str) -> usize
+        ensures { result ≡ bound_from self.now text.now }
+    {
+        self.most.get(text).copied().unwrap_or(0)
+    }
+
+    /// The same, where mostly the prefilter has the answer.
+    #[inline(always)]
+    pub(crate) fn most_from(&self, text: &str) -> usize
+        ensures { result ≡ bound_from self.now text.now }
+    {
+        if self.most.is_empty() {
+            return 0;
+        }
+        if !may_have(&self.lengths, text) {
+            return 0;
+        }
+        self.listed(text)
+    }
+}

@@ -1,0 +1,14 @@
+use Rattle.std.proofs.Common.{◌≡◌, ◌+◌, ◌∙◌, sym, ap, inl, inr, arith}
+use Rattle.std.specs.Prelude.{slice_index}
+use Rattle.std.proofs.lemmas.Bool.{cases_lt}
+use Rattle.lic_trim.specs.Walks.{walked}
+use Rattle.lic_trim.proofs.ascii_rows.run_length.Goals as goal
+
+pub loop-count-init : goal.loop-count-init
+loop-count-init c =
+    let line = walked c.args.side c.args.line.now in
+    record {
+      within = omega arith;
+      some = omega arith;
+      same = λ i lt. let first : c.args.place + i ≡ c.args.place = omega arith in ap (slice_index line) first;
+    }
