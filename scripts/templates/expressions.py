@@ -7,6 +7,7 @@ tag, where it is long enough to be rare: a text of less than seven letters is lo
 
 - expression-OR-MIT, expression-AND-MIT, expression-WITH-LLVM-exception ..: an expression with this end; its beginning is a variable.
 - cut-OR-MIT ..: the same before a dash: its last identifier is a longer one.
+- cut-identifier, -b, -c ..: an identifier up to its first, second, third dash, where it is none that has a template.
 - OR-expression, OR-expression-b, -c ..: up to the first, second, third operator, where the last identifier is none of these; so AND and WITH.
 - LicenseRef-identifier, -b, -c ..: one, two, three .. words after `LicenseRef-`.
 - unknown-identifier: a tag alone.
@@ -21,17 +22,18 @@ LONG_IDENTIFIER = 7
 # the tag is optional, so that the end is the longest text, by which a file is searched; without it the colon has no place
 OPTIONAL_TAG = "SPDX<<beginOptional>>-License-Identifier: <<endOptional>>"
 WORD = "[a-z0-9]+"
+DASHLESS = "[+.a-z0-9]+"
 OPERAND = "[-+.()a-z0-9]+"
 # before an operator there is no dash, as there is in `GPL-2.0-or-later`
 LEFT_OPERAND = "[-+.()a-z0-9]*[+.()a-z0-9]"
 OPERATOR = "( (or|and|with) |/)"
-MOST_OPERATORS = 4
+MOST_OPERATORS = 8
 LONGEST_IDENTIFIER = 6
 LETTERS = ["", *(f"-{letter}" for letter in "bcdefgh")]
 LAST = """0BSD AGPL-3.0-only AGPL-3.0-or-later Apache-2.0 Artistic-1.0-Perl Artistic-2.0 BSD-2-Clause BSD-2-Clause-Patent BSD-3-Clause BSL-1.0 CC0-1.0
 CC-BY-3.0 CC-BY-4.0 CC-BY-SA-3.0 CC-BY-SA-4.0 CDDL-1.0 EPL-1.0 EPL-2.0 EUPL-1.2 GPL-1.0-or-later GPL-2.0 GPL-2.0+ GPL-2.0-only GPL-2.0-or-later GPL-3.0
 GPL-3.0+ GPL-3.0-only GPL-3.0-or-later ISC LGPL-2.0-or-later LGPL-2.1 LGPL-2.1+ LGPL-2.1-only LGPL-2.1-or-later LGPL-3.0-only LGPL-3.0-or-later
-Linux-OpenIB MIT MIT-0 MPL-1.1 MPL-2.0 NCSA OFL-1.1 PSF-2.0 Python-2.0 Unicode-3.0 Unicode-DFS-2016 Unlicense X11 Zlib""".split()
+Linux-OpenIB MIT MIT-0 MPL-1.1 MPL-2.0 NCSA OFL-1.1 PSF-2.0 Python-2.0 Python-2.0.1 Unicode-3.0 Unicode-DFS-2016 Unlicense X11 Zlib""".split()
 EXCEPTIONS = """Autoconf-exception-3.0 Bison-exception-2.2 Classpath-exception-2.0 GCC-exception-3.1 Linux-syscall-note LLVM-exception
 OpenSSL-exception""".split()
 
@@ -64,6 +66,8 @@ def identifiers():
     for count in range(1, LONGEST_IDENTIFIER + 1):
         joined = WORD + (f"([-.]{WORD}){{{count - 1}}}" if count > 1 else "")
         yield f"LicenseRef-identifier{LETTERS[count - 1]}", TAG + "LicenseRef-" + variable("name", "-".join(["Own"] * count), joined)
+        parts = DASHLESS + (f"(-{DASHLESS}){{{count - 1}}}" if count > 1 else "")
+        yield f"cut-identifier{LETTERS[count - 1]}", TAG + variable("beginning", "-".join(["A"] * count), parts) + "-"
     yield "unknown-identifier", TAG.strip()
 
 

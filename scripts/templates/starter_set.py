@@ -125,8 +125,12 @@ TAGS = [
     ("EUPL-1.2", "EUPL-1.2-identifier", None),
     ("LicenseRef-A", "LicenseRef-identifier", "A"),
     ("LicenseRef-A-B.2", "LicenseRef-identifier-c", "A-B.2"),
-    ("A-1.0", "unknown-identifier", None),
-    ("A-1.0-or-later", "unknown-identifier", None),
+    ("Own", "unknown-identifier", None),
+    ("A-1.0", "cut-identifier", "A"),
+    ("A-1.0-or-later", "cut-identifier-c", "A-1.0-or"),
+    ("MIT-Foo", "cut-identifier", "MIT"),
+    ("GPL-2.0-only-Foo", "cut-identifier-c", "GPL-2.0-only"),
+    ("MIT OR ISC OR Zlib OR X11 OR NCSA AND LicenseRef-A", "AND-expression-e", "MIT OR ISC OR Zlib OR X11 OR NCSA"),
     ("A-1.0-or-later OR LicenseRef-B", "OR-expression", "A-1.0-or-later"),
 ]
 
