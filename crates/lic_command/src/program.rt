@@ -13,7 +13,7 @@ use clap::error::ErrorKind;
 use clap::{ArgMatches, Error};
 use lic_arguments::{ArgumentFault, CheckArguments, ScanArguments, TokensArguments, ask_of, parse};
 use lic_engine::check;
-use lic_load::{load_all, load_rules, load_words, tell};
+use lic_load::{list_templates, load_all, load_rules, load_words, tell};
 use lic_stream::{Sink, Source, put_all};
 use std::alloc::Global;
 use std::rt::Files;
@@ -33,7 +33,8 @@ fn scan<Rt: Files + AllocGlobal + Clone + Drop, R: Source, W: Sink, E: Sink>(
     let arguments = ScanArguments::read(alloc, found)?;
     let rules = load_rules(rt, alloc, arguments.rules)?;
     let words = load_words(rt, alloc, arguments.words)?;
-    let loaded = load_all(rt, alloc, arguments.folder, &words, &rules, err)?;
+    let listing = list_templates(rt, alloc, arguments.folder)?;
+    let loaded = load_all(rt, alloc, arguments.folder, listing, &words, &rules, err)?;
     let ask = ask_of(alloc, &arguments, &loaded.set)?;
     let search = Search {
         set: &loaded.set,
@@ -62,7 +63,8 @@ fn check_templates<Rt: Files + AllocGlobal + Clone + Drop, W: Sink, E: Sink>(
     let arguments = CheckArguments::read(found);
     let rules = load_rules(rt, alloc, arguments.rules)?;
     let words = load_words(rt, alloc, arguments.words)?;
-    let loaded = load_all(rt, alloc, arguments.folder, &words, &rules, err)?;
+    let listing = list_templates(rt, alloc, arguments.folder)?;
+    let loaded = load_all(rt, alloc, arguments.folder, listing, &words, &rules, err)?;
     let answer = check(alloc, &loaded.set, &words, out, &rules);
     status_of_check(answer, loaded.is_refused)
 }

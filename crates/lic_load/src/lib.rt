@@ -9,5 +9,5 @@ mod word_list;
 
 pub use fault::{FileFault, LoadFault, tell, wants_memory};
 pub use rules::load_rules;
-pub use templates::{Loaded, load_all};
+pub use templates::{Listing, Loaded, list_templates, load_all};
 pub use word_list::load_words;

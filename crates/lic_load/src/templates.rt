@@ -1,11 +1,18 @@
 //! The folder of the templates.
 
-ghost use Rattle.std.specs.Prelude.{◌≡◌, ◌≢◌, ◌<◌, ◌↔◌, length, IfOk, IsTrue};
+ghost use Rattle.std.specs.Prelude.{◌≡◌, ◌≢◌, ◌<◌, ◌↔◌, ◌++◌, ◌∷◌, [], ℕ, All, List, length, map, Err, IfErr, IfNone, IfOk, IfSome, IsTrue, OnOk};
+ghost use Rattle.std.specs.List.Sorted.{IsSorted};
 ghost use Rattle.std.specs.IoError.{error_kind};
+ghost use Rattle.std.specs.Str.{IsUtf8};
+ghost use Rattle.std.specs.String.{string_bytes};
 ghost use Rattle.std.specs.declared.io.ErrorKind.TheVariants.{OutOfMemory};
+ghost use Rattle.lic_kind.specs.LineRules.{rules_of};
+ghost use Rattle.lic_markup.specs.Faults.{fault_at};
+ghost use Rattle.lic_markup.specs.Parts.{template_of};
+ghost use Rattle.lic_markup.specs.Templates.{IsTemplate};
 ghost use Rattle.lic_load.specs.declared.templates.TemplateFault.TheVariants.{Unreadable, Memory};
-ghost use Rattle.lic_load.specs.Causes.{fault_of_read};
-ghost use Rattle.lic_load.specs.Listings.{count_of_names};
+ghost use Rattle.lic_load.specs.Causes.{fault_of_read, IsTemplateFault};
+ghost use Rattle.lic_load.specs.Listings.{IsIdentifier, IsReadBy, compare, count_of_names};
 
 use crate::fault::{LoadFault, tell, wants_memory};
 use lic_fields::Escaped;
@@ -14,6 +21,7 @@ use lic_markup::{MarkupCause, MarkupFault, Template, read_template};
 use lic_norm::words::Words;
 use lic_set::set::Set;
 use lic_stream::{Counted, ReadFault, Sink, read_up_to};
+use simdutf8::compat::from_utf8;
 use std::alloc::{AllocError, AllocFailed, Global};
 use std::fs::File;
 use std::rt::Files;
@@ -71,19 +79,23 @@ impl From<ReadFault> for TemplateFault {
     }
 }
 
-/// The identifiers in a folder, in the order of their bytes, and how many names are not UTF-8.
+/// The names of a folder's templates.
 #[derive(Debug, Drop)]
-struct Listing {
-    ids: Vec<String>,
-    unnamed: usize,
+pub struct Listing {
+    /// The identifiers, in the order of their bytes.
+    pub ids: Vec<String>,
+    /// How many names are not UTF-8.
+    pub unnamed: usize,
 }
 
-/// Lists a folder.
-fn list<Rt: Files + AllocGlobal + Clone + Drop>(
+/// Lists the templates of a folder.
+pub fn list_templates<Rt: Files + AllocGlobal + Clone + Drop>(
     rt: &Rt,
     alloc: Global,
     folder: &str,
-) -> Result<Listing, LoadFault> {
+) -> Result<Listing, LoadFault>
+    ensures ordered { IfOk result (λ listing. IsSorted compare listing.ids.items) }
+{
     let mut ids = Vec::new(alloc);
     let mut unnamed = 0usize;
     for entry in fs::read_dir(rt, folder).map_err(listing_fault)? {
@@ -99,13 +111,28 @@ fn list<Rt: Files + AllocGlobal + Clone + Drop>(
     Ok(Listing { ids, unnamed })
 }
 
-/// Adds the identifier of a file, if its name is one of a template.
-fn add_id(alloc: Global, ids: &mut Vec<String>, name: &str) -> Result<(), LoadFault> {
-    if let Some(id) = name.strip_suffix(ENDING)
-        && !id.is_empty()
-    {
-        ids.push(id.to_string(alloc)?)?;
+/// The identifier in the name of a template's file. Other names have none.
+fn identifier_of(name: &str) -> Option<&str>
+    ensures some { IfSome result (λ id. IsIdentifier name.now id.now) }
+    ensures none { IfNone result ((id : List ℕ) → ¬ (IsIdentifier name.now id)) }
+{
+    let id = name.strip_suffix(ENDING)?;
+    if id.is_empty() {
+        return None;
     }
+    Some(id)
+}
+
+/// Adds the identifier of a file, if its name is one of a template.
+fn add_id(alloc: Global, ids: &mut Vec<String>, name: &str) -> Result<(), LoadFault>
+    ensures added { (id : List ℕ) → IsIdentifier name.now id → OnOk result
+        (map string_bytes ids.new.items ≡ map string_bytes ids.old.items ++ id ∷ []) }
+    ensures others { ((id : List ℕ) → ¬ (IsIdentifier name.now id)) → ids.new ≡ ids.old }
+{
+    let Some(id) = identifier_of(name) else {
+        return Ok(());
+    };
+    ids.push(id.to_string(alloc)?)?;
     Ok(())
 }
 
@@ -136,6 +163,38 @@ fn read_file<Rt: Files + AllocGlobal>(
     Ok(read_up_to(alloc, &mut source, MAX_BYTES + 1)?)
 }
 
+/// The template that some bytes hold.
+///
+/// # Errors
+///
+/// Refused are bytes that are too long, then those that are not UTF-8, and templates as by `read_template`.
+fn template_in(
+    alloc: Global,
+    bytes: &[u8],
+    words: &Words,
+    rules: &Rules,
+) -> Result<Template, TemplateFault>
+    ensures utf8 { OnOk result (IsUtf8 bytes.now) }
+    ensures found { IfOk result (λ template.
+        IsTemplate (rules_of rules.now) words.now bytes.now (template_of template)) }
+    ensures refused { IfErr result (IsTemplateFault (rules_of rules.now) words.now bytes.now) }
+    ensures long { 1048576 < length bytes.now
+        → result ≡ Err (TemplateFault.Markup (fault_at 0 MarkupCause.TooLong)) }
+{
+    if bytes.len() > MAX_BYTES {
+        return Err(TemplateFault::Markup(MarkupFault {
+            place: 0,
+            cause: MarkupCause::TooLong,
+        }));
+    }
+    match from_utf8(bytes) {
+        Ok(text) => read_template(alloc, text, words, rules).map_err(TemplateFault::Markup),
+        Err(e) => Err(TemplateFault::NotUtf8 {
+            at: e.valid_up_to(),
+        }),
+    }
+}
+
 /// Reads a template.
 fn load<Rt: Files + AllocGlobal>(
     rt: &Rt,
@@ -144,21 +203,12 @@ fn load<Rt: Files + AllocGlobal>(
     id: &str,
     words: &Words,
     rules: &Rules,
-) -> Result<Template, TemplateFault> {
+) -> Result<Template, TemplateFault>
+    ensures { IfOk result (IsReadBy (rules_of rules.now) words.now) }
+{
     let path = format!(in alloc; "{folder}/{id}{ENDING}")?;
     let bytes = read_file(rt, alloc, path.as_str())?;
-    if bytes.len() > MAX_BYTES {
-        return Err(TemplateFault::Markup(MarkupFault {
-            place: 0,
-            cause: MarkupCause::TooLong,
-        }));
-    }
-    match simdutf8::compat::from_utf8(bytes.as_slice()) {
-        Ok(text) => read_template(alloc, text, words, rules).map_err(TemplateFault::Markup),
-        Err(e) => Err(TemplateFault::NotUtf8 {
-            at: e.valid_up_to(),
-        }),
-    }
+    template_in(alloc, bytes.as_slice(), words, rules)
 }
 
 /// The templates of a folder, and whether one was left out.
@@ -168,8 +218,16 @@ pub struct Loaded {
     pub is_refused: bool,
 }
 
-/// Reads the templates of a listing by identifier. One that is refused or cannot be read is reported and left out.
-fn load_listed<Rt: Files + AllocGlobal, E: Sink>(
+/// Reports the names that are not UTF-8.
+fn tell_unnamed<E: Sink>(err: &mut E, count: usize) {
+    for _ in 0..count {
+        tell(err, "licscan: templates: a file name is not UTF-8\n");
+    }
+}
+
+/// Reads the templates of a folder that is listed, by identifier. One that is refused or cannot be read is reported and left out,
+/// and so is a name that is not UTF-8.
+pub fn load_all<Rt: Files + AllocGlobal, E: Sink>(
     rt: &Rt,
     alloc: Global,
     folder: &str,
@@ -180,7 +238,11 @@ fn load_listed<Rt: Files + AllocGlobal, E: Sink>(
 ) -> Result<Loaded, LoadFault>
     ensures left_out { IfOk result (λ loaded. IsTrue loaded.is_refused
         ↔ (length loaded.set < count_of_names listing)) }
+    // Each template is what some bytes say by these rules and this list.
+    ensures read { IfOk result (λ loaded. All (λ known.
+        IsReadBy (rules_of rules.now) words.now known.template) loaded.set) }
 {
+    tell_unnamed(err, listing.unnamed);
     let mut is_refused = listing.unnamed > 0;
     let mut templates = Vec::new(alloc);
     for id in listing.ids {
@@ -199,20 +261,4 @@ fn load_listed<Rt: Files + AllocGlobal, E: Sink>(
         Ok(set) => Ok(Loaded { set, is_refused }),
         Err(fault) => Err(LoadFault::Set(fault)),
     }
-}
-
-/// Reads the templates of a folder by identifier. One that is refused or cannot be read is reported and left out.
-pub fn load_all<Rt: Files + AllocGlobal + Clone + Drop, E: Sink>(
-    rt: &Rt,
-    alloc: Global,
-    folder: &str,
-    words: &Words,
-    rules: &Rules,
-    err: &mut E,
-) -> Result<Loaded, LoadFault> {
-    let listing = list(rt, alloc, folder)?;
-    for _ in 0..listing.unnamed {
-        tell(err, "licscan: templates: a file name is not UTF-8\n");
-    }
-    load_listed(rt, alloc, folder, listing, words, rules, err)
 }
