@@ -66,12 +66,8 @@ def optional(text):
 VALUES = 'values of bounded variables'
 
 
-@series(VALUES, 'words for 128 variables', 1_000, 2, 128)
-@series(VALUES, 'words for 8 variables', 1_000, 2, 8)
-@series(VALUES, 'words for 2 variables', 2_125, 2, 2)
-def values(variables, size):
-    """Variables with the word `q` between them, on a text of `q` alone, four fifths of what they may hold: the last ones hold what they can."""
-    most = -(-5 * size // (4 * variables))
+def values(variables, most, size):
+    """Variables of at most so many words with the word `q` between them, on a text of `q` alone: the last ones hold what they can."""
     lengths, left = [], size - (variables - 1)
     for _ in range(variables):
         lengths.insert(0, min(most, left))
@@ -84,6 +80,27 @@ def values(variables, size):
         start += 2 * length + len('q ')
     inner = ' q '.join(bounded(2 * most - 1, f'v{number}') for number in range(variables))
     return dict(files=templates(V=f'x {inner} z'), given=text.encode(), out=''.join(lines).encode())
+
+
+@series(VALUES, 'words for 128 variables', 1_000, 2, 128)
+@series(VALUES, 'words for 8 variables', 1_000, 2, 8)
+@series(VALUES, 'words for 2 variables', 2_125, 2, 2)
+def values_of_four_fifths(variables, size):
+    """A text of four fifths of what the variables may hold."""
+    return values(variables, -(-5 * size // (4 * variables)), size)
+
+
+@series(VALUES, 'words for 128 variables of up to 500', 2_000, 3)
+def values_of_one_bound(size):
+    return values(128, 500, size)
+
+
+@series(VALUES, 'bullets and words, eight copies of them', 375, 1)
+def bullets(count, copies=8):
+    template = ' '.join(f'{bounded(14, f"b{number}")} {spelled(number)}' for number in range(count))
+    text = ' '.join(f'{number}. {spelled(number)}' for number in range(count))
+    out = re.compile(rb'(-\tB(\t\d+){4}\n(\tb\d+\t.*\n){%d}){%d}' % (count, copies))
+    return dict(files=templates(B=template), given=f'{text}\n'.encode() * copies, out=out)
 
 
 @series(VALUES, 'times `of`, x .{0,3N} of .{0,3N} y', 500, 2)

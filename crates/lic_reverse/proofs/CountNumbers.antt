@@ -175,11 +175,18 @@ adds-widest keep tokens span letters m n q old new newer next low high place is 
 
 -- the empty word too
 pub back-from_none : (keep : Keep) (tokens : List TokenValue) (max : Option ℕ) (xs found : List PlaceSpan) → ArePlaced tokens xs
-    → IsBack keep tokens (Counted 1 max) xs found → IsBack keep tokens (Counted 0 max) xs (found ++ xs)
+    → IsBack keep tokens (Counted 1 max) xs found → IsBack keep tokens (Counted 0 max) xs (xs ++ found)
 back-from_none keep tokens max xs found placed back =
-    back-same keep tokens (λ w. Counted 1 max w ⊎ (w ≡ [])) (Counted 0 max) (Reaches tokens xs) (Reaches tokens xs) (found ++ xs)
-    (counted-from_none max) (λ q last. (λ h. h, λ h. h))
-    (back-either keep tokens (Counted 1 max) (λ w. w ≡ []) (Reaches tokens xs) found xs back (back-stay keep tokens xs placed))
+    back-same keep tokens (λ w. (w ≡ []) ⊎ Counted 1 max w) (Counted 0 max) (Reaches tokens xs) (Reaches tokens xs) (xs ++ found)
+    words (λ q last. (λ h. h, λ h. h))
+    (back-either keep tokens (λ w. w ≡ []) (Counted 1 max) (Reaches tokens xs) xs found (back-stay keep tokens xs placed) back)
+  where
+    turned : {A B : Type 0} → A ⊎ B → B ⊎ A
+    turned (inl a) = inr a
+    turned (inr b) = inl b
+
+    words : (w : Word) → ((w ≡ []) ⊎ Counted 1 max w) ↔ Counted 0 max w
+    words w = (λ h. (counted-from_none max w).0 (turned h), λ h. turned ((counted-from_none max w).1 h))
 
 -- each place with those last tokens that are kept, unless the search stops
 pub back-kept_of : (keep : Keep) {A E : Type 0} (items : A → List PlaceSpan) (tokens : List TokenValue) (P : Word → Type 0) (Ends : ℕ → ℕ → Type 0)

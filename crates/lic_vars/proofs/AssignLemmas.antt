@@ -1,12 +1,10 @@
 -- The values of the least record are those of a least derivation.
-use Rattle.std.proofs.Common.{◌≡◌, ℕ, zero, suc, ◌+◌, ◌-◌, ◌<◌, ◌≤◌, inl, inr, ◌↔◌, List, [], ◌∷◌, ◌++◌, length, get_or, ◌==◌, Option, if◌then◌else◌, map, take, drop, chars, Some, None, slice_get, refl, sym, ap, ◌∙◌, subst, arith, append_assoc}
-use Rattle.std.proofs.lemmas.List.{drop_more, map-append, take_all, length-take, length-drop}
+use Rattle.std.proofs.Common.{◌≡◌, ℕ, ◌+◌, ◌-◌, ◌<◌, ◌≤◌, inl, inr, ◌↔◌, List, [], ◌∷◌, ◌++◌, length, get_or, map, drop, chars, Some, slice_get, sym, ap, ◌∙◌, subst, arith, append_assoc}
+use Rattle.std.proofs.lemmas.List.{map-append, take_all, length-take, length-drop}
 use Rattle.std.proofs.lemmas.Option.{get_or_from_slice_get}
 use Rattle.std.specs.List.{slice_range}
 use Rattle.lic_words.specs.Words.{Word}
-use Rattle.lic_words.specs.Expressions.{Expression}
 use Rattle.lic_words.specs.Spelling.{Spells}
-use Rattle.lic_words.specs.Letters.{letters_in}
 use Rattle.lic_norm.specs.Tokens.{TokenValue}
 use Rattle.lic_norm.specs.Places.{place_end}
 use Rattle.lic_norm.specs.declared.token.Span.{Span}
@@ -18,11 +16,11 @@ use Rattle.lic_markup.specs.declared.part.Part.{Part}
 use Rattle.lic_set.specs.Sets.{Known}
 use Rattle.lic_set.specs.Matches.{IsMatch, letters_between}
 use Rattle.lic_set.specs.declared.triple.Triple.{Triple}
-use Rattle.lic_vars.specs.Values.{Assigned, covered, letter_spans, nodes_of, AreValues}
-use Rattle.lic_vars.specs.Moves.{Move, text, variable, optional, moves}
+use Rattle.lic_vars.specs.Values.{Assigned, letter_spans, nodes_of, AreValues}
+use Rattle.lic_vars.specs.Moves.{Move, moves}
 use Rattle.lic_vars.specs.Making.{CanMake, LeastOf}
 use Rattle.lic_vars.specs.Recorded.{recorded}
-use Rattle.lic_vars.specs.Cuts.{ReadsOn, move_of, moves_of, start}
+use Rattle.lic_vars.specs.Cuts.{ReadsOn, moves_of, start}
 use Rattle.lic_vars.specs.Assigners.{AssignerValue, AreStepsOf}
 use Rattle.lic_vars.specs.Views.{value_of}
 use Rattle.lic_vars.specs.declared.steps.Step.{Step}
@@ -108,50 +106,6 @@ pub moves-of : (set : List Known) (k : ℕ) (steps : List Step) (v : AssignerVal
     record { set = set; template = k } ≡ v → number ≡ v.template → slice_get v.set number ≡ Some known → moves_of steps ≡ moves (nodes_of known)
 moves-of set k steps v number known are view same is =
     are.moves known (ap (λ (a : AssignerValue). slice_get a.set a.template) view ∙ ap (slice_get v.set) (sym same) ∙ is)
-
--- the moves of the steps from one of them on
-pub moves-more : (steps : List Step) (i : ℕ) (d step : Step) → i < length steps → get_or steps i d ≡ step →
-    moves_of (drop i steps) ≡ move_of step ∷ moves_of (drop (i + 1) steps)
-moves-more steps i d step h e = ap moves_of (drop_more steps i d h ∙ ap (λ x. x ∷ drop (i + 1) steps) e)
-
--- one step of a record, where it is left out
-less_one : (k : ℕ) → suc k - 1 ≡ k
-less_one k = omega arith
-
-pub left-text : (k : ℕ) (w : Word) (ms : List Move) (r : List ℕ) (spans : List Span) → 0 < k → recorded (k - 1) ms r spans ≡ recorded k (text w ∷ ms) r spans
-left-text zero w ms r spans h = absurd (omega arith)
-left-text (suc k) w ms r spans h = ap (λ j. recorded j ms r spans) (less_one k)
-
-pub left-optional : (k n : ℕ) (ms : List Move) (r : List ℕ) (spans : List Span) → 0 < k → recorded (k - 1) ms r spans ≡ recorded k (optional n ∷ ms) r spans
-left-optional zero n ms r spans h = absurd (omega arith)
-left-optional (suc k) n ms r spans h = ap (λ j. recorded j ms r spans) (less_one k)
-
-pub left-variable : (k : ℕ) (name : List ℕ) (re : Expression) (ms : List Move) (r : List ℕ) (spans : List Span) → 0 < k →
-    record { name = name; span = None } ∷ recorded (k - 1) ms r spans ≡ recorded k (variable name re ∷ ms) r spans
-left-variable zero name re ms r spans h = absurd (omega arith)
-left-variable (suc k) name re ms r spans h = ap (λ j. record { name = name; span = None } ∷ recorded j ms r spans) (less_one k)
-
--- and where it is taken
-none_left : (k : ℕ) → k ≤ 0 → k ≡ 0
-none_left k h = omega arith
-
-pub taken-text : (k : ℕ) (w : Word) (ms : List Move) (r : List ℕ) (letters more : List Span) → k ≤ 0 → more ≡ drop (letters_in w) letters →
-    recorded k ms r more ≡ recorded k (text w ∷ ms) r letters
-taken-text k w ms r letters more h e =
-    rw (none_left k h, e) refl
-
-pub taken-variable : (k n : ℕ) (name : List ℕ) (re : Expression) (ms : List Move) (r s : List ℕ) (letters more own : List Span) (span : Option Span) → k ≤ 0 →
-    n ≡ get_or r 0 0 → s ≡ drop 1 r → more ≡ drop n letters → own ≡ take n letters → span ≡ covered own →
-    record { name = name; span = span } ∷ recorded k ms s more ≡ recorded k (variable name re ∷ ms) r letters
-taken-variable k n name re ms r s letters more own span h i j e f g =
-    let same : more ≡ drop (get_or r 0 0) letters = e ∙ ap (λ m. drop m letters) i in
-    let part : own ≡ take (get_or r 0 0) letters = f ∙ ap (λ m. take m letters) i in
-    let cover : span ≡ covered (take (get_or r 0 0) letters) = g ∙ ap covered part in
-    rw (none_left k h, same, cover, j) refl
-
-pub taken-optional : (k m n left : ℕ) (ms : List Move) (r s : List ℕ) (spans : List Span) → k ≤ 0 → m ≡ get_or r 0 0 → s ≡ drop 1 r →
-    left ≡ (if m == 0 then 0 else n) → recorded left ms s spans ≡ recorded k (optional n ∷ ms) r spans
-taken-optional k m n left ms r s spans h i j e = rw (none_left k h, e, i, j) refl
 
 -- one value more
 pub value-pushed : (a b : List Value) (x : Value) (rest : List Assigned) → b ≡ a ++ x ∷ [] → map value_of b ++ rest ≡ map value_of a ++ value_of x ∷ rest

@@ -12,7 +12,7 @@ use Rattle.lic_vars.specs.Derivations.{record_of}
 use Rattle.lic_vars.specs.Values.{Assigned, AreValues, RunsFrom, covered, last_end, letter_spans, nodes_of}
 use Rattle.lic_vars.specs.Moves.{Move, text, variable, optional, moves}
 use Rattle.lic_vars.specs.Recorded.{recorded}
-use Rattle.lic_filters.proofs.Members.{Contains-cons_cases, Contains-nil}
+use Rattle.lic_spans.proofs.Members.{Contains-cons_cases, Contains-nil}
 use Rattle.lic_vars.proofs.ValueLemmas.{choice-recorded}
 
 -- the span covers some of the spans in a row

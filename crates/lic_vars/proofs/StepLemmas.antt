@@ -1,11 +1,12 @@
 -- One step more on the way to the least record.
-use Rattle.std.proofs.Common.{◌≡◌, ℕ, ◌<◌, ◌≤◌, inl, inr, ◌↔◌, Bool, true, false, List, [], ◌∷◌, ◌++◌, length, drop, refl, sym, subst, arith, append_assoc, append-nil}
+use Rattle.std.proofs.Common.{◌≡◌, ℕ, ◌<◌, ◌≤◌, inl, inr, ◌↔◌, Bool, true, false, List, [], ◌∷◌, ◌++◌, length, drop, take, refl, sym, subst, arith, append-nil}
 use Rattle.std.specs.Prelude.{Contains}
 use Rattle.std.proofs.lemmas.Bool.{true≢false}
 use Rattle.lic_words.specs.Words.{Word}
 use Rattle.lic_words.specs.Letters.{letters_in}
 use Rattle.lic_words.specs.Expressions.{Expression}
 use Rattle.lic_norm.specs.Tokens.{TokenValue}
+use Rattle.lic_norm.specs.declared.token.Span.{Span}
 use Rattle.lic_places.specs.Places.{AreTexts, OverBlank, spelling_of}
 use Rattle.lic_places.specs.Reads.{Reads}
 use Rattle.lic_places.proofs.Reading.{Reads-cut, Reads-order}
@@ -15,8 +16,10 @@ use Rattle.lic_view.proofs.ViewPlaces.{end-within}
 use Rattle.lic_view.proofs.ViewSpans.{front-to}
 use Rattle.lic_vars.specs.Moves.{Move, text, variable, optional}
 use Rattle.lic_vars.specs.Making.{CanMake, LeastOf}
-use Rattle.lic_vars.specs.Cuts.{AreFinishing, IsOpen, IsWalk, LeadsTo, ReadsFrom, ReadsOn, lead, start}
+use Rattle.lic_vars.specs.Cuts.{AreFinishing, IsOpen, LeadsTo, ReadsFrom, ReadsOn, lead, start}
+use Rattle.lic_vars.specs.Recorded.{AreOfLeast, IsWalk, recorded}
 use Rattle.lic_vars.specs.Shortest.{IsShortest, LeadsWithin}
+use Rattle.lic_vars.specs.Values.{Assigned, covered}
 use Rattle.lic_vars.specs.declared.cut.Cut.{Cut}
 use Rattle.lic_vars.proofs.StepOverLemmas.{lead-joined, lead-parted, open-read}
 use Rattle.lic_vars.proofs.MakingLemmas.{can-absent, can-picked, can-text, least-absent, least-ended, least-present, least-same, least-text, least-variable}
@@ -44,20 +47,11 @@ module _ (tokens : List TokenValue) (are : AreTexts tokens) where
   pub within-can : (ms : List Move) (cut : Cut) → CanMake ms (ReadsOn tokens cut) → cut.place ≤ end
   within-can ms cut can = Reads-order tokens (lead cut.is_apart can.word) cut.place end can.is
 
-  module _ (all ms : List Move) (found : List ℕ) (cut : Cut) where
+  module _ (ms : List Move) (cut : Cut) where
     -- ---- a text
 
-    pub walk-text : (u : Word) (next : Cut) → IsWalk tokens all (text u ∷ ms) found cut → LeadsTo tokens cut u next → IsWalk tokens all ms found next
-    walk-text u next is leads =
-        let can = can-text ms (ReadsOn tokens cut) u is.can in
-        record {
-          can = record { choices = can.choices; word = can.word; makes = can.makes; is = (leads can.word).0 can.is };
-          least = λ r h. is.least r (least-text ms (ReadsOn tokens cut) u r
-              (least-same ms (ReadsOn tokens next) (λ w. ReadsOn tokens cut (u ++ w)) r (λ w. ((leads w).1, (leads w).0)) h));
-        }
-
-    pub text-read : (u : Word) → IsWalk tokens all (text u ∷ ms) found cut → (w : Word) × ReadsOn tokens cut (u ++ w)
-    text-read u is = let can = can-text ms (ReadsOn tokens cut) u is.can in (can.word, can.is)
+    pub text-read : (u : Word) → CanMake (text u ∷ ms) (ReadsOn tokens cut) → (w : Word) × ReadsOn tokens cut (u ++ w)
+    text-read u can = let more = can-text ms (ReadsOn tokens cut) u can in (more.word, more.is)
 
     -- ---- an optional part
 
@@ -73,27 +67,11 @@ module _ (tokens : List TokenValue) (are : AreTexts tokens) where
             (parts.0, there.0, parts.1, there.1),
       )
 
-    pub walk-present : (n : ℕ) → IsWalk tokens all (optional n ∷ ms) found cut → CanMake ms (ReadsOn tokens cut) → IsWalk tokens all ms (found ++ 0 ∷ []) cut
-    walk-present n is can = record {
-      can = can;
-      least = λ r h. subst (LeastOf all (ReadsOn tokens start)) (sym (append_assoc found (0 ∷ []) r))
-          (is.least (0 ∷ r) (least-present ms (ReadsOn tokens cut) n r h));
-    }
+      -- ---- a variable
 
-    pub walk-absent : (n : ℕ) → IsWalk tokens all (optional n ∷ ms) found cut → (CanMake ms (ReadsOn tokens cut) → ⊥)
-        → IsWalk tokens all (drop n ms) (found ++ 1 ∷ []) cut
-    walk-absent n is none = record {
-      can = can-absent ms (ReadsOn tokens cut) n none is.can;
-      least = λ r h. subst (LeastOf all (ReadsOn tokens start)) (sym (append_assoc found (1 ∷ []) r))
-          (is.least (1 ∷ r) (least-absent ms (ReadsOn tokens cut) n r none h));
-    }
-
-    -- ---- a variable
-
-    module _ (name : List ℕ) (re : Expression) (rest : List PlaceSpan) (finish : AreFinishing tokens ms rest) where
-      pub variable-leads : IsWalk tokens all (variable name re ∷ ms) found cut → LeadsWithin tokens re rest cut end
-      variable-leads is =
-          let can = can-picked ms (ReadsOn tokens cut) name re is.can in
+      pub variable-leads : (name : List ℕ) (re : Expression) → CanMake (variable name re ∷ ms) (ReadsOn tokens cut) → LeadsWithin tokens re rest cut end
+      variable-leads name re some =
+          let can = can-picked ms (ReadsOn tokens cut) name re some in
           let parts = on-parted cut can.word can.later can.all in
           let there = (finish.exact parts.0).1 (record { choices = can.rest; word = can.later; makes = can.makes; is = parts.2 }) in
           let r = there.1 in
@@ -114,28 +92,61 @@ module _ (tokens : List TokenValue) (are : AreTexts tokens) where
           last-known : {l : ℕ} (s : PlaceSpan) → Contains rest s → s.last ≡ l → l < length tokens
           last-known s among same = subst (λ l. l < length tokens) same (subst (λ (x : PlaceSpan). x.last < length tokens) among.2 (finish.placed.last among.0 s among.1))
 
-      pub walk-variable : (next : Cut) (n : ℕ) → IsWalk tokens all (variable name re ∷ ms) found cut → (short : IsShortest tokens re rest cut next)
-          → n ≡ letters_in short.word → IsWalk tokens all ms (found ++ n ∷ []) next
-      walk-variable next n is short count =
+      pub shortest-can : (re : Expression) (next : Cut) → IsShortest tokens re rest cut next → CanMake ms (ReadsOn tokens next)
+      shortest-can re next short =
           let can = (finish.exact short.end).0 (short.last, short.reached) in
-          record {
-            can = record { choices = can.choices; word = can.word; makes = can.makes; is = lead-joined tokens are next.place next.is_apart short.end end can.word short.here can.is };
-            least = λ r h. subst (LeastOf all (ReadsOn tokens start)) (sym (append_assoc found (n ∷ []) r))
-                (subst (λ m. LeastOf all (ReadsOn tokens start) (found ++ m ∷ r)) (sym count)
-                (is.least (letters_in short.word ∷ r) (least-variable ms (ReadsOn tokens cut) name re short.word r short.is
-                (λ v w q l f reads.
-                let parts = on-parted cut v w reads in
-                let there = (finish.exact parts.0).1 (record { choices = q; word = w; makes = f; is = parts.2 }) in
-                elim (short.least v parts.0 there.0 l parts.1 there.1) [
-                  | inl fewer ↦ inl fewer
-                  | inr same ↦ inr (same.0, (short.leads w).1 ((same.1 w).0 reads))
-                ])
-                (least-same ms (ReadsOn tokens next) (λ w. ReadsOn tokens cut (short.word ++ w)) r (λ w. ((short.leads w).1, (short.leads w).0)) h))));
-          }
+          record { choices = can.choices; word = can.word; makes = can.makes; is = lead-joined tokens are next.place next.is_apart short.end end can.word short.here can.is }
 
-pub walk-begins : (tokens : List TokenValue) (all : List Move) → CanMake all (ReadsOn tokens start) → IsWalk tokens all all [] start
-walk-begins tokens all can = record { can = can; least = λ r h. h }
+  -- ---- one step more
 
-pub walk-ends : (tokens : List TokenValue) (all : List Move) (found : List ℕ) (cut : Cut) → IsWalk tokens all [] found cut → LeastOf all (ReadsOn tokens start) found
-walk-ends tokens all found cut is =
-    subst (LeastOf all (ReadsOn tokens start)) (append-nil found) (is.least [] (least-ended (ReadsOn tokens cut) is.can))
+  module _ (all ms : List Move) (letters : List Span) (values : List Assigned) (cut : Cut) (after : List Span) where
+    pub walk-text : (u : Word) (next : Cut) → IsWalk tokens all (text u ∷ ms) letters values cut after → LeadsTo tokens cut u next
+        → IsWalk tokens all ms letters values next (drop (letters_in u) after)
+    walk-text u next is leads =
+        let can = can-text ms (ReadsOn tokens cut) u is.can in
+        record {
+          can = record { choices = can.choices; word = can.word; makes = can.makes; is = (leads can.word).0 can.is };
+          least = λ r h. is.least r (least-text ms (ReadsOn tokens cut) u r
+              (least-same ms (ReadsOn tokens next) (λ w. ReadsOn tokens cut (u ++ w)) r (λ w. ((leads w).1, (leads w).0)) h));
+        }
+
+    pub walk-present : (n : ℕ) → IsWalk tokens all (optional n ∷ ms) letters values cut after → CanMake ms (ReadsOn tokens cut)
+        → IsWalk tokens all ms letters values cut after
+    walk-present n is can = record { can = can; least = λ r h. is.least (0 ∷ r) (least-present ms (ReadsOn tokens cut) n r h) }
+
+    pub walk-absent : (n : ℕ) (more : List Assigned) → IsWalk tokens all (optional n ∷ ms) letters values cut after → (CanMake ms (ReadsOn tokens cut) → ⊥)
+        → ((r : List ℕ) → more ++ recorded 0 (drop n ms) r after ≡ values ++ recorded n ms r after)
+        → IsWalk tokens all (drop n ms) letters more cut after
+    walk-absent n more is none same = record {
+      can = can-absent ms (ReadsOn tokens cut) n none is.can;
+      least = λ r h. subst (AreOfLeast tokens all letters) (sym (same r)) (is.least (1 ∷ r) (least-absent ms (ReadsOn tokens cut) n r none h));
+    }
+
+    pub walk-variable : (name : List ℕ) (re : Expression) (rest : List PlaceSpan) (finish : AreFinishing tokens ms rest) (next : Cut) (n : ℕ) (more : List Assigned)
+        → IsWalk tokens all (variable name re ∷ ms) letters values cut after → (short : IsShortest tokens re rest cut next) → n ≡ letters_in short.word
+        → ((others : List Assigned) → more ++ others ≡ values ++ record { name = name; span = covered (take n after) } ∷ others)
+        → IsWalk tokens all ms letters more next (drop n after)
+    walk-variable name re rest finish next n more is short count pushed =
+        record {
+          can = shortest-can ms cut rest finish re next short;
+          least = λ r h. subst (AreOfLeast tokens all letters) (sym (pushed (recorded 0 ms r (drop n after))))
+              (is.least (n ∷ r) (subst (λ m. LeastOf (variable name re ∷ ms) (ReadsOn tokens cut) (m ∷ r)) (sym count)
+              (least-variable ms (ReadsOn tokens cut) name re short.word r short.is
+              (λ v w q l f reads.
+              let parts = on-parted cut v w reads in
+              let there = (finish.exact parts.0).1 (record { choices = q; word = w; makes = f; is = parts.2 }) in
+              elim (short.least v parts.0 there.0 l parts.1 there.1) [
+                | inl fewer ↦ inl fewer
+                | inr same ↦ inr (same.0, (short.leads w).1 ((same.1 w).0 reads))
+              ])
+              (least-same ms (ReadsOn tokens next) (λ w. ReadsOn tokens cut (short.word ++ w)) r (λ w. ((short.leads w).1, (short.leads w).0)) h))));
+        }
+
+pub walk-begins : (tokens : List TokenValue) (all : List Move) (letters : List Span) → CanMake all (ReadsOn tokens start)
+    → IsWalk tokens all all letters [] start letters
+walk-begins tokens all letters can = record { can = can; least = λ r h. record { numbers = r; least = h; same = refl } }
+
+pub walk-ends : (tokens : List TokenValue) (all : List Move) (letters : List Span) (values : List Assigned) (cut : Cut) (after : List Span)
+    → IsWalk tokens all [] letters values cut after → AreOfLeast tokens all letters values
+walk-ends tokens all letters values cut after is =
+    subst (AreOfLeast tokens all letters) (append-nil values) (is.least [] (least-ended (ReadsOn tokens cut) is.can))

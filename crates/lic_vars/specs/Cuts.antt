@@ -11,7 +11,7 @@ use Rattle.lic_spans.specs.declared.span.PlaceSpan.{PlaceSpan}
 use Rattle.lic_reverse.specs.EmptyWord.{HasEmptyWordAlone}
 use Rattle.lic_view.specs.PlaceSets.{ArePlaced, Reaches}
 use Rattle.lic_vars.specs.Moves.{Move, text, variable, optional}
-use Rattle.lic_vars.specs.Making.{CanMake, LeastOf}
+use Rattle.lic_vars.specs.Making.{CanMake}
 use Rattle.lic_vars.specs.declared.cut.Cut.{Cut}
 use Rattle.lic_vars.specs.declared.steps.Step.{Step}
 
@@ -72,8 +72,3 @@ LeadsTo tokens cut u next = (w : Word) → ReadsOn tokens cut (u ++ w) ↔ Reads
 pub record AreFinishing (tokens : List TokenValue) (ms : List Move) (spans : List PlaceSpan) : Type 0 where
   pub placed : ArePlaced tokens spans
   pub exact : (p : ℕ) → ((last : ℕ) × Reaches tokens spans p last) ↔ CanMake ms (λ w. Reads tokens p w (length (spelling_of tokens)))
-
--- the moves that are left can finish after the cut, and their least record completes the least of all
-pub record IsWalk (tokens : List TokenValue) (all ms : List Move) (found : List ℕ) (cut : Cut) : Type 0 where
-  pub can : CanMake ms (ReadsOn tokens cut)
-  pub least : (r : List ℕ) → LeastOf ms (ReadsOn tokens cut) r → LeastOf all (ReadsOn tokens start) (found ++ r)

@@ -1,9 +1,9 @@
 //! The letters of a match, by the spans of their tokens.
 
-ghost use Rattle.std.specs.Prelude.{◌≡◌, ◌<◌, ◌≤◌, ◌+◌, ◌++◌, length, replicate, slice_range, IfOk, OnOk};
+ghost use Rattle.std.specs.Prelude.{◌≡◌, ◌<◌, ◌≤◌, ◌+◌, ◌++◌, drop, length, replicate, slice_range, take, IfOk, OnOk};
 ghost use Rattle.std.specs.Str.{chars};
 ghost use Rattle.lic_words.specs.Letters.{letters_in};
-ghost use Rattle.lic_vars.specs.Values.{letter_spans};
+ghost use Rattle.lic_vars.specs.Values.{covered, letter_spans};
 
 use lic_norm::text::Text;
 use lic_norm::token::Span;
@@ -55,4 +55,30 @@ pub fn letter_count(text: &str) -> usize
         count += 1;
     }
     count
+}
+
+/// The first `count` letters.
+pub fn front(letters: &[Span], count: usize) -> &[Span]
+    ensures { result.now ≡ take count letters.now }
+{
+    &letters[..count.min(letters.len())]
+}
+
+/// The letters after the first `count`.
+pub fn after(letters: &[Span], count: usize) -> &[Span]
+    ensures { result.now ≡ drop count letters.now }
+{
+    &letters[count.min(letters.len())..]
+}
+
+/// From the start of the first letter's token to the end of the last letter's.
+pub fn covered(letters: &[Span]) -> Option<Span>
+    ensures { result ≡ covered letters.now }
+{
+    let first = letters.first()?;
+    let last = letters.last()?;
+    Some(Span {
+        start: first.start,
+        end: last.end,
+    })
 }

@@ -1,9 +1,7 @@
 //! The values of the variables of a match, by the sets of places from which the last parts of a template can finish.
-//! The filters of matches are handed on from lic_filters.
 #![tactic(auto)]
 
 mod cut;
-pub mod filters;
 mod keep;
 pub mod laws;
 mod letters;

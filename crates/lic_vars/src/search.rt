@@ -1,74 +1,87 @@
-//! The least record: each choice from the first step on is the least from which the steps that are left can finish.
+//! The values of the least record: each choice from the first step on is the least from which the steps that are left can finish.
 
-ghost use Rattle.std.specs.Prelude.{◌≡◌, ◌+◌, ◌-◌, ◌<◌, ◌≤◌, All, IfOk, OnOk, length};
+ghost use Rattle.std.specs.Prelude.{◌≡◌, ◌+◌, ◌-◌, ◌<◌, ◌≤◌, ◌∷◌, ◌++◌, All, IfOk, List, OnOk, length, map, suc, ℕ};
+ghost use Rattle.lic_norm.specs.declared.token.Span.{Span};
 ghost use Rattle.lic_places.specs.Places.{spelling_of};
-ghost use Rattle.lic_vars.specs.Making.{CanMake, LeastOf};
-ghost use Rattle.lic_vars.specs.Cuts.{AreFinishing, IsPiece, IsWalk, ReadsOn, last_moves, moves_of, start};
+ghost use Rattle.lic_vars.specs.Making.{CanMake};
+ghost use Rattle.lic_vars.specs.Moves.{Move};
+ghost use Rattle.lic_vars.specs.Cuts.{IsPiece, ReadsOn, last_moves, move_of, moves_of, start};
+ghost use Rattle.lic_vars.specs.Recorded.{AreOfLeast, IsWalk, recorded};
+ghost use Rattle.lic_vars.specs.Sets.{AreSuffixSets};
 ghost use Rattle.lic_vars.specs.Shortest.{begins_letter, letters_between};
+ghost use Rattle.lic_vars.specs.Views.{value_of};
 
 use crate::cut::{Cut, after_text, have_cut};
 use crate::keep::suffix_sets;
+use crate::letters::{after, covered, front, letter_count};
 use crate::sets::{fill, set_of};
 use crate::steps::Step;
+use crate::values::Value;
 use crate::variable::after_shortest;
+use lic_norm::token::Span;
 use lic_spans::span::PlaceSpan;
 use lic_view::{View, tokens_have_texts};
 use std::alloc::{AllocError, Global};
 
-// The record so far, the cut after what was read, and how many steps are left.
+// The values so far, the cut after what was read, the spans of the letters after it, and how many steps are left.
 #[derive(Drop)]
-struct Walk {
-    record: Vec<usize>,
+struct Walk<'s, 'l> {
+    values: Vec<Value<'s>>,
     cut: Cut,
+    letters: &'l [Span],
     left: usize,
 }
 
-/// The least record with which the steps make a word that spells the tokens.
-pub fn least_record(
+/// The values that the least record gives with which the steps make a word that spells the tokens, whose letters have these spans.
+pub fn least_values<'s>(
     alloc: Global,
     view: &View<'_>,
-    steps: &[Step],
-) -> Result<Vec<usize>, AllocError>
+    steps: &[Step<'s>],
+    letters: &[Span],
+) -> Result<Vec<Value<'s>>, AllocError>
     requires some { 0 < length view.now }
     requires pieces { All IsPiece steps.now }
     requires can { CanMake (moves_of steps.now) (ReadsOn view.now start) }
-    ensures { IfOk result (λ found. LeastOf (moves_of steps.now) (ReadsOn view.now start) found.items) }
+    ensures { IfOk result (λ values. AreOfLeast view.now (moves_of steps.now) letters.now (map value_of values.items)) }
 {
     let mut sets = suffix_sets(alloc, view, steps)?;
     let mut walk = Walk {
-        record: Vec::new(alloc),
+        values: Vec::new(alloc),
         cut: Cut {
             place: 0,
             is_apart: false,
         },
+        letters,
         left: steps.len(),
     };
     while walk.left > 0 {
-        let rest = walk.left - 1;
         sets.truncate(walk.left);
-        fill(alloc, view, steps, &mut sets, rest)?;
-        take_step(alloc, view, steps, set_of(&sets, rest), &mut walk)?;
+        take_step(alloc, view, steps, &mut sets, &mut walk)?;
     }
-    let Walk { record, .. } = walk;
-    Ok(record)
+    let Walk { values, .. } = walk;
+    Ok(values)
 }
 
-// Takes one step more, with the least choice from which the others can finish: from the places of the set that is handed in.
-fn take_step(
+// Takes one step more, with the least choice from which the others can finish.
+fn take_step<'s>(
     alloc: Global,
     view: &View<'_>,
-    steps: &[Step],
-    rest: &[PlaceSpan],
-    walk: &mut Walk,
+    steps: &[Step<'s>],
+    sets: &mut Vec<Option<Vec<PlaceSpan>>>,
+    walk: &mut Walk<'s, '_>,
 ) -> Result<(), AllocError>
     requires pieces { All IsPiece steps.now }
-    requires rest { AreFinishing view.now (last_moves steps.now (walk.old.left - 1)) rest.now }
+    requires sets { AreSuffixSets view.now steps.now sets.old.items }
+    requires room { walk.old.left ≤ length sets.old.items }
     requires more { 0 < walk.old.left }
     requires within { walk.old.left ≤ length steps.now }
-    requires walk { IsWalk view.now (moves_of steps.now) (last_moves steps.now walk.old.left) walk.old.record.items walk.old.cut }
+    requires can { CanMake (last_moves steps.now walk.old.left) (ReadsOn view.now walk.old.cut) }
+    ensures sets { OnOk result (AreSuffixSets view.now steps.now sets.new.items) }
+    ensures count { OnOk result (length sets.new.items ≡ length sets.old.items) }
     ensures fewer { OnOk result (walk.new.left < walk.old.left) }
-    ensures walk { OnOk result (IsWalk view.now (moves_of steps.now)
-        (last_moves steps.now walk.new.left) walk.new.record.items walk.new.cut) }
+    ensures walk { OnOk result ((all : List Move) (letters : List Span)
+        → IsWalk view.now all (last_moves steps.now walk.old.left) letters (map value_of walk.old.values.items) walk.old.cut walk.old.letters.now
+        → IsWalk view.now all (last_moves steps.now walk.new.left) letters (map value_of walk.new.values.items) walk.new.cut walk.new.letters.now) }
 {
     tokens_have_texts(view);
     let step = &steps[steps.len() - walk.left];
@@ -76,24 +89,66 @@ fn take_step(
     match step {
         Step::Text(text) => {
             walk.cut = after_text(view, text, walk.cut);
+            walk.letters = after(walk.letters, letter_count(text));
             Ok(())
         }
-        Step::Variable { ere, is_empty, .. } => {
+        Step::Variable {
+            name,
+            ere,
+            is_empty,
+        } => {
+            fill(alloc, view, steps, sets, walk.left)?;
+            let rest = set_of(sets, walk.left);
             let next = after_shortest(alloc, view, ere, *is_empty, rest, walk.cut)?;
-            walk.record.push(letters_up_to(view, walk.cut, next))?;
+            let count = letters_up_to(view, walk.cut, next);
+            let span = covered(front(walk.letters, count));
+            walk.values.push(Value { name, span })?;
+            walk.letters = after(walk.letters, count);
             walk.cut = next;
             Ok(())
         }
         Step::Optional(size) => {
-            let can_be_present = have_cut(view, rest, walk.cut);
+            fill(alloc, view, steps, sets, walk.left)?;
+            let can_be_present = have_cut(view, set_of(sets, walk.left), walk.cut);
             if can_be_present {
-                walk.record.push(0)?;
                 return Ok(());
             }
-            walk.record.push(1)?;
-            walk.left = walk.left.saturating_sub(*size);
+            leave_out(steps, *size, walk)?;
             Ok(())
         }
+    }
+}
+
+// Leaves out the next steps: their variables match nothing.
+fn leave_out<'s>(steps: &[Step<'s>], size: usize, walk: &mut Walk<'s, '_>) -> Result<(), AllocError>
+    requires within { walk.old.left ≤ length steps.now }
+    ensures left { OnOk result (walk.new.left ≡ walk.old.left - size) }
+    ensures cut { OnOk result (walk.new.cut ≡ walk.old.cut) }
+    ensures letters { OnOk result (walk.new.letters.now ≡ walk.old.letters.now) }
+    ensures values { OnOk result ((r : List ℕ) (letters : List Span)
+        → map value_of walk.new.values.items ++ recorded 0 (last_moves steps.now walk.new.left) r letters
+        ≡ map value_of walk.old.values.items ++ recorded size (last_moves steps.now walk.old.left) r letters) }
+{
+    let end = walk.left.saturating_sub(size);
+    while walk.left > end {
+        leave_out_one(&steps[steps.len() - walk.left], &mut walk.values)?;
+        walk.left -= 1;
+    }
+    Ok(())
+}
+
+// Leaves out a step.
+fn leave_out_one<'s>(step: &Step<'s>, values: &mut Vec<Value<'s>>) -> Result<(), AllocError>
+    ensures { OnOk result ((n : ℕ) (ms : List Move) (r : List ℕ) (letters : List Span)
+        → map value_of values.new.items ++ recorded n ms r letters
+        ≡ map value_of values.old.items ++ recorded (suc n) (move_of step.now ∷ ms) r letters) }
+{
+    match step {
+        Step::Variable { name, .. } => {
+            values.push(Value { name, span: None })?;
+            Ok(())
+        }
+        Step::Text(_) | Step::Optional(_) => Ok(()),
     }
 }
 

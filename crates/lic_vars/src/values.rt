@@ -1,14 +1,13 @@
 //! What the variables of a template match in a match.
 
-ghost use Rattle.std.specs.Prelude.{◌≡◌, ◌==◌, ◌<◌, All, IfOk, false, length, map, take, drop, slice_index_or, if◌then◌else◌};
+ghost use Rattle.std.specs.Prelude.{◌≡◌, ◌<◌, All, IfOk, false, length, map};
 ghost use Rattle.lic_set.specs.Matches.{IsMatch};
-ghost use Rattle.lic_vars.specs.Values.{AreValues, covered};
-ghost use Rattle.lic_vars.specs.Cuts.{HasNoValue, moves_of};
-ghost use Rattle.lic_vars.specs.Recorded.{recorded};
+ghost use Rattle.lic_vars.specs.Values.{AreValues};
+ghost use Rattle.lic_vars.specs.Cuts.{HasNoValue};
 ghost use Rattle.lic_vars.specs.Views.{value_of};
 
-use crate::letters::{letter_count, letter_spans};
-use crate::search::least_record;
+use crate::letters::letter_spans;
+use crate::search::least_values;
 use crate::steps::{Step, steps_of};
 use lic_markup::laws::texts_are_those_of_pieces;
 use lic_norm::text::Text;
@@ -94,8 +93,7 @@ impl<'s> Assigner<'s> {
         let _length = text.len();
         let view = View::of(text, triple.first, triple.last - triple.first + 1);
         tokens_have_texts(&view);
-        let numbers = least_record(alloc, &view, &self.steps)?;
-        values_of(alloc, &self.steps, &letters, &numbers)
+        least_values(alloc, &view, &self.steps, &letters)
     }
 }
 
@@ -128,92 +126,4 @@ fn has_variable(steps: &[Step<'_>]) -> bool
         }
     }
     false
-}
-
-// The values that a record gives.
-fn values_of<'s>(
-    alloc: Global,
-    steps: &[Step<'s>],
-    mut letters: &[Span],
-    mut numbers: &[usize],
-) -> Result<Vec<Value<'s>>, AllocError>
-    ensures { IfOk result (λ values. map value_of values.items
-        ≡ recorded 0 (moves_of steps.now) numbers.now letters.now) }
-{
-    let mut values = Vec::new(alloc);
-    let mut left_out = 0;
-    let mut i = 0;
-    while i < steps.len() {
-        let step = &steps[i];
-        i += 1;
-        if left_out > 0 {
-            left_out -= 1;
-            if let Step::Variable { name, .. } = step {
-                values.push(Value { name, span: None })?;
-            }
-            continue;
-        }
-        match step {
-            Step::Text(text) => letters = behind(letters, letter_count(text)),
-            Step::Variable { name, .. } => {
-                let count = first_number(numbers);
-                let span = covered(front(letters, count));
-                values.push(Value { name, span })?;
-                letters = behind(letters, count);
-                numbers = other_numbers(numbers);
-            }
-            Step::Optional(size) => {
-                left_out = left_out_by(first_number(numbers), *size);
-                numbers = other_numbers(numbers);
-            }
-        }
-    }
-    Ok(values)
-}
-
-// The first number, or 0.
-fn first_number(numbers: &[usize]) -> usize
-    ensures { result ≡ slice_index_or numbers.now 0 0 }
-{
-    if numbers.is_empty() { 0 } else { numbers[0] }
-}
-
-// The numbers after the first.
-fn other_numbers(numbers: &[usize]) -> &[usize]
-    ensures { result.now ≡ drop 1 numbers.now }
-{
-    &numbers[1.min(numbers.len())..]
-}
-
-// How many steps an optional part leaves out by its choice: 0 is present.
-fn left_out_by(choice: usize, size: usize) -> usize
-    ensures { result ≡ (if choice == 0 then 0 else size) }
-{
-    if choice == 0 { 0 } else { size }
-}
-
-// The first `count` letters.
-fn front(letters: &[Span], count: usize) -> &[Span]
-    ensures { result.now ≡ take count letters.now }
-{
-    &letters[..count.min(letters.len())]
-}
-
-// The letters after the first `count`.
-fn behind(letters: &[Span], count: usize) -> &[Span]
-    ensures { result.now ≡ drop count letters.now }
-{
-    &letters[count.min(letters.len())..]
-}
-
-// From the start of the first letter's token to the end of the last letter's.
-fn covered(letters: &[Span]) -> Option<Span>
-    ensures { result ≡ covered letters.now }
-{
-    let first = letters.first()?;
-    let last = letters.last()?;
-    Some(Span {
-        start: first.start,
-        end: last.end,
-    })
 }

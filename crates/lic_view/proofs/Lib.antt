@@ -7,6 +7,7 @@ pub mod ViewBlanks
 pub mod ViewRanges
 pub mod ViewSpans
 pub mod BlankLemmas
+pub mod DoubledLemmas
 pub mod Numbers
 pub mod SpanLoops
 pub mod SingleLemmas

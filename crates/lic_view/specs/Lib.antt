@@ -3,6 +3,7 @@ pub mod LettersBefore
 pub mod Wide
 pub mod PlaceSets
 pub mod Backward
+pub mod Doubled
 pub mod Fresh
 pub mod Merged
 pub mod Joined

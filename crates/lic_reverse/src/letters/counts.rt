@@ -28,7 +28,7 @@ pub(crate) fn over_any(
         (Language (tidy (repeat min max (one (λ _. true))))) spans.items found.items) }
 {
     tokens_have_texts(view);
-    let found = counted_before(alloc, view, keep, min, max, &spans)?;
+    let found = counted_before(alloc, view, keep, min, max, spans)?;
     kept(alloc, view, keep, found)
 }
 
@@ -39,19 +39,21 @@ fn counted_before(
     keep: Keep,
     min: u32,
     max: Option<u32>,
-    spans: &[PlaceSpan],
+    spans: Vec<PlaceSpan>,
 ) -> Result<Vec<PlaceSpan>, Stop>
     requires few { min ≤ 1 }
-    requires placed { ArePlaced view.now spans.now }
+    requires placed { ArePlaced view.now spans.items }
     ensures { IfOk result (λ found. IsBack keep view.now
-        (Language (tidy (repeat min max (one (λ _. true))))) spans.now found.items) }
+        (Language (tidy (repeat min max (one (λ _. true))))) spans.items found.items) }
 {
-    keep.check_numbers(spans, view.bytes().len())?;
-    let mut found = some_before(alloc, view, keep, max, spans)?;
-    if min == 0 {
-        found.extend_from_slice(spans)?;
+    keep.check_numbers(&spans, view.bytes().len())?;
+    let mut found = some_before(alloc, view, keep, max, &spans)?;
+    if min > 0 {
+        return Ok(found);
     }
-    Ok(found)
+    let mut all = spans;
+    all.append(&mut found)?;
+    Ok(all)
 }
 
 // Where words of one letter or more lead to the places, of no more than `max` letters and blanks.

@@ -1,5 +1,5 @@
 -- One set more.
-use Rattle.std.proofs.Common.{length, length-append, ap, ◌∙◌, arith}
+use Rattle.std.proofs.Common.{◌≡◌, ◌+◌, Bool, length, length-append, length-set, ap, ◌∙◌, arith}
 use Rattle.lic_vars.proofs.KeptLemmas.{sets-room}
 use Rattle.lic_vars.proofs.keep.suffix_sets.Goals as goal
 
@@ -11,6 +11,7 @@ pub loop-number-preserved : goal.loop-number-preserved
 loop-number-preserved c =
     let more = ap length c.in_ok-push.ensures.items ∙ length-append c.loop-number.sets.items _ in
     record {
-      sets = c.release.ensures.sets c.args.view.now c.in_ok-fill.ensures.sets;
-      count = omega (arith, c.release.ensures.count, c.in_ok-fill.ensures.count, more, c.loop-number.invariant.count);
+      sets = c.let_go.ensures.sets c.args.view.now c.args.steps.now c.in_ok-fill.ensures.sets;
+      count = omega (arith, c.let_go.ensures.count, c.in_ok-fill.ensures.count, more, c.loop-number.invariant.count);
+      stays = omega (arith, length-set {A = Bool}, c.loop-number.invariant.stays);
     }

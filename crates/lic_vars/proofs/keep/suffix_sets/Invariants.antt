@@ -1,5 +1,5 @@
 -- The sets that are there are right.
-use Rattle.std.proofs.Common.{◌≡◌, length}
+use Rattle.std.proofs.Common.{◌≡◌, ◌+◌, length}
 use Rattle.lic_vars.specs.Sets.{AreSuffixSets}
 use Rattle.lic_vars.proofs.keep.suffix_sets.Given as goal
 
@@ -7,4 +7,5 @@ abbrev pub invariant-loop-number : goal.invariant-loop-number
 invariant-loop-number l = record {
   sets : AreSuffixSets l.view l.steps l.sets.items;
   count : length l.sets.items ≡ l.number;
+  stays : length l.stays.items ≡ length l.steps + 1;
 }

@@ -1,6 +1,4 @@
 -- The least last tokens lead to the same places.
-use Rattle.std.proofs.Common.{subst}
-use Rattle.lic_view.specs.Backward.{IsBack}
 use Rattle.lic_view.specs.PlaceSets.{Reaches}
 use Rattle.lic_reverse.proofs.CountNumbers.{back-kept_of}
 use Rattle.lic_reverse.proofs.CountWords.{Counted}
@@ -13,5 +11,4 @@ pub returns : goal.returns
 returns c =
     back-kept_of c.args.keep (λ v. v.items) c.args.view.now (Counted c.args.min c.args.max) (Reaches c.args.view.now c.args.spans.items)
     c.in_ok-found.found.items c.kept.result c.tokens_have_texts.ensures
-    (subst (λ l. IsBack c.args.keep c.args.view.now (Counted c.args.min c.args.max) l c.in_ok-found.found.items) c.deref.ensures.value c.in_ok-found.ensures)
-    c.kept.ensures
+    c.in_ok-found.ensures c.kept.ensures

@@ -11,8 +11,8 @@ use Rattle.lic_vars.proofs.NoValueLemmas.{no-values}
 use Rattle.lic_vars.proofs.SetLemmas.{ok-then}
 use Rattle.lic_vars.proofs.values.Assigner.assign.Goals as goal
 
-pub least_record-requires-clause-can : goal.least_record-requires-clause-can
-least_record-requires-clause-can c =
+pub least_values-requires-clause-can : goal.least_values-requires-clause-can
+least_values-requires-clause-can c =
     let own = c.self.inside in
     let v = c.args.self.now in
     let is = c.requires.is_match in
@@ -38,11 +38,12 @@ returns c =
     let part : c.of-view.result ≡ slice_range tokens triple.first (triple.last + 1) =
     tokens-of tokens c.of-view.result triple.first triple.last (triple.last - triple.first + 1) is.order refl c.of-view.ensures in
     let some = some-tokens tokens c.of-view.result triple.first triple.last is.order is.within part in
-    let least = rw c.deref-2.ensures.value at c.in_ok-numbers.ensures in
-    ok-then c.values_of.result _ _ c.values_of.ensures
-    (λ x h. assigned v.set tokens c.of-view.result triple is.known own.steps.items c.in_ok-letters.letters.items c.in_ok-numbers.numbers.items
+    ok-then c.least_values.result _ _ c.least_values.ensures
+    (λ x h.
+    let found = rw (c.deref-2.ensures.value, c.deref-3.ensures.value) at h in
+    assigned v.set tokens c.of-view.result triple is.known own.steps.items c.in_ok-letters.letters.items found.numbers
     (map value_of x.items) is.number moved c.tokens_have_texts.ensures some part
-    c.in_ok-letters.ensures least (rw (c.deref-3.ensures.value, c.deref-4.ensures.value, c.deref-5.ensures.value) at h))
+    c.in_ok-letters.ensures found.least found.same)
 
 pub returns-then-not-has_variable : goal.returns-then-not-has_variable
 returns-then-not-has_variable c =

@@ -1,4 +1,6 @@
+use Rattle.lic_view.specs.PlaceSets.{Reaches}
 use Rattle.lic_view.proofs.BlankLemmas.{IsBlank}
+use Rattle.lic_view.proofs.DoubledLemmas.{back-as_many}
 use Rattle.lic_view.proofs.SpanLoops.{placed-one, spans-all, spans-more, spans-none}
 use Rattle.lic_view.proofs.over.blanks.over_blanks.Goals as goal
 
@@ -14,4 +16,6 @@ loop-span-preserved c =
     c.loop-span-test.true c.loop-span.invariant c.in_ok-add_over_blank.ensures
 
 pub returns : goal.returns
-returns c = spans-all c.args.keep c.args.view.now IsBlank c.args.spans.now c.loop-span.span-index c.loop-span.found.items c.loop-span-test.false c.loop-span.invariant
+returns c =
+    let all = spans-all c.args.keep c.args.view.now IsBlank c.args.spans.now c.loop-span.span-index c.loop-span.found.items c.loop-span-test.false c.loop-span.invariant in
+    back-as_many c.args.keep c.args.view.now IsBlank (Reaches c.args.view.now c.args.spans.now) c.loop-span.found.items c.drop_doubled.new.spans.items c.drop_doubled.ensures all
