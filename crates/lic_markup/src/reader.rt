@@ -9,7 +9,7 @@ ghost use Rattle.lic_markup.specs.PartTexts.{HavePieceTexts};
 ghost use Rattle.lic_markup.specs.Pieces.{characters};
 ghost use Rattle.lic_markup.specs.ReadTexts.{HasReadTexts};
 ghost use Rattle.lic_markup.specs.Reading as reading;
-ghost use Rattle.lic_markup.specs.Views.{element_of, level_of, state_of};
+ghost use Rattle.lic_markup.specs.Views.{element_of, level_of, levels_of, state_of};
 
 use crate::elements::Element;
 use crate::fault::{MarkupCause, MarkupFault};
@@ -249,14 +249,32 @@ impl Reader {
         ensures light { IfOk result (λ t. t.weight ≤ 131072) }
         ensures some_token { IfOk result (λ t. GiveToken t.parts) }
     {
-        if !self.outer.is_empty() {
-            return Err(MarkupFault {
-                place: self.level.place,
-                cause: MarkupCause::NotEnded,
-            });
-        }
-        whole(self.level.parts, self.original)
+        let Reader {
+            level,
+            outer,
+            original,
+            ..
+        } = self;
+        ended(level, outer, original)
     }
+}
+
+/// The template of these levels, unless an optional part is open.
+fn ended(level: Level, outer: Vec<Level>, original: String) -> Result<Template, MarkupFault>
+    requires { HavePieceTexts (row (map part_of level.parts.items)) }
+    ensures exact { Gives template_of result
+        (reading.finish (level_of level) (levels_of outer.items) (string_bytes original)) }
+    ensures weighed { IfOk result (λ t. t.weight ≡ weight_of t.parts) }
+    ensures light { IfOk result (λ t. t.weight ≤ 131072) }
+    ensures some_token { IfOk result (λ t. GiveToken t.parts) }
+{
+    if !outer.is_empty() {
+        return Err(MarkupFault {
+            place: level.place,
+            cause: MarkupCause::NotEnded,
+        });
+    }
+    whole(level.parts, original)
 }
 
 /// The template of these parts, unless it has no token or is too heavy.
