@@ -92,7 +92,8 @@ def claims(code, machines, line):
     yield "re-exports of lic_marks by lic_auto", re.findall(r"\bpub\s+use\s[^;]*\blic_marks\b[^;]*;", "\n".join(machines.values())), []
     for name in ("id", "template", "parts"):
         yield f"calls of {name}", calling(code, rf"\b{name}\s*\(|::\s*{name}\b"), []
-    yield "files that use is_match", [name for name, text in code.items() if re.search(r"(?<!fn )\bis_match\b", text)], []
+    uses = [name for name, text in code.items() if re.search(r"(?<!fn )\bis_match\b", text.replace("pub use matches::is_match;", ""))]
+    yield "files that use is_match", uses, []
     runs = calling(code, r"\bRun\s*::\s*(?:new|over)\b")
     constructor = next((name for name in runs if name != "is_match"), "a constructor")
     yield "functions that make a Run", runs, sorted([constructor, "is_match"])

@@ -10,8 +10,7 @@ use crate::after::{After, Given};
 use crate::fault::ArgumentFault;
 use clap::{Arg, ArgAction, ArgMatches, Command, Error, value_parser};
 use lic_find::Ask;
-use lic_set::set::Set;
-use lic_set::triple::Triple;
+use lic_set::{Set, Triple};
 use std::alloc::{AllocError, Global};
 
 /// The version of the program, for whoever names it in a bill of materials.

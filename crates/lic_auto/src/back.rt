@@ -11,7 +11,7 @@ ghost use Rattle.lic_auto.specs.TemplateBacks.{AreReversed, back_numbers};
 use crate::chosen::all_numbers;
 use crate::steps::count_steps;
 use crate::template_backs::{TemplateBack, begin_anew, gather_live, take_reversed};
-use lic_set::set::Set;
+use lic_set::Set;
 use std::alloc::{AllocError, Global};
 
 /// Templates of a set, all or some, over a list of tokens that comes from its end, so that it grows at its start. It keeps no token,

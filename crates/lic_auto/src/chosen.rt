@@ -11,7 +11,7 @@ ghost use Rattle.lic_auto.specs.Directions.{read};
 use crate::compile::compile;
 use crate::direction::Direction;
 use lic_marks::Node;
-use lic_set::set::Set;
+use lic_set::Set;
 use std::alloc::{AllocError, Global};
 
 /// All numbers below a count.

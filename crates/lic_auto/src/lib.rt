@@ -13,6 +13,5 @@ mod template_runs;
 
 pub use back::Back;
 pub use compile::compile_pattern;
-pub use lic_set::set::Set;
-pub use lic_set::triple::Triple;
+pub use lic_set::{Set, Triple};
 pub use run::Run;

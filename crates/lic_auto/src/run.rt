@@ -14,7 +14,7 @@ ghost use Rattle.lic_auto.specs.TemplateRuns.{AreOver, run_numbers};
 use crate::chosen::all_numbers;
 use crate::steps::count_steps;
 use crate::template_runs::{TemplateRun, begin_all, begin_among, none_is_live, push_to_all};
-use lic_set::set::Set;
+use lic_set::Set;
 use std::alloc::{AllocError, Global};
 
 /// Templates of a set, all or some, over a list of tokens that comes token by token. It keeps no token, and takes memory in its

@@ -12,7 +12,7 @@ ghost use Rattle.lic_auto.specs.TemplateBacks.{BeginsAnew, HasTakenBackward, Hav
 use crate::chosen::compile_template;
 use crate::direction::Direction;
 use lic_marks::UnanchoredMatcher;
-use lic_set::set::Set;
+use lic_set::Set;
 use std::alloc::{AllocError, Global};
 
 /// The matcher of one template of a set.

@@ -12,7 +12,7 @@ ghost use Rattle.lic_auto.specs.TemplateRuns.{BeginsAmong, BeginsIf, Follows, Is
 use crate::chosen::compile_template;
 use crate::direction::Direction;
 use lic_marks::AnchoredMatcher;
-use lic_set::set::Set;
+use lic_set::Set;
 use std::alloc::{AllocError, Global};
 
 /// The run of one template of a set.

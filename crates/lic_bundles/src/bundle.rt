@@ -2,7 +2,7 @@
 
 ghost use Rattle.std.specs.Prelude.{◌≡◌};
 
-use lic_set::triple::Triple;
+use lic_set::Triple;
 
 /// Matches of one template that end with the same token: one begins with each token from `from` to `to`.
 ///

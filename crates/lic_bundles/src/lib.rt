@@ -1,7 +1,10 @@
 //! Matches as bundles, and the triples of bundles in order.
 #![tactic(auto)]
 
-pub mod bundle;
+mod bundle;
 #[cfg(test)]
 mod tests;
-pub mod triples;
+mod triples;
+
+pub use bundle::Bundle;
+pub use triples::Triples;

@@ -6,7 +6,7 @@ ghost use Rattle.lic_set.specs.declared.triple.Triple.{Triple};
 
 use crate::bundle::Bundle;
 use crate::triples::Triples;
-use lic_set::triple::Triple;
+use lic_set::Triple;
 use std::alloc::{AllocError, Global};
 use std::fmt::Write;
 use std::test::Fail;

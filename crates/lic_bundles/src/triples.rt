@@ -9,7 +9,7 @@ ghost use Rattle.lic_bundles.specs.Bundles.{AreApart, AreTriples, part_after};
 ghost use Rattle.lic_bundles.specs.Merging.{IsNoLater, IsTaken, comes_first as is_first};
 
 use crate::bundle::Bundle;
-use lic_set::triple::Triple;
+use lic_set::Triple;
 use std::alloc::{AllocError, Global};
 use std::collections::VecDeque;
 use std::marker::Model;

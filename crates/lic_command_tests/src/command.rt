@@ -1,7 +1,7 @@
 //! Calls of the program that open no file that is there.
 
 use lic_command::command;
-use lic_test_streams::streams::{Awaited, Pieces};
+use lic_test_streams::{Awaited, Pieces};
 use std::alloc::Global;
 use std::rt::Files;
 use std::test::Fail;

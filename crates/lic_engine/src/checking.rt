@@ -13,14 +13,11 @@ ghost use Rattle.lic_report.specs.Checking.{all_letters, Checked, DescribesItsOr
 ghost use Rattle.lic_engine.specs.Failures.{CountsWrites, IsOfText, Keeps};
 
 use crate::fault::RunFault;
-use lic_find::matches::is_match;
+use lic_find::is_match;
 use lic_kind::Rules;
-use lic_norm::fault::TextFault;
-use lic_norm::text::Text;
-use lic_norm::words::Words;
+use lic_norm::{Text, TextFault, Words};
 use lic_report::add_checked;
-use lic_set::set::Set;
-use lic_set::triple::Triple;
+use lic_set::{Set, Triple};
 use lic_stream::{Sink, put_all};
 use std::alloc::{AllocError, Global};
 

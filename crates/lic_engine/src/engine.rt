@@ -14,11 +14,9 @@ use crate::input::read_text;
 use crate::outer::report_outer;
 use lic_find::Ask;
 use lic_kind::Rules;
-use lic_norm::fault::TextFault;
-use lic_norm::text::Text;
-use lic_norm::words::Words;
+use lic_norm::{Text, TextFault, Words};
 use lic_report::{MatchLines, Wanted, add_file, add_token};
-use lic_set::set::Set;
+use lic_set::Set;
 use lic_stream::{Sink, Source, put_all, put_gathered};
 use std::alloc::Global;
 

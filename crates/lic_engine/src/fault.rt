@@ -3,7 +3,7 @@
 ghost use Rattle.std.specs.Prelude.{◌≡◌};
 ghost use Rattle.lic_engine.specs.declared.fault.RunFault.TheVariants.{Write, Memory};
 
-use lic_norm::fault::TextFault;
+use lic_norm::TextFault;
 use lic_stream::WriteFailed;
 use std::alloc::AllocError;
 use thiserror::Error;

@@ -10,10 +10,7 @@ ghost use Rattle.lic_engine.specs.Inputs.{IsAccepted, IsRefused, IsUnrefused};
 
 use crate::fault::RunFault;
 use lic_kind::Rules;
-use lic_norm::fault::TextFault;
-use lic_norm::feeder::Feeder;
-use lic_norm::text::Text;
-use lic_norm::words::Words;
+use lic_norm::{Feeder, Text, TextFault, Words};
 use lic_stream::Source;
 use std::alloc::Global;
 

@@ -9,10 +9,9 @@ ghost use Rattle.lic_stream.specs.Stream.{BeginsWith};
 ghost use Rattle.lic_engine.specs.Failures.{CountsWrites, IsOfWriting};
 
 use crate::fault::RunFault;
-use lic_norm::text::Text;
+use lic_norm::Text;
 use lic_report::{ValuedLines, outer_matches};
-use lic_set::set::Set;
-use lic_set::triple::Triple;
+use lic_set::{Set, Triple};
 use lic_stream::{Sink, put_all, put_gathered};
 use lic_vars::laws::values_are_one_list;
 use std::alloc::Global;

@@ -4,7 +4,7 @@ ghost use Rattle.std.specs.Prelude.{◌≡◌, ◌↔◌, IfOk, IsTrue, IsSorted
 ghost use Rattle.lic_set.specs.declared.triple.Triple.{Triple};
 ghost use Rattle.lic_filters.specs.Filters.{tight_of, outermost_of, outer_of, triple_cmp, SameMembers};
 
-use lic_set::triple::Triple;
+use lic_set::Triple;
 use std::alloc::{AllocError, Global};
 use std::cmp::Reverse;
 

@@ -1,5 +1,7 @@
 //! Filters of matches: the tight ones, and the outer ones among these.
 #![tactic(auto)]
 
-pub mod filters;
+mod filters;
 pub mod laws;
+
+pub use filters::{outer, outermost, tight};

@@ -18,7 +18,7 @@ use crate::laws::matches_are_listed;
 use crate::reverse_scan::first_tokens;
 use crate::starts::Starts;
 use lic_auto::{Run, Set, Triple};
-use lic_norm::text::Text;
+use lic_norm::Text;
 use std::alloc::{AllocError, Global};
 use std::cmp::Ordering;
 

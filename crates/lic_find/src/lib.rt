@@ -4,10 +4,11 @@
 mod ask;
 mod finder;
 pub mod laws;
-pub mod matches;
+mod matches;
 mod reverse_scan;
 mod starts;
 
 pub use ask::Ask;
 pub use finder::Finder;
 pub use lic_auto::Triple;
+pub use matches::is_match;

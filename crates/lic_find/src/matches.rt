@@ -4,7 +4,7 @@ ghost use Rattle.std.specs.Prelude.{◌↔◌, IfOk, IsTrue};
 ghost use Rattle.lic_set.specs.Matches.{IsMatch};
 
 use lic_auto::{Run, Set, Triple};
-use lic_norm::text::Text;
+use lic_norm::Text;
 use std::alloc::{AllocError, Global};
 
 /// Whether a triple is a match: it has a range of the text's tokens, and its template describes it (SPDX 2.3 Annex B,

@@ -8,7 +8,7 @@ ghost use Rattle.lic_find.specs.Starts.{HasAtMost, starts_in};
 
 use crate::starts::Starts;
 use lic_auto::{Back, Set};
-use lic_norm::text::Text;
+use lic_norm::Text;
 use std::alloc::{AllocError, Global};
 
 /// The first tokens, from this one on, of matches of the templates of these numbers, and the steps of the reverse scan of these tokens

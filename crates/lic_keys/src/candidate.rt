@@ -1,6 +1,6 @@
 //! Templates that cannot be ruled out, and where a text of each ends.
 
-use lic_literals::kept::Kept;
+use lic_literals::Kept;
 
 /// A template that has no text with letters, or one whose longest text may occur in the bytes.
 #[derive(Drop)]

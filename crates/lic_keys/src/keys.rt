@@ -9,7 +9,7 @@ ghost use Rattle.lic_keys.specs.Candidates.{IsCandidateIn, ends_at};
 
 use crate::candidate::{Candidate, RequiredEnds};
 use crate::longest::longest_text;
-use lic_literals::ends::ends_within;
+use lic_literals::ends_within;
 use lic_markup::Template;
 use lic_markup::laws::texts_are_those_of_pieces;
 use std::alloc::{AllocError, Global};
@@ -20,7 +20,7 @@ use std::marker::Model;
 #[derive(Drop)]
 pub struct Keys {
     // the letters of the longest text of each template, or none
-    literals: lic_literals::prefilter::Prefilter,
+    literals: lic_literals::Prefilter,
     // the number of this text among the parts, if there is one
     texts: Vec<Option<usize>>,
 }
@@ -51,7 +51,7 @@ impl Keys {
             texts.push(text)?;
             letters.push(own)?;
         }
-        let literals = lic_literals::prefilter::Prefilter::build(alloc, &letters)?;
+        let literals = lic_literals::Prefilter::build(alloc, &letters)?;
         Ok(Keys { literals, texts })
     }
 

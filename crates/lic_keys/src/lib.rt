@@ -1,8 +1,12 @@
 //! The required literal of each template, which is in whatever it describes, and a prefilter by these literals.
 #![tactic(auto)]
 
-pub mod candidate;
-pub mod edges;
-pub mod keys;
+mod candidate;
+mod edges;
+mod keys;
 pub mod laws;
-pub mod longest;
+mod longest;
+
+pub use candidate::{Candidate, RequiredEnds};
+pub use edges::{Edges, edges_of};
+pub use keys::Keys;

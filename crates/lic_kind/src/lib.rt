@@ -8,12 +8,12 @@ ghost use Rattle.lic_kind.specs.Ranges.{is_far_word};
 mod latin;
 pub mod laws;
 mod letters;
-pub mod rule_kind;
+mod rule_kind;
 mod rule_text;
-pub mod rules;
-pub mod rules_fault;
+mod rules;
+mod rules_fault;
 mod tables;
-pub mod texts;
+mod texts;
 mod word_letters;
 
 use latin::latin_kind;

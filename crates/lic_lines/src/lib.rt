@@ -2,16 +2,16 @@
 //! leave, tokens with their letters, and single copyright signs.
 #![tactic(auto)]
 
-pub mod buffers;
-pub mod cell;
+mod buffers;
+mod cell;
 mod line;
 mod mark_rows;
 mod runs;
 mod signs;
-pub mod small_string;
+mod small_string;
 mod text;
 mod text_start;
-pub mod tokens;
+mod tokens;
 
 pub use buffers::Buffers;
 pub use cell::Cell;

@@ -2,15 +2,19 @@
 #![tactic(auto)]
 
 mod counts;
-pub mod ends;
+mod ends;
 mod grams;
 mod groups;
 mod hits;
-pub mod kept;
+mod kept;
 pub mod laws;
 mod marks;
-pub mod prefilter;
+mod prefilter;
 mod table;
 mod tables;
 #[cfg(test)]
 mod tests;
+
+pub use ends::ends_within;
+pub use kept::Kept;
+pub use prefilter::Prefilter;

@@ -6,8 +6,8 @@ ghost use Rattle.lic_load.specs.Reporting.{IsReported};
 ghost use Rattle.lic_load.specs.declared.fault.LoadFault.TheVariants.{Memory};
 
 use lic_kind::RulesFault;
-use lic_norm::words::WordsFault;
-use lic_set::set::BuildFault;
+use lic_norm::WordsFault;
+use lic_set::BuildFault;
 use lic_stream::{Sink, put_all};
 use std::alloc::{AllocError, AllocFailed};
 use std::fmt::Display;

@@ -7,7 +7,7 @@ ghost use Rattle.lic_load.specs.Causes.{IsFileFault};
 
 use crate::fault::{FileFault, LoadFault};
 use crate::file::read_bytes;
-use lic_norm::words::{Words, WordsFault};
+use lic_norm::{Words, WordsFault};
 use simdutf8::compat::from_utf8;
 use std::alloc::Global;
 use std::rt::Files;

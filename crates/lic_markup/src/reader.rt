@@ -20,8 +20,7 @@ use crate::rule::Rule;
 use crate::weights::{have_token, parts_weight};
 use lic_ere::{EreCause, EreFault, read};
 use lic_kind::Rules;
-use lic_norm::pieces::{Next, PieceBuffers, piece};
-use lic_norm::words::Words;
+use lic_norm::{Next, PieceBuffers, Words, piece};
 use std::alloc::{AllocError, Global};
 use std::mem;
 

@@ -14,8 +14,7 @@ use crate::lines::with_next;
 use crate::part::Template;
 use crate::reader::Reader;
 use lic_kind::Rules;
-use lic_norm::pieces::Next;
-use lic_norm::words::Words;
+use lic_norm::{Next, Words};
 use std::alloc::Global;
 
 /// How many bytes a template may have.

@@ -1,7 +1,7 @@
 //! The filters of the default report.
 
-use lic_filters::filters::{outer, tight};
-use lic_set::triple::Triple;
+use lic_filters::{outer, tight};
+use lic_set::Triple;
 use std::alloc::{AllocError, Global};
 use std::fmt::Write;
 use std::test::Fail;

@@ -1,10 +1,9 @@
 //! Matches of templates in texts.
 
 use crate::profile::{set_of, text_of};
-use lic_find::Finder;
-use lic_find::matches::is_match;
-use lic_norm::text::Text;
-use lic_set::triple::Triple;
+use lic_find::{Finder, is_match};
+use lic_norm::Text;
+use lic_set::Triple;
 use std::alloc::Global;
 use std::fmt::Write;
 use std::test::Fail;

@@ -1,7 +1,7 @@
 //! Which templates are kept for a text by their required texts.
 
 use crate::profile::template_of;
-use lic_keys::keys::Keys;
+use lic_keys::Keys;
 use lic_markup::Template;
 use std::alloc::{AllocError, Global};
 use std::fmt::Write;

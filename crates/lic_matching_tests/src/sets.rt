@@ -2,7 +2,7 @@
 
 use crate::profile::{set_of, template_of, text_of};
 use lic_markup::Template;
-use lic_set::set::Set;
+use lic_set::Set;
 use std::alloc::Global;
 use std::fmt::Write;
 use std::test::Fail;

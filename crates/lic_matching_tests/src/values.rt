@@ -1,10 +1,10 @@
 //! The values of matches.
 
 use crate::profile::{set_of, text_of};
-use lic_find::matches::is_match;
-use lic_norm::text::Text;
-use lic_set::triple::Triple;
-use lic_vars::values::{Value, assign};
+use lic_find::is_match;
+use lic_norm::Text;
+use lic_set::Triple;
+use lic_vars::{Value, assign};
 use std::alloc::Global;
 use std::fmt::Write;
 use std::test::Fail;

@@ -8,12 +8,9 @@ use lic_auto::{Back, Run};
 use lic_ere::Ere;
 use lic_find::Finder;
 use lic_kind::{Kind, Rules, kind_of};
-use lic_norm::feeder::Feeder;
-use lic_norm::text::Text;
-use lic_norm::words::Words;
+use lic_norm::{Feeder, Text, Words};
 use lic_rows::{Bits, and_into, any_from, is_zero, or_into, shift_up_one};
-use lic_set::set::Set;
-use lic_set::triple::Triple;
+use lic_set::{Set, Triple};
 use lic_stream::{Counted, Sink, Source};
 use std::alloc::{AllocError, Global};
 

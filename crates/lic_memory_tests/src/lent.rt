@@ -3,9 +3,8 @@
 use crate::refused::Refused;
 use lic_kind::Rules;
 use lic_markup::read_template;
-use lic_norm::text::Text;
-use lic_norm::words::Words;
-use lic_set::set::Set;
+use lic_norm::{Text, Words};
+use lic_set::Set;
 use std::alloc::{AllocError, Global};
 
 /// Identifiers and texts of templates.

@@ -3,18 +3,14 @@
 use crate::lent::{CHOICE, OF, ONE, OPTIONAL, TWO, Templates, lend};
 use crate::refused::{Refused, retried};
 use lic_auto::{Back, Run};
-use lic_filters::filters::{outer, tight};
-use lic_find::Finder;
-use lic_find::matches::is_match;
+use lic_filters::{outer, tight};
+use lic_find::{Finder, is_match};
 use lic_kind::Rules;
-use lic_norm::text::Text;
-use lic_norm::token::Span;
-use lic_norm::words::Words;
+use lic_norm::{Span, Text, Words};
 use lic_report::AllMatches;
 use lic_search::tight_matches;
-use lic_set::set::Set;
-use lic_set::triple::Triple;
-use lic_vars::values::assign;
+use lic_set::{Set, Triple};
+use lic_vars::assign;
 use std::alloc::{AllocError, Global};
 
 /// A range of tokens, the last one counted, and the number of a template.

@@ -3,11 +3,7 @@
 use crate::refused::{Refused, retried};
 use lic_ere::Ere;
 use lic_kind::{Rules, spell};
-use lic_norm::fault::TextFault;
-use lic_norm::feeder::Feeder;
-use lic_norm::pieces::{Next, PieceBuffers, piece};
-use lic_norm::text::Text;
-use lic_norm::words::Words;
+use lic_norm::{Feeder, Next, PieceBuffers, Text, TextFault, Words, piece};
 use std::alloc::Global;
 
 /// Whether a pattern is read as two alternatives.

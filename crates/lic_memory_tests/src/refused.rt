@@ -7,9 +7,8 @@ use lic_engine::RunFault;
 use lic_ere::{EreCause, EreFault};
 use lic_kind::{RulesCause, RulesFault};
 use lic_markup::{MarkupCause, MarkupFault};
-use lic_norm::fault::TextFault;
-use lic_norm::words::{WordsCause, WordsFault};
-use lic_set::set::BuildFault;
+use lic_norm::{TextFault, WordsCause, WordsFault};
+use lic_set::BuildFault;
 use std::alloc::AllocError;
 use std::process::Abort;
 

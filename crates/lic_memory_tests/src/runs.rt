@@ -5,10 +5,9 @@ use crate::refused::{Refused, retried};
 use lic_engine::{check, run, run_tokens};
 use lic_find::Ask;
 use lic_kind::Rules;
-use lic_norm::words::Words;
-use lic_set::set::Set;
-use lic_set::triple::Triple;
-use lic_test_streams::streams::{Awaited, Pieces};
+use lic_norm::Words;
+use lic_set::{Set, Triple};
+use lic_test_streams::{Awaited, Pieces};
 use std::alloc::Global;
 
 /// All matches.

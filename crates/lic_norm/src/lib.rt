@@ -1,13 +1,21 @@
 //! From bytes to tokens, each with the bytes that it was made from.
 #![tactic(auto)]
 
-pub mod fault;
-pub mod feeder;
+mod fault;
+mod feeder;
 pub mod laws;
-pub mod pieces;
+mod pieces;
 mod reader;
-pub mod refusal;
+mod refusal;
 mod rewriting;
-pub mod text;
-pub mod token;
-pub mod words;
+mod text;
+mod token;
+mod words;
+
+pub use fault::TextFault;
+pub use feeder::{Feeder, read_pieces};
+pub use lic_phrases::{Words, WordsCause, WordsFault};
+pub use pieces::{Next, PieceBuffers, piece};
+pub use refusal::MAX_BYTES;
+pub use text::Text;
+pub use token::{Span, Token};

@@ -2,11 +2,7 @@
 ghost use Rattle.std.specs.Prelude.{◌<◌};
 
 use lic_kind::Rules;
-use lic_norm::fault::TextFault;
-use lic_norm::feeder::{Feeder, read_pieces};
-use lic_norm::refusal::MAX_BYTES;
-use lic_norm::text::Text;
-use lic_norm::words::Words;
+use lic_norm::{Feeder, MAX_BYTES, Text, TextFault, Words, read_pieces};
 use std::alloc::{AllocError, Global};
 use std::fmt::Write;
 use std::test::Fail;

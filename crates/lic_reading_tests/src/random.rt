@@ -2,9 +2,7 @@
 
 use crate::plain::read_plainly;
 use lic_kind::Rules;
-use lic_norm::feeder::Feeder;
-use lic_norm::text::Text;
-use lic_norm::words::Words;
+use lic_norm::{Feeder, Text, Words};
 use std::alloc::{AllocError, Global};
 use std::fmt::Write;
 use std::test::Fail;

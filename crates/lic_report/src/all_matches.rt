@@ -8,13 +8,12 @@ ghost use Rattle.lic_find.specs.Among.{AreMatchesAmong};
 ghost use Rattle.lic_report.specs.Found.{found_in};
 ghost use Rattle.lic_report.specs.Merging.{comes_first as is_first};
 
-use lic_bundles::triples::Triples;
+use lic_bundles::Triples;
 use lic_find::Finder;
 use lic_find::laws::matches_are_one_list;
-use lic_norm::text::Text;
+use lic_norm::Text;
 use lic_search::all_matches;
-use lic_set::set::Set;
-use lic_set::triple::Triple;
+use lic_set::{Set, Triple};
 use std::alloc::{AllocError, Global};
 use std::marker::Model;
 

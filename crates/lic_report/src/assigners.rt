@@ -5,10 +5,9 @@ ghost use Rattle.lic_set.specs.Matches.{IsMatch};
 ghost use Rattle.lic_vars.specs.Values.{AreValues};
 ghost use Rattle.lic_vars.specs.Views.{value_of};
 
-use lic_norm::text::Text;
-use lic_set::set::Set;
-use lic_set::triple::Triple;
-use lic_vars::values::{Assigner, Value};
+use lic_norm::Text;
+use lic_set::{Set, Triple};
+use lic_vars::{Assigner, Value};
 use std::alloc::{AllocError, Global};
 use std::collections::HashMap;
 use std::marker::Model;

@@ -9,10 +9,9 @@ ghost use Rattle.lic_report.specs.Checking.{check_line};
 ghost use Rattle.lic_report.specs.Report.{token_line, place_fields, value_line, no_known};
 
 use lic_fields::{add_number, add_text};
-use lic_norm::text::Text;
-use lic_norm::token::{Span, Token};
-use lic_set::set::Set;
-use lic_vars::values::Value;
+use lic_norm::{Span, Text, Token};
+use lic_set::Set;
+use lic_vars::Value;
 use std::alloc::AllocError;
 
 /// Adds the file's name, the first field of each line.

@@ -6,10 +6,8 @@ ghost use Rattle.lic_report.specs.Report.{match_prefix, match_line, no_known, no
 
 use crate::lines::add_file;
 use lic_fields::{add_last_numbers, add_text};
-use lic_norm::text::Text;
-use lic_norm::token::Span;
-use lic_set::set::Set;
-use lic_set::triple::Triple;
+use lic_norm::{Span, Text};
+use lic_set::{Set, Triple};
 use std::alloc::{AllocError, Global};
 use std::collections::HashMap;
 use std::marker::Model;

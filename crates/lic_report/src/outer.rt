@@ -4,13 +4,12 @@ ghost use Rattle.std.specs.Prelude.{◌≡◌, List, All, IfOk, None};
 ghost use Rattle.lic_set.specs.Matches.{AreMatches, IsMatch};
 ghost use Rattle.lic_filters.specs.Filters.{outer_of};
 
-use lic_filters::filters::outermost;
 use lic_filters::laws::{outer_ones_are_tight, tight_ones_are_tight};
+use lic_filters::outermost;
 use lic_find::laws::matches_exist;
-use lic_norm::text::Text;
+use lic_norm::Text;
 use lic_search::tight_matches;
-use lic_set::set::Set;
-use lic_set::triple::Triple;
+use lic_set::{Set, Triple};
 use std::alloc::{AllocError, Global};
 
 /// The outer ones of all matches in a text, in the order of triples: those of its tight matches, which are found without a list of all.

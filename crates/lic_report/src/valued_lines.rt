@@ -11,12 +11,11 @@ ghost use Rattle.lic_report.specs.Report.{value_line, valued_lines};
 use crate::assigners::Assigners;
 use crate::lines::add_value;
 use crate::match_lines::MatchLines;
+use lic_norm::Text;
 use lic_norm::laws::tokens_have_spans;
-use lic_norm::text::Text;
-use lic_set::set::Set;
-use lic_set::triple::Triple;
+use lic_set::{Set, Triple};
+use lic_vars::Value;
 use lic_vars::laws::values_run_over_tokens;
-use lic_vars::values::Value;
 use std::alloc::{AllocError, Global};
 use std::marker::Model;
 

@@ -8,9 +8,8 @@ ghost use Rattle.lic_report.specs.Wanted.{wanted_of};
 
 use crate::all_matches::AllMatches;
 use lic_find::Ask;
-use lic_norm::text::Text;
-use lic_set::set::Set;
-use lic_set::triple::Triple;
+use lic_norm::Text;
+use lic_set::{Set, Triple};
 use std::alloc::{AllocError, Global};
 
 /// Gives the matches of a set in a text, after a triple and up to a limit where these are asked for.

@@ -6,9 +6,10 @@ mod letters;
 mod patterns;
 mod reverse;
 mod text_copies;
-pub mod variable;
+mod variable;
 mod ways;
 
 pub use empty::has_empty_word_alone;
 pub use reverse::{either, have_place, over_text, over_variable};
 pub use text_copies::over_copies;
+pub use variable::over_value;

@@ -16,7 +16,7 @@ use crate::ways::Ways;
 use crate::ways::endings::{GroupedWays, part_for};
 use crate::ways::reached::Reached;
 use lic_ere::Ere;
-use lic_spans::span::PlaceSpan;
+use lic_spans::PlaceSpan;
 use lic_view::{Keep, Stop, View, kept, tokens_have_texts};
 use std::alloc::Global;
 

@@ -9,9 +9,9 @@ ghost use Rattle.lic_norm.specs.PieceTexts.{IsPieceText};
 ghost use Rattle.lic_view.specs.PlaceSets.{ArePlaced, Reaches};
 ghost use Rattle.lic_reverse.specs.Reverse.{LeadBack};
 
-use crate::variable;
+use crate::variable::over_value;
 use lic_ere::Ere;
-use lic_spans::span::PlaceSpan;
+use lic_spans::PlaceSpan;
 use lic_view::{Keep, View, has_place, kept, tokens_have_texts};
 use std::alloc::{AllocError, Global};
 
@@ -39,7 +39,7 @@ pub fn over_variable(
     requires { ArePlaced view.now spans.items }
     ensures { IfOk result (λ found. LeadBack view.now (Language (tidy (tree_words (tree_of ere.now)))) spans.items found.items) }
 {
-    Ok(variable::over_variable(alloc, view, Keep::Least, ere, spans)?)
+    Ok(over_value(alloc, view, Keep::Least, ere, spans)?)
 }
 
 /// The places of the spans and those of other ones.

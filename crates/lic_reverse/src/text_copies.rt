@@ -12,7 +12,7 @@ ghost use Rattle.lic_reverse.specs.Tidily.Taken.{a_blank, a_letter, nothing};
 
 use crate::ways::Ways;
 use crate::ways::reached::Reached;
-use lic_spans::span::PlaceSpan;
+use lic_spans::PlaceSpan;
 use lic_view::{Keep, Stop, View, kept, over_text, tokens_have_texts};
 use std::alloc::Global;
 

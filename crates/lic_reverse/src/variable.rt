@@ -11,12 +11,12 @@ use crate::letters::counts::over_any;
 use crate::letters::passing::is_any;
 use crate::patterns::over_pattern;
 use lic_ere::Ere;
-use lic_spans::span::PlaceSpan;
+use lic_spans::PlaceSpan;
 use lic_view::{Keep, Stop, View};
 use std::alloc::Global;
 
 /// The places from which a tidy word of a pattern leads to those of the spans.
-pub fn over_variable(
+pub fn over_value(
     alloc: Global,
     view: &View<'_>,
     keep: Keep,

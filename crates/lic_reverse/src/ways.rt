@@ -8,7 +8,7 @@ pub(crate) mod endings;
 pub(crate) mod groups;
 pub(crate) mod reached;
 
-use lic_spans::span::PlaceSpan;
+use lic_spans::PlaceSpan;
 use lic_view::{Keep, Stop, View, are_same, fresh_spans, kept, tokens_have_texts};
 use std::alloc::{AllocError, Global};
 

@@ -9,11 +9,11 @@ ghost use Rattle.lic_bundles.specs.Bundles.{AreApart};
 ghost use Rattle.lic_search.specs.AllMatches.{AddsTemplate, AreMatchBundles, BundlesHold, IsOrdered};
 
 use crate::search::{bundles_within, least_ranges};
-use lic_bundles::bundle::Bundle;
-use lic_keys::candidate::Candidate;
+use lic_bundles::Bundle;
+use lic_keys::Candidate;
 use lic_markup::laws::texts_are_those_of_pieces;
-use lic_norm::text::Text;
-use lic_set::set::Set;
+use lic_norm::Text;
+use lic_set::Set;
 use lic_view::{Stop, View};
 use std::alloc::{AllocError, Global};
 

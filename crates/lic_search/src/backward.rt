@@ -10,9 +10,8 @@ ghost use Rattle.lic_view.specs.PlaceSets.{ArePlaced};
 
 use crate::copies::last_copies;
 use lic_markup::Part;
-use lic_reverse::over_copies;
-use lic_reverse::variable::over_variable;
-use lic_spans::span::PlaceSpan;
+use lic_reverse::{over_copies, over_value};
+use lic_spans::PlaceSpan;
 use lic_view::{Keep, Stop, View, kept, merged, over_text, tokens_have_texts};
 use std::alloc::Global;
 
@@ -59,7 +58,7 @@ fn over_part(
 {
     match part {
         Part::Text(text) => over_text(alloc, view, keep, text, spans),
-        Part::Var { ere, .. } => over_variable(alloc, view, keep, ere, spans),
+        Part::Var { ere, .. } => over_value(alloc, view, keep, ere, spans),
         Part::Optional(parts) => over_optional(alloc, view, keep, parts, spans),
     }
 }

@@ -10,9 +10,8 @@ ghost use Rattle.lic_search.specs.Beginnings.{AreFirsts, BeginsIn};
 ghost use Rattle.lic_view.specs.PlaceSets.{ArePlaced};
 
 use crate::matches::last_beginning;
-use lic_bundles::bundle::Bundle;
-use lic_spans::each::with_each_last;
-use lic_spans::span::{PlaceSpan, SpanKind};
+use lic_bundles::Bundle;
+use lic_spans::{PlaceSpan, SpanKind, with_each_last};
 use lic_view::{View, tokens_have_texts};
 use std::alloc::{AllocError, Global};
 

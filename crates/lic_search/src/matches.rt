@@ -9,7 +9,7 @@ ghost use Rattle.lic_view.specs.PlaceSets.{ArePlaced, Reaches};
 ghost use Rattle.lic_search.specs.Beginnings.{BeginsIn, IsEndOf, IsLastBeginning, LiesWithin};
 
 use crate::range::Range;
-use lic_spans::span::{PlaceSpan, SpanKind};
+use lic_spans::{PlaceSpan, SpanKind};
 use lic_view::{View, tokens_have_texts};
 use std::alloc::{AllocError, Global};
 

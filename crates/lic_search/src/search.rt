@@ -21,10 +21,10 @@ use crate::last_text::last_ends;
 use crate::matches::{ranges_of, token_ends};
 use crate::range::Range;
 use crate::windows::candidate_ends;
-use lic_bundles::bundle::Bundle;
-use lic_keys::candidate::RequiredEnds;
+use lic_bundles::Bundle;
+use lic_keys::RequiredEnds;
 use lic_markup::Part;
-use lic_spans::span::PlaceSpan;
+use lic_spans::PlaceSpan;
 use lic_view::{Keep, Stop, View, tokens_have_texts};
 use std::alloc::{AllocError, Global};
 

@@ -8,12 +8,11 @@ ghost use Rattle.lic_set.specs.declared.triple.Triple.{Triple};
 ghost use Rattle.lic_search.specs.LeastMatches.{AddsLeast, HasLeastMatches};
 
 use crate::search::least_ranges;
-use lic_filters::filters::tight;
-use lic_keys::candidate::Candidate;
+use lic_filters::tight;
+use lic_keys::Candidate;
 use lic_markup::laws::texts_are_those_of_pieces;
-use lic_norm::text::Text;
-use lic_set::set::Set;
-use lic_set::triple::Triple;
+use lic_norm::Text;
+use lic_set::{Set, Triple};
 use lic_view::View;
 use std::alloc::{AllocError, Global};
 

@@ -16,7 +16,7 @@ ghost use Rattle.lic_search.specs.Windows.{AddsEnds, AreTokenEnds, ListsEnd};
 use crate::matches::token_end;
 use crate::reach::most_bytes;
 use lic_markup::Part;
-use lic_spans::span::PlaceSpan;
+use lic_spans::PlaceSpan;
 use lic_view::{View, tokens_have_texts};
 use std::alloc::{AllocError, Global};
 

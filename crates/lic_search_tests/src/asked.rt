@@ -1,7 +1,7 @@
 //! What is asked of the forms of matching where not all matches are.
 
 use crate::seed::Seed;
-use lic_set::triple::Triple;
+use lic_set::Triple;
 
 /// Which matches are asked for.
 #[derive(Clone, Copy, Debug)]

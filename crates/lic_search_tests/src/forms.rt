@@ -3,11 +3,10 @@
 use crate::asked::Asked;
 use crate::chosen::chosen_numbers;
 use lic_find::Finder;
-use lic_norm::text::Text;
+use lic_norm::Text;
 use lic_report::AllMatches;
 use lic_search::tight_matches;
-use lic_set::set::Set;
-use lic_set::triple::Triple;
+use lic_set::{Set, Triple};
 use std::alloc::{AllocError, Global};
 
 /// A form of matching.

@@ -4,9 +4,9 @@ use crate::asked::Asked;
 use crate::forms::found;
 use crate::profile::Profile;
 use crate::wanted::differing_form;
-use lic_norm::text::Text;
+use lic_norm::Text;
 use lic_search::all_matches;
-use lic_set::set::Set;
+use lic_set::Set;
 use std::alloc::{AllocError, Global};
 use std::test::Fail;
 

@@ -8,9 +8,8 @@ use crate::profile::Profile;
 use crate::seed::Seed;
 use crate::tally::{Case, Tally};
 use crate::wanted::differing_form;
-use lic_norm::text::Text;
-use lic_set::set::Set;
-use lic_set::triple::Triple;
+use lic_norm::Text;
+use lic_set::{Set, Triple};
 use std::alloc::{AllocError, Global};
 use std::test::Fail;
 

@@ -2,10 +2,9 @@
 
 use crate::asked::Asked;
 use crate::forms::{FORMS, Form, given};
-use lic_filters::filters::tight;
-use lic_norm::text::Text;
-use lic_set::set::Set;
-use lic_set::triple::Triple;
+use lic_filters::tight;
+use lic_norm::Text;
+use lic_set::{Set, Triple};
 use std::alloc::{AllocError, Global};
 
 /// The first form that does not give what it has to, by the list of all matches.

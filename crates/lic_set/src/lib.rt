@@ -1,5 +1,8 @@
 //! Sets of templates, and what a match of one of them is.
 #![tactic(auto)]
 
-pub mod set;
-pub mod triple;
+mod set;
+mod triple;
+
+pub use set::{BuildFault, MAX_TEMPLATES, Set};
+pub use triple::Triple;

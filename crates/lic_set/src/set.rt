@@ -13,11 +13,10 @@ ghost use Rattle.lic_set.specs.Rising.{IsRising};
 ghost use Rattle.lic_set.specs.Sets.{Known, RepeatsAt, all_known, parts_of};
 ghost use Rattle.lic_set.specs.declared.triple.Triple.{Triple};
 
-use lic_keys::candidate::{Candidate, RequiredEnds};
-use lic_keys::keys::Keys;
+use lic_keys::{Candidate, Keys, RequiredEnds};
 use lic_markup::Template;
+use lic_norm::Text;
 use lic_norm::laws::{tokens_are_token_texts, tokens_are_utf8};
-use lic_norm::text::Text;
 use std::alloc::{AllocError, Global};
 use std::marker::Model;
 use thiserror::Error;

@@ -1,10 +1,14 @@
 //! Sets of places of a text, as spans with the last token of a match, and the least last token of each place.
 #![tactic(auto)]
 
-pub mod each;
+mod each;
 mod join;
-pub mod least;
-pub mod span;
+mod least;
+mod span;
 mod sweep;
 #[cfg(test)]
 mod tests;
+
+pub use each::with_each_last;
+pub use least::with_least_last;
+pub use span::{PlaceSpan, SpanKind};

@@ -1,4 +1,6 @@
 //! A reader and a writer for tests, which take no memory.
 #![tactic(auto)]
 
-pub mod streams;
+mod streams;
+
+pub use streams::{Awaited, Pieces};

@@ -7,7 +7,7 @@ ghost use Rattle.lic_view.specs.PlaceSets.{ArePlaced, Reaches};
 ghost use Rattle.lic_vars.specs.Cuts.{IsOpen, LeadsTo, ReadsFrom, ReadsOn, letter_place};
 
 use lic_reverse::have_place;
-use lic_spans::span::PlaceSpan;
+use lic_spans::PlaceSpan;
 use lic_view::{View, tokens_have_texts};
 
 /// A place, and whether blanks of the gap there are written already.

@@ -8,7 +8,7 @@ ghost use Rattle.lic_vars.specs.declared.steps.Step.{Step};
 
 use crate::sets::{end_alone, fill, set_of};
 use crate::steps::Step;
-use lic_spans::span::PlaceSpan;
+use lic_spans::PlaceSpan;
 use lic_view::View;
 use std::alloc::{AllocError, Global};
 

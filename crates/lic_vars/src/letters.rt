@@ -5,8 +5,7 @@ ghost use Rattle.std.specs.Str.{chars};
 ghost use Rattle.lic_words.specs.Letters.{letters_in};
 ghost use Rattle.lic_vars.specs.Values.{covered, letter_spans};
 
-use lic_norm::text::Text;
-use lic_norm::token::Span;
+use lic_norm::{Span, Text};
 use std::alloc::{AllocError, Global};
 
 /// For each letter of the tokens from the first to the last that is no blank, the bytes that its token was made from.

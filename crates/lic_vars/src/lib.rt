@@ -8,5 +8,7 @@ mod letters;
 mod search;
 mod sets;
 mod steps;
-pub mod values;
+mod values;
 mod variable;
+
+pub use values::{Assigner, Value, assign};

@@ -18,8 +18,8 @@ use crate::sets::{fill, set_of};
 use crate::steps::Step;
 use crate::values::Value;
 use crate::variable::after_shortest;
-use lic_norm::token::Span;
-use lic_spans::span::PlaceSpan;
+use lic_norm::Span;
+use lic_spans::PlaceSpan;
 use lic_view::{View, tokens_have_texts};
 use std::alloc::{AllocError, Global};
 

@@ -9,7 +9,7 @@ ghost use Rattle.lic_vars.specs.Sets.{AreSuffixSets, HasOther, IsOther, IsSet, I
 use crate::steps::Step;
 use crate::variable::over_pattern;
 use lic_reverse::{either, over_text};
-use lic_spans::span::{PlaceSpan, SpanKind};
+use lic_spans::{PlaceSpan, SpanKind};
 use lic_view::{View, tokens_have_texts};
 use std::alloc::{AllocError, Global};
 

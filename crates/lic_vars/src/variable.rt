@@ -14,7 +14,7 @@ ghost use Rattle.lic_vars.specs.Shortest.{AreWithin, HaveNone, IsLeastNumber, Is
 use crate::cut::{Cut, have_cut, letter_place};
 use lic_ere::Ere;
 use lic_reverse::over_variable;
-use lic_spans::span::PlaceSpan;
+use lic_spans::PlaceSpan;
 use lic_view::{View, tokens_have_texts};
 use std::alloc::{AllocError, Global};
 

@@ -9,8 +9,8 @@ ghost use Rattle.lic_view.specs.PlaceSets.{IsLetterPlace};
 ghost use Rattle.lic_view.specs.Views.{AreSpelledFrom, IsFirstFrom};
 
 use crate::last_letter::last_letter;
+use lic_norm::Text;
 use lic_norm::laws::{tokens_are_token_texts, tokens_are_utf8};
-use lic_norm::text::Text;
 use std::marker::Model;
 
 /// Tokens of a text that follow one another, in canonical spelling. A place is a number of bytes of it.

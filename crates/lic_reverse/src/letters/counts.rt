@@ -8,7 +8,7 @@ ghost use Rattle.lic_view.specs.PlaceSets.{ArePlaced, IsPlaceOf};
 
 use crate::letters::runs::{Letters, runs_before};
 use lic_ere::Ere;
-use lic_spans::span::{PlaceSpan, SpanKind};
+use lic_spans::{PlaceSpan, SpanKind};
 use lic_view::{Keep, Stop, View, end_of, kept, place_of, tokens_have_texts};
 use std::alloc::Global;
 

@@ -18,7 +18,7 @@ ghost use Rattle.lic_view.specs.Wide.{HoldThoseOf, This};
 
 use crate::ways::Ways;
 use lic_ere::Ere;
-use lic_spans::span::{PlaceSpan, SpanKind};
+use lic_spans::{PlaceSpan, SpanKind};
 use lic_view::{
     Keep, Stop, View, end_of, first_from, has_place, over_blanks, place_of, single, stretches_of,
     tokens_have_texts,

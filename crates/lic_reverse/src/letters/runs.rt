@@ -17,7 +17,7 @@ use crate::letters::passing::passes;
 use crate::letters::run::{Run, first_run, run_start};
 use crate::ways::Ways;
 use lic_ere::Ere;
-use lic_spans::span::{PlaceSpan, SpanKind};
+use lic_spans::{PlaceSpan, SpanKind};
 use lic_view::{Keep, Stop, View, end_of, over_blanks, place_of, push_joined, tokens_have_texts};
 use std::alloc::Global;
 

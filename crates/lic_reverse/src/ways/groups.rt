@@ -5,7 +5,7 @@ ghost use Rattle.lic_view.specs.PlaceSets.{ArePlaced, IsPlaceOf, Reaches};
 ghost use Rattle.lic_reverse.specs.LetterGroups.{AddsPlaces, AreGroupsOf, HasEntry, HasNone, IsPieceOf, mixed as the_mixed, number_of as the_number_of};
 ghost use Rattle.lic_spans.specs.declared.span.PlaceSpan.{PlaceSpan};
 
-use lic_spans::span::PlaceSpan;
+use lic_spans::PlaceSpan;
 use lic_view::{View, end_of, place_of, tokens_have_texts};
 use std::alloc::{AllocError, Global};
 

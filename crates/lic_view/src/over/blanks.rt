@@ -11,7 +11,7 @@ use crate::sets::keep::Keep;
 use crate::sets::singles::{end_of, single};
 use crate::sets::stop::Stop;
 use crate::view::{View, tokens_have_texts};
-use lic_spans::span::{PlaceSpan, SpanKind};
+use lic_spans::{PlaceSpan, SpanKind};
 use std::alloc::Global;
 
 /// The places to which a blank leads from those of the spans.

@@ -18,8 +18,8 @@ use crate::sets::singles::{end_of, single};
 use crate::sets::stop::Stop;
 use crate::sets::wide::{first_from, stretches_of};
 use crate::view::{View, tokens_have_texts};
-use lic_literals::ends::ends_within;
-use lic_spans::span::{PlaceSpan, SpanKind};
+use lic_literals::ends_within;
+use lic_spans::{PlaceSpan, SpanKind};
 use std::alloc::{AllocError, Global};
 
 /// The places at which the letters begin that end at those of the spans.

@@ -14,8 +14,8 @@ use crate::sets::keep::Keep;
 use crate::sets::kept::kept;
 use crate::sets::stop::Stop;
 use crate::view::{View, tokens_have_texts};
-use lic_keys::edges::edges_of;
-use lic_spans::span::PlaceSpan;
+use lic_keys::edges_of;
+use lic_spans::PlaceSpan;
 use std::alloc::Global;
 
 /// The places at which a text begins that ends at those of the spans.

@@ -5,7 +5,7 @@ ghost use Rattle.lic_view.specs.Fresh.{AreFresh};
 
 use crate::sets::keep::Keep;
 use crate::sets::same::is_same;
-use lic_spans::span::PlaceSpan;
+use lic_spans::PlaceSpan;
 use std::alloc::{AllocError, Global};
 
 /// Those of the spans that are not among the known ones. Both are sorted; of spans that are not, some that are known may be left.

@@ -6,7 +6,7 @@ ghost use Rattle.lic_view.specs.Joined.{Extends};
 
 use crate::sets::keep::Keep;
 use crate::sets::stop::Stop;
-use lic_spans::span::PlaceSpan;
+use lic_spans::PlaceSpan;
 
 /// Adds a span. If it continues the last one, that one is made longer.
 pub fn push_joined(keep: Keep, spans: &mut Vec<PlaceSpan>, span: PlaceSpan) -> Result<(), Stop>

@@ -3,7 +3,7 @@
 ghost use Rattle.std.specs.Prelude.{◌≡◌, ◌++◌, ◌∷◌, [], OnOk};
 
 use crate::sets::stop::Stop;
-use lic_spans::span::PlaceSpan;
+use lic_spans::PlaceSpan;
 
 /// Which last tokens of a place are kept: with the least one alone the search gives minimal matches, with each one all matches.
 #[derive(Clone, Copy, Debug, PartialEq, Eq)]

@@ -7,9 +7,7 @@ ghost use Rattle.lic_view.specs.PlaceSets.{ArePlaced};
 use crate::sets::keep::Keep;
 use crate::sets::stop::Stop;
 use crate::view::View;
-use lic_spans::each::with_each_last;
-use lic_spans::least::with_least_last;
-use lic_spans::span::PlaceSpan;
+use lic_spans::{PlaceSpan, with_each_last, with_least_last};
 use std::alloc::Global;
 
 /// Each place once with each of its last tokens that is kept.

@@ -5,7 +5,7 @@ ghost use Rattle.lic_view.specs.Merged.{AreMerged};
 
 use crate::sets::fresh::first_from;
 use crate::sets::keep::Keep;
-use lic_spans::span::PlaceSpan;
+use lic_spans::PlaceSpan;
 use std::alloc::{AllocError, Global};
 
 /// The spans of both lists. If both are sorted, so are they, but for spans that begin at one place.

@@ -5,7 +5,7 @@ ghost use Rattle.lic_places.specs.Places.{spelling_of};
 ghost use Rattle.lic_view.specs.PlaceSets.{ArePlaced, IsPlaceOf};
 
 use crate::view::View;
-use lic_spans::span::{PlaceSpan, SpanKind};
+use lic_spans::{PlaceSpan, SpanKind};
 
 /// The place that a number of a span of this kind gives, if it gives one.
 pub fn place_of(view: &View<'_>, kind: SpanKind, number: usize) -> Option<usize>

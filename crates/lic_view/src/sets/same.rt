@@ -2,7 +2,7 @@
 
 ghost use Rattle.std.specs.Prelude.{◌≡◌, IsTrue};
 
-use lic_spans::span::PlaceSpan;
+use lic_spans::PlaceSpan;
 
 /// Whether a span is the other.
 pub(crate) fn is_same(span: &PlaceSpan, other: &PlaceSpan) -> bool

@@ -4,7 +4,7 @@ ghost use Rattle.std.specs.Prelude.{◌≡◌, ◌∷◌, [], ◌+◌};
 ghost use Rattle.lic_view.specs.PlaceSets.{ArePlaced};
 
 use crate::view::View;
-use lic_spans::span::{PlaceSpan, SpanKind};
+use lic_spans::{PlaceSpan, SpanKind};
 
 /// One place, with the last token of a match.
 pub fn single(place: usize, last: usize) -> PlaceSpan

@@ -5,8 +5,7 @@ ghost use Rattle.std.specs.List.Sorted.{IsStrictlyIncreasing};
 ghost use Rattle.lic_view.specs.Views.{IsFirstFrom};
 ghost use Rattle.lic_view.specs.Wide.{AreStretchesOf, stretch_of as the_stretch_of};
 
-use lic_spans::each::with_each_last;
-use lic_spans::span::{PlaceSpan, SpanKind};
+use lic_spans::{PlaceSpan, SpanKind, with_each_last};
 use std::alloc::{AllocError, Global};
 
 /// The stretches in which the places of the spans of many places lie: apart from each other, in rising order.
