@@ -1,4 +1,4 @@
-//! Fields of a line that is written: texts with some bytes escaped, and numbers.
+//! Fields of an output line: texts with some bytes escaped, and decimal numbers.
 #![tactic(auto)]
 
 ghost use Rattle.std.specs.Prelude.{◌≡◌, ◌≤◌, ◌+◌, ◌++◌, [], ◌∷◌, false, OnOk, MatchOption, Some, decimal, drop, encode_utf8, length};

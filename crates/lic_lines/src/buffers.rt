@@ -1,10 +1,10 @@
-//! Room for the work on a line.
+//! Buffers for the work on a line.
 
 use crate::cell::Cell;
 use crate::runs::Runs;
 use std::alloc::Global;
 
-/// Room for the work on a line, kept from one line to the next. What it holds has no effect.
+/// Buffers for the work on a line, reused from line to line. What they hold has no effect.
 #[derive(Drop)]
 pub struct Buffers {
     /// The cells of a row of marks.
@@ -15,7 +15,7 @@ pub struct Buffers {
 }
 
 impl Buffers {
-    /// Room that takes no memory yet.
+    /// Empty buffers, which take no memory yet.
     pub fn new(alloc: Global) -> Buffers {
         Buffers {
             cells: Vec::new(alloc),

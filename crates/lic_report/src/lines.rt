@@ -1,4 +1,4 @@
-//! Lines of a report, but those of matches.
+//! Lines of a report about files, tokens, values of variables and templates.
 
 ghost use Rattle.std.specs.Prelude.{◌≡◌, ◌<◌, ◌≤◌, ◌++◌, ℕ, List, length, OnOk, Some};
 ghost use Rattle.std.specs.List.{slice_index_or};
