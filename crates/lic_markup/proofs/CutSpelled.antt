@@ -2,7 +2,7 @@
 use Rattle.std.proofs.Common.{◌≡◌, ℕ, zero, suc, ◌+◌, List, [], ◌∷◌, ◌++◌, drop, Option, Some, None, Result, Ok, Err, refl, sym, ap, subst, ◌∙◌, append_assoc, append-nil}
 use Rattle.std.proofs.lemmas.List.{drop-drop}
 use Rattle.lic_ere.specs.Located.{Located, further}
-use Rattle.lic_markup.specs.declared.tag.Tag.{Tag}
+use Rattle.lic_markup.specs.declared.rule.tag.Tag.{Tag}
 use Rattle.lic_markup.specs.declared.fault.MarkupFault.{MarkupFault}
 use Rattle.lic_markup.specs.Texts.{place_of}
 use Rattle.lic_markup.specs.Faults.{map_ok}

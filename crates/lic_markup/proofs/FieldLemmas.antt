@@ -2,7 +2,7 @@
 use Rattle.std.proofs.Common.{◌≡◌, ◌≤◌, ℕ, zero, suc, ◌+◌, true, false, cond, List, [], ◌∷◌, length, drop, Result, Ok, Err, refl, sym, ap, ◌∙◌, arith}
 use Rattle.std.proofs.lemmas.List.{drop-drop, length-drop}
 use Rattle.lic_ere.specs.Located.{Located, with_remaining, further}
-use Rattle.lic_markup.specs.declared.tag.Tag.{Tag}
+use Rattle.lic_markup.specs.declared.rule.tag.Tag.{Tag}
 use Rattle.lic_markup.specs.declared.fault.MarkupFault.{MarkupFault}
 use Rattle.lic_markup.specs.declared.fault.MarkupCause.TheVariants.{NotClosed}
 use Rattle.lic_markup.specs.Signs.{semicolon, greater}

@@ -6,8 +6,8 @@ use Rattle.std.specs.Str.{bytes_eq}
 use Rattle.std.proofs.lemmas.Bool.{eqb-true, false≢true}
 use Rattle.std.proofs.lemmas.Slice.Eq.{bytes_eq-Decides}
 use Rattle.lic_ere.specs.Located.{Located, further}
-use Rattle.lic_markup.specs.declared.tag.Tag.{Tag}
-use Rattle.lic_markup.specs.declared.tag.Tag.TheVariants.{Var, BeginOptional, EndOptional}
+use Rattle.lic_markup.specs.declared.rule.tag.Tag.{Tag}
+use Rattle.lic_markup.specs.declared.rule.tag.Tag.TheVariants.{Var, BeginOptional, EndOptional}
 use Rattle.lic_markup.specs.declared.fault.MarkupFault.{MarkupFault}
 use Rattle.lic_markup.specs.declared.fault.MarkupCause.TheVariants.{NotClosed, FieldMissing, NoEquals}
 use Rattle.lic_markup.specs.Signs.{double_quote, semicolon, equals, greater, backslash}

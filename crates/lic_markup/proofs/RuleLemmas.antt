@@ -6,7 +6,7 @@ use Rattle.std.proofs.lemmas.List.{drop-drop, drop_at, append-nil}
 use Rattle.lic_ere.specs.Located.{Located, with_remaining, further}
 use Rattle.lic_markup.specs.declared.fault.MarkupFault.{MarkupFault}
 use Rattle.lic_markup.specs.declared.fault.MarkupCause.TheVariants.{NotClosed}
-use Rattle.lic_markup.specs.declared.tag.Tag.{Tag}
+use Rattle.lic_markup.specs.declared.rule.tag.Tag.{Tag}
 use Rattle.lic_markup.specs.Signs.{less, equals, backslash}
 use Rattle.lic_markup.specs.Texts.{begins_with, text_of}
 use Rattle.lic_markup.specs.Faults.{fault_at, map_ok}

@@ -11,8 +11,8 @@ use Rattle.std.proofs.lemmas.Slice.Eq.{bytes_eq-Decides}
 use Rattle.std.proofs.lemmas.Str.{encode_ascii}
 use Rattle.std.proofs.Math.Seq.{drop-append_seam}
 use Rattle.lic_ere.specs.Located.{Located}
-use Rattle.lic_markup.specs.declared.tag.Tag.{Tag}
-use Rattle.lic_markup.specs.declared.tag.Tag.TheVariants.{Var, BeginOptional, EndOptional}
+use Rattle.lic_markup.specs.declared.rule.tag.Tag.{Tag}
+use Rattle.lic_markup.specs.declared.rule.tag.Tag.TheVariants.{Var, BeginOptional, EndOptional}
 use Rattle.lic_markup.specs.Signs.{less}
 use Rattle.lic_markup.specs.Texts.{text_of, begins_with}
 use Rattle.lic_markup.specs.Rules.{word_at, tag_of, tag_at}

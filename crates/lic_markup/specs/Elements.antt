@@ -1,7 +1,7 @@
 -- A template's text cut into pieces of plain text and rules.
 use Rattle.std.specs.Prelude.{ℕ, zero, suc, List, [], ◌∷◌, ◌++◌, drop, Option, Some, None, Result, Ok, Err}
 use Rattle.lic_ere.specs.Located.{Located, further}
-use Rattle.lic_markup.specs.declared.tag.Tag.{Tag}
+use Rattle.lic_markup.specs.declared.rule.tag.Tag.{Tag}
 use Rattle.lic_markup.specs.declared.fault.MarkupFault.{MarkupFault}
 use Rattle.lic_markup.specs.Faults.{map_ok}
 use Rattle.lic_markup.specs.Rules.{Rule, tag_at, rule_at}

@@ -4,8 +4,8 @@ use Rattle.std.specs.Prelude.{◌≡◌, ℕ, Bool, true, false, ◌||◌, ◌&&
 use Rattle.std.specs.Char.{is_ascii_alphanumeric}
 use Rattle.std.specs.Str.{bytes_eq}
 use Rattle.lic_ere.specs.Located.{Located}
-use Rattle.lic_markup.specs.declared.tag.Tag.{Tag}
-use Rattle.lic_markup.specs.declared.tag.Tag.TheVariants.{Var, BeginOptional, EndOptional}
+use Rattle.lic_markup.specs.declared.rule.tag.Tag.{Tag}
+use Rattle.lic_markup.specs.declared.rule.tag.Tag.TheVariants.{Var, BeginOptional, EndOptional}
 use Rattle.lic_markup.specs.Signs.{double_quote, semicolon, equals, greater, backslash}
 use Rattle.lic_markup.specs.Texts.{text_of, place_of, unescaped, begins_with, begins_with_two, trim_start, trim_end}
 use Rattle.lic_markup.specs.Rules as rules

@@ -2,8 +2,8 @@
 use Rattle.std.specs.Prelude.{◌≡◌, ℕ, Bool, true, false, ◌||◌, ◌&&◌, List, [], ◌∷◌, ◌++◌, codes}
 use Rattle.std.specs.Str.{bytes_eq}
 use Rattle.lic_ere.specs.Located.{Located}
-use Rattle.lic_markup.specs.declared.tag.Tag.{Tag}
-use Rattle.lic_markup.specs.declared.tag.Tag.TheVariants.{Var, BeginOptional, EndOptional}
+use Rattle.lic_markup.specs.declared.rule.tag.Tag.{Tag}
+use Rattle.lic_markup.specs.declared.rule.tag.Tag.TheVariants.{Var, BeginOptional, EndOptional}
 use Rattle.lic_markup.specs.declared.fault.MarkupFault.{MarkupFault}
 use Rattle.lic_markup.specs.declared.fault.MarkupCause.TheVariants.{NotClosed, FieldMissing, FieldTwice, NoEquals}
 use Rattle.lic_markup.specs.Signs.{double_quote, semicolon, equals, greater}

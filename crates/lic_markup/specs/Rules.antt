@@ -4,10 +4,10 @@ use Rattle.std.specs.Option.{is_some, option_map}
 use Rattle.std.specs.Char.{is_ascii_alphanumeric}
 use Rattle.std.specs.Str.{bytes_eq}
 use Rattle.lic_ere.specs.Located.{Located, further}
-use Rattle.lic_markup.specs.declared.tag.Tag.{Tag}
-use Rattle.lic_markup.specs.declared.tag.Tag.TheVariants.{Var, BeginOptional, EndOptional}
-use Rattle.lic_markup.specs.declared.fields.Field.{Field}
-use Rattle.lic_markup.specs.declared.fields.Field.TheVariants.{Name, Original, Match, Other}
+use Rattle.lic_markup.specs.declared.rule.tag.Tag.{Tag}
+use Rattle.lic_markup.specs.declared.rule.tag.Tag.TheVariants.{Var, BeginOptional, EndOptional}
+use Rattle.lic_markup.specs.declared.rule.fields.Field.{Field}
+use Rattle.lic_markup.specs.declared.rule.fields.Field.TheVariants.{Name, Original, Match, Other}
 use Rattle.lic_markup.specs.declared.fault.MarkupFault.{MarkupFault}
 use Rattle.lic_markup.specs.declared.fault.MarkupCause.TheVariants.{NotClosed, FieldMissing, FieldTwice, NoEquals}
 use Rattle.lic_markup.specs.Signs.{double_quote, semicolon, less, equals, greater, backslash}

@@ -10,8 +10,8 @@ ghost use Rattle.lic_markup.specs.Views.{element_of};
 
 use crate::fault::{MarkupCause, MarkupFault};
 use crate::piece::Piece;
+use crate::rule::tag::{Tag, read_tag};
 use crate::rule::{Rule, read_rule};
-use crate::tag::{Tag, read_tag};
 use memchr::memchr;
 use std::alloc::{AllocError, Global};
 

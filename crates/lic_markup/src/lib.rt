@@ -3,7 +3,6 @@
 
 mod elements;
 mod fault;
-mod fields;
 pub mod laws;
 mod lines;
 mod part;
@@ -11,7 +10,6 @@ mod piece;
 mod reader;
 mod reading;
 mod rule;
-mod tag;
 mod texts;
 mod weights;
 

@@ -5,10 +5,13 @@ ghost use Rattle.lic_markup.specs.Pieces.{characters};
 ghost use Rattle.lic_markup.specs.Rules as rules;
 ghost use Rattle.lic_markup.specs.Views.{values_of, rule_of};
 
+mod fields;
+pub(crate) mod tag;
+
 use crate::fault::{MarkupCause, MarkupFault};
-use crate::fields::{Values, fields};
 use crate::piece::Piece;
-use crate::tag::Tag;
+use crate::rule::fields::{Values, fields};
+use crate::rule::tag::Tag;
 use crate::texts::trim_start;
 use std::alloc::Global;
 

@@ -2,7 +2,7 @@ use Rattle.std.proofs.Common.{length, false}
 use Rattle.lic_markup.specs.Pieces.{EndsWith, characters}
 use Rattle.lic_markup.specs.Rules.{plain_at}
 use Rattle.lic_markup.proofs.RuleLemmas.{HasPassed, read}
-use Rattle.lic_markup.proofs.fields.plain.Given as goal
+use Rattle.lic_markup.proofs.rule.fields.plain.Given as goal
 
 -- what was passed and what is read of the rest are all
 abbrev pub invariant-loop-first : goal.invariant-loop-first

@@ -3,7 +3,7 @@ use Rattle.lic_markup.specs.Pieces.{characters}
 use Rattle.lic_markup.specs.Rules.{name_at}
 use Rattle.lic_markup.proofs.LocatedLemmas.{ends_all, ends_on}
 use Rattle.lic_markup.proofs.RuleLemmas.{none_passed, pass, stop, refuse, read, name-ends, name-refused, name-goes_on, name-open}
-use Rattle.lic_markup.proofs.fields.name.Goals as goal
+use Rattle.lic_markup.proofs.rule.fields.name.Goals as goal
 
 pub loop-after-init : goal.loop-after-init
 loop-after-init c =

@@ -4,7 +4,7 @@ use Rattle.lic_markup.specs.Pieces.{characters}
 use Rattle.lic_markup.specs.Rules.{word_at}
 use Rattle.lic_markup.specs.Texts.{text_of}
 use Rattle.lic_markup.proofs.RuleLemmas.{no_tag, tag_of_word}
-use Rattle.lic_markup.proofs.tag.read_tag.Goals as goal
+use Rattle.lic_markup.proofs.rule.tag.read_tag.Goals as goal
 
 pub returns-then-not-begins_with : goal.returns-then-not-begins_with
 returns-then-not-begins_with c = λ place. sym (no_tag place (characters c.args.rest) (sym c.begins_with.ensures ∙ c.if-not-begins_with.true))

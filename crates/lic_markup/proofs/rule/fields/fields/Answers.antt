@@ -5,7 +5,7 @@ use Rattle.lic_markup.specs.Rules.{field_or_none}
 use Rattle.lic_markup.specs.Views.{values_of}
 use Rattle.lic_markup.proofs.FaultLemmas.{Gives-err}
 use Rattle.lic_markup.proofs.FieldLemmas.{read-shorter, trim_start-shorter, fields-end, fields_turn, fields_fail, fields-refused, fields-open}
-use Rattle.lic_markup.proofs.fields.fields.Goals as goal
+use Rattle.lic_markup.proofs.rule.fields.fields.Goals as goal
 
 pub returns-then-begins_with_two : goal.returns-then-begins_with_two
 returns-then-begins_with_two c =

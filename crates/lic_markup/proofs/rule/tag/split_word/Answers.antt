@@ -2,7 +2,7 @@ use Rattle.std.proofs.Common.{sym, ◌∙◌}
 use Rattle.lic_markup.specs.Pieces.{characters}
 use Rattle.lic_markup.proofs.LocatedLemmas.{ends_all, ends_on}
 use Rattle.lic_markup.proofs.RuleLemmas.{no_letter_passed, letter_passed, no_word, no_word-end, before_none, whole_word, behind_word}
-use Rattle.lic_markup.proofs.tag.split_word.Goals as goal
+use Rattle.lic_markup.proofs.rule.tag.split_word.Goals as goal
 
 pub loop-first-init : goal.loop-first-init
 loop-first-init c = record { ends = ends_all c.args.all; passed = no_letter_passed (characters c.args.all) }

@@ -4,7 +4,7 @@ use Rattle.lic_markup.specs.Pieces.{characters}
 use Rattle.lic_markup.specs.Rules.{plain_at}
 use Rattle.lic_markup.proofs.LocatedLemmas.{ends_all, ends_on}
 use Rattle.lic_markup.proofs.RuleLemmas.{none_passed, pass, stop, refuse, read, plain-ends, plain-goes_on, plain-open}
-use Rattle.lic_markup.proofs.fields.plain.Goals as goal
+use Rattle.lic_markup.proofs.rule.fields.plain.Goals as goal
 
 pub loop-first-init : goal.loop-first-init
 loop-first-init c =

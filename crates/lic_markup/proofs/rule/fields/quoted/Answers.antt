@@ -3,7 +3,7 @@ use Rattle.lic_markup.specs.Pieces.{characters}
 use Rattle.lic_markup.specs.Rules.{quoted_at}
 use Rattle.lic_markup.proofs.LocatedLemmas.{ends_all, ends_on}
 use Rattle.lic_markup.proofs.RuleLemmas.{none_passed, pass, stop, refuse, read, quoted-ends, quoted-goes_on, quoted-open}
-use Rattle.lic_markup.proofs.fields.quoted.Goals as goal
+use Rattle.lic_markup.proofs.rule.fields.quoted.Goals as goal
 
 pub loop-after-init : goal.loop-after-init
 loop-after-init c =

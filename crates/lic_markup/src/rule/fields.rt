@@ -8,7 +8,7 @@ ghost use Rattle.lic_markup.specs.Views.{values_of};
 
 use crate::fault::{MarkupCause, MarkupFault};
 use crate::piece::Piece;
-use crate::tag::Tag;
+use crate::rule::tag::Tag;
 use crate::texts::{begins_with, begins_with_two, place_of, trim_end, trim_start, unescaped};
 use std::alloc::{AllocError, Global};
 

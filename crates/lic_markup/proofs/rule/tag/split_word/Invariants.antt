@@ -1,7 +1,7 @@
 use Rattle.std.proofs.Common.{length}
 use Rattle.lic_markup.specs.Pieces.{EndsWith, characters}
 use Rattle.lic_markup.proofs.RuleLemmas.{HasPassedWord}
-use Rattle.lic_markup.proofs.tag.split_word.Given as goal
+use Rattle.lic_markup.proofs.rule.tag.split_word.Given as goal
 
 -- letters and digits alone were passed
 abbrev pub invariant-loop-first : goal.invariant-loop-first

@@ -3,7 +3,7 @@ use Rattle.lic_markup.specs.Pieces.{characters}
 use Rattle.lic_markup.specs.Rules.{no_values, fields_at}
 use Rattle.lic_markup.specs.Views.{values_of}
 use Rattle.lic_markup.proofs.RuleLemmas.{read}
-use Rattle.lic_markup.proofs.fields.fields.Given as goal
+use Rattle.lic_markup.proofs.rule.fields.fields.Given as goal
 
 -- what is read of the rest is what is read of all
 abbrev pub invariant-loop-after : goal.invariant-loop-after
