@@ -3,7 +3,7 @@ use Rattle.std.proofs.Common.{◌≡◌, ℕ, suc, ◌<◌, true, ltb, List, [],
 use Rattle.std.proofs.lemmas.List.{append-nil}
 use Rattle.std.proofs.lemmas.Bool.Decides.{nat_tests}
 use Rattle.lic_ere.specs.declared.fault.EreFault.{EreFault}
-use Rattle.lic_ere.specs.declared.bounds.Bounds.{Bounds}
+use Rattle.lic_ere.specs.declared.lexeme.bounds.Bounds.{Bounds}
 use Rattle.lic_ere.specs.Signs.{close_paren}
 use Rattle.lic_ere.specs.Trees.{Tree, repeat, units_tree, choice_tree, letters_tree}
 use Rattle.lic_ere.specs.Faults.{◌>>=◌}

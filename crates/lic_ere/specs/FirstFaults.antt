@@ -2,7 +2,7 @@
 -- where they are; then no lexeme can be read, or the next one is not allowed there, or the pattern ends in an open group.
 use Rattle.std.specs.Prelude.{◌≡◌, ◌≢◌, ℕ, suc, ◌<◌, ◌≤◌, false, List, [], ◌∷◌, ◌++◌, Option, Some, None}
 use Rattle.std.specs.Char.{is_ascii_punctuation}
-use Rattle.lic_ere.specs.declared.bounds.Bounds.{Bounds}
+use Rattle.lic_ere.specs.declared.lexeme.bounds.Bounds.{Bounds}
 use Rattle.lic_ere.specs.declared.class.Member.{Member}
 use Rattle.lic_ere.specs.declared.fault.EreFault.{EreFault}
 use Rattle.lic_ere.specs.declared.fault.EreCause.{EreCause}

@@ -1,7 +1,7 @@
 -- The grammar of patterns, apart from how they are read: `.. ls rest ..` says that the lexemes ls begin so and go
 -- on with rest. Each lexeme is beside its place.
 use Rattle.std.specs.Prelude.{◌≡◌, ℕ, suc, ◌<◌, List, [], ◌∷◌, Some}
-use Rattle.lic_ere.specs.declared.bounds.Bounds.{Bounds}
+use Rattle.lic_ere.specs.declared.lexeme.bounds.Bounds.{Bounds}
 use Rattle.lic_ere.specs.Signs.{close_paren}
 use Rattle.lic_ere.specs.Trees.{Tree, repeat, units_tree, choice_tree, letters_tree}
 use Rattle.lic_ere.specs.Located.{located}

@@ -1,6 +1,6 @@
 -- Lexemes into a tree, or the first fault.
 use Rattle.std.specs.Prelude.{ℕ, List, [], ◌∷◌, ◌++◌, length, nat_lt, Option, Some, None, Result, Ok, Err, if◌then◌else◌}
-use Rattle.lic_ere.specs.declared.bounds.Bounds.{Bounds}
+use Rattle.lic_ere.specs.declared.lexeme.bounds.Bounds.{Bounds}
 use Rattle.lic_ere.specs.declared.fault.EreFault.{EreFault}
 use Rattle.lic_ere.specs.declared.fault.EreCause.TheVariants.{NothingToRepeat, TwoSigns, BadBound, GroupNotClosed, TooDeep}
 use Rattle.lic_ere.specs.Signs.{close_paren}

@@ -4,7 +4,7 @@ use Rattle.std.specs.Prelude.{◌≡◌, ◌≢◌, ℕ, ◌<◌, ◌≤◌, Boo
 use Rattle.std.specs.List.{AllByRecursion}
 use Rattle.std.specs.Char.{is_ascii_digit, is_ascii_punctuation}
 use Rattle.std.specs.Str.Parse.{digits_value}
-use Rattle.lic_ere.specs.declared.bounds.Bounds.{Bounds}
+use Rattle.lic_ere.specs.declared.lexeme.bounds.Bounds.{Bounds}
 use Rattle.lic_ere.specs.Signs.{dollar, open_paren, close_paren, star, plus, comma, dash, dot, colon, equals, question_mark, open_bracket, backslash, close_bracket, caret, open_brace, vertical_bar, close_brace}
 use Rattle.lic_ere.specs.declared.class.Member.{Member}
 use Rattle.lic_ere.specs.Sets.{Brackets}

@@ -1,9 +1,9 @@
 //! The pattern or an open group while it is read.
 ghost use Rattle.std.specs.Prelude.{◌≡◌, IfOk, OnOk};
 
-use crate::bounds::Bounds;
 use crate::ere::Ere;
 use crate::fault::{EreCause, EreFault};
+use crate::lexeme::bounds::Bounds;
 use std::alloc::{AllocError, Global};
 use std::mem;
 

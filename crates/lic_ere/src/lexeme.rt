@@ -6,11 +6,14 @@ ghost use Rattle.lic_ere.specs.Faults.{Gives, map_ok};
 ghost use Rattle.lic_ere.specs.Lexemes.{means_nothing, anchor_at, escaped_at, counted_sign, sign, bounds, lexeme_at};
 ghost use Rattle.lic_ere.specs.Views.{left, lexeme_of};
 
-use crate::bounds::{Bounds, read_bounds};
-use crate::brackets::bracket;
+pub(crate) mod bounds;
+mod brackets;
+
 use crate::ere::Ere;
 use crate::fault::{EreCause, EreFault};
 use crate::letters::letters;
+use crate::lexeme::bounds::{Bounds, read_bounds};
+use crate::lexeme::brackets::bracket;
 use crate::remaining::Remaining;
 use std::alloc::Global;
 

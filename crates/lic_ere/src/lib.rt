@@ -1,8 +1,6 @@
 //! Extended regular expressions: a profile of POSIX.1-2017, XBD 9.4, read into trees.
 #![tactic(auto)]
 
-mod bounds;
-mod brackets;
 mod class;
 mod ere;
 mod fault;

@@ -6,7 +6,7 @@ ghost use Rattle.lic_ere.specs.Bounds.{digits, number_at, upper_bound, bounds_at
 ghost use Rattle.lic_ere.specs.Located.{Located, with_remaining};
 ghost use Rattle.lic_ere.specs.Spelling.{IsBounds};
 ghost use Rattle.lic_ere.specs.Views.{left, seen};
-ghost use Rattle.lic_ere.specs.declared.bounds.Bounds.{Bounds};
+ghost use Rattle.lic_ere.specs.declared.lexeme.bounds.Bounds.{Bounds};
 
 use crate::remaining::Remaining;
 

@@ -2,7 +2,7 @@ use Rattle.std.proofs.Common.{◌≡◌, ◌≤◌, ◌||◌, not, eqb, min, len
 use Rattle.std.specs.Str.Parse.{digits_value, digits_value_after}
 use Rattle.lic_ere.specs.Bounds.{digits}
 use Rattle.lic_ere.specs.Views.{left}
-use Rattle.lic_ere.proofs.bounds.digits.Given as goal
+use Rattle.lic_ere.proofs.lexeme.bounds.digits.Given as goal
 
 -- the number so far, with the digits that are left, is the number of all
 abbrev pub invariant-loop-character : goal.invariant-loop-character

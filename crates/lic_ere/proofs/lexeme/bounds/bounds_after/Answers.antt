@@ -1,6 +1,6 @@
 use Rattle.lic_ere.specs.Views.{left}
 use Rattle.lic_ere.proofs.BoundSpelling.{exactly_gives, comma_gives}
-use Rattle.lic_ere.proofs.bounds.bounds_after.Goals as goal
+use Rattle.lic_ere.proofs.lexeme.bounds.bounds_after.Goals as goal
 
 pub returns-in-125 : goal.returns-in-125
 returns-in-125 c =

@@ -3,7 +3,7 @@ use Rattle.std.specs.Str.Parse.{digits_value_after}
 use Rattle.lic_ere.specs.Bounds.{digits}
 use Rattle.lic_ere.specs.Views.{left}
 use Rattle.lic_ere.proofs.BoundLemmas.{digits_turn, number_turn, some_turn, rest_turn}
-use Rattle.lic_ere.proofs.bounds.digits.Goals as goal
+use Rattle.lic_ere.proofs.lexeme.bounds.digits.Goals as goal
 
 pub loop-character-preserved : goal.loop-character-preserved
 loop-character-preserved c =

@@ -1,6 +1,6 @@
 use Rattle.lic_ere.specs.Views.{left}
 use Rattle.lic_ere.proofs.BracketSpelling.{is_spelled, is_read}
-use Rattle.lic_ere.proofs.brackets.bracket.Goals as goal
+use Rattle.lic_ere.proofs.lexeme.brackets.bracket.Goals as goal
 
 pub returns-clause-found : goal.returns-clause-found
 returns-clause-found c = is_spelled c.args.place (left c.args.rest) c.bracket_after.result c.bracket_after.ensures

@@ -1,7 +1,7 @@
 use Rattle.std.proofs.Common.{◌≡◌, true, length, eqb, vec_len}
 use Rattle.lic_ere.specs.Views.{left}
 use Rattle.lic_ere.proofs.BracketLemmas.{behind, members_of}
-use Rattle.lic_ere.proofs.brackets.members.Given as goal
+use Rattle.lic_ere.proofs.lexeme.brackets.members.Given as goal
 
 -- the members so far and those that are left are all
 abbrev pub invariant-loop-first : goal.invariant-loop-first

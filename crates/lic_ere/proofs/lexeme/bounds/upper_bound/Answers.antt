@@ -1,6 +1,6 @@
 use Rattle.lic_ere.specs.Views.{left}
 use Rattle.lic_ere.proofs.BoundSpelling.{upper_gives}
-use Rattle.lic_ere.proofs.bounds.upper_bound.Goals as goal
+use Rattle.lic_ere.proofs.lexeme.bounds.upper_bound.Goals as goal
 
 pub returns-then-min-max : goal.returns-then-min-max
 returns-then-min-max c =

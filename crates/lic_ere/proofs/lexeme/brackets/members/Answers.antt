@@ -3,7 +3,7 @@ use Rattle.lic_ere.specs.Brackets.{closes}
 use Rattle.lic_ere.specs.Views.{left}
 use Rattle.lic_ere.proofs.FaultLemmas.{Gives-err}
 use Rattle.lic_ere.proofs.BracketLemmas.{one_more, closed, failed, ended}
-use Rattle.lic_ere.proofs.brackets.members.Goals as goal
+use Rattle.lic_ere.proofs.lexeme.brackets.members.Goals as goal
 
 pub returns-then-closes : goal.returns-then-closes
 returns-then-closes c =
