@@ -12,7 +12,7 @@ use Rattle.lic_literals.specs.Hits.{IsNoted}
 use Rattle.lic_literals.specs.Sizes.{AreSizes, gram_at}
 use Rattle.lic_literals.specs.Tables.{AddsWindow, HasWindow, IsMarked, MarksWindow, NotesWhere, number_of}
 use Rattle.lic_literals.specs.declared.hits.Hits.{Hits}
-use Rattle.lic_literals.specs.declared.table.Table.{Table}
+use Rattle.lic_literals.specs.declared.tables.table.Table.{Table}
 use Rattle.lic_literals.proofs.GramLemmas.{part_of_occurrence}
 
 module _ {LENGTH GRAM STEP : ℕ} (window : List ℕ) (given : ℕ) (old new : Table LENGTH GRAM STEP) where

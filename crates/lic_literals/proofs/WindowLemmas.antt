@@ -9,7 +9,7 @@ use Rattle.lic_literals.specs.Hits.{IsNoted}
 use Rattle.lic_literals.specs.Tables.{AddsWindow, AllBelow, NotesWhere}
 use Rattle.lic_literals.specs.Windows.{AddsKey, AddsLiteral, AreBelow, HasKey, IsWindowOf, NotesKeys}
 use Rattle.lic_literals.specs.declared.hits.Hits.{Hits}
-use Rattle.lic_literals.specs.declared.table.Table.{Table}
+use Rattle.lic_literals.specs.declared.tables.table.Table.{Table}
 use Rattle.lic_literals.specs.declared.tables.Key.{Key}
 use Rattle.lic_literals.specs.declared.tables.Tables.{Tables}
 use Rattle.lic_literals.proofs.Occurring.{OccursAt-from_end, occurs_part}

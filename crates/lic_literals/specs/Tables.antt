@@ -8,7 +8,7 @@ use Rattle.lic_literals.specs.Hits.{IsNoted}
 use Rattle.lic_literals.specs.Marks.{Has}
 use Rattle.lic_literals.specs.Sizes.{gram_at}
 use Rattle.lic_literals.specs.declared.hits.Hits.{Hits}
-use Rattle.lic_literals.specs.declared.table.Table.{Table}
+use Rattle.lic_literals.specs.declared.tables.table.Table.{Table}
 
 module _ {LENGTH GRAM STEP : ℕ} where
   -- the number of a window

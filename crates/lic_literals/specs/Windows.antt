@@ -4,7 +4,7 @@ use Rattle.lic_literals.specs.Ends.{EndsAt}
 use Rattle.lic_literals.specs.Hits.{IsNoted}
 use Rattle.lic_literals.specs.Tables.{AllBelow, HasNone, HasWindow}
 use Rattle.lic_literals.specs.declared.hits.Hits.{Hits}
-use Rattle.lic_literals.specs.declared.table.Table.{Table}
+use Rattle.lic_literals.specs.declared.tables.table.Table.{Table}
 use Rattle.lic_literals.specs.declared.tables.Key.{Key}
 use Rattle.lic_literals.specs.declared.tables.Tables.{Tables}
 

@@ -10,7 +10,6 @@ mod kept;
 pub mod laws;
 mod marks;
 mod prefilter;
-mod table;
 mod tables;
 #[cfg(test)]
 mod tests;

@@ -4,9 +4,11 @@ ghost use Rattle.std.specs.Prelude.{◌≤◌, ◌<◌, ◌↔◌, length, IfOk,
 ghost use Rattle.lic_literals.specs.Sizes.{AreSizes};
 ghost use Rattle.lic_literals.specs.Windows.{AddsKey};
 
+pub(crate) mod table;
+
 use crate::counts::Counts;
 use crate::hits::Hits;
-use crate::table::Table;
+use crate::tables::table::Table;
 use std::alloc::{AllocError, Global};
 
 // How many bytes a window has.

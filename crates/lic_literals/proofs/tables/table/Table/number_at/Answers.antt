@@ -3,7 +3,7 @@ use Rattle.std.proofs.Common.{◌≡◌, ◌-◌, length, take, drop, sym, ap, �
 use Rattle.std.proofs.lemmas.List.{length-drop, take_all}
 use Rattle.memchr.proofs.lemmas.MatchLemmas.{OccursAt-part}
 use Rattle.lic_literals.specs.Tables.{number_of}
-use Rattle.lic_literals.proofs.table.Table.number_at.Goals as goal
+use Rattle.lic_literals.proofs.tables.table.Table.number_at.Goals as goal
 
 pub returns : goal.returns
 returns g c = λ w size occurs.

@@ -1,7 +1,7 @@
 -- The windows that begin early enough before the place are noted.
 use Rattle.std.proofs.Common.{◌+◌, ◌-◌, ◌≤◌, length}
 use Rattle.lic_literals.specs.Tables.{NotesWhere}
-use Rattle.lic_literals.proofs.table.Table.note_all.Given as goal
+use Rattle.lic_literals.proofs.tables.table.Table.note_all.Given as goal
 
 abbrev pub invariant-loop-place : goal.invariant-loop-place
 invariant-loop-place g l = record {

@@ -6,8 +6,8 @@ use Rattle.lic_literals.specs.Marks.{Has}
 use Rattle.lic_literals.specs.Sizes.{gram_at}
 use Rattle.lic_literals.specs.Tables.{NotesWhere}
 use Rattle.lic_literals.proofs.TableLemmas.{all_done, all_more, gram_marked, none_noted}
-use Rattle.lic_literals.proofs.table.Table.note_all.Goals as goal
-use Rattle.lic_literals.proofs.table.Table.note_all.Goals.{then-has+in_ok-note_around, else-has}
+use Rattle.lic_literals.proofs.tables.table.Table.note_all.Goals as goal
+use Rattle.lic_literals.proofs.tables.table.Table.note_all.Goals.{then-has+in_ok-note_around, else-has}
 
 pub loop-place-preserved : goal.loop-place-preserved
 loop-place-preserved g c =

@@ -6,8 +6,8 @@ use Rattle.lic_literals.specs.Marks.{Has}
 use Rattle.lic_literals.specs.Sizes.{gram_at}
 use Rattle.lic_literals.specs.Tables.{NotesWhere}
 use Rattle.lic_literals.proofs.TableLemmas.{IsLate, around_more, gram_marked}
-use Rattle.lic_literals.proofs.table.Table.note_around.Goals as goal
-use Rattle.lic_literals.proofs.table.Table.note_around.Goals.{then-start-place+then-has+in_ok-note_at, else-start-place, else-start-place-via-then-start-place+else-has, else-start-place-via-else-start-place}
+use Rattle.lic_literals.proofs.tables.table.Table.note_around.Goals as goal
+use Rattle.lic_literals.proofs.tables.table.Table.note_around.Goals.{then-start-place+then-has+in_ok-note_at, else-start-place, else-start-place-via-then-start-place+else-has, else-start-place-via-else-start-place}
 
 pub loop-back-preserved : goal.loop-back-preserved
 loop-back-preserved g c =

@@ -2,7 +2,7 @@
 use Rattle.std.proofs.Common.{sym, ◌∙◌}
 use Rattle.lic_literals.specs.Tables.{number_of}
 use Rattle.lic_literals.proofs.TableLemmas.{adds_known, adds_new}
-use Rattle.lic_literals.proofs.table.Table.add.Goals as goal
+use Rattle.lic_literals.proofs.tables.table.Table.add.Goals as goal
 
 pub returns-in-Some : goal.returns-in-Some
 returns-in-Some g c =

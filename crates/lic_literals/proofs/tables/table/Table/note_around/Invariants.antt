@@ -1,7 +1,7 @@
 -- The windows that begin late enough before the place are noted.
 use Rattle.std.proofs.Common.{◌+◌, ◌<◌, ◌≤◌}
 use Rattle.lic_literals.specs.Tables.{NotesWhere}
-use Rattle.lic_literals.proofs.table.Table.note_around.Given as goal
+use Rattle.lic_literals.proofs.tables.table.Table.note_around.Given as goal
 
 abbrev pub invariant-loop-back : goal.invariant-loop-back
 invariant-loop-back g l =

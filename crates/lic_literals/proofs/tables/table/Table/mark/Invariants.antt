@@ -2,7 +2,7 @@
 use Rattle.std.proofs.Common.{◌≡◌, ℕ, ◌<◌, List}
 use Rattle.lic_literals.specs.Sizes.{gram_at}
 use Rattle.lic_literals.specs.Tables.{IsMarked, number_of}
-use Rattle.lic_literals.proofs.table.Table.mark.Given as goal
+use Rattle.lic_literals.proofs.tables.table.Table.mark.Given as goal
 
 abbrev pub invariant-loop-start : goal.invariant-loop-start
 invariant-loop-start g l = record {
