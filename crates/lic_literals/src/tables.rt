@@ -7,6 +7,7 @@ ghost use Rattle.lic_literals.specs.Windows.{AddsKey};
 pub(crate) mod table;
 
 use crate::counts::Counts;
+use crate::grams::{LONG_GRAM, SHORT_GRAM};
 use crate::hits::Hits;
 use crate::tables::table::Table;
 use std::alloc::{AllocError, Global};
@@ -17,6 +18,13 @@ const LONG: usize = 16;
 const MIDDLE: usize = 7;
 
 const SHORT: usize = 4;
+
+// Of how many places in a row one is looked at for the windows of a length.
+const LONG_STEP: usize = 8;
+
+const MIDDLE_STEP: usize = 4;
+
+const SHORT_STEP: usize = 1;
 
 /// The window of a literal.
 #[derive(Clone, Copy, Debug)]
@@ -30,9 +38,9 @@ pub struct Key {
 /// The windows of literals, each of the greatest length that its literal has.
 #[derive(Drop)]
 pub struct Tables {
-    long: Table<LONG, 8, 8>,
-    middle: Table<MIDDLE, 4, 4>,
-    short: Table<SHORT, 4, 1>,
+    long: Table<LONG, LONG_GRAM, LONG_STEP>,
+    middle: Table<MIDDLE, SHORT_GRAM, MIDDLE_STEP>,
+    short: Table<SHORT, SHORT_GRAM, SHORT_STEP>,
 }
 
 impl Tables {

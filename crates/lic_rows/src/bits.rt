@@ -3,6 +3,7 @@
 ghost use Rattle.std.specs.Prelude.{◌≡◌, ℕ, suc, ◌+◌, ◌-◌, ◌≤◌, ◌<◌, ◌↔◌, ◌||◌, IsTrue, IfOk, IfSome, IfNone, true, false, length, replicate, slice_set};
 ghost use Rattle.lic_rows.specs.Bits.{flag_at, IsKeptOutside};
 
+use crate::word::WORD;
 use crate::words::has_fresh;
 use crate::{or_into, range};
 use std::alloc::{AllocError, Global};
@@ -37,7 +38,7 @@ impl Bits {
     pub fn new(alloc: Global, len: usize) -> Result<Bits, AllocError>
         ensures { IfOk result (λ row. row ≡ replicate len false) }
     {
-        let words = vec![in alloc; 0u64; len / 64 + 1]?;
+        let words = vec![in alloc; 0u64; len / WORD + 1]?;
         Ok(Bits { words, len })
     }
 

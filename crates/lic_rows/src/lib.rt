@@ -13,6 +13,7 @@ mod word;
 mod words;
 
 use crate::lanes::{and_four, or_four};
+use crate::word::WORD;
 use crate::words::{are_zero_from, clear_from, shift_words};
 pub use bits::Bits;
 
@@ -70,11 +71,11 @@ pub fn shift_up_one(row: &mut [u64], limit: usize)
 pub fn any_from(row: &[u64], m: usize) -> bool
     ensures { IsTrue result ↔ ((b : ℕ) × (m ≤ b) × (has row.now b ≡ true)) }
 {
-    let first = m / 64;
+    let first = m / WORD;
     if first >= row.len() {
         return false;
     }
-    if row[first] >> (m % 64) != 0 {
+    if row[first] >> (m % WORD) != 0 {
         return true;
     }
     !are_zero_from(row, first + 1)

@@ -5,7 +5,7 @@ ghost use Rattle.std.specs.Prelude.{◌≡◌, ◌≢◌, ℕ, suc, ◌/◌, ◌
 ghost use Rattle.std.specs.Int.{bit_at};
 ghost use Rattle.lic_rows.specs.Bits.{has, IsKeptOutside};
 
-use crate::word::{spliced, with_bit};
+use crate::word::{WORD, spliced, with_bit};
 use crate::words::{clear_from, shift_words};
 
 /// Whether the bit is set.
@@ -14,7 +14,7 @@ pub fn get(row: &[u64], at: usize) -> bool
     requires { at / 64 < length row.now }
     ensures { result ≡ has row.now at }
 {
-    row[at / 64] >> (at % 64) & 1 == 1
+    row[at / WORD] >> (at % WORD) & 1 == 1
 }
 
 /// Sets or clears the bit.
@@ -24,7 +24,7 @@ pub fn put(row: &mut [u64], at: usize, is_set: bool)
     ensures here { has row.new at ≡ is_set }
     ensures other { (b : ℕ) → b ≢ at → has row.new b ≡ has row.old b }
 {
-    row[at / 64] = with_bit(row[at / 64], at % 64, is_set);
+    row[at / WORD] = with_bit(row[at / WORD], at % WORD, is_set);
 }
 
 // Puts back what the words at the ends of the range, which were `low` and `high`, had outside of it.
@@ -38,8 +38,8 @@ fn put_back(row: &mut [u64], from: usize, to: usize, low: u64, high: u64)
         → ((k : ℕ) → to / 64 < k → slice_index row.old k ≡ slice_index whole k)
         → IsKeptOutside from to (has whole) (has row.new) }
 {
-    row[from / 64] = spliced(low, row[from / 64], from % 64);
-    row[to / 64] = spliced(row[to / 64], high, to % 64);
+    row[from / WORD] = spliced(low, row[from / WORD], from % WORD);
+    row[to / WORD] = spliced(row[to / WORD], high, to % WORD);
 }
 
 // Makes the bits of a range, which ends in the word where it begins, those of this word.
@@ -51,8 +51,8 @@ fn put_part(row: &mut [u64], from: usize, to: usize, word: u64)
     ensures kept { IsKeptOutside from to (has row.old) (has row.new) }
     ensures inside { (b : ℕ) → from ≤ b → b < to → has row.new b ≡ (bit_at word (b % 64) == 1) }
 {
-    let old = row[from / 64];
-    row[from / 64] = spliced(spliced(old, word, from % 64), old, to % 64);
+    let old = row[from / WORD];
+    row[from / WORD] = spliced(spliced(old, word, from % WORD), old, to % WORD);
 }
 
 /// Clears the bits of the range.
@@ -63,7 +63,7 @@ pub fn clear(row: &mut [u64], from: usize, to: usize)
     ensures kept { IsKeptOutside from to (has row.old) (has row.new) }
     ensures inside { (b : ℕ) → from ≤ b → b < to → has row.new b ≡ false }
 {
-    if from / 64 == to / 64 {
+    if from / WORD == to / WORD {
         put_part(row, from, to, 0);
     } else {
         clear_words(row, from, to);
@@ -77,7 +77,7 @@ fn clear_words(row: &mut [u64], from: usize, to: usize)
     ensures kept { IsKeptOutside from to (has row.old) (has row.new) }
     ensures inside { (b : ℕ) → from ≤ b → b < to → has row.new b ≡ false }
 {
-    let (first, last) = (from / 64, to / 64);
+    let (first, last) = (from / WORD, to / WORD);
     let (low, high) = (row[first], row[last]);
     clear_from(&mut row[first..last + 1], 0);
     put_back(row, from, to, low, high);
@@ -92,9 +92,9 @@ pub fn move_up(row: &mut [u64], from: usize, to: usize, is_set: bool)
     ensures first { has row.new from ≡ is_set }
     ensures rest { (b : ℕ) → from ≤ b → suc b < to → has row.new (suc b) ≡ has row.old b }
 {
-    if from / 64 == to / 64 {
-        let word = row[from / 64] << 1;
-        put_part(row, from, to, with_bit(word, from % 64, is_set));
+    if from / WORD == to / WORD {
+        let word = row[from / WORD] << 1;
+        put_part(row, from, to, with_bit(word, from % WORD, is_set));
     } else {
         move_up_words(row, from, to, is_set);
     }
@@ -108,7 +108,7 @@ fn move_up_words(row: &mut [u64], from: usize, to: usize, is_set: bool)
     ensures first { has row.new from ≡ is_set }
     ensures rest { (b : ℕ) → from ≤ b → suc b < to → has row.new (suc b) ≡ has row.old b }
 {
-    let (first, last) = (from / 64, to / 64);
+    let (first, last) = (from / WORD, to / WORD);
     let (low, high) = (row[first], row[last]);
     shift_words(&mut row[first..last + 1]);
     put_back(row, from, to, low, high);
@@ -124,16 +124,16 @@ pub fn next_set(row: &[u64], from: usize, to: usize) -> Option<usize>
         × ((b : ℕ) → from ≤ b → b < at → has row.now b ≡ false)) }
     ensures none { IfNone result ((b : ℕ) → from ≤ b → b < to → has row.now b ≡ false) }
 {
-    let mut at = from / 64;
-    let mut word = spliced(0, row[at], from % 64);
-    while word == 0 && at < to / 64 {
+    let mut at = from / WORD;
+    let mut word = spliced(0, row[at], from % WORD);
+    while word == 0 && at < to / WORD {
         at += 1;
         word = row[at];
     }
     if word == 0 {
         return None;
     }
-    let found = at * 64 + word.trailing_zeros() as usize;
+    let found = at * WORD + word.trailing_zeros() as usize;
     if found < to { Some(found) } else { None }
 }
 
@@ -146,15 +146,15 @@ pub fn last_set(row: &[u64], from: usize, to: usize) -> Option<usize>
         × ((b : ℕ) → at < b → b < to → has row.now b ≡ false)) }
     ensures none { IfNone result ((b : ℕ) → from ≤ b → b < to → has row.now b ≡ false) }
 {
-    let mut at = to / 64;
-    let mut word = spliced(row[at], 0, to % 64);
-    while word == 0 && from / 64 < at {
+    let mut at = to / WORD;
+    let mut word = spliced(row[at], 0, to % WORD);
+    while word == 0 && from / WORD < at {
         at -= 1;
         word = row[at];
     }
     if word == 0 {
         return None;
     }
-    let found = at * 64 + (63 - word.leading_zeros() as usize);
+    let found = at * WORD + (63 - word.leading_zeros() as usize);
     if from <= found { Some(found) } else { None }
 }

@@ -3,6 +3,9 @@
 ghost use Rattle.std.specs.Prelude.{◌≡◌, ◌≢◌, ℕ, ◌-◌, ◌≤◌, ◌<◌, if◌then◌else◌};
 ghost use Rattle.std.specs.Int.{bit_at};
 
+/// How many bits a word has.
+pub const WORD: usize = 64;
+
 /// The bits of `low` below bit `at`, and those of `high` from there on.
 #[inline(always)]
 pub fn spliced(low: u64, high: u64, at: usize) -> u64

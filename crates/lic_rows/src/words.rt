@@ -4,7 +4,7 @@ ghost use Rattle.std.specs.Prelude.{◌≡◌, ℕ, suc, ◌*◌, ◌/◌, ◌%�
 ghost use Rattle.lic_rows.specs.Bits.{has};
 
 use crate::lanes::{four_are_zero, shift_four};
-use crate::word::fresh;
+use crate::word::{WORD, fresh};
 
 /// Whether the words numbered `from` or more are zero.
 pub fn are_zero_from(row: &[u64], from: usize) -> bool
@@ -54,9 +54,9 @@ pub fn shift_words(row: &mut [u64])
 pub fn clear_from(row: &mut [u64], limit: usize)
     ensures { (b : ℕ) → has row.new b ≡ (has row.old b && nat_lt b limit) }
 {
-    let first = limit / 64;
+    let first = limit / WORD;
     if first < row.len() {
-        row[first] &= (1u64 << (limit % 64)) - 1;
+        row[first] &= (1u64 << (limit % WORD)) - 1;
         'rest: for k in first + 1..row.len() {
             row[k] = 0;
         }
