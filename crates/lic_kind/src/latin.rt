@@ -5,8 +5,11 @@ ghost use Rattle.lic_kind.specs.Kinds.{kind_of};
 use crate::Kind;
 use crate::Kind::*;
 
+// How many characters ASCII and Latin-1 have.
+const LATIN: usize = 256;
+
 /// The kinds of the first 256 characters.
-static KINDS: [Kind; 256] = [
+static KINDS: [Kind; LATIN] = [
     Word, Word, Word, Word, Word, Word, Word, Word, Word, Blank, Blank, Blank, Blank, Blank, Word,
     Word, Word, Word, Word, Word, Word, Word, Word, Word, Word, Word, Word, Word, Word, Word, Word,
     Word, Blank, Mark, Mark, Mark, Mark, Mark, Mark, Mark, Mark, Mark, Mark, Mark, Mark, Mark,

@@ -6,6 +6,9 @@ ghost use Rattle.lic_kind.specs.TextLists.{texts_of};
 
 use crate::texts::Texts;
 
+// How many characters ASCII has.
+const ASCII: usize = 128;
+
 /// The characters that the texts of one side of a line begin in, on the way from that side.
 #[derive(Clone, Copy)]
 pub(crate) struct Openers {
@@ -14,7 +17,7 @@ pub(crate) struct Openers {
     /// Some text begins in a character beyond ASCII.
     wide: bool,
     /// Whether some text begins in this character of ASCII.
-    ascii: [bool; 128],
+    ascii: [bool; ASCII],
 }
 
 impl Openers {
@@ -22,7 +25,7 @@ impl Openers {
         Openers {
             white: false,
             wide: false,
-            ascii: [false; 128],
+            ascii: [false; ASCII],
         }
     }
 
