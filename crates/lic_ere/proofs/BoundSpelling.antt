@@ -58,29 +58,29 @@ number_again cs m next rest is stop =
 
 -- ---- one reading after another
 
-abbrev behind : {A B : Type 0} → List Located → Option (A × ℕ) → (A → List Located → Option (B × ℕ)) → Option (B × ℕ)
-behind cs o f = option_and_then (λ m. option_map (further m.1) (f m.0 (drop m.1 cs))) o
+abbrev following : {A B : Type 0} → List Located → Option (A × ℕ) → (A → List Located → Option (B × ℕ)) → Option (B × ℕ)
+following cs o f = option_and_then (λ m. option_map (further m.1) (f m.0 (drop m.1 cs))) o
 
 map-further : {B : Type 0} (n : ℕ) (cs : List Located) (o : Option (B × ℕ))
     → option_map (with_remaining cs) (option_map (further n) o) ≡ option_map (with_remaining (drop n cs)) o
 map-further n cs None = refl
 map-further n cs (Some b) = ap (λ x. Some x) (with_remaining-further n cs b)
 
-behind-reads : {A B : Type 0} (cs : List Located) (o : Option (A × ℕ)) (f : A → List Located → Option (B × ℕ)) (a : A)
+following-reads : {A B : Type 0} (cs : List Located) (o : Option (A × ℕ)) (f : A → List Located → Option (B × ℕ)) (a : A)
     (rest : List Located) → option_map (with_remaining cs) o ≡ Some (a, rest)
-    → option_map (with_remaining cs) (behind cs o f) ≡ option_map (with_remaining rest) (f a rest)
-behind-reads cs None f a rest e = absurd cc
-behind-reads cs (Some y) f a rest e =
+    → option_map (with_remaining cs) (following cs o f) ≡ option_map (with_remaining rest) (f a rest)
+following-reads cs None f a rest e = absurd cc
+following-reads cs (Some y) f a rest e =
     let one : y.0 ≡ a = same_value y.0 a (drop y.1 cs) rest e in
     let two : drop y.1 cs ≡ rest = same_rest y.0 a (drop y.1 cs) rest e in
     map-further y.1 cs (f y.0 (drop y.1 cs)) ∙ (λ i. option_map (with_remaining (two i)) (f (one i) (two i)))
 
-behind-was : {A B : Type 0} (cs : List Located) (o : Option (A × ℕ)) (f : A → List Located → Option (B × ℕ)) (b : B)
-    (end : List Located) → option_map (with_remaining cs) (behind cs o f) ≡ Some (b, end)
+following-was : {A B : Type 0} (cs : List Located) (o : Option (A × ℕ)) (f : A → List Located → Option (B × ℕ)) (b : B)
+    (end : List Located) → option_map (with_remaining cs) (following cs o f) ≡ Some (b, end)
     → (a : A) × (rest : List Located) × (option_map (with_remaining cs) o ≡ Some (a, rest))
     × (option_map (with_remaining rest) (f a rest) ≡ Some (b, end))
-behind-was cs None f b end e = absurd cc
-behind-was cs (Some y) f b end e = (y.0, drop y.1 cs, refl, sym (map-further y.1 cs (f y.0 (drop y.1 cs))) ∙ e)
+following-was cs None f b end e = absurd cc
+following-was cs (Some y) f b end e = (y.0, drop y.1 cs, refl, sym (map-further y.1 cs (f y.0 (drop y.1 cs))) ∙ e)
 
 brace_no_digit : (c : ℕ) → c ≡ close_brace → is_ascii_digit c ≡ false
 brace_no_digit c e = rw e refl
@@ -120,7 +120,7 @@ unfolding upper_bound
 at_least_reads m end rest e = let test : (end.1 == close_brace) ≡ true = eq-eqb _ _ e in rw test refl
 
 upper-digit : (m : ℕ) (x : Located) (more : List Located) → is_ascii_digit x.1 ≡ true
-    → upper_bound m (x ∷ more) ≡ behind (x ∷ more) (number_at (x ∷ more)) (closed_bounds m)
+    → upper_bound m (x ∷ more) ≡ following (x ∷ more) (number_at (x ∷ more)) (closed_bounds m)
 unfolding upper_bound
 upper-digit m x more d = let test = digit_no_brace x.1 d in rw test refl
 
@@ -137,21 +137,21 @@ between_reads m n more rest end is le e =
     let d = first_digit more (end ∷ rest) n is in
     ap (λ (cs : List Located). option_map (with_remaining cs) (upper_bound m cs)) d.2
     ∙ ap (option_map (with_remaining (d.0 ∷ d.1))) (upper-digit m d.0 d.1 d.3)
-    ∙ ap (λ (cs : List Located). option_map (with_remaining cs) (behind cs (number_at cs) (closed_bounds m))) (sym d.2)
-    ∙ behind-reads more (number_at more) (closed_bounds m) n (end ∷ rest) (number_again more n end rest is (brace_no_digit end.1 e))
+    ∙ ap (λ (cs : List Located). option_map (with_remaining cs) (following cs (number_at cs) (closed_bounds m))) (sym d.2)
+    ∙ following-reads more (number_at more) (closed_bounds m) n (end ∷ rest) (number_again more n end rest is (brace_no_digit end.1 e))
     ∙ closed_reads m n end rest le e
 
 -- the bounds that are spelled are read
 pub IsBounds-read : (cs rest : List Located) (b : Bounds) → IsBounds cs rest b → option_map (with_remaining cs) (bounds_at cs) ≡ Some (b, rest)
 unfolding bounds_at
 IsBounds-read cs rest b (exactly {end = end} {m = m} is e) =
-    behind-reads cs (number_at cs) after_min m (end ∷ rest) (number_again cs m end rest is (brace_no_digit end.1 e)) ∙ end_reads m end rest e
+    following-reads cs (number_at cs) after_min m (end ∷ rest) (number_again cs m end rest is (brace_no_digit end.1 e)) ∙ end_reads m end rest e
 IsBounds-read cs rest b (at_least {sep = sep} {end = end} {m = m} is s e) =
-    behind-reads cs (number_at cs) after_min m (sep ∷ end ∷ rest)
+    following-reads cs (number_at cs) after_min m (sep ∷ end ∷ rest)
     (number_again cs m sep (end ∷ rest) is (comma_no_digit sep.1 s)) ∙ comma_reads m sep (end ∷ rest) s
     ∙ at_least_reads m end rest e
 IsBounds-read cs rest b (between {more = more} {sep = sep} {end = end} {m = m} {n = n} is s are le e) =
-    behind-reads cs (number_at cs) after_min m (sep ∷ more) (number_again cs m sep more is (comma_no_digit sep.1 s))
+    following-reads cs (number_at cs) after_min m (sep ∷ more) (number_again cs m sep more is (comma_no_digit sep.1 s))
     ∙ comma_reads m sep more s ∙ between_reads m n more rest end are le e
 
 -- ---- what is read is spelled
@@ -217,14 +217,14 @@ closed_was cs (x ∷ r) rest m n b sep more is s are got = closed_by cs r rest m
 upper_by : (cs rest : List Located) (m : ℕ) (b : Bounds) (sep x : Located) (r : List Located) (t : Bool)
     → IsNumber cs (sep ∷ x ∷ r) m → sep.1 ≡ comma → (x.1 == close_brace) ≡ t
     → option_map (with_remaining (x ∷ r))
-    (cond t (Some (bounds m None, 1)) (behind (x ∷ r) (number_at (x ∷ r)) (closed_bounds m))) ≡ Some (b, rest)
+    (cond t (Some (bounds m None, 1)) (following (x ∷ r) (number_at (x ∷ r)) (closed_bounds m))) ≡ Some (b, rest)
     → IsBounds cs rest b
 upper_by cs rest m b sep x r true is s e got =
     subst (λ c. IsBounds cs rest c) (same_value (bounds m None) b r rest got)
     (subst (λ l. IsBounds cs l (bounds m None)) (same_rest (bounds m None) b r rest got)
     (at_least is s (eqb-true _ _ e)))
 upper_by cs rest m b sep x r false is s e got =
-    let was = behind-was (x ∷ r) (number_at (x ∷ r)) (closed_bounds m) b rest got in
+    let was = following-was (x ∷ r) (number_at (x ∷ r)) (closed_bounds m) b rest got in
     closed_was cs was.1 rest m was.0 b sep (x ∷ r) is s (number_was (x ∷ r) was.1 was.0 was.2) was.3
 
 upper_was : (cs rest : List Located) (m : ℕ) (b : Bounds) (sep : Located) (r : List Located) → IsNumber cs (sep ∷ r) m
@@ -254,7 +254,7 @@ after_was cs rest m b (x ∷ r) is got = after_by cs rest m b x r (x.1 == close_
 pub bounds_at-spelled : (cs rest : List Located) (b : Bounds) → option_map (with_remaining cs) (bounds_at cs) ≡ Some (b, rest) → IsBounds cs rest b
 unfolding bounds_at
 bounds_at-spelled cs rest b got =
-    let was = behind-was cs (number_at cs) after_min b rest got in
+    let was = following-was cs (number_at cs) after_min b rest got in
     after_was cs rest was.0 b was.1 (number_was cs was.1 was.0 was.2) was.3
 
 -- ---- what the readers of the code give
@@ -265,7 +265,7 @@ pub exactly_gives : (cs more rest : List Located) (m : ℕ) (x : Located)
     → Some (bounds m (Some m), rest) ≡ option_map (with_remaining cs) (bounds_at cs)
 unfolding bounds_at
 exactly_gives cs more rest m x number all e =
-    sym (behind-reads cs (number_at cs) after_min m more (sym number)
+    sym (following-reads cs (number_at cs) after_min m more (sym number)
     ∙ ap (λ (l : List Located). option_map (with_remaining l) (after_min m l)) all ∙ end_reads m x rest e)
 
 -- `m,`
@@ -274,7 +274,7 @@ pub comma_gives : (cs more rest : List Located) (m : ℕ) (x : Located) (found :
     → found ≡ option_map (with_remaining rest) (upper_bound m rest) → found ≡ option_map (with_remaining cs) (bounds_at cs)
 unfolding bounds_at
 comma_gives cs more rest m x found number all e is =
-    is ∙ sym (behind-reads cs (number_at cs) after_min m more (sym number)
+    is ∙ sym (following-reads cs (number_at cs) after_min m more (sym number)
     ∙ ap (λ (l : List Located). option_map (with_remaining l) (after_min m l)) all ∙ comma_reads m x rest e)
 
 -- `n}` after m and a comma
@@ -284,11 +284,11 @@ pub upper_gives : (cs after more rest : List Located) (m n : ℕ) (x y : Located
 unfolding upper_bound
 upper_gives cs after more rest m n x y begins no_brace number all e le =
     let test : (x.1 == close_brace) ≡ false = ne_eqb x.1 close_brace no_brace in
-    let first : upper_bound m (x ∷ after) ≡ behind (x ∷ after) (number_at (x ∷ after)) (closed_bounds m) = rw test refl in
+    let first : upper_bound m (x ∷ after) ≡ following (x ∷ after) (number_at (x ∷ after)) (closed_bounds m) = rw test refl in
     sym (ap (λ (l : List Located). option_map (with_remaining l) (upper_bound m l)) begins
     ∙ ap (option_map (with_remaining (x ∷ after))) first
-    ∙ ap (λ (l : List Located). option_map (with_remaining l) (behind l (number_at l) (closed_bounds m))) (sym begins)
-    ∙ behind-reads cs (number_at cs) (closed_bounds m) n more (sym number)
+    ∙ ap (λ (l : List Located). option_map (with_remaining l) (following l (number_at l) (closed_bounds m))) (sym begins)
+    ∙ following-reads cs (number_at cs) (closed_bounds m) n more (sym number)
     ∙ ap (λ (l : List Located). option_map (with_remaining l) (closed_bounds m n l)) all
     ∙ closed_reads m n y rest le e)
 

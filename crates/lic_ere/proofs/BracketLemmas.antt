@@ -11,8 +11,8 @@ use Rattle.lic_ere.specs.Brackets.{member_at, closes, members_at}
 use Rattle.lic_ere.proofs.FaultLemmas.{map_ok-same, map_ok-map_ok, with_remaining-further}
 
 -- what is read of the rest, after what was read before
-abbrev pub behind : {A : Type 0} → List A → Result (List A × List Located) EreFault → Result (List A × List Located) EreFault
-behind front r = map_ok (λ x. (front ++ x.0, x.1)) r
+abbrev pub following : {A : Type 0} → List A → Result (List A × List Located) EreFault → Result (List A × List Located) EreFault
+following front r = map_ok (λ x. (front ++ x.0, x.1)) r
 
 -- the members from here on, and what comes after them
 abbrev pub members_of : ℕ → Bool → List Located → Result (List Member × List Located) EreFault
@@ -38,7 +38,7 @@ module _ (place : ℕ) (first : Bool) (x : Located) (after : List Located) (open
 
   next_turn : (r : Result (Member × ℕ) EreFault) (m : Member) (rest : List Located)
       → map_ok (with_remaining after) r ≡ Ok (m, rest)
-      → map_ok (with_remaining (x ∷ after)) (next r) ≡ behind (m ∷ []) (members_of place false rest)
+      → map_ok (with_remaining (x ∷ after)) (next r) ≡ following (m ∷ []) (members_of place false rest)
   next_turn (Err e) m rest is = absurd cc
   next_turn (Ok t) m rest is =
       let one : t.0 ≡ m = ap (λ (r : Result (Member × List Located) EreFault). elim r [ Ok y ↦ y.0 | Err e ↦ m ]) is in
@@ -48,8 +48,8 @@ module _ (place : ℕ) (first : Bool) (x : Located) (after : List Located) (open
       (members_at place false t.1 after) (λ ms.
       ap (λ (l : List Located). (t.0 ∷ ms.0, l)) (sym (drop-drop ms.1 1 (x ∷ after))))
       ∙ sym (map_ok-map_ok (λ y. (t.0 ∷ y.0, y.1)) (with_remaining after) (members_at place false t.1 after))
-      ∙ ap (λ (r : Result (List Member × List Located) EreFault). behind (t.0 ∷ []) r) (members-skipped place false t.1 after)
-      ∙ (λ i. behind (one i ∷ []) (members_of place false (two i)))
+      ∙ ap (λ (r : Result (List Member × List Located) EreFault). following (t.0 ∷ []) r) (members-skipped place false t.1 after)
+      ∙ (λ i. following (one i ∷ []) (members_of place false (two i)))
 
   next_fails : (r : Result (Member × ℕ) EreFault) (e : EreFault) → map_ok (with_remaining after) r ≡ Err e → map_ok (with_remaining (x ∷ after)) (next r) ≡ Err e
   next_fails (Ok t) e is = absurd cc
@@ -58,7 +58,7 @@ module _ (place : ℕ) (first : Bool) (x : Located) (after : List Located) (open
   -- one more member
   pub members_turn : (rest : List Located) (m : Member) (others : List Located) → rest ≡ x ∷ after
       → map_ok (with_remaining after) (member_at x after) ≡ Ok (m, others)
-      → members_of place first rest ≡ behind (m ∷ []) (members_of place false others)
+      → members_of place first rest ≡ following (m ∷ []) (members_of place false others)
   members_turn rest m others all is =
       ap (members_of place first) all ∙ ap (map_ok (with_remaining (x ∷ after))) members-next ∙ next_turn (member_at x after) m others is
 
@@ -68,42 +68,42 @@ module _ (place : ℕ) (first : Bool) (x : Located) (after : List Located) (open
   members_fail rest e all is =
       ap (members_of place first) all ∙ ap (map_ok (with_remaining (x ∷ after))) members-next ∙ next_fails (member_at x after) e is
 
-pub behind-behind : {A : Type 0} (front more : List A) (r : Result (List A × List Located) EreFault) → behind (front ++ more) r ≡ behind front (behind more r)
-behind-behind front more (Ok x) = ap (λ l. Ok (l, x.1)) (append_assoc front more x.0)
-behind-behind front more (Err e) = refl
+pub following-following : {A : Type 0} (front more : List A) (r : Result (List A × List Located) EreFault) → following (front ++ more) r ≡ following front (following more r)
+following-following front more (Ok x) = ap (λ l. Ok (l, x.1)) (append_assoc front more x.0)
+following-following front more (Err e) = refl
 
 -- one more member of a loop, which has count members so far
 pub one_more : (place count counted : ℕ) (front now : List Member) (x : Located) (after rest : List Located)
     (m : Member) (others : List Located) (total : Result (List Member × List Located) EreFault)
     → now ≡ front ++ m ∷ [] → counted ≡ count + 1 → closes (eqb count 0) x.1 ≡ false → rest ≡ x ∷ after
     → map_ok (with_remaining after) (member_at x after) ≡ Ok (m, others)
-    → behind front (members_of place (eqb count 0) rest) ≡ total → behind now (members_of place (eqb counted 0) others) ≡ total
+    → following front (members_of place (eqb count 0) rest) ≡ total → following now (members_of place (eqb counted 0) others) ≡ total
 one_more place count counted front now x after rest m others total pushed more open_yet all is so_far =
     let some : eqb counted 0 ≡ false = grind (arith, nat_tests) in
-    (λ i. behind (pushed i) (members_of place (some i) others))
-    ∙ behind-behind front (m ∷ []) (members_of place false others)
-    ∙ ap (behind front) (sym (members_turn place (eqb count 0) x after open_yet rest m others all is))
+    (λ i. following (pushed i) (members_of place (some i) others))
+    ∙ following-following front (m ∷ []) (members_of place false others)
+    ∙ ap (following front) (sym (members_turn place (eqb count 0) x after open_yet rest m others all is))
     ∙ so_far
 
 -- the loop at the `]`
 pub closed : (place count : ℕ) (front : List Member) (x : Located) (after rest : List Located) (total : Result (List Member × List Located) EreFault)
-    → closes (eqb count 0) x.1 ≡ true → rest ≡ x ∷ after → behind front (members_of place (eqb count 0) rest) ≡ total → total ≡ Ok (front, after)
+    → closes (eqb count 0) x.1 ≡ true → rest ≡ x ∷ after → following front (members_of place (eqb count 0) rest) ≡ total → total ≡ Ok (front, after)
 unfolding members_at
 closed place count front x after rest total closing all so_far =
-    sym so_far ∙ ap (λ (l : List Located). behind front (members_of place (eqb count 0) l)) all
+    sym so_far ∙ ap (λ (l : List Located). following front (members_of place (eqb count 0) l)) all
     ∙ rw closing (ap (λ (l : List Member). Ok (l, after)) (append-nil front))
 
 -- the loop at a fault
 pub failed : (place count : ℕ) (front : List Member) (x : Located) (after rest : List Located) (e : EreFault)
     (total : Result (List Member × List Located) EreFault)
-    → closes (eqb count 0) x.1 ≡ false → rest ≡ x ∷ after → behind front (members_of place (eqb count 0) rest) ≡ total
+    → closes (eqb count 0) x.1 ≡ false → rest ≡ x ∷ after → following front (members_of place (eqb count 0) rest) ≡ total
     → map_ok (with_remaining after) (member_at x after) ≡ Err e → total ≡ Err e
 failed place count front x after rest e total open_yet all so_far is =
-    sym so_far ∙ ap (behind front) (members_fail place (eqb count 0) x after open_yet rest e all is)
+    sym so_far ∙ ap (following front) (members_fail place (eqb count 0) x after open_yet rest e all is)
 
 -- the loop at the end of the pattern
 pub ended : (place : ℕ) (first : Bool) (front : List Member) (rest : List Located) (total : Result (List Member × List Located) EreFault)
-    → length rest ≡ 0 → behind front (members_of place first rest) ≡ total → total ≡ Err (fault_at place BracketNotClosed)
+    → length rest ≡ 0 → following front (members_of place first rest) ≡ total → total ≡ Err (fault_at place BracketNotClosed)
 unfolding members_at
 ended place first front [] total none so_far = sym so_far
 ended place first front (x ∷ rest) total none so_far = absurd (omega arith)

@@ -18,7 +18,7 @@ use Rattle.lic_ere.specs.Brackets.{begins_extension, single_at, range_at, member
 use Rattle.lic_ere.specs.Spelling.{IsExtension, extension, continues_as_range, IsMember, alone, range, IsMembers, closed, further as one_further, IsFirstMembers, members, IsBracket, plain, complement}
 use Rattle.lic_ere.proofs.FaultLemmas.{Gives-same, map_ok-same, map_ok-map_ok}
 use Rattle.lic_ere.proofs.SetLemmas.{and_cases, and_true, or_cases, or_left, or_right}
-use Rattle.lic_ere.proofs.BracketLemmas.{behind, members_of, members_turn}
+use Rattle.lic_ere.proofs.BracketLemmas.{following, members_of, members_turn}
 
 unfoldable pub member_of : Located → List Located → Result (Member × List Located) EreFault
 member_of x after = map_ok (with_remaining after) (member_at x after)
@@ -91,14 +91,14 @@ members_read : (place : ℕ) {cs rest : List Located} {ms : List Member} → IsM
 unfolding members_at member_of
 members_read place (closed {x = x} e) = let test : (x.1 == close_bracket) ≡ true = eq-eqb _ _ e in rw test refl
 members_read place (one_further {x = x} {after = after} {more = more} {m = m} ne is others) =
-    members_turn place false x after (not_this x.1 close_bracket ne) (x ∷ after) m more refl (member_read is) ∙ ap (behind (m ∷ [])) (members_read place others)
+    members_turn place false x after (not_this x.1 close_bracket ne) (x ∷ after) m more refl (member_read is) ∙ ap (following (m ∷ [])) (members_read place others)
 
 first_by : (place : ℕ) (cs more rest : List Located) (m : Member) (ms : List Member) → IsMember cs more m
     → members_of place false more ≡ Ok (ms, rest) → members_of place true cs ≡ Ok (m ∷ ms, rest)
 unfolding member_of
 first_by place [] more rest m ms is others = elim is [ ]
 first_by place (x ∷ after) more rest m ms is others =
-    members_turn place true x after refl (x ∷ after) m more refl (member_read is) ∙ ap (behind (m ∷ [])) others
+    members_turn place true x after refl (x ∷ after) m more refl (member_read is) ∙ ap (following (m ∷ [])) others
 
 first_read : (place : ℕ) {cs rest : List Located} {ms : List Member} → IsFirstMembers cs rest ms → members_of place true cs ≡ Ok (ms, rest)
 first_read place (members {cs = cs} {more = more} {rest = rest} {m = m} {ms = ms} is others) = first_by place cs more rest m ms is (members_read place others)

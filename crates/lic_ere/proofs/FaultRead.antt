@@ -16,7 +16,7 @@ use Rattle.lic_ere.specs.Lexemes.{Lexeme, unit, Lexemes, lexeme_at, and_then, le
 use Rattle.lic_ere.specs.Spelling.{continues_as_range, IsMember, IsLexeme}
 use Rattle.lic_ere.specs.FirstFaults as faults
 use Rattle.lic_ere.specs.FirstFaults.{IsFaultyMember, extension, out_of_order, extension_last, AreFaultyMembers, AreFaultyFirstMembers, IsFaultyBracket, IsNoLexeme, faulty_bracket, ends_in_backslash, unknown_escape, caret_inside, dollar_inside, BeginWith}
-use Rattle.lic_ere.proofs.BracketLemmas.{behind, members_of, members_turn, members_fail}
+use Rattle.lic_ere.proofs.BracketLemmas.{following, members_of, members_turn, members_fail}
 use Rattle.lic_ere.proofs.BracketSpelling.{not_this, IsExtension-begins, plain_is, complement_is, member_of, member_read, bracket_of}
 use Rattle.lic_ere.proofs.LexemeSpelling.{lexeme_read}
 use Rattle.lic_ere.proofs.ReadingLemmas.{lexemes-skipped}
@@ -64,14 +64,14 @@ unfolding members_at member_of
 members_fails place faults.not_closed = refl
 members_fails place (faults.this {x = x} {after = after} {e = e} ne is) = this_fails place false x after e (not_this x.1 close_bracket ne) is
 members_fails place (faults.later {x = x} {after = after} {more = more} {m = m} ne is others) =
-    members_turn place false x after (not_this x.1 close_bracket ne) (x ∷ after) m more refl (member_read is) ∙ ap (behind (m ∷ [])) (members_fails place others)
+    members_turn place false x after (not_this x.1 close_bracket ne) (x ∷ after) m more refl (member_read is) ∙ ap (following (m ∷ [])) (members_fails place others)
 
 first_later : (place : ℕ) (cs more : List Located) (m : Member) (e : EreFault) → IsMember cs more m → members_of place false more ≡ Err e
     → members_of place true cs ≡ Err e
 unfolding member_of
 first_later place [] more m e is others = elim is [ ]
 first_later place (x ∷ after) more m e is others =
-    members_turn place true x after refl (x ∷ after) m more refl (member_read is) ∙ ap (behind (m ∷ [])) others
+    members_turn place true x after refl (x ∷ after) m more refl (member_read is) ∙ ap (following (m ∷ [])) others
 
 first_this : (place : ℕ) (cs : List Located) (e : EreFault) → IsFaultyMember cs e → members_of place true cs ≡ Err e
 first_this place [] e is = elim is [ ]

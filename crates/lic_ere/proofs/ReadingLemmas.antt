@@ -24,13 +24,13 @@ module _ (s : State) (x : Located) (after : List Located) where
   unfolding lexemes
   read-next = refl
 
-  next_turn : (r : Result (Lexeme × ℕ) EreFault) (l : Lexeme) (behind : List Located)
-      → map_ok (with_remaining after) r ≡ Ok (l, behind) → read_these (next r) ≡ (meet x.0 l s >>= λ t. read_from t behind)
+  next_turn : (r : Result (Lexeme × ℕ) EreFault) (l : Lexeme) (following : List Located)
+      → map_ok (with_remaining after) r ≡ Ok (l, following) → read_these (next r) ≡ (meet x.0 l s >>= λ t. read_from t following)
   unfolding read_on
-  next_turn (Err e) l behind is = absurd cc
-  next_turn (Ok y) l behind is =
+  next_turn (Err e) l following is = absurd cc
+  next_turn (Ok y) l following is =
       let one : y.0 ≡ l = ap (λ (r : Result (Lexeme × List Located) EreFault). elim r [ Ok z ↦ z.0 | Err e ↦ l ]) is in
-      let two : drop y.1 after ≡ behind = ap (λ (r : Result (Lexeme × List Located) EreFault). elim r [ Ok z ↦ z.1 | Err e ↦ behind ]) is in
+      let two : drop y.1 after ≡ following = ap (λ (r : Result (Lexeme × List Located) EreFault). elim r [ Ok z ↦ z.1 | Err e ↦ following ]) is in
       ap (λ (ls : Lexemes). meet x.0 y.0 s >>= λ t. read_on t ls.found ls.fault) (lexemes-skipped y.1 after)
       ∙ (λ i. meet x.0 (one i) s >>= λ t. read_from t (two i))
 
@@ -40,10 +40,10 @@ module _ (s : State) (x : Located) (after : List Located) where
   next_fails (Err d) e is = ap (λ (r : Result (Lexeme × List Located) EreFault). elim r [ Ok z ↦ Err e | Err f ↦ Err f ]) is
 
   -- one lexeme, from a list that begins with it
-  pub read_turn : (rest : List Located) (l : Lexeme) (behind : List Located) → rest ≡ x ∷ after
-      → map_ok (with_remaining after) (lexeme_at x after) ≡ Ok (l, behind)
-      → read_from s rest ≡ (meet x.0 l s >>= λ t. read_from t behind)
-  read_turn rest l behind all is = ap (read_from s) all ∙ read-next ∙ next_turn (lexeme_at x after) l behind is
+  pub read_turn : (rest : List Located) (l : Lexeme) (following : List Located) → rest ≡ x ∷ after
+      → map_ok (with_remaining after) (lexeme_at x after) ≡ Ok (l, following)
+      → read_from s rest ≡ (meet x.0 l s >>= λ t. read_from t following)
+  read_turn rest l following all is = ap (read_from s) all ∙ read-next ∙ next_turn (lexeme_at x after) l following is
 
   -- a place where no lexeme can be read
   pub read_fails : (rest : List Located) (e : EreFault) → rest ≡ x ∷ after → map_ok (with_remaining after) (lexeme_at x after) ≡ Err e → read_from s rest ≡ Err e
@@ -56,16 +56,16 @@ read_ends s [] none = refl
 read_ends s (x ∷ rest) none = absurd (omega arith)
 
 -- a lexeme that is refused
-pub read_refused : (s : State) (x : Located) (after rest : List Located) (l : Lexeme) (behind : List Located)
+pub read_refused : (s : State) (x : Located) (after rest : List Located) (l : Lexeme) (following : List Located)
     (e : EreFault) (total : Result Tree EreFault) → rest ≡ x ∷ after
-    → map_ok (with_remaining after) (lexeme_at x after) ≡ Ok (l, behind) → read_from s rest ≡ total → meet x.0 l s ≡ Err e
+    → map_ok (with_remaining after) (lexeme_at x after) ≡ Ok (l, following) → read_from s rest ≡ total → meet x.0 l s ≡ Err e
     → total ≡ Err e
-read_refused s x after rest l behind e total all is so_far met =
-    sym so_far ∙ read_turn s x after rest l behind all is ∙ ap (λ r. r >>= λ t. read_from t behind) met
+read_refused s x after rest l following e total all is so_far met =
+    sym so_far ∙ read_turn s x after rest l following all is ∙ ap (λ r. r >>= λ t. read_from t following) met
 
 -- a lexeme that is taken
-pub read_taken : (s t : State) (x : Located) (after rest : List Located) (l : Lexeme) (behind : List Located)
-    (total : Result Tree EreFault) → rest ≡ x ∷ after → map_ok (with_remaining after) (lexeme_at x after) ≡ Ok (l, behind)
-    → read_from s rest ≡ total → meet x.0 l s ≡ Ok t → read_from t behind ≡ total
-read_taken s t x after rest l behind total all is so_far met =
-    sym (ap (λ r. r >>= λ u. read_from u behind) met) ∙ sym (read_turn s x after rest l behind all is) ∙ so_far
+pub read_taken : (s t : State) (x : Located) (after rest : List Located) (l : Lexeme) (following : List Located)
+    (total : Result Tree EreFault) → rest ≡ x ∷ after → map_ok (with_remaining after) (lexeme_at x after) ≡ Ok (l, following)
+    → read_from s rest ≡ total → meet x.0 l s ≡ Ok t → read_from t following ≡ total
+read_taken s t x after rest l following total all is so_far met =
+    sym (ap (λ r. r >>= λ u. read_from u following) met) ∙ sym (read_turn s x after rest l following all is) ∙ so_far

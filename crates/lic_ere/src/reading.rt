@@ -23,9 +23,9 @@ fn read_all(alloc: Global, all: Remaining<'_>) -> Result<Ere, EreFault>
     let mut rest = all;
     while let Some((first, after)) = rest.split_first() {
         let (place, character) = first;
-        let (lexeme, behind) = next_lexeme(alloc, place, character, after)?;
+        let (lexeme, following) = next_lexeme(alloc, place, character, after)?;
         reader.meet(alloc, place, lexeme)?;
-        rest = behind;
+        rest = following;
     }
     reader.finish(alloc)
 }

@@ -77,10 +77,10 @@ scalars_front (c ∷ cs) ds e = then_true _ (all_scalars cs) (first_true _ (all_
     (scalars_front cs ds (last_true _ (all_scalars (cs ++ ds)) e))
 
 -- a text that is empty or begins in white space: its first part is empty
-white_behind : (text more : List ℕ) → IsUtf8 text → EmptyOrStartsWithPassing is_whitespace text more
+white_following : (text more : List ℕ) → IsUtf8 text → EmptyOrStartsWithPassing is_whitespace text more
     → (parts : List (List ℕ)) × (slice_split is_whitespace (chars text) ≡ [] ∷ parts)
-white_behind [] more utf8 starts = ([], ap (slice_split is_whitespace) chars-nil)
-white_behind (b ∷ text) more utf8 starts =
+white_following [] more utf8 starts = ([], ap (slice_split is_whitespace) chars-nil)
+white_following (b ∷ text) more utf8 starts =
     let c = starts (omega arith) in (
       slice_split is_whitespace (chars more),
       ap (slice_split is_whitespace) (chars_past_char (b ∷ text) more c.0 utf8 c.2) ∙ slice_split-cons_yes is_whitespace c.0 (chars more) c.1,
@@ -97,15 +97,15 @@ pub next_word : (text word rest : List ℕ) → IsUtf8 text
     → (words_of (chars text) ≡ chars word ∷ words_of (chars rest)) × IsUtf8 rest
 next_word text word rest utf8 (gap, is, some, white, dark, (more, starts)) =
     let before = front white.0 (word ++ rest) text utf8 (is ∙ ap (λ l. l ++ (word ++ rest)) (sym white.1)) in
-    let behind = front dark.0 rest (word ++ rest) before.1 (ap (λ l. l ++ rest) (sym dark.1)) in
-    let scalars : all_scalars dark.0 ≡ true = scalars_front dark.0 (chars rest) (sym (ap all_scalars behind.0) ∙ scalars-chars (word ++ rest) before.1) in
+    let following = front dark.0 rest (word ++ rest) before.1 (ap (λ l. l ++ rest) (sym dark.1)) in
+    let scalars : all_scalars dark.0 ≡ true = scalars_front dark.0 (chars rest) (sym (ap all_scalars following.0) ∙ scalars-chars (word ++ rest) before.1) in
     let read : chars word ≡ dark.0 = sym (ap chars dark.1) ∙ chars-encodes dark.0 scalars in
     let long : 0 < length dark.0 = some_chars dark.0 (subst (λ l. 0 < length l) (sym dark.1) some) in
-    let split = white_behind rest more behind.1 starts in (
+    let split = white_following rest more following.1 starts in (
       ap words_of before.0 ∙ skip_white white.0 (chars (word ++ rest)) white.2
-          ∙ ap words_of behind.0 ∙ word_first dark.0 (chars rest) split.0 long dark.2 split.1
+          ∙ ap words_of following.0 ∙ word_first dark.0 (chars rest) split.0 long dark.2 split.1
           ∙ ap (λ w. w ∷ words_of (chars rest)) (sym read),
-      behind.1,
+      following.1,
     )
 
 -- a text of white space alone

@@ -23,9 +23,9 @@ pub not_switched : (word : List ℕ) → is_word (codes "on") word ≡ false →
 not_switched word on off = cond-false _ _ _ on ∙ cond-false _ _ _ off
 
 -- a line that begins with neither switch
-pub neither : (word : List ℕ) (behind : Option (List ℕ)) → is_word (codes "items") word ≡ false → is_word (codes "separators") word ≡ false
-    → rule_line word behind ≡ option_map_or (λ kind. text kind behind) (kind_named word) unknown
-neither word behind items separators = cond-false _ _ _ items ∙ cond-false _ _ _ separators
+pub neither : (word : List ℕ) (following : Option (List ℕ)) → is_word (codes "items") word ≡ false → is_word (codes "separators") word ≡ false
+    → rule_line word following ≡ option_map_or (λ kind. text kind following) (kind_named word) unknown
+neither word following items separators = cond-false _ _ _ items ∙ cond-false _ _ _ separators
 
 -- a line whose words are known
 pub comment_line : (line word : List ℕ) (words : List (List ℕ)) → words_of (chars line) ≡ word ∷ words → begins_in_hash word ≡ true → line_of line ≡ comment

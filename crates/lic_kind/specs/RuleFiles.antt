@@ -55,10 +55,10 @@ switch (Some word) = switched word
 
 -- the rule of this word and what comes after it
 abbrev pub rule_line : List ℕ → Option (List ℕ) → Line
-rule_line word behind =
-    if is_word (codes "items") word then option_map_or items (switch behind) unknown
-    else (if is_word (codes "separators") word then option_map_or separators (switch behind) unknown
-    else option_map_or (λ kind. text kind behind) (kind_named word) unknown)
+rule_line word following =
+    if is_word (codes "items") word then option_map_or items (switch following) unknown
+    else (if is_word (codes "separators") word then option_map_or separators (switch following) unknown
+    else option_map_or (λ kind. text kind following) (kind_named word) unknown)
 
 abbrev pub begins_in_hash : List ℕ → Bool
 begins_in_hash [] = false
@@ -85,7 +85,7 @@ is_text cs = nat_le (length cs) 16 && list_all (λ c. not (is_dropped c)) cs
 -- how many texts a line has, good or bad
 abbrev pub text_count : Line → ℕ
 text_count comment = 0
-text_count (text kind behind) = 1
+text_count (text kind following) = 1
 text_count (items on) = 0
 text_count (separators on) = 0
 text_count unknown = 0
@@ -104,7 +104,7 @@ cause_of_text before (Some cs) =
 -- what is wrong with a line, where so many texts come before it
 abbrev pub cause_of : ℕ → Line → Option RulesCause
 cause_of before comment = None
-cause_of before (text kind behind) = cause_of_text before behind
+cause_of before (text kind following) = cause_of_text before following
 cause_of before (items on) = None
 cause_of before (separators on) = None
 cause_of before unknown = Some UnknownRule
@@ -149,21 +149,21 @@ is_kind _ _ = false
 -- the text of a line, if it is of this kind
 abbrev pub text_in : RuleKind → Line → List (List ℕ)
 text_in kind comment = []
-text_in kind (text other behind) = if is_kind kind other then option_to_list behind else []
+text_in kind (text other following) = if is_kind kind other then option_to_list following else []
 text_in kind (items on) = []
 text_in kind (separators on) = []
 text_in kind unknown = []
 
 abbrev pub items_in : Line → List Bool
 items_in comment = []
-items_in (text kind behind) = []
+items_in (text kind following) = []
 items_in (items on) = on ∷ []
 items_in (separators on) = []
 items_in unknown = []
 
 abbrev pub separators_in : Line → List Bool
 separators_in comment = []
-separators_in (text kind behind) = []
+separators_in (text kind following) = []
 separators_in (items on) = []
 separators_in (separators on) = on ∷ []
 separators_in unknown = []

@@ -14,7 +14,7 @@ read (Some word) = Some (chars word.now)
 -- what a value of the code says
 abbrev pub said : RuleLine → Line
 said Comment = comment
-said (Text kind behind) = text kind (read behind)
+said (Text kind following) = text kind (read following)
 said (Items on) = items on
 said (Separators on) = separators on
 said Unknown = unknown

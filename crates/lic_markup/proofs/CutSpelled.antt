@@ -39,15 +39,15 @@ none_begins x rest never = by_tag (tag_at x rest) refl
     by_tag None is = refl
     by_tag (Some t) is = absurd (never (drop t.1 rest, t.0, tag_spelled x rest t.0 t.1 is))
 
-no_rule-nil : (behind : List Located) → HasNoRule [] behind
-no_rule-nil behind before x after e = absurd (empty_no before x after e)
+no_rule-nil : (following : List Located) → HasNoRule [] following
+no_rule-nil following before x after e = absurd (empty_no before x after e)
 
-no_rule-cons : (x : Located) (piece behind : List Located) → (BeginsRule (x ∷ (piece ++ behind)) → ⊥) → HasNoRule piece behind → HasNoRule (x ∷ piece) behind
-no_rule-cons x piece behind never more [] y after e begins = never (subst BeginsRule (ap (λ (l : List Located). l ++ behind) (sym e)) begins)
-no_rule-cons x piece behind never more (z ∷ before) y after e begins = more before y after (tail_same x z piece (before ++ y ∷ after) e) begins
+no_rule-cons : (x : Located) (piece following : List Located) → (BeginsRule (x ∷ (piece ++ following)) → ⊥) → HasNoRule piece following → HasNoRule (x ∷ piece) following
+no_rule-cons x piece following never more [] y after e begins = never (subst BeginsRule (ap (λ (l : List Located). l ++ following) (sym e)) begins)
+no_rule-cons x piece following never more (z ∷ before) y after e begins = more before y after (tail_same x z piece (before ++ y ∷ after) e) begins
 
-no_rule-tail : (x : Located) (piece behind : List Located) → HasNoRule (x ∷ piece) behind → HasNoRule piece behind
-no_rule-tail x piece behind none before y after e = none (x ∷ before) y after (ap (λ l. x ∷ l) e)
+no_rule-tail : (x : Located) (piece following : List Located) → HasNoRule (x ∷ piece) following → HasNoRule piece following
+no_rule-tail x piece following none before y after e = none (x ∷ before) y after (ap (λ l. x ∷ l) e)
 
 -- ---- a piece that grows at its start
 
@@ -85,10 +85,10 @@ elements-onto (x ∷ xs) piece =
 grow : (x : Located) {cs : List Located} {es : List Element} → (BeginsRule (x ∷ cs) → ⊥) → AreCut cs es → AreCut (x ∷ cs) (onto (x ∷ []) es)
 unfolding onto
 grow x never (last {piece = piece} none) = last (no_rule-cons x piece [] (λ begins. never (subst (λ l. BeginsRule (x ∷ l)) (append-nil piece) begins)) none)
-grow x never (one_further {piece = piece} {behind = behind} is none r others) =
-    one_further (ap (λ l. x ∷ l) is) (no_rule-cons x piece behind (λ begins. never (subst (λ l. BeginsRule (x ∷ l)) (sym is) begins)) none) r others
-grow x never (unreadable {piece = piece} {behind = behind} is none fault) =
-    unreadable (ap (λ l. x ∷ l) is) (no_rule-cons x piece behind (λ begins. never (subst (λ l. BeginsRule (x ∷ l)) (sym is) begins)) none) fault
+grow x never (one_further {piece = piece} {following = following} is none r others) =
+    one_further (ap (λ l. x ∷ l) is) (no_rule-cons x piece following (λ begins. never (subst (λ l. BeginsRule (x ∷ l)) (sym is) begins)) none) r others
+grow x never (unreadable {piece = piece} {following = following} is none fault) =
+    unreadable (ap (λ l. x ∷ l) is) (no_rule-cons x piece following (λ begins. never (subst (λ l. BeginsRule (x ∷ l)) (sym is) begins)) none) fault
 
 -- the rules and pieces that are cut, from after some characters
 abbrev Cut : List Located → Type 0
@@ -141,19 +141,19 @@ elements_spelled cs h = all_read (elements_are_cut cs) h
 
 -- ---- what is spelled is cut so
 
-plain_elements : (piece behind front : List Located) → HasNoRule piece behind → elements front 0 (piece ++ behind) ≡ elements (front ++ piece) 0 behind
-plain_elements [] behind front none = ap (λ (p : List Located). elements p 0 behind) (sym (append-nil front))
-plain_elements (x ∷ piece) behind front none =
-    elements-step front x (piece ++ behind)
-    ∙ ap (step front x (piece ++ behind)) (none_begins x (piece ++ behind) (none [] x piece refl))
-    ∙ plain_elements piece behind (front ++ x ∷ []) (no_rule-tail x piece behind none)
-    ∙ ap (λ (p : List Located). elements p 0 behind) (append_assoc front (x ∷ []) piece)
+plain_elements : (piece following front : List Located) → HasNoRule piece following → elements front 0 (piece ++ following) ≡ elements (front ++ piece) 0 following
+plain_elements [] following front none = ap (λ (p : List Located). elements p 0 following) (sym (append-nil front))
+plain_elements (x ∷ piece) following front none =
+    elements-step front x (piece ++ following)
+    ∙ ap (step front x (piece ++ following)) (none_begins x (piece ++ following) (none [] x piece refl))
+    ∙ plain_elements piece following (front ++ x ∷ []) (no_rule-tail x piece following none)
+    ∙ ap (λ (p : List Located). elements p 0 following) (append_assoc front (x ∷ []) piece)
 
-rule_elements : (piece behind rest : List Located) (r : Rule) → IsRule behind rest r → elements piece 0 behind ≡ text piece ∷ rule r ∷ elements [] 0 rest
-rule_elements piece behind rest r is =
+rule_elements : (piece following rest : List Located) (r : Rule) → IsRule following rest r → elements piece 0 following ≡ text piece ∷ rule r ∷ elements [] 0 rest
+rule_elements piece following rest r is =
     let one = rule_read is in
-    let two = tag_read behind one.behind one.tag one.is in
-    let three = read_was one.behind (rule_at (place_of behind) one.tag one.behind) r rest one.read in
+    let two = tag_read following one.following one.tag one.is in
+    let three = read_was one.following (rule_at (place_of following) one.tag one.following) r rest one.read in
     let gives : rule_at two.first.0 one.tag (drop two.taken two.after) ≡ Ok (r, three.0) =
     (λ i. rule_at (place_of (sym two.all i)) one.tag (two.rest i)) ∙ three.1 in
     ap (elements piece 0) two.all
@@ -164,10 +164,10 @@ rule_elements piece behind rest r is =
     (elements-skipped [] (two.taken + three.0) two.after
     ∙ ap (elements [] 0) (sym (drop-drop three.0 two.taken two.after) ∙ ap (λ (l : List Located). drop three.0 l) two.rest ∙ three.2))
 
-fault_elements : (piece behind : List Located) (e : MarkupFault) → IsRuleFault behind e → elements piece 0 behind ≡ text piece ∷ refused e ∷ []
-fault_elements piece behind e is =
+fault_elements : (piece following : List Located) (e : MarkupFault) → IsRuleFault following e → elements piece 0 following ≡ text piece ∷ refused e ∷ []
+fault_elements piece following e is =
     let one = rule_refused is in
-    let two = tag_read behind one.behind one.tag one.is in
+    let two = tag_read following one.following one.tag one.is in
     let gives : rule_at two.first.0 one.tag (drop two.taken two.after) ≡ Err e =
     (λ i. rule_at (place_of (sym two.all i)) one.tag (two.rest i)) ∙ one.refuses in
     ap (elements piece 0) two.all
@@ -178,11 +178,11 @@ fault_elements piece behind e is =
 pub cut_elements : {cs : List Located} {es : List Element} → AreCut cs es → elements [] 0 cs ≡ es
 cut_elements (last {piece = piece} none) =
     ap (elements [] 0) (sym (append-nil piece)) ∙ plain_elements piece [] [] none ∙ elements-end piece [] refl
-cut_elements (one_further {piece = piece} {behind = behind} {rest = rest} {r = r} is none spelled others) =
-    ap (elements [] 0) is ∙ plain_elements piece behind [] none ∙ rule_elements piece behind rest r spelled
+cut_elements (one_further {piece = piece} {following = following} {rest = rest} {r = r} is none spelled others) =
+    ap (elements [] 0) is ∙ plain_elements piece following [] none ∙ rule_elements piece following rest r spelled
     ∙ ap (λ es. text piece ∷ rule r ∷ es) (cut_elements others)
-cut_elements (unreadable {piece = piece} {behind = behind} {e = e} is none fault) =
-    ap (elements [] 0) is ∙ plain_elements piece behind [] none ∙ fault_elements piece behind e fault
+cut_elements (unreadable {piece = piece} {following = following} {e = e} is none fault) =
+    ap (elements [] 0) is ∙ plain_elements piece following [] none ∙ fault_elements piece following e fault
 
 are_cut : {cs : List Located} {es : List Element} → AreElements cs es → AreCut cs es
 are_cut (templates.last none) = last none

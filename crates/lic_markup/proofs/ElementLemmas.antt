@@ -55,13 +55,13 @@ rule_turn : (x : Located) (after : List Located) (n : ℕ) (r : Result (Rule × 
 rule_turn x after n (Ok y) = ap (λ es. rule y.0 ∷ es) (elements-skipped [] (n + y.1) after ∙ ap (elements [] 0) (sym (drop-drop y.1 n after)))
 rule_turn x after n (Err e) = refl
 
-step-tagged : (piece : List Located) (x : Located) (after : List Located) (tag : Tag) (behind : List Located)
-    (t : Option (Tag × ℕ)) → Some (tag, behind) ≡ option_map (with_remaining after) t
-    → step piece x after t ≡ text piece ∷ element_read (rule_at x.0 tag behind) ∷ others behind (rule_at x.0 tag behind)
-step-tagged piece x after tag behind None is = absurd cc
-step-tagged piece x after tag behind (Some t) is =
+step-tagged : (piece : List Located) (x : Located) (after : List Located) (tag : Tag) (following : List Located)
+    (t : Option (Tag × ℕ)) → Some (tag, following) ≡ option_map (with_remaining after) t
+    → step piece x after t ≡ text piece ∷ element_read (rule_at x.0 tag following) ∷ others following (rule_at x.0 tag following)
+step-tagged piece x after tag following None is = absurd cc
+step-tagged piece x after tag following (Some t) is =
     let one : t.0 ≡ tag = ap (λ (o : Option (Tag × List Located)). elim o [ Some y ↦ y.0 | None ↦ tag ]) (sym is) in
-    let two : drop t.1 after ≡ behind = ap (λ (o : Option (Tag × List Located)). elim o [ Some y ↦ y.1 | None ↦ behind ]) (sym is) in
+    let two : drop t.1 after ≡ following = ap (λ (o : Option (Tag × List Located)). elim o [ Some y ↦ y.1 | None ↦ following ]) (sym is) in
     ap (λ es. text piece ∷ es) (rule_turn x after t.1 (rule_at x.0 t.0 (drop t.1 after)))
     ∙ (λ i. text piece ∷ element_read (rule_at x.0 (one i) (two i)) ∷ others (two i) (rule_at x.0 (one i) (two i)))
 
@@ -85,15 +85,15 @@ no_tag : (x : Located) (rest : List Located) → (x.1 == less) ≡ false → tag
 unfolding tag_at
 no_tag x rest h = rw h refl
 
-pub plain_row : (front plain behind : List Located) → has_sign plain ≡ false
-    → elements front 0 (plain ++ behind) ≡ elements (front ++ plain) 0 behind
-plain_row front [] behind none = ap (λ (p : List Located). elements p 0 behind) (sym (append-nil front))
-plain_row front (x ∷ plain) behind none =
+pub plain_row : (front plain following : List Located) → has_sign plain ≡ false
+    → elements front 0 (plain ++ following) ≡ elements (front ++ plain) 0 following
+plain_row front [] following none = ap (λ (p : List Located). elements p 0 following) (sym (append-nil front))
+plain_row front (x ∷ plain) following none =
     let two = neither (x.1 == less) (has_sign plain) none in
-    elements-step front x (plain ++ behind)
-    ∙ ap (step front x (plain ++ behind)) (no_tag x (plain ++ behind) two.0)
-    ∙ plain_row (front ++ x ∷ []) plain behind two.1
-    ∙ ap (λ (p : List Located). elements p 0 behind) (append_assoc front (x ∷ []) plain)
+    elements-step front x (plain ++ following)
+    ∙ ap (step front x (plain ++ following)) (no_tag x (plain ++ following) two.0)
+    ∙ plain_row (front ++ x ∷ []) plain following two.1
+    ∙ ap (λ (p : List Located). elements p 0 following) (append_assoc front (x ∷ []) plain)
 
 -- ---- the loop
 
@@ -132,16 +132,16 @@ module _ (found : List Element) (piece rest plain here : List Located) (total : 
         }
 
     -- a piece and the rule after it
-    pub cut_rule : (now : List Element) (front : List Located) (tag : Tag) (behind : List Located) → front ++ here ≡ piece
-        → Some (tag, behind) ≡ option_map (with_remaining after) (tag_at x after)
-        → now ≡ (found ++ text front ∷ []) ++ element_read (rule_at x.0 tag behind) ∷ []
-        → now ++ others behind (rule_at x.0 tag behind) ≡ total
-    cut_rule now front tag behind before tagged pushed =
-        let r : Result (Rule × ℕ) MarkupFault = rule_at x.0 tag behind in
-        ap (λ es. es ++ others behind r) pushed
-        ∙ append_assoc (found ++ text front ∷ []) (element_read r ∷ []) (others behind r)
-        ∙ append_assoc found (text front ∷ []) (element_read r ∷ others behind r)
-        ∙ ap (λ es. found ++ es) (sym (elements-step front x after ∙ step-tagged front x after tag behind (tag_at x after) tagged))
+    pub cut_rule : (now : List Element) (front : List Located) (tag : Tag) (following : List Located) → front ++ here ≡ piece
+        → Some (tag, following) ≡ option_map (with_remaining after) (tag_at x after)
+        → now ≡ (found ++ text front ∷ []) ++ element_read (rule_at x.0 tag following) ∷ []
+        → now ++ others following (rule_at x.0 tag following) ≡ total
+    cut_rule now front tag following before tagged pushed =
+        let r : Result (Rule × ℕ) MarkupFault = rule_at x.0 tag following in
+        ap (λ es. es ++ others following r) pushed
+        ∙ append_assoc (found ++ text front ∷ []) (element_read r ∷ []) (others following r)
+        ∙ append_assoc found (text front ∷ []) (element_read r ∷ others following r)
+        ∙ ap (λ es. found ++ es) (sym (elements-step front x after ∙ step-tagged front x after tag following (tag_at x after) tagged))
         ∙ ap (λ (l : List Located). found ++ elements front 0 l) (sym is)
         ∙ ap (λ (p : List Located). found ++ elements p 0 here) (same_front front cut_to.front here piece before cut_to.parts)
         ∙ cut_to.so_far
@@ -165,11 +165,11 @@ others-some rest next (Ok y) is = ap (λ (o : Option (List Located)). elements [
 others-some rest next (Err e) is = absurd cc
 
 -- what follows is not longer than what was read
-pub behind-shorter : {A : Type 0} (rest : List Located) (t : Option (A × ℕ)) (a : A) (behind : List Located)
-    → Some (a, behind) ≡ option_map (with_remaining rest) t → length behind ≤ length rest
-behind-shorter rest None a behind is = absurd cc
-behind-shorter {A = A} rest (Some y) a behind is =
-    let two : behind ≡ drop y.1 rest = ap (λ (o : Option (A × List Located)). elim o [ Some z ↦ z.1 | None ↦ behind ]) is in
+pub following-shorter : {A : Type 0} (rest : List Located) (t : Option (A × ℕ)) (a : A) (following : List Located)
+    → Some (a, following) ≡ option_map (with_remaining rest) t → length following ≤ length rest
+following-shorter rest None a following is = absurd cc
+following-shorter {A = A} rest (Some y) a following is =
+    let two : following ≡ drop y.1 rest = ap (λ (o : Option (A × List Located)). elim o [ Some z ↦ z.1 | None ↦ following ]) is in
     omega (arith, ap length two, length-drop y.1 rest)
 
 pub next-shorter : (rest next : List Located) (r : Result (Rule × ℕ) MarkupFault) → Some next ≡ after_rule rest r → length next ≤ length rest

@@ -36,16 +36,16 @@ pub Gives-same : {X A : Type 0} (view : X → A) (result : Result X MarkupFault)
 Gives-same view result r s same h = subst (Gives view result) same h
 
 -- what is read of the rest, after what was read before
-abbrev pub behind : {A B : Type 0} → List A → Result (List A × B) MarkupFault → Result (List A × B) MarkupFault
-behind front r = map_ok (λ x. (front ++ x.0, x.1)) r
+abbrev pub following : {A B : Type 0} → List A → Result (List A × B) MarkupFault → Result (List A × B) MarkupFault
+following front r = map_ok (λ x. (front ++ x.0, x.1)) r
 
-pub behind-none : {A B : Type 0} (r : Result (List A × B) MarkupFault) → behind [] r ≡ r
-behind-none (Ok x) = refl
-behind-none (Err e) = refl
+pub following-none : {A B : Type 0} (r : Result (List A × B) MarkupFault) → following [] r ≡ r
+following-none (Ok x) = refl
+following-none (Err e) = refl
 
-pub behind-behind : {A B : Type 0} (front more : List A) (r : Result (List A × B) MarkupFault) → behind (front ++ more) r ≡ behind front (behind more r)
-behind-behind front more (Ok x) = ap (λ l. Ok (l, x.1)) (append_assoc front more x.0)
-behind-behind front more (Err e) = refl
+pub following-following : {A B : Type 0} (front more : List A) (r : Result (List A × B) MarkupFault) → following (front ++ more) r ≡ following front (following more r)
+following-following front more (Ok x) = ap (λ l. Ok (l, x.1)) (append_assoc front more x.0)
+following-following front more (Err e) = refl
 
 Fails-reported_cause : (A : Type 0) (cause : MarkupCause) (place : ℕ)
     → Fails {Y = A} (reported_cause cause (fault_at place cause)).cause (reported_cause cause (fault_at place cause)).place

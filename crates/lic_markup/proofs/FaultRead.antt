@@ -23,7 +23,7 @@ use Rattle.lic_markup.specs.FirstFaults.{AreSound, IsAtFault, of_rule, bad_patte
 use Rattle.lic_markup.proofs.FaultLemmas.{Gives-same}
 use Rattle.lic_markup.proofs.ElementLemmas.{Fails-lasting}
 use Rattle.lic_markup.proofs.CutSpelled.{cut_elements}
-use Rattle.lic_markup.proofs.TemplateSpelled.{items_read, behind_variable, behind_begin, behind_finish, then}
+use Rattle.lic_markup.proofs.TemplateSpelled.{items_read, after_variable, after_begin, after_finish, then}
 use Rattle.lic_markup.proofs.FaultSpelled.{reading-IsFaultOf, with_letters-place}
 
 -- so many levels out is one that begins at this place
@@ -45,15 +45,15 @@ module _ (line_rules : LineRules) (words : List Phrase) where
 
   begin_on : (s : State) (place : ℕ) (es : List Element) → length s.outer < max_depth
       → read_on line_rules words s (with_next (rule (rules.begin place) ∷ es))
-      ≡ read_on line_rules words (behind_begin line_rules words s place) (with_next es)
+      ≡ read_on line_rules words (after_begin line_rules words s place) (with_next es)
   unfolding read_on meet
   begin_on s place es small =
       let lt : nat_lt (length s.outer) max_depth ≡ true = grind (arith, nat_tests) in
-      ap (λ b. then line_rules words (cond b (Ok (behind_begin line_rules words s place)) (Err (fault_at place TooDeep))) es) lt
+      ap (λ b. then line_rules words (cond b (Ok (after_begin line_rules words s place)) (Err (fault_at place TooDeep))) es) lt
 
   finish_on : (s : State) (place : ℕ) (es : List Element) (o : Level) (os : List Level) → s.outer ≡ o ∷ os
       → read_on line_rules words s (with_next (rule (rules.finish place) ∷ es))
-      ≡ read_on line_rules words (behind_finish line_rules words s o os) (with_next es)
+      ≡ read_on line_rules words (after_finish line_rules words s o os) (with_next es)
   unfolding read_on meet
   finish_on s place es o os is = ap (λ (ls : List Level). then line_rules words (meet_end place s.level ls s) es) is
 
@@ -65,7 +65,7 @@ module _ (line_rules : LineRules) (words : List Phrase) where
   finish_by s place depth end es rest others [] is at = absurd (omega (arith, at))
   finish_by s place depth end es rest others (o ∷ os) is at =
       let fewer : length os ≡ depth = omega (arith, at) in
-      let more = others (behind_finish line_rules words s o os) fewer in
+      let more = others (after_finish line_rules words s o os) fewer in
       (more.0, more.1, finish_on s place es o os is ∙ more.2)
 
   sound_on : {a b : ℕ} {es : List Element} → AreSound a es b → (rest : List Element) (s : State) → length s.outer ≡ a → Reaches s (es ++ rest) b rest
@@ -73,7 +73,7 @@ module _ (line_rules : LineRules) (words : List Phrase) where
   sound_on faults.none rest s at = (s, at, refl)
   sound_on (faults.piece {cs = cs} {es = es} h) rest s at = sound_on h rest (meet_text line_rules words cs (next_of (es ++ rest)) s) at
   sound_on (faults.variable {place = place} {name = name} {original = original} {pattern = pattern} {tree = tree} {es = es} is h) rest s at =
-      let more = sound_on h rest (behind_variable line_rules words s name original tree) at in (
+      let more = sound_on h rest (after_variable line_rules words s name original tree) at in (
         more.0,
         more.1,
         ap (λ (p : Result Tree EreFault). then line_rules words (meet_variable name original place p s) (es ++ rest))
@@ -81,7 +81,7 @@ module _ (line_rules : LineRules) (words : List Phrase) where
       )
   sound_on (faults.begin {place = place} {es = es} small h) rest s at =
       let few : length s.outer < max_depth = omega (arith, at, small) in
-      let more = sound_on h rest (behind_begin line_rules words s place) (ap (λ n. suc n) at) in
+      let more = sound_on h rest (after_begin line_rules words s place) (ap (λ n. suc n) at) in
       (more.0, more.1, begin_on s place (es ++ rest) few ∙ more.2)
   sound_on (faults.finish {depth = depth} {end = end} {place = place} {es = es} h) rest s at =
       finish_by s place depth end (es ++ rest) rest (λ t. sound_on h rest t) s.outer refl at
@@ -101,7 +101,7 @@ module _ (line_rules : LineRules) (words : List Phrase) where
       ap (λ (p : Result Tree EreFault). then line_rules words (meet_variable name original place p s) after) is
   fault_on (too_deep {place = place} deep) after s at =
       let lt : nat_lt (length s.outer) max_depth ≡ false = grind (arith, nat_tests, deep, at) in
-      ap (λ b. then line_rules words (cond b (Ok (behind_begin line_rules words s place)) (Err (fault_at place TooDeep))) after) lt
+      ap (λ b. then line_rules words (cond b (Ok (after_begin line_rules words s place)) (Err (fault_at place TooDeep))) after) lt
   fault_on (no_begin {place = place}) after s at = end_alone s place after s.outer refl at
 
   -- ---- a part that is not ended
@@ -129,7 +129,7 @@ module _ (line_rules : LineRules) (words : List Phrase) where
   out_by s place part k j depth end es others [] is begins at = absurd (omega (arith, at))
   out_by s place part k j depth end es others (o ∷ os) is begins at =
       let fewer : length os ≡ depth = omega (arith, at) in
-      let t : State = behind_finish line_rules words s o os in
+      let t : State = after_finish line_rules words s o os in
       let more = others t fewer (begins-same part k o t.level os refl begins) in
       (more.0, more.1, more.2, finish_on s place es o os is ∙ more.3)
 
@@ -141,7 +141,7 @@ module _ (line_rules : LineRules) (words : List Phrase) where
       let t : State = meet_text line_rules words cs (next_of es) s in
       lead_on l h part t at (begins-same part k s.level t.level s.outer (with_letters-place line_rules words _ s.level) begins)
   lead_on {k = k} (over {es = es} l) (faults.variable {place = place} {name = name} {original = original} {pattern = pattern} {tree = tree} is h) part s at begins =
-      let t : State = behind_variable line_rules words s name original tree in
+      let t : State = after_variable line_rules words s name original tree in
       let more = lead_on l h part t at (begins-same part k s.level t.level s.outer refl begins) in (
         more.0,
         more.1,
@@ -150,7 +150,7 @@ module _ (line_rules : LineRules) (words : List Phrase) where
       )
   lead_on (into {es = es} l) (faults.begin {place = place} small h) part s at begins =
       let few : length s.outer < max_depth = omega (arith, at, small) in
-      let more = lead_on l h part (behind_begin line_rules words s place) (ap (λ n. suc n) at) begins in
+      let more = lead_on l h part (after_begin line_rules words s place) (ap (λ n. suc n) at) begins in
       (more.0, more.1, more.2, begin_on s place es few ∙ more.3)
   lead_on (out {open_parts = k} {end = j} {es = es} l) (faults.finish {depth = depth} {end = end} {place = place} h) part s at begins =
       out_by s place part k j depth end es (λ t. lead_on l h part t) s.outer refl begins at
@@ -161,15 +161,15 @@ module _ (line_rules : LineRules) (words : List Phrase) where
   still_open t place depth (o ∷ os) is at same =
       ap (λ (ls : List Level). finish t.level ls t.original) is ∙ ap (λ (p : ℕ). Err (fault_at p NotEnded)) same
 
-  open_by : (before behind : List Element) (place depth m : ℕ) → AreSound 0 before m
-      → AreSound m (rule (rules.begin place) ∷ behind) (suc depth) → Lead 0 behind 0
-      → read_elements line_rules words (before ++ rule (rules.begin place) ∷ behind) ≡ Err (fault_at place NotEnded)
+  open_by : (before following : List Element) (place depth m : ℕ) → AreSound 0 before m
+      → AreSound m (rule (rules.begin place) ∷ following) (suc depth) → Lead 0 following 0
+      → read_elements line_rules words (before ++ rule (rules.begin place) ∷ following) ≡ Err (fault_at place NotEnded)
   unfolding read_on
-  open_by before behind place depth m sound (faults.begin small h) leads =
-      let one = sound_on sound (rule (rules.begin place) ∷ behind) start refl in
+  open_by before following place depth m sound (faults.begin small h) leads =
+      let one = sound_on sound (rule (rules.begin place) ∷ following) start refl in
       let few : length one.0.outer < max_depth = omega (arith, one.1, small) in
-      let two = lead_on leads h place (behind_begin line_rules words one.0 place) (ap (λ n. suc n) one.1) refl in
-      one.2 ∙ begin_on one.0 place behind few ∙ two.3 ∙ still_open two.0 place depth two.0.outer refl two.1 two.2
+      let two = lead_on leads h place (after_begin line_rules words one.0 place) (ap (λ n. suc n) one.1) refl in
+      one.2 ∙ begin_on one.0 place following few ∙ two.3 ∙ still_open two.0 place depth two.0.outer refl two.1 two.2
 
   -- ---- all faults
 
@@ -177,9 +177,9 @@ module _ (line_rules : LineRules) (words : List Phrase) where
   first_read (at_rule {before = before} after {x = x} {depth = depth} is sound at) =
       let one = sound_on sound (x ∷ after) start refl in
       ap (read_elements line_rules words) is ∙ one.2 ∙ fault_on at after one.0 one.1
-  first_read (not_ended before {behind = behind} {place = place} {depth = depth} is sound leads) =
+  first_read (not_ended before {following = following} {place = place} {depth = depth} is sound leads) =
       let parts = sound-split before (subst (λ es. AreSound 0 es (suc depth)) is sound) in
-      ap (read_elements line_rules words) is ∙ open_by before behind place depth parts.0 parts.1 parts.2 leads
+      ap (read_elements line_rules words) is ∙ open_by before following place depth parts.0 parts.1 parts.2 leads
   first_read {es = es} (no_token {items = items} {ns = ns} are nested absent) =
       items_read line_rules words es items ns are nested
       ∙ ap (λ b. cond (not b) (Err (fault_at 0 NoLetter))

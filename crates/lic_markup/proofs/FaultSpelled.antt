@@ -26,7 +26,7 @@ use Rattle.lic_markup.specs.FirstFaults.{AreSound, IsAtFault, of_rule, bad_patte
 use Rattle.lic_markup.proofs.CutSpelled.{elements_are_cut}
 use Rattle.lic_markup.proofs.LineSpelled.{opens-text, opens-variable, opens-begin, opens-finish}
 use Rattle.lic_markup.proofs.PartSpelled.{run, run_spelled}
-use Rattle.lic_markup.proofs.TemplateSpelled.{parts_in, letters_of, run_text, run_variable, run_begin, run_finish, run_nothing, behind_variable, behind_begin, behind_finish, then}
+use Rattle.lic_markup.proofs.TemplateSpelled.{parts_in, letters_of, run_text, run_variable, run_begin, run_finish, run_nothing, after_variable, after_begin, after_finish, then}
 
 abbrev failed : MarkupFault → Result Reading MarkupFault
 failed e = Err e
@@ -68,8 +68,8 @@ lead-deeper (out h) = out (lead-deeper h)
 abbrev Open : List Element → Level → List Level → Type 0
 Open before level [] = Lead 0 before 0
 Open before level (o ∷ outer) =
-    (front : List Element) × (behind : List Element) × (before ≡ front ++ rule (rules.begin level.place) ∷ behind)
-    × Lead 0 behind 0 × Open front o outer
+    (front : List Element) × (following : List Element) × (before ≡ front ++ rule (rules.begin level.place) ∷ following)
+    × Lead 0 following 0 × Open front o outer
 
 -- elements that leave as many parts open
 open-on : (before more : List Element) (l m : Level) (outer : List Level) → m.place ≡ l.place → Lead 0 more 0
@@ -100,9 +100,9 @@ module _ (line_rules : LineRules) (words : List Phrase) where
   data Fault (before es : List Element) (s : State) (e : MarkupFault) : Type 0 where
     early : {front : List Element} (after : List Element) {x : Element} {depth : ℕ} → before ++ es ≡ front ++ x ∷ after
         → AreSound 0 front depth → IsAtFault depth x e → Fault before es s e
-    left_open : (front : List Element) {behind : List Element} {place depth : ℕ}
-        → before ++ es ≡ front ++ rule (rules.begin place) ∷ behind → AreSound 0 (before ++ es) (suc depth)
-        → Lead 0 behind 0 → fault_at place NotEnded ≡ e → Fault before es s e
+    left_open : (front : List Element) {following : List Element} {place depth : ℕ}
+        → before ++ es ≡ front ++ rule (rules.begin place) ∷ following → AreSound 0 (before ++ es) (suc depth)
+        → Lead 0 following 0 → fault_at place NotEnded ≡ e → Fault before es s e
     late : {items : List Item} {ps : List Node} (original : List ℕ) → AreItems line_rules words before es items
         → run s.level.parts (parts_in s.outer) items ≡ Some ps → whole ps original ≡ Err e → Fault before es s e
 
@@ -144,20 +144,20 @@ module _ (line_rules : LineRules) (words : List Phrase) where
   variable_by es before s e name original place pattern others sound opens (Ok tree) was is =
       let x : Element = rule (rules.variable name original place pattern) in
       let spelled : IsPattern pattern tree = reading-IsPattern pattern tree was in
-      fault_back before es x s (behind_variable line_rules words s name original tree) e
+      fault_back before es x s (after_variable line_rules words s name original tree) e
       (λ items are. (
         templates.variable name original tree ∷ items,
         one_item (is_variable spelled) are,
         run_variable line_rules words s name original tree items,
       ))
-      (others (before ++ x ∷ []) (behind_variable line_rules words s name original tree) e (opens-variable before name original place pattern)
+      (others (before ++ x ∷ []) (after_variable line_rules words s name original tree) e (opens-variable before name original place pattern)
       (sound-append (x ∷ []) sound (faults.variable spelled faults.none))
       (open-on before (x ∷ []) s.level _ s.outer refl (over nowhere) opens) is)
 
   begin_by : (es before : List Element) (s : State) (e : MarkupFault) (place : ℕ) → Faulty es
       → s.at_start ≡ opens_line before → AreSound 0 before (length s.outer) → Open before s.level s.outer
       → (t : Bool) → nat_lt (length s.outer) max_depth ≡ t
-      → then line_rules words (cond t (Ok (behind_begin line_rules words s place))
+      → then line_rules words (cond t (Ok (after_begin line_rules words s place))
       (Err (fault_at place TooDeep))) es ≡ Err e → Fault before (rule (rules.begin place) ∷ es) s e
   begin_by es before s e place others starts sound opens false lt is =
       let deep : max_depth ≤ length s.outer = grind (arith, nat_tests) in
@@ -165,9 +165,9 @@ module _ (line_rules : LineRules) (words : List Phrase) where
   begin_by es before s e place others starts sound opens true lt is =
       let x : Element = rule (rules.begin place) in
       let small : length s.outer < max_depth = grind (arith, nat_tests) in
-      fault_back before es x s (behind_begin line_rules words s place) e
+      fault_back before es x s (after_begin line_rules words s place) e
       (λ items are. (templates.begin ∷ items, one_item is_begin are, run_begin line_rules words s items lt))
-      (others (before ++ x ∷ []) (behind_begin line_rules words s place) e (opens-begin s.at_start before place starts)
+      (others (before ++ x ∷ []) (after_begin line_rules words s place) e (opens-begin s.at_start before place starts)
       (sound-append (x ∷ []) sound (faults.begin small faults.none))
       (before, [], refl, nowhere, opens) is)
 
@@ -179,7 +179,7 @@ module _ (line_rules : LineRules) (words : List Phrase) where
       early es refl sound (subst (IsAtFault 0 (rule (rules.finish place))) (same_fault (fault_at place EndWithoutBegin) e is) no_begin)
   finish_by es before s e place others starts (o ∷ os) some sound opens is =
       let x : Element = rule (rules.finish place) in
-      let t : State = behind_finish line_rules words s o os in
+      let t : State = after_finish line_rules words s o os in
       fault_back before es x s t e
       (λ items are. (templates.finish ∷ items, one_item is_finish are, run_finish line_rules words s o os items some))
       (others (before ++ x ∷ []) t e (opens-finish s.at_start before place starts)

@@ -54,12 +54,12 @@ module _ (rule : ℕ) (tag : Tag) where
         (Err (fault_at rule NotClosed)))) one
         ∙ ap (λ b. cond b (next (field_or_none rule tag values (trim_start after))) (Err (fault_at rule NotClosed))) two
 
-    next_turn : (r : Result (Values × ℕ) MarkupFault) (more : Values) (behind : List Located)
-        → read (trim_start after) r ≡ Ok (more, behind) → read (x ∷ after) (next r) ≡ fields_of more behind
-    next_turn (Err e) more behind is = absurd cc
-    next_turn (Ok y) more behind is =
+    next_turn : (r : Result (Values × ℕ) MarkupFault) (more : Values) (following : List Located)
+        → read (trim_start after) r ≡ Ok (more, following) → read (x ∷ after) (next r) ≡ fields_of more following
+    next_turn (Err e) more following is = absurd cc
+    next_turn (Ok y) more following is =
         let one : y.0 ≡ more = ap (λ (r : Result (Values × List Located) MarkupFault). elim r [ Ok z ↦ z.0 | Err e ↦ more ]) is in
-        let two : drop y.1 (trim_start after) ≡ behind = ap (λ (r : Result (Values × List Located) MarkupFault). elim r [ Ok z ↦ z.1 | Err e ↦ behind ]) is in
+        let two : drop y.1 (trim_start after) ≡ following = ap (λ (r : Result (Values × List Located) MarkupFault). elim r [ Ok z ↦ z.1 | Err e ↦ following ]) is in
         let all : Result (Values × ℕ) MarkupFault = fields_at rule tag y.0 (spaces after + y.1) after in
         map_ok-map_ok (with_remaining (x ∷ after)) (further 1) all
         ∙ map_ok-same (λ z. with_remaining (x ∷ after) (further 1 z)) (with_remaining after) all (λ z. with_remaining-further 1 (x ∷ after) z)
@@ -71,15 +71,15 @@ module _ (rule : ℕ) (tag : Tag) where
     next_fails (Err d) e is = ap (λ (r : Result (Values × List Located) MarkupFault). elim r [ Ok z ↦ Err e | Err f ↦ Err f ]) is
 
     -- one more field
-    pub fields_turn : (rest front : List Located) (more : Values) (behind : List Located)
+    pub fields_turn : (rest front : List Located) (more : Values) (following : List Located)
         (total : Result (Values × List Located) MarkupFault) → rest ≡ x ∷ after → front ≡ trim_start after
         → begins_with_two greater rest ≡ false → begins_with semicolon rest ≡ true
-        → read front (field_or_none rule tag values front) ≡ Ok (more, behind) → fields_of values rest ≡ total
-        → fields_of more behind ≡ total
-    fields_turn rest front more behind total is trimmed one two got so_far =
+        → read front (field_or_none rule tag values front) ≡ Ok (more, following) → fields_of values rest ≡ total
+        → fields_of more following ≡ total
+    fields_turn rest front more following total is trimmed one two got so_far =
         sym (ap (read (x ∷ after)) (fields-next (ap (begins_with_two greater) (sym is) ∙ one)
         (ap (begins_with semicolon) (sym is) ∙ two))
-        ∙ next_turn _ more behind (ap (λ (l : List Located). read l (field_or_none rule tag values l))
+        ∙ next_turn _ more following (ap (λ (l : List Located). read l (field_or_none rule tag values l))
         (sym trimmed) ∙ got))
         ∙ ap (fields_of values) (sym is) ∙ so_far
 
@@ -116,19 +116,19 @@ pub trim_start-shorter : (all front : List Located) → front ≡ trim_start all
 trim_start-shorter all front is = omega (arith, ap length is, length-drop (spaces all) all)
 
 -- a rule whose fields were read
-module _ (place : ℕ) (tag : Tag) (rest behind_it : List Located) (values : Values) (rule : Rule) (is : rule_of place tag values ≡ Ok rule) where
-  by_fields : (r : Result (Values × ℕ) MarkupFault) → read (trim_start rest) r ≡ Ok (values, behind_it)
-      → read rest (r >>= λ fields. map_ok (λ rule. (rule, spaces rest + fields.1)) (rule_of place tag fields.0)) ≡ Ok (rule, behind_it)
+module _ (place : ℕ) (tag : Tag) (rest following_it : List Located) (values : Values) (rule : Rule) (is : rule_of place tag values ≡ Ok rule) where
+  by_fields : (r : Result (Values × ℕ) MarkupFault) → read (trim_start rest) r ≡ Ok (values, following_it)
+      → read rest (r >>= λ fields. map_ok (λ rule. (rule, spaces rest + fields.1)) (rule_of place tag fields.0)) ≡ Ok (rule, following_it)
   by_fields (Err e) got = absurd cc
   by_fields (Ok y) got =
       let one : y.0 ≡ values = ap (λ (r : Result (Values × List Located) MarkupFault). elim r [ Ok z ↦ z.0 | Err e ↦ values ]) got in
-      let two : drop y.1 (trim_start rest) ≡ behind_it = ap (λ (r : Result (Values × List Located) MarkupFault). elim r [ Ok z ↦ z.1 | Err e ↦ behind_it ]) got in
+      let two : drop y.1 (trim_start rest) ≡ following_it = ap (λ (r : Result (Values × List Located) MarkupFault). elim r [ Ok z ↦ z.1 | Err e ↦ following_it ]) got in
       ap (λ v. read rest (map_ok (λ rule. (rule, spaces rest + y.1)) (rule_of place tag v))) one
       ∙ ap (λ m. read rest (map_ok (λ rule. (rule, spaces rest + y.1)) m)) is
       ∙ ap (λ (l : List Located). Ok (rule, l)) (sym (drop-drop y.1 (spaces rest) rest) ∙ two)
 
-  pub read_by_fields : (front : List Located) → front ≡ trim_start rest → read front (fields_at place tag no_values 0 front) ≡ Ok (values, behind_it)
-      → read rest (rule_at place tag rest) ≡ Ok (rule, behind_it)
+  pub read_by_fields : (front : List Located) → front ≡ trim_start rest → read front (fields_at place tag no_values 0 front) ≡ Ok (values, following_it)
+      → read rest (rule_at place tag rest) ≡ Ok (rule, following_it)
   unfolding rule_at
   read_by_fields front trimmed got =
       by_fields (fields_at place tag no_values 0 (trim_start rest))

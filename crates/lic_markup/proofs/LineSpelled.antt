@@ -11,10 +11,10 @@ use Rattle.lic_markup.specs.Templates.{Sign, character, signs_in, signs_of, is_c
 
 -- ---- to the end of the line
 
-line_ends-signs : (behind : Bool) (piece : List Located) (ss : List Sign) → behind ≡ is_clear ss
-    → line_ends behind piece ≡ is_clear (map (λ x. character x.1) piece ++ ss)
-line_ends-signs behind [] ss e = e
-line_ends-signs behind (x ∷ piece) ss e = ap (λ b. x.1 == new_line || (is_space x.1 && b)) (line_ends-signs behind piece ss e)
+line_ends-signs : (following : Bool) (piece : List Located) (ss : List Sign) → following ≡ is_clear ss
+    → line_ends following piece ≡ is_clear (map (λ x. character x.1) piece ++ ss)
+line_ends-signs following [] ss e = e
+line_ends-signs following (x ∷ piece) ss e = ap (λ b. x.1 == new_line || (is_space x.1 && b)) (line_ends-signs following piece ss e)
 
 line_ends_in-signs : (es : List Element) → line_ends_in es ≡ is_clear (signs_of es)
 line_ends_in-signs [] = refl

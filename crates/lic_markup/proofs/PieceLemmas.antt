@@ -19,7 +19,7 @@ use Rattle.lic_words.specs.Describing.{IsDescribed}
 use Rattle.lic_words.specs.Expressions.{Language}
 use Rattle.lic_words.specs.Spelling.{Spells}
 use Rattle.lic_words.proofs.Languages.{letters_complete}
-use Rattle.lic_words.proofs.Spellings.{Spells-before, Spells-behind}
+use Rattle.lic_words.proofs.Spellings.{Spells-before, Spells-following}
 use Rattle.lic_markup.specs.declared.part.Part.TheVariants.{Text}
 use Rattle.lic_markup.specs.Meaning.{part_words, piece_texts}
 use Rattle.lic_markup.proofs.MeaningLemmas.{part_words-Text}
@@ -53,9 +53,9 @@ module _ (rules : LineRules) (words : List Phrase) (at_line_start : Bool) (befor
   with_before true w ts s = (Spells-before w ts).0 s
   with_before false w ts s = s
 
-  with_behind : (b : Bool) (w : List ℕ) (ts : List (List ℕ)) → Spells w ts → Spells (w ++ blank_if b) ts
-  with_behind true w ts s = (Spells-behind w ts).0 s
-  with_behind false w ts s = subst (λ x. Spells x ts) (sym (append-nil w)) s
+  with_following : (b : Bool) (w : List ℕ) (ts : List (List ℕ)) → Spells w ts → Spells (w ++ blank_if b) ts
+  with_following true w ts s = (Spells-following w ts).0 s
+  with_following false w ts s = subst (λ x. Spells x ts) (sym (append-nil w)) s
 
   chars-edge : (b : Bool) (text : List ℕ) → IsUtf8 text → chars (text ++ blank_if b) ≡ chars text ++ blank_if b
   chars-edge b text utf8 =
@@ -70,7 +70,7 @@ module _ (rules : LineRules) (words : List Phrase) (at_line_start : Bool) (befor
       (sym (chars-edge b (blank_if a ++ spelled ts)
       (IsUtf8-append (blank_if a) (spelled ts) (blank_if-utf8 a) (spelled-utf8 ts utf8))
       ∙ ap (λ l. l ++ blank_if b) (chars-blank_if a (spelled ts))))
-      (with_behind b (blank_if a ++ chars (spelled ts)) (map chars ts) (with_before a (chars (spelled ts)) (map chars ts) (spelled_spells ts some utf8 token)))
+      (with_following b (blank_if a ++ chars (spelled ts)) (map chars ts) (with_before a (chars (spelled ts)) (map chars ts) (spelled_spells ts some utf8 token)))
 
   -- the letters of a piece spell its tokens
   pub piece_spells : (piece_texts rules words at_line_start before piece ≡ [] → ⊥)

@@ -66,13 +66,13 @@ module _ (rule : ℕ) where
 
 module _ (rule : ℕ) (tag : Tag) (values : Values) (names : List (List ℕ)) (held : HeldFor tag values names) where
   -- a field whose name was read, and is a second one or not
-  named : (cs name behind : List Located) (sign : Located) (t : Bool) → UpTo ends_name cs name (sign ∷ behind)
+  named : (cs name following : List Located) (sign : Located) (t : Bool) → UpTo ends_name cs name (sign ∷ following)
       → sign.1 ≡ equals → is_second tag (text_of (trim_end name)) names ≡ t
-      → (k : ℕ) × (drop k cs ≡ behind)
+      → (k : ℕ) × (drop k cs ≡ following)
       × (field_at rule (place_of cs) tag values cs
       ≡ value_then rule (place_of cs) tag values cs t (meaning rule (place_of cs) tag values (name, k)) (name, k))
-  named cs name behind sign t up is second =
-      let first = read_was cs (name_at rule (place_of cs) cs) name behind (name_read rule (place_of cs) name sign cs behind up is) in (
+  named cs name following sign t up is second =
+      let first = read_was cs (name_at rule (place_of cs) cs) name following (name_read rule (place_of cs) name sign cs following up is) in (
         first.0,
         first.2,
         field_is rule (place_of cs) tag values cs
@@ -97,9 +97,9 @@ module _ (rule : ℕ) (tag : Tag) (values : Values) (names : List (List ℕ)) (h
       value_then rule (place_of cs) tag values cs
       (has_value (meaning rule (place_of cs) tag values name) values)
       (meaning rule (place_of cs) tag values name) name) (name_unequal rule (place_of cs) name cs rest up other)
-  field_refused cs (twice {name = name} {behind = behind} {sign = sign} up is second) = (named cs name behind sign true up is second).2
-  field_refused cs (open_value {name = name} {behind = behind} {sign = sign} up is second value) =
-      let was = named cs name behind sign false up is second in
+  field_refused cs (twice {name = name} {following = following} {sign = sign} up is second) = (named cs name following sign true up is second).2
+  field_refused cs (open_value {name = name} {following = following} {sign = sign} up is second value) =
+      let was = named cs name following sign false up is second in
       was.2
       ∙ ap (map_ok {A = List Located × ℕ} (λ value. (
         with_value (meaning rule (place_of cs) tag values (name, was.0)) value.0 values,
@@ -138,17 +138,17 @@ module _ (rule : ℕ) (tag : Tag) where
 abbrev made : ℕ → Tag → Result (Values × List Located) MarkupFault → Result (Rule × List Located) MarkupFault
 made place tag r = r >>= λ y. map_ok (λ rule. (rule, y.1)) (rule_of place tag y.0)
 
-made_is : (place : ℕ) (tag : Tag) (behind : List Located)
-    → read behind (rule_at place tag behind) ≡ made place tag (fields_of place tag no_values (trim_start behind))
-made_is place tag behind = ap (read behind) (rule_is place tag behind) ∙ by (fields_at place tag no_values 0 (trim_start behind))
+made_is : (place : ℕ) (tag : Tag) (following : List Located)
+    → read following (rule_at place tag following) ≡ made place tag (fields_of place tag no_values (trim_start following))
+made_is place tag following = ap (read following) (rule_is place tag following) ∙ by (fields_at place tag no_values 0 (trim_start following))
   where
     of_rule : (y : Values × ℕ) (m : Result Rule MarkupFault)
-        → read behind (map_ok (λ rule. (rule, spaces behind + y.1)) m) ≡ map_ok (λ rule. (rule, drop y.1 (trim_start behind))) m
-    of_rule y (Ok r) = ap (λ (l : List Located). got r l) (sym (drop-drop y.1 (spaces behind) behind))
+        → read following (map_ok (λ rule. (rule, spaces following + y.1)) m) ≡ map_ok (λ rule. (rule, drop y.1 (trim_start following))) m
+    of_rule y (Ok r) = ap (λ (l : List Located). got r l) (sym (drop-drop y.1 (spaces following) following))
     of_rule y (Err e) = refl
 
     by : (r : Result (Values × ℕ) MarkupFault)
-        → read behind (r >>= rule_then place tag behind) ≡ made place tag (read (trim_start behind) r)
+        → read following (r >>= rule_then place tag following) ≡ made place tag (read (trim_start following) r)
     by (Ok y) = of_rule y (rule_of place tag y.0)
     by (Err e) = refl
 
@@ -198,20 +198,20 @@ module _ (place : ℕ) (tag : Tag) (values : Values) (names : List (List ℕ)) (
 -- a rule at fault, and where it is refused
 pub record WasRefused (cs : List Located) (e : MarkupFault) : Type 0 where
   pub tag : Tag
-  pub behind : List Located
-  pub is : IsTag cs behind tag
-  pub refuses : rule_at (place_of cs) tag behind ≡ Err e
+  pub following : List Located
+  pub is : IsTag cs following tag
+  pub refuses : rule_at (place_of cs) tag following ≡ Err e
 
 -- a rule at fault is refused by its fault
 pub rule_refused : {cs : List Located} {e : MarkupFault} → IsRuleFault cs e → WasRefused cs e
-rule_refused {cs = cs} {e = e} (at_fault {behind = behind} {rest = rest} {tag = tag} {names = names} is sound fault) =
-    let was = sound_read (place_of cs) tag (trim_start behind) sound in
+rule_refused {cs = cs} {e = e} (at_fault {following = following} {rest = rest} {tag = tag} {names = names} is sound fault) =
+    let was = sound_read (place_of cs) tag (trim_start following) sound in
     record {
       tag = tag;
-      behind = behind;
+      following = following;
       is = is;
       refuses =
-          view_failed (λ (y : Rule × ℕ). (y.0, drop y.1 behind)) (rule_at (place_of cs) tag behind) e
-          (made_is (place_of cs) tag behind ∙ ap (made (place_of cs) tag) was.2
+          view_failed (λ (y : Rule × ℕ). (y.0, drop y.1 following)) (rule_at (place_of cs) tag following) e
+          (made_is (place_of cs) tag following ∙ ap (made (place_of cs) tag) was.2
           ∙ fault_refused (place_of cs) tag was.0 names was.1 fault);
     }

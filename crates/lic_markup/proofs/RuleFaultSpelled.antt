@@ -285,15 +285,15 @@ module _ (rule : ℕ) (tag : Tag) (start : List Located) where
       (held : HeldFor tag values names) (one : begins_with_two greater (x ∷ after) ≡ false)
       (two : begins_with semicolon (x ∷ after) ≡ true) where
     -- a field, or none, was read
-    go_on : (front : List Located) → trim_start after ≡ front → (more : Values) (behind : List Located)
-        (now : List (List ℕ)) → read front (field_or_none rule tag values front) ≡ Ok (more, behind)
-        → length behind ≤ length front
-        → AreSoundFields tag start behind now → HeldFor tag more now → Outcome (fields_of rule tag values (x ∷ after))
-    go_on front at more behind now gave shorter sound held =
+    go_on : (front : List Located) → trim_start after ≡ front → (more : Values) (following : List Located)
+        (now : List (List ℕ)) → read front (field_or_none rule tag values front) ≡ Ok (more, following)
+        → length following ≤ length front
+        → AreSoundFields tag start following now → HeldFor tag more now → Outcome (fields_of rule tag values (x ∷ after))
+    go_on front at more following now gave shorter sound held =
         let front_shorter : length front ≤ length after = trim_start-shorter after front (sym at) in
-        subst Outcome (fields_turn rule tag values x after (x ∷ after) front more behind
+        subst Outcome (fields_turn rule tag values x after (x ∷ after) front more following
         (fields_of rule tag values (x ∷ after)) refl (sym at) one two gave refl)
-        (others more now behind (omega (arith, long, shorter, front_shorter)) sound held)
+        (others more now following (omega (arith, long, shorter, front_shorter)) sound held)
 
     -- the field is at fault
     stop : (front : List Located) → trim_start after ≡ front → (e : MarkupFault)
@@ -320,12 +320,12 @@ module _ (rule : ℕ) (tag : Tag) (start : List Located) where
             → Outcome (fields_of rule tag values (x ∷ after))
         by (Err e) was gave = stop (z ∷ zs) at e gave goes_on (field_faulty rule tag values names held (z ∷ zs) e was)
         by (Ok y) was gave =
-            let behind : List Located = drop y.1 (z ∷ zs) in
-            let w = field_spelled rule z.0 tag values (z ∷ zs) behind y.0 (ap (read (z ∷ zs)) was) in
-            go_on (z ∷ zs) at y.0 behind (w.name ∷ names) gave
-            (read-shorter (z ∷ zs) (field_or_none rule tag values (z ∷ zs)) y.0 behind gave)
+            let following : List Located = drop y.1 (z ∷ zs) in
+            let w = field_spelled rule z.0 tag values (z ∷ zs) following y.0 (ap (read (z ∷ zs)) was) in
+            go_on (z ∷ zs) at y.0 following (w.name ∷ names) gave
+            (read-shorter (z ∷ zs) (field_or_none rule tag values (z ∷ zs)) y.0 following gave)
             (one_further sound (eqb-true _ _ two) (ap ends_field at ∙ goes_on)
-            (subst (λ l. IsField l behind w.name w.value) (sym at) w.is) (sym (second_is values w.name names tag held) ∙ w.once))
+            (subst (λ l. IsField l following w.name w.value) (sym at) w.is) (sym (second_is values w.name names tag held) ∙ w.once))
             (subst (λ m. HeldFor tag m (w.name ∷ names)) w.gives (held_on values w.name w.value names tag held))
 
     field_outcome : (z : Located) (zs : List Located) → trim_start after ≡ z ∷ zs → (t : Bool) → at_end (z ∷ zs) ≡ t
@@ -432,21 +432,21 @@ module _ (place : ℕ) (names : List (List ℕ)) where
   lacks BeginOptional values name held some absent = absurd cc
   lacks EndOptional values name held some absent = absurd cc
 
-rule_by : (cs behind : List Located) (tag : Tag) (e : MarkupFault) → IsTag cs behind tag
+rule_by : (cs following : List Located) (tag : Tag) (e : MarkupFault) → IsTag cs following tag
     → (r : Result (Values × ℕ) MarkupFault)
-    → Outcome (place_of cs) tag (trim_start behind) (read (trim_start behind) r)
-    → (r >>= rule_then (place_of cs) tag behind) ≡ failed e → IsRuleFault cs e
-rule_by cs behind tag e is (Err d) out h =
+    → Outcome (place_of cs) tag (trim_start following) (read (trim_start following) r)
+    → (r >>= rule_then (place_of cs) tag following) ≡ failed e → IsRuleFault cs e
+rule_by cs following tag e is (Err d) out h =
     at_fault is out.2 (subst (IsFaultAfter (place_of cs) tag out.1 out.0) (same_fault d e h) out.3)
-rule_by cs behind tag e is (Ok y) out h =
+rule_by cs following tag e is (Ok y) out h =
     at_fault is out.2
     (lacking (place_of cs) out.1 tag y.0 e out.0 out.3 out.4
-    (view_failed (λ rule. (rule, spaces behind + y.1)) (rule_of (place_of cs) tag y.0) e h))
+    (view_failed (λ rule. (rule, spaces following + y.1)) (rule_of (place_of cs) tag y.0) e h))
 
 -- a rule that is refused is at fault so
-pub rule_faulty : (cs behind : List Located) (tag : Tag) (e : MarkupFault) → IsTag cs behind tag → rule_at (place_of cs) tag behind ≡ Err e → IsRuleFault cs e
-rule_faulty cs behind tag e is h =
-    let front : List Located = trim_start behind in
-    rule_by cs behind tag e is (fields_at (place_of cs) tag no_values 0 front)
+pub rule_faulty : (cs following : List Located) (tag : Tag) (e : MarkupFault) → IsTag cs following tag → rule_at (place_of cs) tag following ≡ Err e → IsRuleFault cs e
+rule_faulty cs following tag e is h =
+    let front : List Located = trim_start following in
+    rule_by cs following tag e is (fields_at (place_of cs) tag no_values 0 front)
     (outcome (place_of cs) tag front (length front) no_values [] front (omega arith) none (held_none tag))
-    (sym (rule_is (place_of cs) tag behind) ∙ h)
+    (sym (rule_is (place_of cs) tag following) ∙ h)

@@ -11,7 +11,7 @@ use Rattle.lic_markup.specs.Signs.{less, equals, backslash}
 use Rattle.lic_markup.specs.Texts.{begins_with, text_of}
 use Rattle.lic_markup.specs.Faults.{fault_at, map_ok}
 use Rattle.lic_markup.specs.Rules.{word_at, tag_of, tag_at, at_end, ends_quoted, ends_plain, one_more, open_field, without_equals, name_at, quoted_at, plain_at}
-use Rattle.lic_markup.proofs.FaultLemmas.{behind, behind-none, behind-behind}
+use Rattle.lic_markup.proofs.FaultLemmas.{following, following-none, following-following}
 use Rattle.lic_markup.proofs.LocatedLemmas.{same_front}
 
 -- ---- words
@@ -61,8 +61,8 @@ module _ (all rest front : List Located) (ends : word_at rest ≡ []) (parts : f
       same_front front passed.front rest all parts passed.parts ∙ sym (append-nil passed.front)
       ∙ ap (λ l. passed.front ++ l) (sym ends) ∙ passed.word
 
-  pub behind_word : rest ≡ drop (length (word_at all)) all
-  behind_word = sym (drop_at front rest (length front) refl) ∙ (λ i. drop (length (whole_word i)) (parts i))
+  pub following_word : rest ≡ drop (length (word_at all)) all
+  following_word = sym (drop_at front rest (length front) refl) ∙ (λ i. drop (length (whole_word i)) (parts i))
 
 -- ---- tags
 
@@ -72,16 +72,16 @@ unfolding tag_at
 no_tag place rest other = rw other refl
 
 -- it is followed by another, and this by a word
-module _ (place : ℕ) (rest behind_it : List Located) (word : List ℕ) (sign : begins_with less rest ≡ true)
-    (is : text_of (word_at (drop 1 rest)) ≡ word) (others : behind_it ≡ drop (length (word_at (drop 1 rest))) (drop 1 rest)) where
+module _ (place : ℕ) (rest following_it : List Located) (word : List ℕ) (sign : begins_with less rest ≡ true)
+    (is : text_of (word_at (drop 1 rest)) ≡ word) (others : following_it ≡ drop (length (word_at (drop 1 rest))) (drop 1 rest)) where
   pub tag_of_word : (o : Option Tag) → tag_of word ≡ o
-      → option_map (with_remaining rest) (tag_at (place, less) rest) ≡ option_map (λ tag. (tag, behind_it)) o
+      → option_map (with_remaining rest) (tag_at (place, less) rest) ≡ option_map (λ tag. (tag, following_it)) o
   unfolding tag_at
   tag_of_word o tag =
       rw sign (ap (λ t. option_map (with_remaining rest) (option_map (λ tag. (tag, 1 + length (word_at (drop 1 rest)))) t)) (ap tag_of is ∙ tag)
       ∙ by_tag o)
     where
-      by_tag : (o : Option Tag) → option_map (with_remaining rest) (option_map (λ tag. (tag, 1 + length (word_at (drop 1 rest)))) o) ≡ option_map (λ tag. (tag, behind_it)) o
+      by_tag : (o : Option Tag) → option_map (with_remaining rest) (option_map (λ tag. (tag, 1 + length (word_at (drop 1 rest)))) o) ≡ option_map (λ tag. (tag, following_it)) o
       by_tag None = refl
       by_tag (Some tag) = ap (λ (l : List Located). Some (tag, l)) (sym (others ∙ drop-drop (length (word_at (drop 1 rest))) 1 rest))
 
@@ -93,7 +93,7 @@ read rest r = map_ok (with_remaining rest) r
 
 -- a reader that takes one character more
 pub one_more-read : (x : Located) (after : List Located) (r : Result (List Located × ℕ) MarkupFault)
-    → read (x ∷ after) (map_ok (one_more x) r) ≡ behind (x ∷ []) (read after r)
+    → read (x ∷ after) (map_ok (one_more x) r) ≡ following (x ∷ []) (read after r)
 one_more-read x after (Ok y) = ap (λ (l : List Located). Ok (x ∷ y.0, l)) (sym (drop-drop y.1 1 (x ∷ after)))
 one_more-read x after (Err e) = refl
 
@@ -101,10 +101,10 @@ one_more-read x after (Err e) = refl
 pub record HasPassed (all rest : List Located) (here total : Result (List Located × List Located) MarkupFault) : Type 0 where
   pub front : List Located
   pub parts : front ++ rest ≡ all
-  pub so_far : behind front here ≡ total
+  pub so_far : following front here ≡ total
 
 pub none_passed : (all : List Located) (here : Result (List Located × List Located) MarkupFault) → HasPassed all all here here
-none_passed all here = record { front = []; parts = refl; so_far = behind-none here }
+none_passed all here = record { front = []; parts = refl; so_far = following-none here }
 
 -- where a reader takes one more
 pub pass : (all rest : List Located) (x : Located) (after : List Located) (scan next : List Located → Result (List Located × ℕ) MarkupFault)
@@ -116,19 +116,19 @@ pass all rest x after scan next total is turn passed =
     record {
       front = f ++ x ∷ [];
       parts = append_assoc f (x ∷ []) after ∙ ap (λ l. f ++ l) (sym is) ∙ passed.parts;
-      so_far = behind-behind f (x ∷ []) (read after (next after))
-          ∙ ap (behind f) (sym (ap (read (x ∷ after)) turn ∙ one_more-read x after (next after)))
-          ∙ ap (λ (l : List Located). behind f (read l (scan l))) (sym is)
+      so_far = following-following f (x ∷ []) (read after (next after))
+          ∙ ap (following f) (sym (ap (read (x ∷ after)) turn ∙ one_more-read x after (next after)))
+          ∙ ap (λ (l : List Located). following f (read l (scan l))) (sym is)
           ∙ passed.so_far;
     }
 
 -- where the reader stops
-pub stop : (all rest front behind_it : List Located) (r : Result (List Located × ℕ) MarkupFault) (taken : ℕ)
+pub stop : (all rest front following_it : List Located) (r : Result (List Located × ℕ) MarkupFault) (taken : ℕ)
     (total : Result (List Located × List Located) MarkupFault)
-    → r ≡ Ok ([], taken) → drop taken rest ≡ behind_it → front ++ rest ≡ all → HasPassed all rest (read rest r) total
-    → total ≡ Ok (front, behind_it)
-stop all rest front behind_it r taken total is others parts passed =
-    sym passed.so_far ∙ ap (λ (s : Result (List Located × ℕ) MarkupFault). behind passed.front (read rest s)) is
+    → r ≡ Ok ([], taken) → drop taken rest ≡ following_it → front ++ rest ≡ all → HasPassed all rest (read rest r) total
+    → total ≡ Ok (front, following_it)
+stop all rest front following_it r taken total is others parts passed =
+    sym passed.so_far ∙ ap (λ (s : Result (List Located × ℕ) MarkupFault). following passed.front (read rest s)) is
     ∙ (λ i. Ok ((append-nil passed.front ∙ same_front passed.front front rest all passed.parts parts) i, others i))
 
 -- where the reader refuses
@@ -136,7 +136,7 @@ pub refuse : (all rest : List Located) (r : Result (List Located × ℕ) MarkupF
     (total : Result (List Located × List Located) MarkupFault)
     → r ≡ Err e → HasPassed all rest (read rest r) total → total ≡ Err e
 refuse all rest r e total is passed =
-    sym passed.so_far ∙ ap (λ (s : Result (List Located × ℕ) MarkupFault). behind passed.front (read rest s)) is
+    sym passed.so_far ∙ ap (λ (s : Result (List Located × ℕ) MarkupFault). following passed.front (read rest s)) is
 
 -- ---- names
 

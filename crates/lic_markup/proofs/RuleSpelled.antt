@@ -59,19 +59,19 @@ module _ (rule start : ℕ) (tag : Tag) (values : Values) where
       → read cs (map_ok (λ value. (with_value (meaning name) value.0 values, name.1 + (spaces (drop name.1 cs) + value.1))) r) ≡ got v rest → WasField cs rest v
   value_by cs rest v name sign up is once (Err d) was e = refused d v rest e
   value_by cs rest v name sign up is once (Ok y) was e =
-      let behind : List Located = drop name.1 cs in
-      let spelled : IsValue (trim_start behind) (drop y.1 (trim_start behind)) y.0 =
-      value_spelled rule (trim_start behind) y.0 (drop y.1 (trim_start behind))
-      (ap (read (trim_start behind)) was) in
-      let ends : drop y.1 (trim_start behind) ≡ rest =
+      let following : List Located = drop name.1 cs in
+      let spelled : IsValue (trim_start following) (drop y.1 (trim_start following)) y.0 =
+      value_spelled rule (trim_start following) y.0 (drop y.1 (trim_start following))
+      (ap (read (trim_start following)) was) in
+      let ends : drop y.1 (trim_start following) ≡ rest =
       drops cs name.1 y.1 ∙ same_rest (with_value (meaning name) y.0 values) v
-      (drop (name.1 + (spaces behind + y.1)) cs) rest e in
+      (drop (name.1 + (spaces following + y.1)) cs) rest e in
       record {
         name = text_of (trim_end name.0);
         value = y.0;
-        is = field up is (subst (λ l. IsValue (trim_start behind) l y.0) ends spelled);
+        is = field up is (subst (λ l. IsValue (trim_start following) l y.0) ends spelled);
         once = once;
-        gives = same_value (with_value (meaning name) y.0 values) v (drop (name.1 + (spaces behind + y.1)) cs) rest e;
+        gives = same_value (with_value (meaning name) y.0 values) v (drop (name.1 + (spaces following + y.1)) cs) rest e;
       }
 
   twice_by : (cs rest : List Located) (v : Values) (name : List Located × ℕ) (sign : Located)
@@ -93,11 +93,11 @@ module _ (rule start : ℕ) (tag : Tag) (values : Values) where
 
   pub field_read : {cs rest value : List Located} {name : List ℕ} → IsField cs rest name value → has_value (field_of tag name) values ≡ false
       → read cs (field_at rule start tag values cs) ≡ got (with_value (field_of tag name) value values) rest
-  field_read (field {cs = cs} {behind = behind} {rest = rest} {name = name} {value = value} {sign = sign} up is spelled) once =
-      let first = read_was cs (name_at rule start cs) name behind (name_read rule start name sign cs behind up is) in
+  field_read (field {cs = cs} {following = following} {rest = rest} {name = name} {value = value} {sign = sign} up is spelled) once =
+      let first = read_was cs (name_at rule start cs) name following (name_read rule start name sign cs following up is) in
       let n : ℕ = first.0 in
-      let here : drop n cs ≡ behind = first.2 in
-      let second = read_was (trim_start behind) (value_at rule (trim_start behind)) value rest (value_read rule spelled) in
+      let here : drop n cs ≡ following = first.2 in
+      let second = read_was (trim_start following) (value_at rule (trim_start following)) value rest (value_read rule spelled) in
       let meant : Field = meaning (name, n) in
       let gives : value_at rule (trim_start (drop n cs)) ≡ Ok (value, second.0) = ap (λ (l : List Located). value_at rule (trim_start l)) here ∙ second.1 in
       ap (read cs) (field_is cs ∙ ap (λ (r : Result (List Located × ℕ) MarkupFault). r >>= λ name.
@@ -285,42 +285,42 @@ no_fields (empty one two more) e = cc
 no_fields (one_further one two three more) e = cc
 
 pub no_field : {cs rest value : List Located} {name : List ℕ} → IsField cs rest name value → cs ≡ [] → ⊥
-no_field (field {cs = cs} {behind = behind} {name = name} {sign = sign} up is value) e = empty_no name sign behind (sym e ∙ up.parts)
+no_field (field {cs = cs} {following = following} {name = name} {sign = sign} up is value) e = empty_no name sign following (sym e ∙ up.parts)
 
 module _ (rule : ℕ) (tag : Tag) where
   -- the fields after a `;`
   abbrev WereFields : Values → List Located → List Located → Values → Type 0
   WereFields values cs rest v = (fs : List (List ℕ × List Located)) × IsFields cs rest fs × AddsFor tag values fs v
 
-  some_by : (start : ℕ) (values v more : Values) (x : Located) (after rest behind : List Located) → x.1 ≡ semicolon → ends_field (trim_start after) ≡ false
-      → WasField rule start tag values (trim_start after) behind more → WereFields more behind rest v → WereFields values (x ∷ after) rest v
-  some_by start values v more x after rest behind is goes_on was others = (
+  some_by : (start : ℕ) (values v more : Values) (x : Located) (after rest following : List Located) → x.1 ≡ semicolon → ends_field (trim_start after) ≡ false
+      → WasField rule start tag values (trim_start after) following more → WereFields more following rest v → WereFields values (x ∷ after) rest v
+  some_by start values v more x after rest following is goes_on was others = (
     (was.name, was.value) ∷ others.0,
     one_further is goes_on was.is others.1,
     adds_back values v was.name was.value others.0 tag was.once
         (subst (λ m. AddsFor tag m others.0 v) (sym was.gives) others.2),
   )
 
-  none_by : (values v more : Values) (x : Located) (after rest behind : List Located) → x.1 ≡ semicolon → ends_field (trim_start after) ≡ true
-      → values ≡ more → trim_start after ≡ behind → WereFields more behind rest v → WereFields values (x ∷ after) rest v
-  none_by values v more x after rest behind is ends same at others =
+  none_by : (values v more : Values) (x : Located) (after rest following : List Located) → x.1 ≡ semicolon → ends_field (trim_start after) ≡ true
+      → values ≡ more → trim_start after ≡ following → WereFields more following rest v → WereFields values (x ∷ after) rest v
+  none_by values v more x after rest following is ends same at others =
       (others.0, empty is ends (subst (λ l. IsFields l rest others.0) (sym at) others.1), subst (λ m. AddsFor tag m others.0 v) (sym same) others.2)
 
-  end_by : (values v more : Values) (x : Located) (after rest behind : List Located) (z : Located) (zs : List Located)
+  end_by : (values v more : Values) (x : Located) (after rest following : List Located) (z : Located) (zs : List Located)
       (t : Bool) → x.1 ≡ semicolon → trim_start after ≡ z ∷ zs → at_end (z ∷ zs) ≡ t
-      → read (z ∷ zs) (cond t (Ok (values, 0)) (field_at rule z.0 tag values (z ∷ zs))) ≡ got more behind
-      → WereFields more behind rest v → WereFields values (x ∷ after) rest v
-  end_by values v more x after rest behind z zs true is at h e others =
-      none_by values v more x after rest behind is (ap ends_field at ∙ h) (same_value values more (z ∷ zs) behind e)
-      (at ∙ same_rest values more (z ∷ zs) behind e) others
-  end_by values v more x after rest behind z zs false is at h e others =
-      some_by z.0 values v more x after rest behind is (ap ends_field at ∙ h)
-      (subst (λ l. WasField rule z.0 tag values l behind more) (sym at) (field_spelled rule z.0 tag values (z ∷ zs) behind more e)) others
+      → read (z ∷ zs) (cond t (Ok (values, 0)) (field_at rule z.0 tag values (z ∷ zs))) ≡ got more following
+      → WereFields more following rest v → WereFields values (x ∷ after) rest v
+  end_by values v more x after rest following z zs true is at h e others =
+      none_by values v more x after rest following is (ap ends_field at ∙ h) (same_value values more (z ∷ zs) following e)
+      (at ∙ same_rest values more (z ∷ zs) following e) others
+  end_by values v more x after rest following z zs false is at h e others =
+      some_by z.0 values v more x after rest following is (ap ends_field at ∙ h)
+      (subst (λ l. WasField rule z.0 tag values l following more) (sym at) (field_spelled rule z.0 tag values (z ∷ zs) following more e)) others
 
-  turn_by : (values v more : Values) (x : Located) (after rest behind front : List Located) → x.1 ≡ semicolon → trim_start after ≡ front
-      → read front (field_or_none rule tag values front) ≡ got more behind → WereFields more behind rest v → WereFields values (x ∷ after) rest v
-  turn_by values v more x after rest behind [] is at e others = absurd (no_fields others.1 (sym (same_rest values more [] behind e)))
-  turn_by values v more x after rest behind (z ∷ zs) is at e others = end_by values v more x after rest behind z zs (at_end (z ∷ zs)) is at refl e others
+  turn_by : (values v more : Values) (x : Located) (after rest following front : List Located) → x.1 ≡ semicolon → trim_start after ≡ front
+      → read front (field_or_none rule tag values front) ≡ got more following → WereFields more following rest v → WereFields values (x ∷ after) rest v
+  turn_by values v more x after rest following [] is at e others = absurd (no_fields others.1 (sym (same_rest values more [] following e)))
+  turn_by values v more x after rest following (z ∷ zs) is at e others = end_by values v more x after rest following z zs (at_end (z ∷ zs)) is at refl e others
 
   closed_by : (values v : Values) (x : Located) (after rest : List Located)
       → begins_with_two greater (x ∷ after) ≡ true → got values (drop 2 (x ∷ after)) ≡ got v rest
@@ -351,15 +351,15 @@ module _ (rule : ℕ) (tag : Tag) where
       refused d v rest (sym (fields_fail rule tag values x after (x ∷ after) (trim_start after) d refl refl one two (ap (read (trim_start after)) was)) ∙ e)
   next_by n others values v x after rest long one two (Ok y) was e =
       let front : List Located = trim_start after in
-      let behind : List Located = drop y.1 front in
-      let gave : read front (field_or_none rule tag values front) ≡ got y.0 behind = ap (read front) was in
-      let turned : fields_of rule tag y.0 behind ≡ fields_of rule tag values (x ∷ after) =
-      fields_turn rule tag values x after (x ∷ after) front y.0 behind
+      let following : List Located = drop y.1 front in
+      let gave : read front (field_or_none rule tag values front) ≡ got y.0 following = ap (read front) was in
+      let turned : fields_of rule tag y.0 following ≡ fields_of rule tag values (x ∷ after) =
+      fields_turn rule tag values x after (x ∷ after) front y.0 following
       (fields_of rule tag values (x ∷ after)) refl refl one two gave refl in
-      let shorter : length behind ≤ length front = read-shorter front (field_or_none rule tag values front) y.0 behind gave in
+      let shorter : length following ≤ length front = read-shorter front (field_or_none rule tag values front) y.0 following gave in
       let front_shorter : length front ≤ length after = trim_start-shorter after front refl in
-      turn_by values v y.0 x after rest behind front (eqb-true _ _ two) refl gave
-      (others y.0 v behind rest (omega (arith, long, shorter, front_shorter)) (turned ∙ e))
+      turn_by values v y.0 x after rest following front (eqb-true _ _ two) refl gave
+      (others y.0 v following rest (omega (arith, long, shorter, front_shorter)) (turned ∙ e))
 
   signs_by : (n : ℕ) → Spelled n → (values v : Values) (x : Located) (after rest : List Located)
       → length (x ∷ after) ≤ suc n → (t u : Bool) → begins_with_two greater (x ∷ after) ≡ t
@@ -427,30 +427,30 @@ unfolding rule_at
 rule_is place tag rest = refl
 
 -- the fields of a rule, and the rule that they make
-record WasRule (place : ℕ) (tag : Tag) (behind rest : List Located) (r : Rule) : Type 0 where
+record WasRule (place : ℕ) (tag : Tag) (following rest : List Located) (r : Rule) : Type 0 where
   pub values : Values
-  pub fields : fields_of place tag no_values (trim_start behind) ≡ got values rest
+  pub fields : fields_of place tag no_values (trim_start following) ≡ got values rest
   pub makes : rule_of place tag values ≡ Ok r
 
 abbrev made : Rule → Result Rule MarkupFault
 made r = Ok r
 
-was_by : (place : ℕ) (tag : Tag) (behind rest : List Located) (r : Rule) (f : Result (Values × ℕ) MarkupFault)
-    → fields_at place tag no_values 0 (trim_start behind) ≡ f
-    → read behind (f >>= rule_then place tag behind) ≡ got r rest → WasRule place tag behind rest r
-was_by place tag behind rest r (Err d) was e = refused d r rest e
-was_by place tag behind rest r (Ok y) was e = made_by (rule_of place tag y.0) refl e
+was_by : (place : ℕ) (tag : Tag) (following rest : List Located) (r : Rule) (f : Result (Values × ℕ) MarkupFault)
+    → fields_at place tag no_values 0 (trim_start following) ≡ f
+    → read following (f >>= rule_then place tag following) ≡ got r rest → WasRule place tag following rest r
+was_by place tag following rest r (Err d) was e = refused d r rest e
+was_by place tag following rest r (Ok y) was e = made_by (rule_of place tag y.0) refl e
   where
     made_by : (m : Result Rule MarkupFault) → rule_of place tag y.0 ≡ m
-        → read behind (map_ok (λ rule. (rule, spaces behind + y.1)) m) ≡ got r rest → WasRule place tag behind rest r
+        → read following (map_ok (λ rule. (rule, spaces following + y.1)) m) ≡ got r rest → WasRule place tag following rest r
     made_by (Err d) is e = refused d r rest e
     made_by (Ok s) is e =
         record {
           values = y.0;
-          fields = ap (read (trim_start behind)) was
+          fields = ap (read (trim_start following)) was
               ∙ ap (λ (l : List Located). got y.0 l)
-              (drop-drop y.1 (spaces behind) behind ∙ same_rest s r (drop (spaces behind + y.1) behind) rest e);
-          makes = is ∙ ap (λ t. made t) (same_value s r (drop (spaces behind + y.1) behind) rest e);
+              (drop-drop y.1 (spaces following) following ∙ same_rest s r (drop (spaces following + y.1) following) rest e);
+          makes = is ∙ ap (λ t. made t) (same_value s r (drop (spaces following + y.1) following) rest e);
         }
 
 one_value : {A : Type 0} (f : List Located → A) (zs : List (List Located)) (p : A) → map f zs ≡ p ∷ [] → (z : List Located) × (zs ≡ z ∷ []) × (f z ≡ p)
@@ -464,86 +464,86 @@ one_value f (z ∷ y ∷ zs) p e = absurd (no (ap (drop 1) e))
 same_made : (r s : Rule) → made r ≡ made s → r ≡ s
 same_made r s e = ap (λ (o : Result Rule MarkupFault). elim o [ Ok x ↦ x | Err d ↦ r ]) e
 
-variable_by : (place : ℕ) (cs behind rest : List Located) (r : Rule) (name original : Option (List ℕ))
-    (pattern : Option (ℕ × List ℕ)) → IsTag cs behind Var → complete place name original pattern ≡ Ok r
-    → (fs : List (List ℕ × List Located)) → IsFields (trim_start behind) rest fs
+variable_by : (place : ℕ) (cs following rest : List Located) (r : Rule) (name original : Option (List ℕ))
+    (pattern : Option (ℕ × List ℕ)) → IsTag cs following Var → complete place name original pattern ≡ Ok r
+    → (fs : List (List ℕ × List Located)) → IsFields (trim_start following) rest fs
     → Adds no_values fs (record { name = name; original = original; pattern = pattern }) → IsRule cs rest r
-variable_by place cs behind rest r (Some n) (Some o) (Some p) tag is fs fields a =
+variable_by place cs following rest r (Some n) (Some o) (Some p) tag is fs fields a =
     let one = one_value bare (values_of (codes "name") fs) n a.name in
     let two = one_value bare (values_of (codes "original") fs) o a.original in
     let three = one_value with_place (values_of (codes "match") fs) p a.pattern in
     subst (λ s. IsRule cs rest s) ((λ i. rules.variable (one.2 i) (two.2 i) (three.2 i).0 (three.2 i).1) ∙ same_made (rules.variable n o p.0 p.1) r is)
     (variable tag fields one.1 two.1 three.1)
-variable_by place cs behind rest r None original pattern tag is fs fields a = absurd cc
-variable_by place cs behind rest r (Some n) None pattern tag is fs fields a = absurd cc
-variable_by place cs behind rest r (Some n) (Some o) None tag is fs fields a = absurd cc
+variable_by place cs following rest r None original pattern tag is fs fields a = absurd cc
+variable_by place cs following rest r (Some n) None pattern tag is fs fields a = absurd cc
+variable_by place cs following rest r (Some n) (Some o) None tag is fs fields a = absurd cc
 
 -- a rule that is read, after its tag, is one of the markup
-pub rule_spelled : (place : ℕ) (tag : Tag) (cs behind rest : List Located) (r : Rule) → place_of cs ≡ place
-    → IsTag cs behind tag → read behind (rule_at place tag behind) ≡ got r rest → IsRule cs rest r
+pub rule_spelled : (place : ℕ) (tag : Tag) (cs following rest : List Located) (r : Rule) → place_of cs ≡ place
+    → IsTag cs following tag → read following (rule_at place tag following) ≡ got r rest → IsRule cs rest r
 unfolding AddsFor
-rule_spelled place Var cs behind rest r at is e =
-    let was = was_by place Var behind rest r (fields_at place Var no_values 0 (trim_start behind)) refl
-    (sym (ap (read behind) (rule_is place Var behind)) ∙ e) in
-    let fields = fields_spelled place Var no_values was.values (trim_start behind) rest was.fields in
-    variable_by place cs behind rest r was.values.name was.values.original was.values.pattern is was.makes fields.0 fields.1 fields.2
-rule_spelled place BeginOptional cs behind rest r at is e =
-    let was = was_by place BeginOptional behind rest r
-    (fields_at place BeginOptional no_values 0 (trim_start behind)) refl
-    (sym (ap (read behind) (rule_is place BeginOptional behind)) ∙ e) in
-    let fields = fields_spelled place BeginOptional no_values was.values (trim_start behind) rest was.fields in
+rule_spelled place Var cs following rest r at is e =
+    let was = was_by place Var following rest r (fields_at place Var no_values 0 (trim_start following)) refl
+    (sym (ap (read following) (rule_is place Var following)) ∙ e) in
+    let fields = fields_spelled place Var no_values was.values (trim_start following) rest was.fields in
+    variable_by place cs following rest r was.values.name was.values.original was.values.pattern is was.makes fields.0 fields.1 fields.2
+rule_spelled place BeginOptional cs following rest r at is e =
+    let was = was_by place BeginOptional following rest r
+    (fields_at place BeginOptional no_values 0 (trim_start following)) refl
+    (sym (ap (read following) (rule_is place BeginOptional following)) ∙ e) in
+    let fields = fields_spelled place BeginOptional no_values was.values (trim_start following) rest was.fields in
     subst (λ s. IsRule cs rest s) (ap (λ p. rules.begin p) at ∙ same_made (rules.begin place) r was.makes) (begin is fields.1)
-rule_spelled place EndOptional cs behind rest r at is e =
-    let was = was_by place EndOptional behind rest r (fields_at place EndOptional no_values 0 (trim_start behind)) refl
-    (sym (ap (read behind) (rule_is place EndOptional behind)) ∙ e) in
-    let fields = fields_spelled place EndOptional no_values was.values (trim_start behind) rest was.fields in
+rule_spelled place EndOptional cs following rest r at is e =
+    let was = was_by place EndOptional following rest r (fields_at place EndOptional no_values 0 (trim_start following)) refl
+    (sym (ap (read following) (rule_is place EndOptional following)) ∙ e) in
+    let fields = fields_spelled place EndOptional no_values was.values (trim_start following) rest was.fields in
     subst (λ s. IsRule cs rest s) (ap (λ p. rules.finish p) at ∙ same_made (rules.finish place) r was.makes) (finish is fields.1)
 
-read_by : (place : ℕ) (tag : Tag) (behind rest : List Located) (values : Values) (r : Rule)
-    → fields_of place tag no_values (trim_start behind) ≡ got values rest → rule_of place tag values ≡ Ok r
-    → read behind (rule_at place tag behind) ≡ got r rest
-read_by place tag behind rest values r fields makes =
-    let was = read_was (trim_start behind) (fields_at place tag no_values 0 (trim_start behind)) values rest fields in
-    ap (read behind) (rule_is place tag behind ∙ ap (λ (f : Result (Values × ℕ) MarkupFault). f >>= rule_then place tag behind) was.1)
-    ∙ ap (λ (m : Result Rule MarkupFault). read behind (map_ok (λ rule. (rule, spaces behind + was.0)) m)) makes
-    ∙ ap (λ (l : List Located). got r l) (sym (drop-drop was.0 (spaces behind) behind) ∙ was.2)
+read_by : (place : ℕ) (tag : Tag) (following rest : List Located) (values : Values) (r : Rule)
+    → fields_of place tag no_values (trim_start following) ≡ got values rest → rule_of place tag values ≡ Ok r
+    → read following (rule_at place tag following) ≡ got r rest
+read_by place tag following rest values r fields makes =
+    let was = read_was (trim_start following) (fields_at place tag no_values 0 (trim_start following)) values rest fields in
+    ap (read following) (rule_is place tag following ∙ ap (λ (f : Result (Values × ℕ) MarkupFault). f >>= rule_then place tag following) was.1)
+    ∙ ap (λ (m : Result Rule MarkupFault). read following (map_ok (λ rule. (rule, spaces following + was.0)) m)) makes
+    ∙ ap (λ (l : List Located). got r l) (sym (drop-drop was.0 (spaces following) following) ∙ was.2)
 
 -- a rule of the markup, after its tag
 pub record WasRead (cs rest : List Located) (r : Rule) : Type 0 where
   pub tag : Tag
-  pub behind : List Located
-  pub is : IsTag cs behind tag
-  pub read : read behind (rule_at (place_of cs) tag behind) ≡ got r rest
+  pub following : List Located
+  pub is : IsTag cs following tag
+  pub read : read following (rule_at (place_of cs) tag following) ≡ got r rest
 
 -- a rule of the markup is read
 pub rule_read : {cs rest : List Located} {r : Rule} → IsRule cs rest r → WasRead cs rest r
 unfolding AddsFor
-rule_read (variable {cs = cs} {behind = behind} {rest = rest} {fs = fs} {name = name} {original = original} {pattern = pattern} is fields one two three) =
+rule_read (variable {cs = cs} {following = following} {rest = rest} {fs = fs} {name = name} {original = original} {pattern = pattern} is fields one two three) =
     let values : Values = record { name = Some (bare name); original = Some (bare original); pattern = Some (with_place pattern) } in
     let adds : Adds no_values fs values = record { name = ap (map bare) one; original = ap (map bare) two; pattern = ap (map with_place) three } in
     record {
       tag = Var;
-      behind = behind;
+      following = following;
       is = is;
       read =
-          read_by (place_of cs) Var behind rest values _
+          read_by (place_of cs) Var following rest values _
           (fields_read (place_of cs) Var fields no_values values adds) refl;
     }
-rule_read (begin {cs = cs} {behind = behind} {rest = rest} is fields) =
+rule_read (begin {cs = cs} {following = following} {rest = rest} is fields) =
     record {
       tag = BeginOptional;
-      behind = behind;
+      following = following;
       is = is;
       read =
-          read_by (place_of cs) BeginOptional behind rest no_values _
+          read_by (place_of cs) BeginOptional following rest no_values _
           (fields_read (place_of cs) BeginOptional fields no_values no_values refl) refl;
     }
-rule_read (finish {cs = cs} {behind = behind} {rest = rest} is fields) =
+rule_read (finish {cs = cs} {following = following} {rest = rest} is fields) =
     record {
       tag = EndOptional;
-      behind = behind;
+      following = following;
       is = is;
       read =
-          read_by (place_of cs) EndOptional behind rest no_values _
+          read_by (place_of cs) EndOptional following rest no_values _
           (fields_read (place_of cs) EndOptional fields no_values no_values refl) refl;
     }

@@ -8,7 +8,7 @@ use Rattle.lic_markup.specs.Texts.{begins_with, begins_with_two, trim_end}
 use Rattle.lic_markup.specs.Faults.{map_ok}
 use Rattle.lic_markup.specs.Rules.{at_end, ends_quoted, ends_plain, name_at, quoted_at, plain_at, value_at}
 use Rattle.lic_markup.specs.Markup.{UpTo, ends_field, ends_name, ends_quote, ends_escaped, IsValue, quoted, plain}
-use Rattle.lic_markup.proofs.FaultLemmas.{behind, map_ok-map_ok, map_ok-same, with_remaining-further}
+use Rattle.lic_markup.proofs.FaultLemmas.{following, map_ok-map_ok, map_ok-same, with_remaining-further}
 use Rattle.lic_markup.proofs.RuleLemmas.{read, one_more-read, name-ends, name-refused, name-goes_on, name-open, quoted-ends, quoted-goes_on, quoted-open, plain-ends, plain-goes_on, plain-open}
 
 -- ---- the first place
@@ -63,10 +63,10 @@ same_value a c b d e = ap (λ o. (held (a, b) o).0) e
 pub same_rest : {A B : Type 0} (a c : A) (b d : B) → got a b ≡ got c d → b ≡ d
 same_rest a c b d e = ap (λ o. (held (a, b) o).1) e
 
-behind_was : (x : Located) (r : Result (List Located × List Located) MarkupFault) (v rest : List Located)
-    → behind (x ∷ []) r ≡ got v rest → (u : List Located) × (r ≡ got u rest) × (x ∷ u ≡ v)
-behind_was x (Ok y) v rest e = (y.0, ap (λ (l : List Located). got y.0 l) (same_rest (x ∷ y.0) v y.1 rest e), same_value (x ∷ y.0) v y.1 rest e)
-behind_was x (Err d) v rest e = absurd cc
+following_was : (x : Located) (r : Result (List Located × List Located) MarkupFault) (v rest : List Located)
+    → following (x ∷ []) r ≡ got v rest → (u : List Located) × (r ≡ got u rest) × (x ∷ u ≡ v)
+following_was x (Ok y) v rest e = (y.0, ap (λ (l : List Located). got y.0 l) (same_rest (x ∷ y.0) v y.1 rest e), same_value (x ∷ y.0) v y.1 rest e)
+following_was x (Err d) v rest e = absurd cc
 
 pub read_was : {A : Type 0} (cs : List Located) (r : Result (A × ℕ) MarkupFault) (v : A) (rest : List Located)
     → read cs r ≡ got v rest → (k : ℕ) × (r ≡ Ok (v, k)) × (drop k cs ≡ rest)
@@ -102,7 +102,7 @@ module _ (rule start : ℕ) where
       )
   name_by x cs v rest false true one two others e = refused _ v rest (sym (ap (read (x ∷ cs)) (name-refused rule start (x ∷ cs) x cs refl one two)) ∙ e)
   name_by x cs v rest false false one two others e =
-      let was = behind_was x (read cs (name_at rule start cs)) v rest
+      let was = following_was x (read cs (name_at rule start cs)) v rest
       (sym (ap (read (x ∷ cs)) (name-goes_on rule start (x ∷ cs) x cs refl one two)
       ∙ one_more-read x cs (name_at rule start cs)) ∙ e) in
       let more = others was.0 was.1 in (
@@ -128,7 +128,7 @@ module _ (rule start : ℕ) where
       ap (λ (l : List Located). read l (name_at rule start l)) up.parts
       ∙ ap (read (x ∷ l)) (name-goes_on rule start (x ∷ l) x l refl no.0 no.1)
       ∙ one_more-read x l (name_at rule start l)
-      ∙ ap (behind (x ∷ [])) (name_read front sign l rest (past ends_name x cs front (sign ∷ rest) up) is)
+      ∙ ap (following (x ∷ [])) (name_read front sign l rest (past ends_name x cs front (sign ∷ rest) up) is)
 
 -- ---- values
 
@@ -144,7 +144,7 @@ module _ (rule : ℕ) where
             (here_at ends_quote (x ∷ cs) one)),
       )
   quoted_by x cs v rest false one others e =
-      let was = behind_was x (read cs (quoted_at rule cs)) v rest
+      let was = following_was x (read cs (quoted_at rule cs)) v rest
       (sym (ap (read (x ∷ cs)) (quoted-goes_on rule (x ∷ cs) x cs refl one)
       ∙ one_more-read x cs (quoted_at rule cs)) ∙ e) in
       let more = others was.0 was.1 in
@@ -163,7 +163,7 @@ module _ (rule : ℕ) where
       ap (λ (l : List Located). read l (quoted_at rule l)) up.parts
       ∙ ap (read (x ∷ l)) (quoted-goes_on rule (x ∷ l) x l refl (not_here ends_quote x cs front (end ∷ rest) up))
       ∙ one_more-read x l (quoted_at rule l)
-      ∙ ap (behind (x ∷ [])) (quoted_read front end l rest (past ends_quote x cs front (end ∷ rest) up))
+      ∙ ap (following (x ∷ [])) (quoted_read front end l rest (past ends_quote x cs front (end ∷ rest) up))
 
   -- the end of a value, where what is before it ends so
   abbrev pub ends_from : Bool → List Located → List Located → Bool
@@ -178,7 +178,7 @@ module _ (rule : ℕ) where
       (subst (λ l. UpTo (ends_from escaped) (x ∷ cs) [] l) (same_rest [] v (x ∷ cs) rest is)
       (here_at (ends_from escaped) (x ∷ cs) one))
   plain_by escaped x cs v rest false one others e =
-      let was = behind_was x (read cs (plain_at rule (eqb x.1 backslash) cs)) v rest
+      let was = following_was x (read cs (plain_at rule (eqb x.1 backslash) cs)) v rest
       (sym (ap (read (x ∷ cs)) (plain-goes_on rule escaped (x ∷ cs) x cs refl one)
       ∙ one_more-read x cs (plain_at rule (eqb x.1 backslash) cs)) ∙ e) in
       subst (λ w. UpTo (ends_from escaped) (x ∷ cs) w rest) was.2 (later (ends_from escaped) x cs was.0 rest one (others was.0 was.1))
@@ -199,7 +199,7 @@ module _ (rule : ℕ) where
       ap (λ (l : List Located). read l (plain_at rule escaped l)) up.parts
       ∙ ap (read (x ∷ l)) (plain-goes_on rule escaped (x ∷ l) x l refl (not_here (ends_from escaped) x cs front rest up))
       ∙ one_more-read x l (plain_at rule (eqb x.1 backslash) l)
-      ∙ ap (behind (x ∷ [])) (plain_read (eqb x.1 backslash) front l rest (past (ends_from escaped) x cs front rest up))
+      ∙ ap (following (x ∷ [])) (plain_read (eqb x.1 backslash) front l rest (past (ends_from escaped) x cs front rest up))
 
   -- a value, by whether a `"` comes first
   abbrev pub value_by : Bool → List Located → Result (List Located × ℕ) MarkupFault

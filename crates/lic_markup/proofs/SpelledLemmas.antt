@@ -92,13 +92,13 @@ ends : (d : ℕ) (t : List ℕ) → GoesOn t → first_is_word (reverse (d ∷ t
 ends d [] on = refl
 ends d (e ∷ t) on = by_letter (λ l. ends l t on.1) (e == blank) refl
   where
-    behind_blank : (t : List ℕ) → first_is_word t ≡ true → first_is_word (reverse (e ∷ t)) ≡ first_is_word (reverse (d ∷ t))
-    behind_blank [] word = absurd (true≢false (sym word))
-    behind_blank (f ∷ t) word = last_kept e f t ∙ sym (last_kept d f t)
+    following_blank : (t : List ℕ) → first_is_word t ≡ true → first_is_word (reverse (e ∷ t)) ≡ first_is_word (reverse (d ∷ t))
+    following_blank [] word = absurd (true≢false (sym word))
+    following_blank (f ∷ t) word = last_kept e f t ∙ sym (last_kept d f t)
 
     by_letter : ((l : ℕ) → first_is_word (reverse (l ∷ t)) ≡ is_word (last_letter l t)) → (b : Bool) → (e == blank) ≡ b
         → first_is_word (reverse (d ∷ e ∷ t)) ≡ is_word (last_letter d (e ∷ t))
-    by_letter more true h = last_kept d e t ∙ behind_blank t (on.0 (eqb-true e blank h)) ∙ more d ∙ ap is_word (sym (last_letter-blank d false e t h))
+    by_letter more true h = last_kept d e t ∙ following_blank t (on.0 (eqb-true e blank h)) ∙ more d ∙ ap is_word (sym (last_letter-blank d false e t h))
     by_letter more false h = last_kept d e t ∙ more e ∙ ap is_word (sym (last_letter-letter d false e t h))
 
 -- ---- rows of tokens
@@ -171,9 +171,9 @@ IsRow-each (c ∷ cs) some first each = (
   (GoesOn-each (c ∷ cs) each).1,
 )
 
-scalars-behind : (f r : List ℕ) → scalars (f ++ blank ∷ r) ≡ true → scalars r ≡ true
-scalars-behind [] r h = (and_parts (scalar blank) (scalars r) h).1
-scalars-behind (c ∷ f) r h = scalars-behind f r (and_parts (scalar c) (scalars (f ++ blank ∷ r)) h).1
+scalars-following : (f r : List ℕ) → scalars (f ++ blank ∷ r) ≡ true → scalars r ≡ true
+scalars-following [] r h = (and_parts (scalar blank) (scalars r) h).1
+scalars-following (c ∷ f) r h = scalars-following f r (and_parts (scalar c) (scalars (f ++ blank ∷ r)) h).1
 
 pub token_row : (text : List ℕ) → IsUtf8 text → IsTokenText text → IsRow (chars text)
 token_row text utf8 token = IsRow-each (chars text) some first each
@@ -196,7 +196,7 @@ token_row text utf8 token = IsRow-each (chars text) some first each
     each : (f r : List ℕ) → chars text ≡ f ++ blank ∷ r → first_is_word r ≡ true
     each f r e =
         let inside : begins_in_word (encodes r) ≡ true = (token.blanks (encodes f) (encodes r) (cut f r e)).1 in
-        sym (ap first_is_word (chars-encodes r (scalars-behind f r (ap scalars (sym e) ∙ scalars-chars text utf8)))) ∙ inside
+        sym (ap first_is_word (chars-encodes r (scalars-following f r (ap scalars (sym e) ∙ scalars-chars text utf8)))) ∙ inside
 
 rows : (ts : List (List ℕ)) → All IsUtf8 ts → All IsTokenText ts → AreRows (map chars ts)
 rows [] utf8 token = tt

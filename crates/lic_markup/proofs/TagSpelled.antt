@@ -154,13 +154,13 @@ pub tag_spelled : (x : Located) (after : List Located) (tag : Tag) (n : ℕ) →
 tag_spelled x after tag n e = test_by x after tag n (x.1 == less && begins_with less after) refl (sym (tag_at-is x after) ∙ e)
 
 -- a tag, and how many characters it takes after its first
-pub record WasTag (cs behind : List Located) (tag : Tag) : Type 0 where
+pub record WasTag (cs following : List Located) (tag : Tag) : Type 0 where
   pub first : Located
   pub after : List Located
   pub taken : ℕ
   pub all : cs ≡ first ∷ after
   pub read : tag_at first after ≡ Some (tag, taken)
-  pub rest : drop taken after ≡ behind
+  pub rest : drop taken after ≡ following
 
 read_by : (signs word cs rest : List Located) (tag : Tag) → cs ≡ signs ++ (word ++ rest) → chars_in signs ≡ codes "<<" → chars_in word ≡ tag_name tag → ends_word rest ≡ true → WasTag cs rest tag
 read_by [] word cs rest tag is opens name ends = absurd cc

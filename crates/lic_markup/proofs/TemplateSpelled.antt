@@ -142,8 +142,8 @@ module _ (line_rules : LineRules) (words : List Phrase) where
       }
 
   -- a state after a variable
-  abbrev pub behind_variable : State → List ℕ → List ℕ → Tree → State
-  behind_variable s name original tree =
+  abbrev pub after_variable : State → List ℕ → List ℕ → Tree → State
+  after_variable s name original tree =
       record {
         level = with_part (parts.variable name original tree) s.level;
         outer = s.outer;
@@ -154,7 +154,7 @@ module _ (line_rules : LineRules) (words : List Phrase) where
 
   pub run_variable : (s : State) (name original : List ℕ) (tree : Tree) (is : List Item)
       → run s.level.parts (parts_in s.outer) (variable name original tree ∷ is)
-      ≡ run (behind_variable s name original tree).level.parts (parts_in s.outer) is
+      ≡ run (after_variable s name original tree).level.parts (parts_in s.outer) is
   unfolding run
   run_variable s name original tree is = refl
 
@@ -165,7 +165,7 @@ module _ (line_rules : LineRules) (words : List Phrase) where
   variable_was : (before es : List Element) (s : State) (r : Reading) (name original : List ℕ) (place : ℕ)
       (pattern : List ℕ) (tree : Tree) → IsPattern pattern tree
       → WasRead (before ++ rule (rules.variable name original place pattern) ∷ []) es
-      (behind_variable s name original tree) r
+      (after_variable s name original tree) r
       → WasRead before (rule (rules.variable name original place pattern) ∷ es) s r
   unfolding NotRefused run
   variable_was before es s r name original place pattern tree is was =
@@ -178,8 +178,8 @@ module _ (line_rules : LineRules) (words : List Phrase) where
         is_whole = was.is_whole;
       }
 
-  abbrev pub behind_begin : State → ℕ → State
-  behind_begin s place = record s { level = new_level place; outer = s.level ∷ s.outer }
+  abbrev pub after_begin : State → ℕ → State
+  after_begin s place = record s { level = new_level place; outer = s.level ∷ s.outer }
 
   pub run_begin : (s : State) (is : List Item) → nat_lt (length s.outer) max_depth ≡ true
       → run s.level.parts (parts_in s.outer) (begin ∷ is) ≡ run [] (s.level.parts ∷ parts_in s.outer) is
@@ -189,7 +189,7 @@ module _ (line_rules : LineRules) (words : List Phrase) where
 
   begin_was : (before es : List Element) (s : State) (r : Reading) (place : ℕ)
       → nat_lt (length s.outer) max_depth ≡ true
-      → WasRead (before ++ rule (rules.begin place) ∷ []) es (behind_begin s place) r
+      → WasRead (before ++ rule (rules.begin place) ∷ []) es (after_begin s place) r
       → WasRead before (rule (rules.begin place) ∷ es) s r
   unfolding NotRefused
   begin_was before es s r place small was =
@@ -202,8 +202,8 @@ module _ (line_rules : LineRules) (words : List Phrase) where
         is_whole = was.is_whole;
       }
 
-  abbrev pub behind_finish : State → Level → List Level → State
-  behind_finish s o outer = record s { level = with_part (parts.optional (row s.level.parts)) o; outer = outer }
+  abbrev pub after_finish : State → Level → List Level → State
+  after_finish s o outer = record s { level = with_part (parts.optional (row s.level.parts)) o; outer = outer }
 
   pub run_finish : (s : State) (o : Level) (outer : List Level) (is : List Item) → s.outer ≡ o ∷ outer
       → run s.level.parts (parts_in s.outer) (templates.finish ∷ is)
@@ -212,7 +212,7 @@ module _ (line_rules : LineRules) (words : List Phrase) where
   run_finish s o outer is e = ap (λ (os : List Level). run s.level.parts (parts_in os) (templates.finish ∷ is)) e
 
   finish_was : (before es : List Element) (s : State) (r : Reading) (place : ℕ) (o : Level) (outer : List Level)
-      → s.outer ≡ o ∷ outer → WasRead (before ++ rule (rules.finish place) ∷ []) es (behind_finish s o outer) r
+      → s.outer ≡ o ∷ outer → WasRead (before ++ rule (rules.finish place) ∷ []) es (after_finish s o outer) r
       → WasRead before (rule (rules.finish place) ∷ es) s r
   unfolding NotRefused
   finish_was before es s r place o outer e was =
@@ -255,15 +255,15 @@ module _ (line_rules : LineRules) (words : List Phrase) where
   variable_by es before s r name original place pattern others (Ok tree) was e =
       variable_was before es s r name original place pattern tree (reading-IsPattern pattern tree was)
       (others (before ++ rule (rules.variable name original place pattern) ∷ [])
-      (behind_variable s name original tree) r (opens-variable before name original place pattern) e)
+      (after_variable s name original tree) r (opens-variable before name original place pattern) e)
 
   begin_by : (es before : List Element) (s : State) (r : Reading) (place : ℕ) → s.at_start ≡ opens_line before
       → Sound es → (t : Bool) → nat_lt (length s.outer) max_depth ≡ t
-      → then (cond t (Ok (behind_begin s place)) (Err (fault_at place TooDeep))) es ≡ Ok r → WasRead before (rule (rules.begin place) ∷ es) s r
+      → then (cond t (Ok (after_begin s place)) (Err (fault_at place TooDeep))) es ≡ Ok r → WasRead before (rule (rules.begin place) ∷ es) s r
   begin_by es before s r place starts others false small e = not_done (fault_at place TooDeep) r e
   begin_by es before s r place starts others true small e =
       begin_was before es s r place small
-      (others (before ++ rule (rules.begin place) ∷ []) (behind_begin s place) r
+      (others (before ++ rule (rules.begin place) ∷ []) (after_begin s place) r
       (opens-begin s.at_start before place starts) e)
 
   finish_by : (es before : List Element) (s : State) (r : Reading) (place : ℕ) → s.at_start ≡ opens_line before → Sound es → (os : List Level) → s.outer ≡ os
@@ -271,7 +271,7 @@ module _ (line_rules : LineRules) (words : List Phrase) where
   finish_by es before s r place starts others [] is e = not_done (fault_at place EndWithoutBegin) r e
   finish_by es before s r place starts others (o ∷ os) is e =
       finish_was before es s r place o os is
-      (others (before ++ rule (rules.finish place) ∷ []) (behind_finish s o os) r
+      (others (before ++ rule (rules.finish place) ∷ []) (after_finish s o os) r
       (opens-finish s.at_start before place starts) e)
 
   sound : (es : List Element) → Sound es
@@ -341,10 +341,10 @@ module _ (line_rules : LineRules) (words : List Phrase) where
       → Reads (before ++ rule (rules.begin place) ∷ []) es is → (s : State) (ps : List Node)
       → s.at_start ≡ opens_line before → (t : Bool) → nat_lt (length s.outer) max_depth ≡ t
       → run s.level.parts (parts_in s.outer) (begin ∷ is) ≡ Some ps
-      → then (cond t (Ok (behind_begin s place)) (Err (fault_at place TooDeep))) es ≡ whole ps (s.original ++ original_of es)
+      → then (cond t (Ok (after_begin s place)) (Err (fault_at place TooDeep))) es ≡ whole ps (s.original ++ original_of es)
   unfolding run
   begin_reads before es place is others s ps starts true small e =
-      others (behind_begin s place) ps (opens-begin s.at_start before place starts) (sym (run_begin s is small) ∙ e)
+      others (after_begin s place) ps (opens-begin s.at_start before place starts) (sym (run_begin s is small) ∙ e)
   begin_reads before es place is others s ps starts false small e =
       absurd (never (sym (ap (λ b. cond b (run [] (s.level.parts ∷ parts_in s.outer) is) None)
       (ap (λ n. ltb n max_depth) (length-map s.outer (λ l. l.parts)) ∙ small)) ∙ e))
@@ -364,7 +364,7 @@ module _ (line_rules : LineRules) (words : List Phrase) where
       never : None ≡ items.got ps → ⊥
       never h = cc
   finish_reads before es place is others s ps starts (o ∷ os) some e =
-      others (behind_finish s o os) ps (opens-finish s.at_start before place starts) (sym (run_finish s o os is some) ∙ e)
+      others (after_finish s o os) ps (opens-finish s.at_start before place starts) (sym (run_finish s o os is some) ∙ e)
 
   reads : {before es : List Element} {is : List Item} → AreItems line_rules words before es is → Reads before es is
   unfolding read_on meet run
@@ -376,7 +376,7 @@ module _ (line_rules : LineRules) (words : List Phrase) where
       (is_variable {name = name} {original = o} {pattern = pattern} {place = place} {tree =
       tree} spelled) others) s ps starts e =
       ap (λ (p : Result Tree EreFault). then (meet_variable name o place p s) es) (IsPattern-read pattern tree spelled)
-      ∙ reads others (behind_variable s name o tree) ps (opens-variable before name o place pattern) e
+      ∙ reads others (after_variable s name o tree) ps (opens-variable before name o place pattern) e
       ∙ ap (whole ps) (append_assoc s.original o (original_of es))
   reads (one_item {before = before} {after = es} {is = is} (is_begin {place = place}) others) s ps starts e =
       begin_reads before es place is (reads others) s ps starts (nat_lt (length s.outer) max_depth) refl e

@@ -22,10 +22,10 @@ use Rattle.lic_markup.specs.Templates.{Item, HasNoRule, AreItems, AreParts}
 -- Pieces of text and rules in turn, as far as rules can be read: to the end, or to the first one that is at fault by itself.
 pub data AreCut : List Located → List Element → Type 0 where
   last : {piece : List Located} → HasNoRule piece [] → AreCut piece (text piece ∷ [])
-  further : {cs piece behind rest : List Located} {r : rules.Rule} {es : List Element} → cs ≡ piece ++ behind
-      → HasNoRule piece behind → IsRule behind rest r → AreCut rest es → AreCut cs (text piece ∷ rule r ∷ es)
-  unreadable : {cs piece behind : List Located} {e : MarkupFault} → cs ≡ piece ++ behind → HasNoRule piece behind
-      → IsRuleFault behind e → AreCut cs (text piece ∷ refused e ∷ [])
+  further : {cs piece following rest : List Located} {r : rules.Rule} {es : List Element} → cs ≡ piece ++ following
+      → HasNoRule piece following → IsRule following rest r → AreCut rest es → AreCut cs (text piece ∷ rule r ∷ es)
+  unreadable : {cs piece following : List Located} {e : MarkupFault} → cs ≡ piece ++ following → HasNoRule piece following
+      → IsRuleFault following e → AreCut cs (text piece ∷ refused e ∷ [])
 
 -- None of these elements is at fault, and they lead from so many open optional parts to so many.
 pub data AreSound : ℕ → List Element → ℕ → Type 0 where
@@ -67,8 +67,8 @@ pub data IsFirstFault (line_rules : LineRules) (words : List Phrase) (es : List 
       → es ≡ before ++ x ∷ after → AreSound 0 before depth → IsAtFault depth x e
       → IsFirstFault line_rules words es e
   -- the innermost open part: after its begin each part that begins is ended
-  not_ended : (before : List Element) {behind : List Element} {place depth : ℕ}
-      → es ≡ before ++ rule (rules.begin place) ∷ behind → AreSound 0 es (suc depth) → Lead 0 behind 0
+  not_ended : (before : List Element) {following : List Element} {place depth : ℕ}
+      → es ≡ before ++ rule (rules.begin place) ∷ following → AreSound 0 es (suc depth) → Lead 0 following 0
       → IsFirstFault line_rules words es (fault_at place NotEnded)
   no_token : {items : List Item} {ns : List Node} → AreItems line_rules words [] es items → AreParts 0 items ns
       → row_has_token (row ns) ≡ false

@@ -19,18 +19,18 @@ abbrev pub at_line_start : Bool → List Located → Bool
 at_line_start so_far [] = so_far
 at_line_start so_far (x ∷ rest) = at_line_start (x.1 == new_line || (so_far && is_space x.1)) rest
 
--- Only white space is from here to the end of the line, where `behind` says so of what follows the characters.
+-- Only white space is from here to the end of the line, where `following` says so of what follows the characters.
 abbrev pub line_ends : Bool → List Located → Bool
-line_ends behind [] = behind
-line_ends behind (x ∷ rest) = x.1 == new_line || (is_space x.1 && line_ends behind rest)
+line_ends following [] = following
+line_ends following (x ∷ rest) = x.1 == new_line || (is_space x.1 && line_ends following rest)
 
 -- the same across a piece, or an optional rule; a variable is no white space, and after a refused rule is nothing
 abbrev pub line_ends_at : Bool → Element → Bool
-line_ends_at behind (text piece) = line_ends behind piece
-line_ends_at behind (rule (variable name original place pattern)) = false
-line_ends_at behind (rule (begin place)) = behind
-line_ends_at behind (rule (finish place)) = behind
-line_ends_at behind (refused e) = behind
+line_ends_at following (text piece) = line_ends following piece
+line_ends_at following (rule (variable name original place pattern)) = false
+line_ends_at following (rule (begin place)) = following
+line_ends_at following (rule (finish place)) = following
+line_ends_at following (refused e) = following
 
 -- from these elements on only white space and optional rules are to the end of the line
 abbrev pub line_ends_in : List Element → Bool

@@ -76,9 +76,9 @@ pub data IsValue : List Located → List Located → List Located → Type 0 whe
 -- a field: its name up to a `=` with no `;` and no `>>` before it, without the white space at its end; the `=`, white space, and
 -- its value
 pub data IsField : List Located → List Located → List ℕ → List Located → Type 0 where
-  field : {cs behind rest name value : List Located} {sign : Located} → UpTo ends_name cs name (sign ∷ behind)
+  field : {cs following rest name value : List Located} {sign : Located} → UpTo ends_name cs name (sign ∷ following)
       → sign.1 ≡ equals
-      → IsValue (trim_start behind) rest value → IsField cs rest (text_of (trim_end name)) value
+      → IsValue (trim_start following) rest value → IsField cs rest (text_of (trim_end name)) value
 
 -- the fields of a rule, each after a `;` and white space, and `>>` after the last; where `;` or `>>` follows there is none
 pub data IsFields : List Located → List Located → List (List ℕ × List Located) → Type 0 where
@@ -101,16 +101,16 @@ values_of name (f ∷ fs) = if bytes_eq f.0 name then f.1 ∷ values_of name fs 
 -- a tag, white space, and fields; a variable has one `name`, one `original` and one `match`; what the fields of an optional
 -- rule say means nothing
 pub data IsRule : List Located → List Located → Rule → Type 0 where
-  variable : {cs behind rest : List Located} {fs : List (List ℕ × List Located)} {name original pattern : List Located}
-      → IsTag cs behind Var
-      → IsFields (trim_start behind) rest fs → values_of (codes "name") fs ≡ name ∷ [] → values_of (codes "original") fs ≡ original ∷ []
+  variable : {cs following rest : List Located} {fs : List (List ℕ × List Located)} {name original pattern : List Located}
+      → IsTag cs following Var
+      → IsFields (trim_start following) rest fs → values_of (codes "name") fs ≡ name ∷ [] → values_of (codes "original") fs ≡ original ∷ []
       → values_of (codes "match") fs ≡ pattern ∷ []
       → IsRule cs rest (rules.variable (text_of (unescaped name)) (text_of (unescaped original)) (place_of pattern)
       (text_of pattern))
-  begin : {cs behind rest : List Located} {fs : List (List ℕ × List Located)} → IsTag cs behind BeginOptional
-      → IsFields (trim_start behind) rest fs → IsRule cs rest (rules.begin (place_of cs))
-  finish : {cs behind rest : List Located} {fs : List (List ℕ × List Located)} → IsTag cs behind EndOptional
-      → IsFields (trim_start behind) rest fs → IsRule cs rest (rules.finish (place_of cs))
+  begin : {cs following rest : List Located} {fs : List (List ℕ × List Located)} → IsTag cs following BeginOptional
+      → IsFields (trim_start following) rest fs → IsRule cs rest (rules.begin (place_of cs))
+  finish : {cs following rest : List Located} {fs : List (List ℕ × List Located)} → IsTag cs following EndOptional
+      → IsFields (trim_start following) rest fs → IsRule cs rest (rules.finish (place_of cs))
 
 -- a rule begins here
 abbrev pub BeginsRule : List Located → Type 0

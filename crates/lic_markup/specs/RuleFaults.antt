@@ -62,12 +62,12 @@ pub data IsFieldFault (place : ℕ) (tag : Tag) (names : List (List ℕ)) (cs : 
   no_equals : {name rest : List Located} → UpTo ends_name cs name rest → begins_with equals rest ≡ false
       → IsFieldFault place tag names cs (fault_at (place_of cs) NoEquals)
   -- met at the `=` of the second one, whatever its value is: told at the first byte of its name
-  twice : {name behind : List Located} {sign : Located} → UpTo ends_name cs name (sign ∷ behind) → sign.1 ≡ equals
+  twice : {name following : List Located} {sign : Located} → UpTo ends_name cs name (sign ∷ following) → sign.1 ≡ equals
       → is_second tag (text_of (trim_end name)) names ≡ true
       → IsFieldFault place tag names cs (fault_at (place_of cs) FieldTwice)
   -- the text ends in the value: the rule is not closed
-  open_value : {name behind : List Located} {sign : Located} → UpTo ends_name cs name (sign ∷ behind) → sign.1 ≡ equals
-      → is_second tag (text_of (trim_end name)) names ≡ false → IsOpenValue (trim_start behind)
+  open_value : {name following : List Located} {sign : Located} → UpTo ends_name cs name (sign ∷ following) → sign.1 ≡ equals
+      → is_second tag (text_of (trim_end name)) names ≡ false → IsOpenValue (trim_start following)
       → IsFieldFault place tag names cs (fault_at place NotClosed)
 
 -- the fault that is met where the characters cs come after sound fields of these names, in a rule at this place
@@ -83,6 +83,6 @@ pub data IsFaultAfter (place : ℕ) (tag : Tag) (names : List (List ℕ)) : List
 
 -- the fault of the rule that the characters cs begin with
 pub data IsRuleFault (cs : List Located) : MarkupFault → Type 0 where
-  at_fault : {behind rest : List Located} {tag : Tag} {names : List (List ℕ)} {e : MarkupFault} → IsTag cs behind tag
-      → AreSoundFields tag (trim_start behind) rest names → IsFaultAfter (place_of cs) tag names rest e
+  at_fault : {following rest : List Located} {tag : Tag} {names : List (List ℕ)} {e : MarkupFault} → IsTag cs following tag
+      → AreSoundFields tag (trim_start following) rest names → IsFaultAfter (place_of cs) tag names rest e
       → IsRuleFault cs e

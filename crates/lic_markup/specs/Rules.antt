@@ -133,10 +133,10 @@ unfoldable pub field_at : ℕ → ℕ → Tag → Values → List Located → Re
 field_at rule start tag values rest =
     name_at rule start rest >>= λ name.
     let field : Field = field_of tag (text_of (trim_end name.0)) in
-    let behind : List Located = drop name.1 rest in
+    let following : List Located = drop name.1 rest in
     (if has_value field values then Err (second_field rule start)
-    else map_ok (λ value. (with_value field value.0 values, name.1 + (spaces behind + value.1)))
-    (value_at rule (trim_start behind)))
+    else map_ok (λ value. (with_value field value.0 values, name.1 + (spaces following + value.1)))
+    (value_at rule (trim_start following)))
 
 -- after a `;`: white space, and then a field, or none where `;`, `>>` or the end of the text follows
 abbrev pub field_or_none : ℕ → Tag → Values → List Located → Result (Values × ℕ) MarkupFault

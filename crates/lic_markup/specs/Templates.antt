@@ -23,15 +23,15 @@ use Rattle.lic_markup.specs.Markup.{BeginsRule, IsRule}
 
 -- at none of these characters a rule begins, where this comes after them
 abbrev pub HasNoRule : List Located → List Located → Type 0
-HasNoRule piece behind = (before : List Located) (x : Located) (after : List Located) → piece ≡ before ++ x ∷ after
-    → BeginsRule (x ∷ (after ++ behind)) → ⊥
+HasNoRule piece following = (before : List Located) (x : Located) (after : List Located) → piece ≡ before ++ x ∷ after
+    → BeginsRule (x ∷ (after ++ following)) → ⊥
 
 -- pieces of text and rules in turn: a piece goes up to the first place at which a rule begins, or to the end
 pub data AreElements : List Located → List Element → Type 0 where
   last : {piece : List Located} → HasNoRule piece [] → AreElements piece (text piece ∷ [])
-  further : {cs piece behind rest : List Located} {r : rules.Rule} {es : List Element} → cs ≡ piece ++ behind
-      → HasNoRule piece behind
-      → IsRule behind rest r → AreElements rest es → AreElements cs (text piece ∷ rule r ∷ es)
+  further : {cs piece following rest : List Located} {r : rules.Rule} {es : List Element} → cs ≡ piece ++ following
+      → HasNoRule piece following
+      → IsRule following rest r → AreElements rest es → AreElements cs (text piece ∷ rule r ∷ es)
 
 -- the template's text with the optional rules taken out and each variable replaced by its original value
 abbrev pub original_of : List Element → List ℕ

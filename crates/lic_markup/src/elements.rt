@@ -46,13 +46,13 @@ fn push_rule<'t>(
     ensures found { OnOk result
         (map element_of found.new.items
         ≡ map element_of found.old.items ++ element_read (rule_at place tag (characters rest.entry)) ∷ []) }
-    ensures behind { IfOk result (λ behind. option_map characters behind
+    ensures following { IfOk result (λ following. option_map characters following
         ≡ after_rule (characters rest.entry) (rule_at place tag (characters rest.entry))) }
 {
     match read_rule(alloc, place, tag, rest) {
-        Ok((rule, behind)) => {
+        Ok((rule, following)) => {
             found.push(Element::Rule(rule))?;
-            Ok(Some(behind))
+            Ok(Some(following))
         }
         Err(fault) => {
             found.push(Element::Refused(lasting(fault)?))?;
@@ -86,16 +86,16 @@ pub fn pieces_and_rules(alloc: Global, text: &str) -> Result<Vec<Element<'_>>, A
     let mut piece = Piece::new(text);
     let mut rest = piece;
     while let Some((sign, after)) = next_sign(rest) {
-        let Some((tag, behind)) = read_tag(after) else {
+        let Some((tag, following)) = read_tag(after) else {
             rest = after;
             continue;
         };
         found.push(Element::Text(piece.up_to(sign)))?;
-        let Some(behind) = push_rule(alloc, &mut found, sign.place, tag, behind)? else {
+        let Some(following) = push_rule(alloc, &mut found, sign.place, tag, following)? else {
             return Ok(found);
         };
-        piece = behind;
-        rest = behind;
+        piece = following;
+        rest = following;
     }
     found.push(Element::Text(piece))?;
     Ok(found)

@@ -38,8 +38,8 @@ pub fn at_line_start(so_far: bool, piece: Piece<'_>) -> bool
 
 /// Whether there is only white space from the beginning of a piece to the end of the line, where the flag handed in says
 /// so of what follows the piece.
-fn line_ends(behind: bool, piece: Piece<'_>) -> bool
-    ensures { result ≡ lines.line_ends behind (characters piece.entry) }
+fn line_ends(following: bool, piece: Piece<'_>) -> bool
+    ensures { result ≡ lines.line_ends following (characters piece.entry) }
 {
     let mut rest = piece;
     while let Some((first, after)) = rest.split_first() {
@@ -51,18 +51,18 @@ fn line_ends(behind: bool, piece: Piece<'_>) -> bool
         }
         rest = after;
     }
-    behind
+    following
 }
 
 /// Whether there are only white space and optional rules from an element to the end of the line, where the flag handed
 /// in says so of what follows the element.
-fn line_ends_at(behind: bool, element: &Element<'_>) -> bool
-    ensures { result ≡ lines.line_ends_at behind (element_of element.now) }
+fn line_ends_at(following: bool, element: &Element<'_>) -> bool
+    ensures { result ≡ lines.line_ends_at following (element_of element.now) }
 {
     match element {
-        Element::Text(piece) => line_ends(behind, *piece),
+        Element::Text(piece) => line_ends(following, *piece),
         Element::Rule(Rule::Variable { .. }) => false,
-        Element::Rule(Rule::Begin(_) | Rule::End(_)) | Element::Refused(_) => behind,
+        Element::Rule(Rule::Begin(_) | Rule::End(_)) | Element::Refused(_) => following,
     }
 }
 

@@ -72,6 +72,6 @@ pub fn read_rule(
         (map_ok (with_remaining (characters rest.entry))
         (rules.rule_at place tag (characters rest.entry))) }
 {
-    let (values, behind) = fields(alloc, place, tag, trim_start(rest))?;
-    Ok((complete(place, tag, values)?, behind))
+    let (values, following) = fields(alloc, place, tag, trim_start(rest))?;
+    Ok((complete(place, tag, values)?, following))
 }

@@ -66,8 +66,8 @@ fn member(first: (usize, char), rest: Remaining<'_>) -> Result<(Member, Remainin
     ensures { Gives seen result
         (map_ok (with_remaining (left rest.entry)) (member_at first (left rest.entry))) }
 {
-    if let Some(((_, '-'), behind)) = rest.split_first()
-        && let Some((last, after)) = behind.split_first()
+    if let Some(((_, '-'), following)) = rest.split_first()
+        && let Some((last, after)) = following.split_first()
         && last.1 != ']'
     {
         return Ok((range(first, last, after)?, after));
@@ -97,9 +97,9 @@ fn members(
         if closes(members.is_empty(), first.1) {
             return Ok((members, after));
         }
-        let (member, behind) = member(first, after)?;
+        let (member, following) = member(first, after)?;
         members.push(member)?;
-        rest = behind;
+        rest = following;
     }
     Err(EreFault {
         place,

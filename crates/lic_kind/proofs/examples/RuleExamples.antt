@@ -32,7 +32,7 @@ profile_file =
     ++ codes "lead .\\\"\n"
     ++ codes "lead '\\\"\n"
     ++ codes "\n"
-    ++ codes "# Words at the front of a line that begin a comment, with white space behind them.\n"
+    ++ codes "# Words at the front of a line that begin a comment, with white space following them.\n"
     ++ codes "lead-space dnl\n"
     ++ codes "lead-space REM\n"
     ++ codes "\n"

@@ -94,21 +94,21 @@ impl Reader {
         &mut self,
         alloc: Global,
         kind: RuleKind,
-        behind: Option<&str>,
+        following: Option<&str>,
     ) -> Result<(), RulesCause>
         ensures rules { OnOk result
-            (rules_read self.new ≡ with_line (text kind (read behind.entry))
+            (rules_read self.new ≡ with_line (text kind (read following.entry))
             (rules_read self.old)) }
         ensures count { OnOk result (self.new.count ≡ self.old.count + 1) }
-        ensures sound { OnOk result (cause_of_text self.old.count (read behind.entry) ≡ None) }
+        ensures sound { OnOk result (cause_of_text self.old.count (read following.entry) ≡ None) }
         ensures fault { IfErr result (λ cause.
-            (cause_of_text self.old.count (read behind.entry) ≡ Some cause)
+            (cause_of_text self.old.count (read following.entry) ≡ Some cause)
             ⊎ (cause ≡ RulesCause.OutOfMemory)) }
     {
         if self.count >= MAX_TEXTS {
             return Err(RulesCause::TooManyTexts);
         }
-        let Some(word) = behind else {
+        let Some(word) = following else {
             return Err(RulesCause::BadText);
         };
         if !is_text(word) {
@@ -133,7 +133,7 @@ impl Reader {
     {
         match read_line(line) {
             RuleLine::Comment => Ok(()),
-            RuleLine::Text(kind, behind) => self.read_text(alloc, kind, behind),
+            RuleLine::Text(kind, following) => self.read_text(alloc, kind, following),
             RuleLine::Items(on) => {
                 self.items = on;
                 Ok(())

@@ -47,27 +47,27 @@ fn switched(word: &str) -> Option<bool>
 }
 
 /// What follows the word `items` or `separators`, if it is a switch.
-fn switch(behind: Option<&str>) -> Option<bool>
-    ensures { result ≡ switch (read behind.entry) }
+fn switch(following: Option<&str>) -> Option<bool>
+    ensures { result ≡ switch (read following.entry) }
 {
-    switched(behind?)
+    switched(following?)
 }
 
 /// The rule of this word and what follows it.
-fn rule_line<'a>(word: &str, behind: Option<&'a str>) -> RuleLine<'a>
-    ensures { said result ≡ rule_line (chars word.now) (read behind.entry) }
+fn rule_line<'a>(word: &str, following: Option<&'a str>) -> RuleLine<'a>
+    ensures { said result ≡ rule_line (chars word.now) (read following.entry) }
 {
     match word {
-        "items" => match switch(behind) {
+        "items" => match switch(following) {
             Some(on) => RuleLine::Items(on),
             None => RuleLine::Unknown,
         },
-        "separators" => match switch(behind) {
+        "separators" => match switch(following) {
             Some(on) => RuleLine::Separators(on),
             None => RuleLine::Unknown,
         },
         _ => match kind_named(word) {
-            Some(kind) => RuleLine::Text(kind, behind),
+            Some(kind) => RuleLine::Text(kind, following),
             None => RuleLine::Unknown,
         },
     }
@@ -94,11 +94,11 @@ pub(crate) fn read_line(line: &str) -> RuleLine<'_>
     if begins_in_hash(word) {
         return RuleLine::Comment;
     }
-    let Some(behind) = words.next() else {
+    let Some(following) = words.next() else {
         return rule_line(word, None);
     };
     match words.next() {
-        None => rule_line(word, Some(behind)),
+        None => rule_line(word, Some(following)),
         Some(_) => rule_line(word, None),
     }
 }

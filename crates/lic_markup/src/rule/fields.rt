@@ -207,7 +207,7 @@ fn read_field<'a>(
     ensures { Gives (λ x. (values_of values.new, characters x)) result
         (map_ok (with_remaining (characters rest.entry)) (field_at rule start tag (values_of values.old) (characters rest.entry))) }
 {
-    let (name, behind) = name(rule, start, rest)?;
+    let (name, following) = name(rule, start, rest)?;
     let field = field_of(tag, trim_end(name).as_str());
     if values.has(field) {
         return Err(MarkupFault {
@@ -215,9 +215,9 @@ fn read_field<'a>(
             cause: MarkupCause::FieldTwice,
         });
     }
-    let (value, behind) = value(rule, trim_start(behind))?;
+    let (value, following) = value(rule, trim_start(following))?;
     values.set(alloc, field, value)?;
-    Ok(behind)
+    Ok(following)
 }
 
 /// After a `;` and white space: reads a field, unless it is empty, and gives what follows it.

@@ -32,7 +32,7 @@ fn tag_of(word: &str) -> Option<Tag>
 /// The ASCII letters and digits that the text begins with, and what follows them.
 fn split_word(all: Piece<'_>) -> (Piece<'_>, Piece<'_>)
     ensures word { characters result.0 ≡ word_at (characters all.entry) }
-    ensures behind { characters result.1
+    ensures following { characters result.1
         ≡ drop (length (word_at (characters all.entry))) (characters all.entry) }
 {
     let mut rest = all;

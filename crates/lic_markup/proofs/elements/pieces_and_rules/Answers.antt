@@ -7,7 +7,7 @@ use Rattle.lic_markup.specs.Rules.{rule_at}
 use Rattle.lic_markup.specs.Elements.{Element, text, element_read, elements}
 use Rattle.lic_markup.specs.Signs.{less}
 use Rattle.lic_markup.specs.Views.{element_of}
-use Rattle.lic_markup.proofs.ElementLemmas.{none_there, some_there, cut_begins, cut_on, cut_rule, cut_ends, others-none, others-some, behind-shorter, next-shorter}
+use Rattle.lic_markup.proofs.ElementLemmas.{none_there, some_there, cut_begins, cut_on, cut_rule, cut_ends, others-none, others-some, following-shorter, next-shorter}
 use Rattle.lic_markup.proofs.LocatedLemmas.{ends_all, ends_on}
 use Rattle.lic_markup.proofs.SignLemmas.{next_sign-shorter}
 use Rattle.lic_markup.proofs.elements.pieces_and_rules.Goals as goal
@@ -40,57 +40,57 @@ pub returns-in_default-2 : goal.returns-in_default-2
 returns-in_default-2 c =
     let next = c.in-Some.ensures.some in
     let place = c.in-Some.sign.place in
-    let behind = characters c.in-Some-read_tag.behind in
-    let r = rule_at place c.in-Some-read_tag.tag behind in
+    let following = characters c.in-Some-read_tag.following in
+    let r = rule_at place c.in-Some-read_tag.tag following in
     let F = map element_of c.loop-sign.found.items in
     let E = map element_of c.push_rule.new.found.items in
     let now : E ≡ (F ++ text (characters c.up_to.result) ∷ []) ++ element_read r ∷ [] =
-    c.in_ok-behind.ensures.found ∙ ap (λ (es : List Element). es ++ element_read r ∷ [])
+    c.in_ok-following.ensures.found ∙ ap (λ (es : List Element). es ++ element_read r ∷ [])
     (ap (map element_of) c.in_ok-push.ensures.items
     ∙ map-append element_of c.loop-sign.found.items (Text c.up_to.result ∷ [])) in
     let all = cut_rule F (characters c.loop-sign.piece) (characters c.loop-sign.rest) next.front (characters c.in-Some.sign) _ next.parts next.first
-    c.loop-sign.invariant.cut (place, less) (characters c.in-Some.after) next.sign E (characters c.up_to.result) c.in-Some-read_tag.tag behind
-    c.up_to.ensures (some_there _ _ (c.in-Some-read_tag.tag, c.in-Some-read_tag.behind) _ c.in-Some-read_tag.is (c.read_tag.ensures place)) now in
+    c.loop-sign.invariant.cut (place, less) (characters c.in-Some.after) next.sign E (characters c.up_to.result) c.in-Some-read_tag.tag following
+    c.up_to.ensures (some_there _ _ (c.in-Some-read_tag.tag, c.in-Some-read_tag.following) _ c.in-Some-read_tag.is (c.read_tag.ensures place)) now in
     sym (append-nil E) ∙ ap (λ (es : List Element). E ++ es)
-    (sym (others-none behind r (none_there _ _ _ c.in_default-2.not-Some c.in_ok-behind.ensures.behind))) ∙ all
+    (sym (others-none following r (none_there _ _ _ c.in_default-2.not-Some c.in_ok-following.ensures.following))) ∙ all
 
 pub loop-sign-preserved : goal.loop-sign-preserved
 loop-sign-preserved c =
     let next = c.in-Some.ensures.some in
     let place = c.in-Some.sign.place in
-    let behind = characters c.in-Some-read_tag.behind in
-    let r = rule_at place c.in-Some-read_tag.tag behind in
+    let following = characters c.in-Some-read_tag.following in
+    let r = rule_at place c.in-Some-read_tag.tag following in
     let F = map element_of c.loop-sign.found.items in
     let E = map element_of c.push_rule.new.found.items in
     let now : E ≡ (F ++ text (characters c.up_to.result) ∷ []) ++ element_read r ∷ [] =
-    c.in_ok-behind.ensures.found ∙ ap (λ (es : List Element). es ++ element_read r ∷ [])
+    c.in_ok-following.ensures.found ∙ ap (λ (es : List Element). es ++ element_read r ∷ [])
     (ap (map element_of) c.in_ok-push.ensures.items
     ∙ map-append element_of c.loop-sign.found.items (Text c.up_to.result ∷ [])) in
     let all = cut_rule F (characters c.loop-sign.piece) (characters c.loop-sign.rest) next.front (characters c.in-Some.sign) _ next.parts next.first
-    c.loop-sign.invariant.cut (place, less) (characters c.in-Some.after) next.sign E (characters c.up_to.result) c.in-Some-read_tag.tag behind
-    c.up_to.ensures (some_there _ _ (c.in-Some-read_tag.tag, c.in-Some-read_tag.behind) _ c.in-Some-read_tag.is (c.read_tag.ensures place)) now in
+    c.loop-sign.invariant.cut (place, less) (characters c.in-Some.after) next.sign E (characters c.up_to.result) c.in-Some-read_tag.tag following
+    c.up_to.ensures (some_there _ _ (c.in-Some-read_tag.tag, c.in-Some-read_tag.following) _ c.in-Some-read_tag.is (c.read_tag.ensures place)) now in
     record {
-      ends = ends_all c.in-Some-2.behind;
+      ends = ends_all c.in-Some-2.following;
       cut = record {
         front = [];
         parts = refl;
         so_far = ap (λ (es : List Element). E ++ es)
-            (sym (others-some behind (characters c.in-Some-2.behind) r
-            (some_there _ _ c.in-Some-2.behind _ c.in-Some-2.is c.in_ok-behind.ensures.behind))) ∙ all;
+            (sym (others-some following (characters c.in-Some-2.following) r
+            (some_there _ _ c.in-Some-2.following _ c.in-Some-2.is c.in_ok-following.ensures.following))) ∙ all;
       };
     }
 
 pub loop-sign-smaller : goal.loop-sign-smaller
 loop-sign-smaller c =
     let place = c.in-Some.sign.place in
-    let behind = characters c.in-Some-read_tag.behind in
+    let following = characters c.in-Some-read_tag.following in
     let one = next_sign-shorter c.loop-sign.rest c.in-Some.sign c.in-Some.after c.in-Some.ensures.some in
-    let two : length behind ≤ length (characters c.in-Some.after) =
-    behind-shorter (characters c.in-Some.after) _ c.in-Some-read_tag.tag behind
-    (some_there _ _ (c.in-Some-read_tag.tag, c.in-Some-read_tag.behind) _ c.in-Some-read_tag.is (c.read_tag.ensures place)) in
-    let three : length (characters c.in-Some-2.behind) ≤ length behind =
-    next-shorter behind (characters c.in-Some-2.behind) (rule_at place c.in-Some-read_tag.tag behind)
-    (some_there _ _ c.in-Some-2.behind _ c.in-Some-2.is c.in_ok-behind.ensures.behind) in
+    let two : length following ≤ length (characters c.in-Some.after) =
+    following-shorter (characters c.in-Some.after) _ c.in-Some-read_tag.tag following
+    (some_there _ _ (c.in-Some-read_tag.tag, c.in-Some-read_tag.following) _ c.in-Some-read_tag.is (c.read_tag.ensures place)) in
+    let three : length (characters c.in-Some-2.following) ≤ length following =
+    next-shorter following (characters c.in-Some-2.following) (rule_at place c.in-Some-read_tag.tag following)
+    (some_there _ _ c.in-Some-2.following _ c.in-Some-2.is c.in_ok-following.ensures.following) in
     omega (arith, one, two, three)
 
 pub returns : goal.returns

@@ -66,8 +66,8 @@ returns-clause-accepted c =
     let n = length c.loop-line.yielded in
     let all = YieldsList-end (YieldsList-from_str_split 10 file (lit< tt) (cc) (cc)
     (cc)) c.loop-line.yielded _ c.loop-line.yielded_by _ _ c.in-None.is c.next.ensures.steps in
-    let behind : length (lines_of file) ≤ n = omega (arith, all.1, length-map (slice_split (λ b. b == 0x0A) file) line_of) in
-    λ k within. c.loop-line.invariant.sound k (omega (arith, within, behind))
+    let following : length (lines_of file) ≤ n = omega (arith, all.1, length-map (slice_split (λ b. b == 0x0A) file) line_of) in
+    λ k within. c.loop-line.invariant.sound k (omega (arith, within, following))
 
 pub returns-clause-rules : goal.returns-clause-rules
 returns-clause-rules c =
@@ -75,7 +75,7 @@ returns-clause-rules c =
     let n = length c.loop-line.yielded in
     let all = YieldsList-end (YieldsList-from_str_split 10 file (lit< tt) (cc) (cc)
     (cc)) c.loop-line.yielded _ c.loop-line.yielded_by _ _ c.in-None.is c.next.ensures.steps in
-    let behind : length (lines_of file) ≤ n = omega (arith, all.1, length-map (slice_split (λ b. b == 0x0A) file) line_of) in
+    let following : length (lines_of file) ≤ n = omega (arith, all.1, length-map (slice_split (λ b. b == 0x0A) file) line_of) in
     let held : rules_of c.with.result ≡ rules_read c.loop-line.reader =
     c.with.ensures
     ∙ (λ i. record {
@@ -87,4 +87,4 @@ returns-clause-rules c =
       items = c.loop-line.reader.items;
       separators = c.loop-line.reader.separators;
     }) in
-    held ∙ c.loop-line.invariant.rules ∙ ap rules_in (take_all n (lines_of file) behind)
+    held ∙ c.loop-line.invariant.rules ∙ ap rules_in (take_all n (lines_of file) following)

@@ -32,22 +32,22 @@ pub returns-in-None : goal.returns-in-None
 returns-in-None c =
     let whole = c.split_whitespace-words.ensures.rest in
     let word = c.in-Some.word.now in
-    let behind = c.in-Some-next.behind.now in
+    let following = c.in-Some-next.following.now in
     let first = next_word _ word _ (subst IsUtf8 (sym whole) c.utf8.line) (c.in-Some.ensures).steps in
-    let second = next_word _ behind _ first.1 (c.in-Some-next.ensures).steps in
+    let second = next_word _ following _ first.1 (c.in-Some-next.ensures).steps in
     let none = no_word _ second.1 (c.in-None.ensures).steps.1 in
     c.rule_line-in-None.ensures
     ∙ sym (ap line_of (sym whole) ∙ other_line _ (chars word) _ first.0 (sym c.begins_in_hash.ensures ∙ c.if-begins_in_hash.false)
-    ∙ ap (λ ws. rule_line (chars word) (single ws)) (second.0 ∙ ap (λ ws. chars behind ∷ ws) none))
+    ∙ ap (λ ws. rule_line (chars word) (single ws)) (second.0 ∙ ap (λ ws. chars following ∷ ws) none))
 
 pub returns-in-Some-next-2 : goal.returns-in-Some-next-2
 returns-in-Some-next-2 c =
     let whole = c.split_whitespace-words.ensures.rest in
     let word = c.in-Some.word.now in
-    let behind = c.in-Some-next.behind.now in
+    let following = c.in-Some-next.following.now in
     let first = next_word _ word _ (subst IsUtf8 (sym whole) c.utf8.line) (c.in-Some.ensures).steps in
-    let second = next_word _ behind _ first.1 (c.in-Some-next.ensures).steps in
+    let second = next_word _ following _ first.1 (c.in-Some-next.ensures).steps in
     let third = next_word _ c.in-Some-next-2.field-0.now _ second.1 (c.in-Some-next-2.ensures).steps in
     c.rule_line-in-Some-next-2.ensures
     ∙ sym (ap line_of (sym whole) ∙ other_line _ (chars word) _ first.0 (sym c.begins_in_hash.ensures ∙ c.if-begins_in_hash.false)
-    ∙ ap (λ ws. rule_line (chars word) (single ws)) (second.0 ∙ ap (λ ws. chars behind ∷ ws) third.0))
+    ∙ ap (λ ws. rule_line (chars word) (single ws)) (second.0 ∙ ap (λ ws. chars following ∷ ws) third.0))

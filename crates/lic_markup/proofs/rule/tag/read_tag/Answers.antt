@@ -16,7 +16,7 @@ returns-in_err-tag c = λ place.
     let word : text_of (word_at (drop 1 rest)) ≡ c.as_str.result.now =
     ap (λ (l : List Located). text_of (word_at l)) (sym same) ∙ ap text_of (sym c.split_word.ensures.word) ∙ sym c.as_str.ensures in
     rw c.from_residual.ensures (sym (tag_of_word place rest (characters c.split_word.result.1) _ (sym c.begins_with.ensures ∙ c.if-not-begins_with.false) word
-    (c.split_word.ensures.behind ∙ ap (λ (l : List Located). drop (length (word_at l)) l) same) None (sym c.in_err-tag.ensures)))
+    (c.split_word.ensures.following ∙ ap (λ (l : List Located). drop (length (word_at l)) l) same) None (sym c.in_err-tag.ensures)))
 
 pub returns : goal.returns
 returns c = λ place.
@@ -25,4 +25,4 @@ returns c = λ place.
     let word : text_of (word_at (drop 1 rest)) ≡ c.as_str.result.now =
     ap (λ (l : List Located). text_of (word_at l)) (sym same) ∙ ap text_of (sym c.split_word.ensures.word) ∙ sym c.as_str.ensures in
     sym (tag_of_word place rest (characters c.split_word.result.1) _ (sym c.begins_with.ensures ∙ c.if-not-begins_with.false) word
-    (c.split_word.ensures.behind ∙ ap (λ (l : List Located). drop (length (word_at l)) l) same) (Some c.in_ok-tag.tag) (sym c.in_ok-tag.ensures))
+    (c.split_word.ensures.following ∙ ap (λ (l : List Located). drop (length (word_at l)) l) same) (Some c.in_ok-tag.tag) (sym c.in_ok-tag.ensures))

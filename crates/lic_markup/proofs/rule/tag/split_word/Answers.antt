@@ -1,7 +1,7 @@
 use Rattle.std.proofs.Common.{sym, ◌∙◌}
 use Rattle.lic_markup.specs.Pieces.{characters}
 use Rattle.lic_markup.proofs.LocatedLemmas.{ends_all, ends_on}
-use Rattle.lic_markup.proofs.RuleLemmas.{no_letter_passed, letter_passed, no_word, no_word-end, before_none, whole_word, behind_word}
+use Rattle.lic_markup.proofs.RuleLemmas.{no_letter_passed, letter_passed, no_word, no_word-end, before_none, whole_word, following_word}
 use Rattle.lic_markup.proofs.rule.tag.split_word.Goals as goal
 
 pub loop-first-init : goal.loop-first-init
@@ -20,9 +20,9 @@ returns-then-not-is_ascii_alphanumeric-clause-word c =
     whole_word _ _ _ (no_word _ _ _ c.in-Some.ensures.some (sym c.is_ascii_alphanumeric.ensures.value ∙ c.if-not-is_ascii_alphanumeric.true))
     c.up_to.ensures c.loop-first.invariant.passed
 
-pub returns-then-not-is_ascii_alphanumeric-clause-behind : goal.returns-then-not-is_ascii_alphanumeric-clause-behind
-returns-then-not-is_ascii_alphanumeric-clause-behind c =
-    behind_word _ _ _ (no_word _ _ _ c.in-Some.ensures.some (sym c.is_ascii_alphanumeric.ensures.value ∙ c.if-not-is_ascii_alphanumeric.true))
+pub returns-then-not-is_ascii_alphanumeric-clause-following : goal.returns-then-not-is_ascii_alphanumeric-clause-following
+returns-then-not-is_ascii_alphanumeric-clause-following c =
+    following_word _ _ _ (no_word _ _ _ c.in-Some.ensures.some (sym c.is_ascii_alphanumeric.ensures.value ∙ c.if-not-is_ascii_alphanumeric.true))
     c.up_to.ensures c.loop-first.invariant.passed
 
 pub returns-clause-word : goal.returns-clause-word
@@ -30,7 +30,7 @@ returns-clause-word c =
     let none = c.in_default.ensures.none in
     whole_word _ _ _ (no_word-end _ none) (before_none (characters c.args.all) _ none) c.loop-first.invariant.passed
 
-pub returns-clause-behind : goal.returns-clause-behind
-returns-clause-behind c =
+pub returns-clause-following : goal.returns-clause-following
+returns-clause-following c =
     let none = c.in_default.ensures.none in
-    behind_word _ _ _ (no_word-end _ none) (before_none (characters c.args.all) _ none) c.loop-first.invariant.passed
+    following_word _ _ _ (no_word-end _ none) (before_none (characters c.args.all) _ none) c.loop-first.invariant.passed
