@@ -1,5 +1,5 @@
 #!/usr/bin/env python3
-"""Proves and builds the program crates/licscan, with each crate that it stands on. Says on standard error how far it is.
+"""Proves and builds the program crates/licscan, with each crate that it depends on. Says on standard error how far it is.
 Usage: build.py TOP, where TOP is the repository's top."""
 import fcntl
 import os

@@ -2,7 +2,7 @@
 
 
 def read_crates(top):
-    """The crates of crates.txt, each with those of them that it stands on."""
+    """The crates of crates.txt, each with those of them that it depends on."""
     listed = {}
     with open(f"{top}/crates.txt", encoding="utf-8") as file:
         for line in file:
@@ -13,7 +13,7 @@ def read_crates(top):
 
 
 def from_the_ground(crates, names):
-    """These crates and all that they stand on, each behind those below it."""
+    """These crates and all that they depend on, each after those below it."""
     order = []
 
     def visit(name):

@@ -1,6 +1,6 @@
 """Proves crates of this repository by the gate's command, `rt ci`, on copies of them without must-fail edits.
 
-The longest chain of crates that stand on each other decides how long all take. So of the crates whose libraries are proved the one is begun next
+The longest chain of crates that depend on each other decides how long all take. So of the crates whose libraries are proved the one is begun next
 on which the longest chain stands, and two or three are proved side by side: the one with the longest chain on all cores, the others on what it
 leaves. That is for a kit whose `rt ci` keeps what it proved for each later run over the same files, so that it is proved once, whether by the
 first command or by the gate. With another kit all crates are proved in one run."""
@@ -69,7 +69,7 @@ def prove_apart(top, crates, name, nice):
 
 
 def seconds_to_prove(top, name, comment):
-    """The processor seconds that the proof of a crate takes which stands on no other, with this comment at the end of its source."""
+    """The processor seconds that the proof of a crate takes which depends on no other, with this comment at the end of its source."""
     with tempfile.TemporaryDirectory(prefix="licscan-proof-") as room:
         copy_crates(top, [name], room)
         with open(f"{room}/crates/{name}/src/lib.rt", "a", encoding="utf-8") as source:
@@ -81,7 +81,7 @@ def seconds_to_prove(top, name, comment):
 
 
 def keeps_proofs(top):
-    """Whether `rt ci` keeps what it proved for its next run: the smallest crate that stands on no other, with a comment that it never had, is
+    """Whether `rt ci` keeps what it proved for its next run: the smallest crate that depends on no other, with a comment that it never had, is
     proved twice, and the second time costs much less."""
     crates = read_crates(top)
     name = min((name for name in crates if not crates[name]), key=lambda name: lines_of(top, name))
