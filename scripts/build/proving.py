@@ -1,7 +1,7 @@
 """Proves crates of this repository by the gate's command, `rt ci`, on copies of them without must-fail edits.
 
 The longest chain of crates that depend on each other decides how long all take. So of the crates whose libraries are proved the one is begun next
-on which the longest chain stands, and two or three are proved side by side: the one with the longest chain on all cores, the others on what it
+on which the longest chain depends, and two or three are proved side by side: the one with the longest chain on all cores, the others on what it
 leaves. That is for a kit whose `rt ci` keeps what it proved for each later run over the same files, so that it is proved once, whether by the
 first command or by the gate. With another kit all crates are proved in one run."""
 import os
