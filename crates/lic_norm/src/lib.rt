@@ -14,8 +14,8 @@ mod words;
 
 pub use fault::TextFault;
 pub use feeder::{Feeder, read_pieces};
-pub use lic_phrases::{Words, WordsCause, WordsFault};
 pub use pieces::{Next, PieceBuffers, piece};
 pub use refusal::MAX_BYTES;
 pub use text::Text;
 pub use token::{Span, Token};
+pub use words::{Words, WordsCause, WordsFault};
