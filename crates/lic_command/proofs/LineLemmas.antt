@@ -1,16 +1,17 @@
 -- From the clauses of a scan to what was written about a file.
-use Rattle.std.proofs.Common.{◌≡◌, ◌⊎◌, ℕ, ◌+◌, ◌<◌, Bool, List, length, map, take, get_or, Option, Result, Ok, Err, IfOk, IsErrOf, nat_lt, inl, inr, refl, sym, ap, subst}
+use Rattle.std.proofs.Common.{◌≡◌, ◌⊎◌, ℕ, ◌+◌, ◌<◌, Bool, List, length, map, take, get_or, Option, Result, Ok, Err, IfOk, OnErr, IsErrOf, nat_lt, inl, inr, refl, sym, ap, subst, ◌∙◌}
 use Rattle.std.specs.Borrow.{Bor}
 use Rattle.std.specs.Io.KnownBytes.{Appends}
-use Rattle.std.proofs.lemmas.List.{map_more}
-use Rattle.lic_engine.specs.Failures.{Keeps}
+use Rattle.std.proofs.lemmas.List.{map_more, take-map}
+use Rattle.lic_engine.specs.Failures.{CountsWrites, Keeps}
 use Rattle.lic_engine.specs.Inputs.{IsAccepted}
 use Rattle.lic_engine.specs.Stream.{BeginsWith}
 use Rattle.lic_engine.specs.declared.fault.RunFault.{RunFault}
 use Rattle.lic_engine.specs.declared.fault.RunFault.TheVariants.{Text, Read, Write, Memory}
-use Rattle.lic_command.specs.Lines.{AreLinesOf, AreWritten, HasWritten}
+use Rattle.lic_command.specs.Lines.{AreBegun, AreLinesOf, AreWritten, HasWritten}
 use Rattle.lic_command.specs.Lines.AreWritten.{one_more}
 use Rattle.lic_command.specs.Outcomes.{IsWithOneMore}
+use Rattle.lic_command.specs.declared.faults.Stop.{Stop}
 use Rattle.lic_command.specs.declared.files.Work.{Work}
 use Rattle.lic_command.specs.declared.files.Written.{Written}
 
@@ -52,3 +53,20 @@ pub written_more : {old mid new : Option (List ℕ)} {before after : Written} {a
 written_more {old} {mid} {new} {before} {after} work names k d within written more one =
     subst (λ ns. AreWritten work old ns new after) (sym (map_more (λ name. name.now) names k d within))
     (one_more (get_or names k d).now written more one)
+
+-- the work stops after so many files
+pub begun : {old new : Option (List ℕ)} {written : Written} (r : Result Written Stop) (work : Work) (names : List (Bor (List ℕ))) (k : ℕ)
+    → AreWritten work old (map (λ name. name.now) (take k names)) new written
+    → OnErr r (AreBegun work old (map (λ name. name.now) names) new)
+begun (Ok x) work names k are = tt
+begun {old} {new} {written} (Err stop) work names k are =
+    (k, written, subst (λ ns. AreWritten work old ns new written) (sym (take-map (λ name. name.now) k names)) are)
+
+-- no write failed for one file more
+pub counts_more : {old mid new : ℕ} (answer : Result Bool RunFault) → CountsWrites answer mid new → mid ≡ old
+    → ¬ (IsErrOf answer Write) → new ≡ old
+counts_more (Ok x) counts e none = counts.0 ∙ e
+counts_more (Err (Text fault)) counts e none = counts.4 fault refl ∙ e
+counts_more (Err Read) counts e none = counts.1 refl ∙ e
+counts_more (Err Write) counts e none = absurd (none refl)
+counts_more (Err Memory) counts e none = counts.3 refl ∙ e

@@ -1,5 +1,5 @@
 -- What is written about inputs, one after another.
-use Rattle.std.specs.Prelude.{◌≡◌, ℕ, Bool, true, false, List, [], ◌∷◌, ◌++◌, length, Option, None, Result, Ok, Err, nat_lt}
+use Rattle.std.specs.Prelude.{◌≡◌, ℕ, Bool, false, List, [], ◌∷◌, ◌++◌, length, take, Option, None, Result, Ok, Err, nat_lt}
 use Rattle.std.specs.Io.KnownBytes.{Appends}
 use Rattle.lic_kind.specs.LineRules.{rules_of}
 use Rattle.lic_norm.specs.Refusal.{refusal_of}
@@ -41,3 +41,7 @@ pub data AreWritten (work : Work) (old : Option (List ℕ)) : List (List ℕ) �
   one_more : {names : List (List ℕ)} (name : List ℕ) {mid new : Option (List ℕ)} {before after : Written}
       {answer : Result Bool RunFault} → AreWritten work old names mid before → HasWritten work name mid new answer
       → IsWithOneMore before answer after → AreWritten work old (names ++ name ∷ []) new after
+
+-- what was written about so many of the files with these names, from the first, one after another
+abbrev pub AreBegun : Work → Option (List ℕ) → List (List ℕ) → Option (List ℕ) → Type 0
+AreBegun work old names new = (count : ℕ) × (written : Written) × AreWritten work old (take count names) new written

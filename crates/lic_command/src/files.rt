@@ -1,12 +1,12 @@
 //! The files that lines are written about.
 
-ghost use Rattle.std.specs.Prelude.{◌≡◌, ◌≢◌, ◌⊎◌, ℕ, List, codes, length, map, IfOk, OnErr, IsErrOf, nat_lt};
+ghost use Rattle.std.specs.Prelude.{◌≡◌, ◌≢◌, ◌⊎◌, ℕ, List, codes, length, map, IfOk, IfErr, OnOk, OnErr, IsErrOf, nat_lt};
 ghost use Rattle.std.specs.Io.KnownBytes.{Appends};
 ghost use Rattle.lic_engine.specs.Failures.{CountsReads, CountsWrites, Keeps};
 ghost use Rattle.lic_engine.specs.Inputs.{IsAccepted, IsRefused, IsUnrefused};
 ghost use Rattle.lic_engine.specs.Stream.{BeginsWith};
-ghost use Rattle.lic_command.specs.Lines.{AreLinesOf, AreWritten, HasWritten};
-ghost use Rattle.lic_command.specs.Outcomes.{IsWithOneMore};
+ghost use Rattle.lic_command.specs.Lines.{AreBegun, AreLinesOf, AreWritten, HasWritten};
+ghost use Rattle.lic_command.specs.Outcomes.{IsStopAfter, IsWithOneMore, StopsForWrites};
 
 use crate::faults::Stop;
 use crate::progress::Progress;
@@ -118,7 +118,9 @@ fn write_file<Rt: Files, R: Source, W: Sink>(
 ) -> Result<Result<bool, RunFault>, Stop>
     ensures written { IfOk result (HasWritten work.entry name.now (W.taken out.old) (W.taken out.new)) }
     ensures other { name.now ≢ codes "-" → input.new ≡ input.old }
+    ensures writes { IfOk result (λ answer. CountsWrites answer (W.failed out.old) (W.failed out.new)) }
     ensures stopped { OnErr result (out.new ≡ out.old) }
+    ensures memory { IfErr result (λ stop. stop ≡ Stop.Memory) }
 {
     if name == "-" {
         return Ok(write_lines(alloc, name, input, out, work));
@@ -133,6 +135,30 @@ fn write_file<Rt: Files, R: Source, W: Sink>(
     }
 }
 
+/// Reports why a file is refused, if it is. A write that failed ends the run.
+fn report_refusal<E: Sink>(
+    alloc: Global,
+    name: &str,
+    files: FileList<'_>,
+    err: &mut E,
+    answer: Result<bool, RunFault>,
+) -> Result<(), Stop>
+    ensures ok { OnOk result (¬ (IsErrOf answer RunFault.Write)) }
+    ensures stopped { IfErr result (IsStopAfter answer) }
+{
+    match answer {
+        Ok(_) => Ok(()),
+        Err(RunFault::Write) => Err(Stop::Write),
+        Err(fault) => {
+            files.progress.clear(err, files.names.len());
+            let name = Escaped(name);
+            let line = format!(in alloc; "licscan: {name}: {fault}\n")?;
+            tell(err, line.as_str());
+            Ok(())
+        }
+    }
+}
+
 /// Writes the lines about files in order.
 fn write_each<Rt: Files, R: Source, W: Sink, E: Sink>(
     rt: &Rt,
@@ -143,8 +169,13 @@ fn write_each<Rt: Files, R: Source, W: Sink, E: Sink>(
     err: &mut E,
     work: Work<'_>,
 ) -> Result<Written, Stop>
-    ensures { IfOk result
+    ensures written { IfOk result
         (AreWritten work.entry (W.taken out.old) (map (λ name. name.now) files.entry.names.now) (W.taken out.new)) }
+    // It stops with what was written about some of the files, from the first.
+    ensures part { OnErr result
+        (AreBegun work.entry (W.taken out.old) (map (λ name. name.now) files.entry.names.now) (W.taken out.new)) }
+    // It stops where a write failed, once, or where memory ran out.
+    ensures writes { StopsForWrites result (W.failed out.old) (W.failed out.new) }
 {
     let mut written = Written {
         has_line: false,
@@ -156,16 +187,7 @@ fn write_each<Rt: Files, R: Source, W: Sink, E: Sink>(
         files.progress.show(alloc, err, done, all);
         let answer = write_file(rt, alloc, name, input, out, work)?;
         written = with_one_more(written, answer);
-        match answer {
-            Ok(_) => {}
-            Err(RunFault::Write) => return Err(Stop::Write),
-            Err(fault) => {
-                files.progress.clear(err, all);
-                let name = Escaped(name);
-                let line = format!(in alloc; "licscan: {name}: {fault}\n")?;
-                tell(err, line.as_str());
-            }
-        }
+        report_refusal(alloc, name, files, err, answer)?;
     }
     Ok(written)
 }
@@ -180,8 +202,13 @@ pub fn write_files<Rt: Files, R: Source, W: Sink, E: Sink>(
     err: &mut E,
     work: Work<'_>,
 ) -> Result<Written, Stop>
-    ensures { IfOk result
+    ensures written { IfOk result
         (AreWritten work.entry (W.taken out.old) (map (λ name. name.now) files.entry.names.now) (W.taken out.new)) }
+    // It stops with what was written about some of the files, from the first.
+    ensures part { OnErr result
+        (AreBegun work.entry (W.taken out.old) (map (λ name. name.now) files.entry.names.now) (W.taken out.new)) }
+    // It stops where a write failed, once, or where memory ran out.
+    ensures writes { StopsForWrites result (W.failed out.old) (W.failed out.new) }
 {
     let written = write_each(rt, alloc, files, input, out, err, work);
     files.progress.clear(err, files.names.len());
