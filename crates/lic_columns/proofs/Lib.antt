@@ -3,6 +3,7 @@ pub mod Lanes
 pub mod ByteLemmas
 pub mod BitLemmas
 pub mod FlagLemmas
+pub mod LowestBit
 pub mod PlaceLemmas
 pub mod Finds
 pub mod KnownLemmas

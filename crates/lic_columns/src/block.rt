@@ -12,18 +12,39 @@ use std::simd::prelude::*;
 pub const SIZE: usize = 64;
 
 /// Classes by the low half of a byte, four times over: a byte is of a class that both of its halves have.
-const LOW: [u8; 64] = [
+const LOW: [u8; SIZE] = [
     18, 4, 4, 4, 4, 4, 4, 4, 4, 5, 13, 109, 109, 109, 108, 44, 18, 4, 4, 4, 4, 4, 4, 4, 4, 5, 13,
     109, 109, 109, 108, 44, 18, 4, 4, 4, 4, 4, 4, 4, 4, 5, 13, 109, 109, 109, 108, 44, 18, 4, 4, 4,
     4, 4, 4, 4, 4, 5, 13, 109, 109, 109, 108, 44,
 ];
 
 /// Classes by the high half of a byte.
-const HIGH: [u8; 64] = [
+const HIGH: [u8; SIZE] = [
     1, 0, 6, 8, 16, 32, 16, 64, 0, 0, 0, 0, 0, 0, 0, 0, 1, 0, 6, 8, 16, 32, 16, 64, 0, 0, 0, 0, 0,
     0, 0, 0, 1, 0, 6, 8, 16, 32, 16, 64, 0, 0, 0, 0, 0, 0, 0, 0, 1, 0, 6, 8, 16, 32, 16, 64, 0, 0,
     0, 0, 0, 0, 0, 0,
 ];
+
+// The low half of a byte.
+const LOW_HALF: u8 = 15;
+
+// How many bits are below the high half of a byte.
+const HALF: u8 = 4;
+
+// The class of the bytes of words.
+const WORD: u8 = 0;
+
+// The least class of marks. Those below are of words and of white space.
+const LEAST_MARK: u8 = 3;
+
+// The least byte beyond ASCII.
+const BEYOND_ASCII: u8 = 128;
+
+// How many letters ASCII has.
+const LETTERS: u8 = 26;
+
+// The bit that a small letter of ASCII has, and its capital has not.
+const SMALL: u8 = 32;
 
 /// What is known of the bytes of a block. Bit k of a mask is about byte k.
 #[derive(Drop)]
@@ -39,14 +60,14 @@ pub struct Block {
 fn classes_by_low(bytes: u8x64) -> u8x64
     ensures { result ≡ map class_by_low bytes }
 {
-    u8x64::from_array(LOW).swizzle_dyn_within::<16>(bytes & u8x64::splat(15))
+    u8x64::from_array(LOW).swizzle_dyn_within::<16>(bytes & u8x64::splat(LOW_HALF))
 }
 
 #[inline(always)]
 fn classes_by_high(bytes: u8x64) -> u8x64
     ensures { result ≡ map class_by_high bytes }
 {
-    u8x64::from_array(HIGH).swizzle_dyn_within::<16>(bytes >> u8x64::splat(4))
+    u8x64::from_array(HIGH).swizzle_dyn_within::<16>(bytes >> u8x64::splat(HALF))
 }
 
 #[inline(always)]
@@ -77,8 +98,8 @@ fn places_from(least: u8, lanes: u8x64) -> u64
 fn lowered(bytes: u8x64) -> u8x64
     ensures { result ≡ map to_ascii_lowercase bytes }
 {
-    let is_capital = (bytes - u8x64::splat(b'A')).simd_lt(u8x64::splat(26));
-    is_capital.select(bytes | u8x64::splat(32), bytes)
+    let is_capital = (bytes - u8x64::splat(b'A')).simd_lt(u8x64::splat(LETTERS));
+    is_capital.select(bytes | u8x64::splat(SMALL), bytes)
 }
 
 /// One lane in the place of another.
@@ -112,10 +133,10 @@ pub fn read_block(bytes: u8x64) -> Block
     let classes = classes(bytes);
     Block {
         letters: letters(bytes),
-        word: places_of(0, classes),
-        mark: places_from(3, classes),
+        word: places_of(WORD, classes),
+        mark: places_from(LEAST_MARK, classes),
         feed: places_of(b'\n', bytes),
-        high: places_from(128, bytes),
+        high: places_from(BEYOND_ASCII, bytes),
     }
 }
 

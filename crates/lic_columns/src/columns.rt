@@ -3,9 +3,11 @@ ghost use Rattle.std.specs.Prelude.{◌≡◌, ℕ, ◌+◌, ◌-◌, ◌%◌, �
 ghost use Rattle.lic_columns.specs.Masks.{flag_at};
 ghost use Rattle.lic_columns.specs.Known.{HasLength, known_of, followed_by, blanked, is_dark};
 
+mod search;
+
 use crate::block::{SIZE, padded, read_block};
+use crate::columns::search::{first_of_either, first_set, last_of_either};
 use crate::flags::Flags;
-use crate::search::{first_of_either, first_set, last_of_either};
 use std::alloc::{AllocError, Global};
 use std::marker::Model;
 use std::simd::prelude::*;
@@ -81,7 +83,7 @@ impl Columns {
     pub fn read(&mut self, bytes: &[u8]) -> Result<(), AllocError>
         ensures { IfOk result (λ _. self.new ≡ known_of bytes.now) }
     {
-        self.reset();
+        self.start(bytes.len())?;
         let mut at = 0;
         while bytes.len() - at >= SIZE {
             self.push_block(u8x64::from_slice(&bytes[at..]), SIZE)?;
@@ -93,14 +95,17 @@ impl Columns {
         Ok(())
     }
 
-    fn reset(&mut self)
-        ensures { self.new ≡ known_of [] }
+    /// Lets go of what is held, and has room for so many bytes.
+    fn start(&mut self, len: usize) -> Result<(), AllocError>
+        ensures { IfOk result (λ _. self.new ≡ known_of []) }
     {
         self.letters.clear();
-        self.word.reset();
-        self.mark.reset();
-        self.feed.reset();
-        self.high.reset();
+        self.letters.reserve(len)?;
+        self.word.start(len)?;
+        self.mark.start(len)?;
+        self.feed.start(len)?;
+        self.high.start(len)?;
+        Ok(())
     }
 
     /// Adds some bytes, after whole blocks; blanks come after them.

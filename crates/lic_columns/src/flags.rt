@@ -46,12 +46,17 @@ impl Flags {
         self.len
     }
 
-    /// Lets go of all flags; the room is kept.
-    pub fn reset(&mut self)
-        ensures { self.new ≡ [] }
+    /// Lets go of all flags, and has room for so many.
+    ///
+    /// # Errors
+    /// Memory ran out.
+    pub fn start(&mut self, len: usize) -> Result<(), AllocError>
+        ensures { IfOk result (λ _. self.new ≡ []) }
     {
         self.columns.clear();
         self.len = 0;
+        self.columns.reserve(len / SIZE + 1)?;
+        Ok(())
     }
 
     /// Adds the first bits of a mask, after whole columns.

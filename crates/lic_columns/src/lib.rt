@@ -10,7 +10,6 @@ pub mod laws;
 pub mod lines;
 pub mod marks;
 pub mod mask;
-mod search;
 #[cfg(test)]
 mod tests;
 pub mod tokens;

@@ -21,6 +21,9 @@ use std::alloc::{AllocError, Global};
 use std::marker::Model;
 use std::str::from_utf8;
 
+/// Room is made for a token in so many bytes.
+const BYTES_OF_A_TOKEN: usize = 4;
+
 /// The tokens of lines of ASCII, read 64 bytes at a time. What it holds from one text to the next is room alone.
 #[derive(Drop)]
 pub struct Lines {
@@ -59,6 +62,7 @@ fn put_letters(text: &mut String, bytes: &[u8]) -> Result<(), AllocError>
     ensures { OnOk result (string_bytes text.new ≡ bytes.now) }
 {
     text.clear();
+    text.reserve(bytes.len())?;
     text.push_str(ascii_text(bytes))?;
     Ok(())
 }
@@ -80,6 +84,8 @@ fn put_spans(
 {
     starts.clear();
     ends.clear();
+    starts.reserve(bytes.len() / BYTES_OF_A_TOKEN)?;
+    ends.reserve(bytes.len() / BYTES_OF_A_TOKEN)?;
     push_tokens(separators, at, bytes, columns, marks, starts, ends)
 }
 

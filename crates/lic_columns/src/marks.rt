@@ -35,7 +35,7 @@ fn list_same(row: &mut Flags, text: &[u8], marks: &Flags) -> Result<(), AllocErr
     requires { length text.now ≡ length marks.now }
     ensures { IfOk result (λ _. row.new ≡ same_as_next text.now marks.now) }
 {
-    row.reset();
+    row.start(marks.len())?;
     for k in 0..marks.count() {
         let mask = same_mask(text, marks, k);
         row.push_column(mask, marks.len())?;
@@ -46,7 +46,7 @@ fn list_same(row: &mut Flags, text: &[u8], marks: &Flags) -> Result<(), AllocErr
 fn list_middles(row: &mut Flags, same: &Flags) -> Result<(), AllocError>
     ensures { IfOk result (λ _. row.new ≡ middles same.now) }
 {
-    row.reset();
+    row.start(same.len())?;
     for k in 0..same.count() {
         let mask = same.column_before(k) & same.column(k);
         row.push_column(mask, same.len())?;
@@ -58,7 +58,7 @@ fn list_middles(row: &mut Flags, same: &Flags) -> Result<(), AllocError>
 fn list_kept(row: &mut Flags, marks: &Flags, middle: &Flags) -> Result<(), AllocError>
     ensures { IfOk result (λ _. row.new ≡ kept_by middle.now marks.now) }
 {
-    row.reset();
+    row.start(marks.len())?;
     for k in 0..marks.count() {
         let beside = middle.column_before(k) | middle.column_after(k);
         let mask = but_not(marks.column(k), middle.column(k) | beside);
@@ -90,7 +90,7 @@ fn list_joined(
     requires { length letters.now ≡ length marks.now }
     ensures { IfOk result (λ _. row.new ≡ joined_by same.now letters.now marks.now) }
 {
-    row.reset();
+    row.start(marks.len())?;
     for k in 0..marks.count() {
         let mask = joined_mask(letters, marks, same, k);
         row.push_column(mask, marks.len())?;
@@ -118,7 +118,7 @@ impl Marks {
         ensures { IfOk result (λ _. self.new.kept
             ≡ (if separators then without_separators bytes.now marks.now else marks.now)) }
     {
-        self.middle.reset();
+        self.middle.start(0)?;
         if separators {
             list_same(&mut self.same, bytes, marks)?;
             list_middles(&mut self.middle, &self.same)?;

@@ -6,6 +6,9 @@ ghost use Rattle.lic_columns.specs.Places.{places};
 
 use std::alloc::AllocError;
 
+// The number of the highest bit.
+const LAST: u32 = 63;
+
 /// The lowest n bits.
 #[inline(always)]
 pub fn below(n: usize) -> u64
@@ -31,7 +34,7 @@ pub fn moved_up(before: u64, mask: u64) -> u64
     ensures first { has_bit result 0 ≡ has_bit before 63 }
     ensures rest { (i : ℕ) → suc i < 64 → has_bit result (suc i) ≡ has_bit mask i }
 {
-    mask << 1 | before >> 63
+    mask << 1 | before >> LAST
 }
 
 /// Each bit moved down by one place, and into the highest the lowest of the mask after.
@@ -40,7 +43,7 @@ pub fn moved_down(mask: u64, after: u64) -> u64
     ensures last { has_bit result 63 ≡ has_bit after 0 }
     ensures rest { (i : ℕ) → i < 63 → has_bit result i ≡ has_bit mask (suc i) }
 {
-    mask >> 1 | after << 63
+    mask >> 1 | after << LAST
 }
 
 /// The bits that the first mask has and the second has not.
@@ -63,7 +66,7 @@ pub fn push_places(at: u32, mask: u64, out: &mut Vec<u32>) -> Result<(), AllocEr
     while rest != 0 {
         let bit = rest.trailing_zeros();
         out.push(at + bit)?;
-        rest &= !(1 << bit);
+        rest &= rest - 1;
     }
     Ok(())
 }

@@ -12,7 +12,7 @@ pub loop-k-preserved : goal.loop-k-preserved
 loop-k-preserved c =
     let p : ℕ → Bool = is_joined c.args.letters.now c.args.same.now c.args.marks.now in
     row_next p c.loop-k.row c.loop-k.k (length c.args.marks.now) c.count-k-end.result c.loop-k.invariant c.count-k-end.ensures (omega (arith, c.loop-k-test.true))
-    c.joined_mask-mask.result c.len.result c.push_column.new.self c.len.ensures (c.joined_mask-mask.ensures) c.in_ok-push_column.ensures
+    c.joined_mask-mask.result c.len-in-loop-k.result c.push_column.new.self c.len-in-loop-k.ensures (c.joined_mask-mask.ensures) c.in_ok-push_column.ensures
 
 pub returns : goal.returns
 returns c =

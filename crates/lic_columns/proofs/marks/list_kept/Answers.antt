@@ -14,7 +14,7 @@ pub loop-k-preserved : goal.loop-k-preserved
 loop-k-preserved c =
     let p : ℕ → Bool = λ k. flag_at c.args.marks.now k && not (is_in_separator c.args.middle.now k) in
     row_next p c.loop-k.row c.loop-k.k (length c.args.marks.now) c.count-k-end.result c.loop-k.invariant c.count-k-end.ensures (omega (arith, c.loop-k-test.true))
-    c.but_not-mask.result c.len.result c.push_column.new.self c.len.ensures (λ i small.
+    c.but_not-mask.result c.len-in-loop-k.result c.push_column.new.self c.len-in-loop-k.ensures (λ i small.
     let n : ℕ = c.loop-k.k * 64 + i in
     let middle = c.args.middle.now in
     let here = c.column-in-loop-k.result in

@@ -17,13 +17,13 @@ push_column-requires-clause-below c = λ i past small.
     rows_length (is_middle c.args.same.now) c.loop-k.row c.loop-k.k (length c.args.same.now) c.count-k-end.result c.loop-k.invariant c.count-k-end.ensures (omega (arith, c.loop-k-test.true)) in
     has_bit_and c.column_before.result c.column.result i ∙ ap (λ t. t && has_bit c.column.result i) (c.column_before.ensures i small)
     ∙ ap (λ t. flag_before c.args.same.now (c.loop-k.k * 64 + i) && t) (c.column.ensures i small)
-    ∙ middle_past c.args.same.now (c.loop-k.k * 64 + i) (omega (arith, size, c.len.ensures, past))
+    ∙ middle_past c.args.same.now (c.loop-k.k * 64 + i) (omega (arith, size, c.len-in-loop-k.ensures, past))
 
 pub loop-k-preserved : goal.loop-k-preserved
 loop-k-preserved c =
     let p : ℕ → Bool = is_middle c.args.same.now in
     row_next p c.loop-k.row c.loop-k.k (length c.args.same.now) c.count-k-end.result c.loop-k.invariant c.count-k-end.ensures (omega (arith, c.loop-k-test.true))
-    _ c.len.result c.push_column.new.self c.len.ensures (λ i small. has_bit_and c.column_before.result c.column.result i ∙ ap (λ t. t && has_bit c.column.result i) (c.column_before.ensures i small)
+    _ c.len-in-loop-k.result c.push_column.new.self c.len-in-loop-k.ensures (λ i small. has_bit_and c.column_before.result c.column.result i ∙ ap (λ t. t && has_bit c.column.result i) (c.column_before.ensures i small)
     ∙ ap (λ t. flag_before c.args.same.now (c.loop-k.k * 64 + i) && t) (c.column.ensures i small)) c.in_ok-push_column.ensures
 
 pub returns : goal.returns

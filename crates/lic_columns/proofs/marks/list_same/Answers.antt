@@ -12,7 +12,7 @@ pub loop-k-preserved : goal.loop-k-preserved
 loop-k-preserved c =
     let p : ℕ → Bool = is_same_as_next c.args.text.now c.args.marks.now in
     row_next p c.loop-k.row c.loop-k.k (length c.args.marks.now) c.count-k-end.result c.loop-k.invariant c.count-k-end.ensures (omega (arith, c.loop-k-test.true))
-    c.same_mask-mask.result c.len.result c.push_column.new.self c.len.ensures (c.same_mask-mask.ensures) c.in_ok-push_column.ensures
+    c.same_mask-mask.result c.len-in-loop-k.result c.push_column.new.self c.len-in-loop-k.ensures (c.same_mask-mask.ensures) c.in_ok-push_column.ensures
 
 pub returns : goal.returns
 returns c =

@@ -16,7 +16,7 @@ returns c =
           kept ∙ ap (λ s. kept_by s.middle marks) w.self-is ∙ ap (λ l. kept_by l marks) (middle ∙ ap middles same)
           ∙ sym (ap (λ b. if b then without_separators bytes marks else marks) w.if-separators.true)
       | else-separators w ↦
-          let none : c.reset.new.self ≡ [] = c.reset.ensures in
+          let none : c.start.new.self ≡ [] = c.in_ok-start.ensures in
           kept ∙ ap (λ s. kept_by s.middle marks) w.self-is ∙ ap (λ l. kept_by l marks) none ∙ kept_by_none marks
           ∙ sym (ap (λ b. if b then without_separators bytes marks else marks) w.if-separators.false)
     ]

@@ -75,7 +75,7 @@ pub fn last_of_either(one: &Flags, two: &Flags, from: usize, to: usize) -> Optio
     if mask == 0 {
         return None;
     }
-    let found = k * SIZE + (63 - mask.leading_zeros() as usize);
+    let found = k * SIZE + (SIZE - 1 - mask.leading_zeros() as usize);
     if from <= found { Some(found) } else { None }
 }
 

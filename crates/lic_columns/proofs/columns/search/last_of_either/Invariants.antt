@@ -1,7 +1,7 @@
 use Rattle.std.proofs.Common.{◌||◌}
 use Rattle.lic_columns.specs.Masks.{flag_at}
 use Rattle.lic_columns.proofs.Finds.{LooksDown}
-use Rattle.lic_columns.proofs.search.last_of_either.Given as goal
+use Rattle.lic_columns.proofs.columns.search.last_of_either.Given as goal
 
 abbrev pub invariant-loop-mask : goal.invariant-loop-mask
 invariant-loop-mask l = LooksDown (λ b. flag_at l.one b || flag_at l.two b) l.from l.to l.k l.mask

@@ -2,8 +2,8 @@ use Rattle.std.proofs.Common.{arith, ℕ, Bool, ◌<◌, ◌||◌}
 use Rattle.std.proofs.lemmas.Nat.{and_le_l}
 use Rattle.lic_columns.specs.Masks.{flag_at}
 use Rattle.lic_columns.proofs.Finds.{LooksDown-start, LooksDown-more, none_down, last_before, last_wanted, none_past}
-use Rattle.lic_columns.proofs.search.last_of_either.Goals as goal
-use Rattle.lic_columns.proofs.search.last_of_either.Goals.{then-loop-mask-test+else-from-k, else-loop-mask-test}
+use Rattle.lic_columns.proofs.columns.search.last_of_either.Goals as goal
+use Rattle.lic_columns.proofs.columns.search.last_of_either.Goals.{then-loop-mask-test+else-from-k, else-loop-mask-test}
 
 pub loop-mask-init : goal.loop-mask-init
 loop-mask-init c =
