@@ -5,7 +5,7 @@ from dataclasses import dataclass, field
 # templates that name no licence of the file: words that give none, notices that point elsewhere, permissions beside a licence
 NONE = re.compile(r"no-grant-|same-as-|other-file-|[A-Za-z]+-exception-([\d.]+-)?notice")
 # tags of which not all is known
-UNKNOWN = re.compile(r"unknown-identifier|cut-|(OR|AND|WITH)-expression|(OR|AND)-field(-[b-z])?$")
+UNKNOWN = re.compile(r"unknown-identifier|cut-|(OR|AND)-field(-[b-z])?$")
 EXPRESSION = re.compile(r"expression-(OR|AND|WITH)-(.*?)(-b)?$")
 SUFFIX = re.compile(r"(-(identifier|field|notice|mention))?(-[b-z])?$")
 # names of Debian and older ones, of tags and fields
@@ -40,7 +40,11 @@ class Match:
         name = SUFFIX.sub("", self.id)
         if re.search("-(identifier|field)(-[b-z])?$", self.id):
             name = identifier(name)
-        return f"LicenseRef-{self.values[0]}" if name == "LicenseRef" else name.replace("-OR-", " OR ").replace("-WITH-", " WITH ")
+        if name == "LicenseRef":
+            return f"LicenseRef-{self.values[0]}"
+        if name == "DocumentRef":
+            return f"DocumentRef-{self.values[0]}:LicenseRef-{self.values[1]}"
+        return name.replace("-OR-", " OR ").replace("-WITH-", " WITH ")
 
 
 def identifier(name):

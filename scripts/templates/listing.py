@@ -10,6 +10,8 @@ import starter
 PAGE = os.path.join(starter.EXAMPLES, "TEMPLATES.md")
 RULE = re.compile(r"<<(?:var;.*?|beginOptional|endOptional)>>", re.S)
 KIND = re.compile(r"-(identifier|field|notice|mention)(-[b-z])?$")
+# they are cut at more words, too
+CUT = {"cut-LicenseRef", "cut-DocumentRef"}
 # letters of a text that are shown
 MOST_LETTERS = 160
 HEAD = """\
@@ -50,7 +52,7 @@ def original_of(template):
 def kind_of(name):
     if name.startswith("no-grant"):
         return "no-grant"
-    if re.match("cut-|expression-|(AND|OR|WITH)-expression", name):
+    if re.match("cut-|expression-", name):
         return "expression"
     kind = KIND.search(name)
     return kind[1] if kind else "text"
@@ -93,10 +95,10 @@ def page():
     lines += ["## Fields\n", wrapped("`NAME-field`, `-b` ..: a field of a manifest or header, such as `\"license\": \"MIT\"`, `License: GPL-2+`, "
                                      "`license = \"ISC\"`, `__license__ = \"BSD\"`. `OR-field`: one with two identifiers. NAME is") + "\n",
               names("field", found, KIND) + "\n"]
-    lines += ["## Expressions\n", wrapped("`expression-OR-MIT`: `SPDX-License-Identifier: ISC OR MIT`; `cut-OR-MIT`: "
-                                          "`SPDX-License-Identifier: ISC OR MIT-Own`; `OR-expression`: `SPDX-License-Identifier: ISC OR Own`. "
-                                          "The names are") + "\n",
-              names("expression", found, "(?!)") + "\n"]
+    lines += ["## Expressions\n", wrapped("`expression-OR-MIT`: `SPDX-License-Identifier: ISC OR MIT`; `cut-OR-MIT`: the same where the tag goes on, as "
+                                          "in `ISC OR MIT-Own`; `cut-MIT`: a tag that goes on after its first identifier, as `MIT OR Own`. There is such a "
+                                          "one of each tag above. The other names are") + "\n",
+              names("expression", {"expression": found["expression"].keys() - {f"cut-{KIND.sub('', it)}" for it in found["identifier"]} | CUT}, "(?!)") + "\n"]
     return "\n".join(lines)
 
 

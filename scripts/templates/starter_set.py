@@ -4,9 +4,11 @@
 - `check` says `yes` of it, with examples/words and without.
 - Its original text is found as a comment in each of the styles below, among all templates.
 - The templates of tags and fields are those that tags.py makes of the lists beside it, and expressions.py, and there are no others.
-- Tags that hold an expression are reported by one template each, with the value that is expected.
+- Tags that hold an expression are reported by one template each, with the value that is expected; random ones whole, or by a template that says that
+  they are cut.
 - Sentences that give a licence, and those that only name one, are reported by what is expected, without the mentions and with them.
-- No template of examples/templates is looked for by a text of less than seven letters, which costs time at each byte of every file.
+- No template of examples/templates is looked for by a text of less than seven letters, which costs time at each byte of every file; no variable is
+  unbounded, since one after the text by which a file is searched is tried as far as it reaches.
 - The page of all templates is as listing.py makes it.
 """
 import os
@@ -17,6 +19,7 @@ import tempfile
 
 import harness
 import listing
+import random_tags
 import starter
 
 HERE = os.path.dirname(os.path.abspath(__file__))
@@ -39,6 +42,10 @@ STYLES = {
     "box": ("/" + "*" * 60 + "\n", " * ", " " + "*" * 60 + "/\n"),
 }
 
+RANDOM_TAGS = 2000
+# a set of letters, and a repetition without a bound where each set is one letter
+LETTER_SET = re.compile(r"\[\^?\]?[^]]*\]")
+UNBOUNDED = re.compile(r"(?<!\\)[a-z.)][*+]|,\}")
 # letters of the shortest text by which a template may be looked for
 SHORTEST_TEXT = 7
 SUFFIX = re.compile("-(identifier|field|notice)(-[b-z])?$|(?<=-mention)-[b-z]$")
@@ -118,20 +125,25 @@ TAGS = [
     ("MIT OR LGPL-2.1+", "expression-OR-LGPL-2.1+", "MIT"),
     ("MIT OR GPL-2.0-only", "expression-OR-GPL-2.0-only", "MIT"),
     ("LicenseRef-A OR GPL-2.0-only OR GPL-3.0-only", "expression-OR-GPL-3.0-only", "LicenseRef-A OR GPL-2.0-only"),
-    ("MIT OR LicenseRef-A", "OR-expression", "MIT"),
-    ("Apache-2.0 OR MIT WITH A", "WITH-expression-b", "Apache-2.0 OR MIT"),
+    ("MIT or x11", "expression-OR-X11", "MIT"),
+    ("Own OR MIT", "expression-OR-MIT", "Own"),
+    ("MIT OR LicenseRef-A", "cut-MIT", "OR"),
+    ("MIT+", "cut-MIT", "+"),
+    ("Apache-2.0 OR MIT WITH A", "cut-OR-MIT", "Apache-2.0"),
+    ("(ISC OR (MIT)) AND LicenseRef-A", "cut-OR-MIT", "(ISC"),
     ("MIT OR Zlib-A", "cut-OR-Zlib", "MIT"),
     ("MIT-Modern-Variant", "MIT-Modern-Variant-identifier", None),
     ("EUPL-1.2", "EUPL-1.2-identifier", None),
     ("LicenseRef-A", "LicenseRef-identifier", "A"),
     ("LicenseRef-A-B.2", "LicenseRef-identifier-c", "A-B.2"),
+    ("LicenseRef-A_B OR MIT-A", "cut-LicenseRef", "A_B"),
+    ("LicenseRef-1-2-3-4-5-6-7-8-9", "cut-LicenseRef-b", "1-2-3-4-5-6-7-8"),
+    ("DocumentRef-A.1:LicenseRef-B-C", "DocumentRef-identifier-b", "A.1"),
     ("Own", "unknown-identifier", None),
-    ("A-1.0", "cut-identifier", "A"),
-    ("A-1.0-or-later", "cut-identifier-c", "A-1.0-or"),
-    ("MIT-Foo", "cut-identifier", "MIT"),
-    ("GPL-2.0-only-Foo", "cut-identifier-c", "GPL-2.0-only"),
-    ("MIT OR ISC OR Zlib OR X11 OR NCSA AND LicenseRef-A", "AND-expression-e", "MIT OR ISC OR Zlib OR X11 OR NCSA"),
-    ("A-1.0-or-later OR LicenseRef-B", "OR-expression", "A-1.0-or-later"),
+    ("MIT-Foo", "cut-MIT", "-"),
+    ("GPL-2.0-only-Foo", "cut-GPL-2.0-only", "-"),
+    ("MIT OR ISC OR Zlib OR X11 OR NCSA AND LicenseRef-A", "cut-OR-NCSA", "MIT OR ISC OR Zlib OR X11"),
+    ("A-1.0-or-later OR LicenseRef-B", "unknown-identifier", None),
 ]
 
 
@@ -182,8 +194,8 @@ def not_made():
             subprocess.run([sys.executable, f"{HERE}/tags.py", *options, folder], check=True)
         subprocess.run([sys.executable, f"{HERE}/expressions.py", folder], check=True)
         made = read_templates(folder)
-    kept = {id: text for id, text in read_templates(starter.GRANTS).items() if re.search("-(identifier|field)(-[b-z])?$|expression|^cut-", id)}
-    kept = {id: text for id, text in kept.items() if re.search("-identifier|expression|^cut-", id) or not BY_HAND.search(text)}
+    kept = {id: text for id, text in read_templates(starter.GRANTS).items() if re.search("-(identifier|field)(-[b-z])?$|^expression-|^cut-", id)}
+    kept = {id: text for id, text in kept.items() if re.search("-identifier|^expression-|^cut-", id) or not BY_HAND.search(text)}
     return [f"{id}: not as tags.py makes it" for id in sorted(made.keys() | kept.keys()) if made.get(id) != kept.get(id)]
 
 
@@ -215,9 +227,12 @@ def wrongly_called(program, both):
 
 
 def costly():
-    """The templates of grants that are looked for by a short text."""
+    """The templates of grants that are looked for by a short text, and those with a variable without a bound."""
     texts = {id: listing.texts(text) for id, text in read_templates(starter.GRANTS).items()}
-    return [f"{id}: no text of {SHORTEST_TEXT} letters" for id, it in texts.items() if max(map(len, it), default=0) < SHORTEST_TEXT]
+    short = [f"{id}: no text of {SHORTEST_TEXT} letters" for id, it in texts.items() if max(map(len, it), default=0) < SHORTEST_TEXT]
+    unbounded = [f"{id}: an unbounded variable" for folder in (starter.GRANTS, starter.MENTIONS)
+                 for id, text in read_templates(folder).items() for match in re.findall('match="(.*?)">>', text) if UNBOUNDED.search(LETTER_SET.sub("x", match))]
+    return short + unbounded
 
 
 def main():
@@ -230,6 +245,7 @@ def main():
         tally.add("the page of all templates", listing.faults())
         tally.add("expressions of grants", wrongly_reported(program, starter.GRANTS))
         tally.add("expressions", wrongly_reported(program, both))
+        tally.add("random expressions", random_tags.trial(program, starter.GRANTS, RANDOM_TAGS, 40, 1)[0])
         tally.add("called by another", wrongly_called(program, both))
         for style in STYLES:
             tally.add(f"comments, {style}", not_found(program, both, style))

@@ -71,12 +71,14 @@ def said_by_licscan(program, rules, folder, names):
     for fields in lines_of_licscan(program, rules, folder, names):
         if fields[0]:
             name, id = fields[0], fields[1]
-            if not re.match("(unknown-identifier|LicenseRef|expression-|cut-|(OR|AND|WITH)-expression|(OR|AND)-field|no-grant|same-as-|other-file)|[A-Za-z]+-exception-", id):
+            if not re.match("(unknown-identifier|(License|Document)Ref|expression-|cut-|(OR|AND)-field|no-grant|same-as-|other-file)|[A-Za-z]+-exception-", id):
                 kept = mentions if re.search("-mention(-[b-z])?$", id) else grants
                 kept.setdefault(name, set()).update(licences.names_of(licences.SUFFIX.sub("", id)))
         elif fields[1] in ("first", "beginning") and fields[2] != "-":
-            last = re.match("expression-(OR|AND)-(.*?)(-b)?$", id)
+            last = re.match("(?:expression|cut)-(OR|AND)-(.*?)(-b)?$", id)
             grants.setdefault(name, set()).update(licences.names_of(fields[4]) | (licences.names_of(last[2]) if last else set()))
+        elif fields[1] == "next" and not re.match("cut-(OR|AND|WITH|LicenseRef|DocumentRef)", id):
+            grants.setdefault(name, set()).update(licences.names_of(id.removeprefix("cut-")))
     said = {name: grants.get(name) or mentions.get(name, set()) for name in names}
     return {name: {one for one in it if not any(one == licences.family_of(other) != other for other in it)} for name, it in said.items()}, grants
 

@@ -1,0 +1,112 @@
+#!/usr/bin/env python3
+"""Tries random expressions of the grammar of SPDX as tags: random_tags.py PROGRAM [--count N] [--operators N] [--seed N]
+
+Each has up to so many operators, identifiers of the set and others, `+`, LicenseRef- and DocumentRef- ones, exceptions, parentheses at any
+depth, and operators in either case. Each is to be reported by one line: whole, or by a template that says that it is cut. Status: 0 if each is.
+"""
+import argparse
+import collections
+import os
+import random
+import re
+import subprocess
+import sys
+import tempfile
+
+import expressions
+import starter
+import tags
+
+sys.path.insert(0, os.path.join(os.path.dirname(os.path.abspath(__file__)), "..", "report"))
+import lines
+
+KNOWN = tags.read_list(os.path.join(os.path.dirname(os.path.abspath(__file__)), "tags.txt"))
+WORDS = ["Own", "MIT", "Foo", "2.0", "or", "later", "and", "with", "GPL", "1", "clause", "x", "B2"]
+# what is after a tag
+FOLLOWING = ["", "\n", "\n#include <a.h>\n", "\nint main(void);\n", "\n\nCopyright 2020 A. Author\n", "\nSPDX-License-Identifier: MIT\n"]
+
+
+def identifier(draw):
+    kind = draw.random()
+    own = "-".join(draw.choice(WORDS) for _ in range(draw.choice((1, 1, 2, 2, 3, 4, 6, 9))))
+    if kind < 0.5:
+        return draw.choice(expressions.LAST if kind < 0.25 else KNOWN) + ("+" if draw.random() < 0.1 else "")
+    if kind < 0.65:
+        return f"{draw.choice(KNOWN)}-{own}"
+    if kind < 0.8:
+        return f"LicenseRef-{own}"
+    return f"DocumentRef-{own}:LicenseRef-{own}" if kind < 0.85 else own + ("+" if draw.random() < 0.1 else "")
+
+
+def expression(draw, operators):
+    """An expression of so many operators."""
+    if operators == 0:
+        found = identifier(draw)
+    elif operators == 1 and draw.random() < 0.2:
+        found = f"{identifier(draw)} {draw.choice(('WITH', 'with'))} {draw.choice([*expressions.EXCEPTIONS, 'Own-exception-1.0'])}"
+    else:
+        left = draw.randrange(operators)
+        found = f"{expression(draw, left)} {draw.choice(('OR', 'AND', 'or', 'and'))} {expression(draw, operators - 1 - left)}"
+    return f"({found})" if draw.random() < 0.15 else found
+
+
+def plain(text):
+    """An expression without its parentheses, which templates have in part."""
+    return " ".join(re.sub(r"[()]", " ", text.replace("\\n", " ").lower()).split())
+
+
+def fault(tag, found):
+    """What is wrong with the matches of a tag; nothing where it is whole, or said to be cut."""
+    if len(found) == 1 and (found[0].licence is None or plain(found[0].whole) == plain(tag)):
+        return None
+    return f"{tag}: {[(it.id, it.values) for it in found]}"
+
+
+class Match(lines.Match):
+    @property
+    def whole(self):
+        """What the template says of a tag, without a name of Debian made to one of SPDX."""
+        return re.sub("-identifier$", "", self.id) if self.id.endswith("-identifier") and not self.values else self.licence
+
+
+def trial(program, folder, count, operators, seed):
+    """The faults of so many tags, and how many are whole and cut."""
+    draw, faults, tally = random.Random(seed), [], collections.Counter()
+    with tempfile.TemporaryDirectory() as place:
+        drawn = {}
+        for number in range(count):
+            tag = expression(draw, draw.randrange(draw.choice((1, 2, 3, 6, operators)) + 1))
+            drawn[str(number)] = tag
+            with open(os.path.join(place, str(number)), "w", encoding="utf-8") as file:
+                file.write(f"// SPDX-License-Identifier: {tag}{draw.choice(FOLLOWING)}")
+        names = list(drawn)
+        found = collections.defaultdict(list)
+        for at in range(0, len(names), 5000):
+            done = subprocess.run([program, "scan", "--templates", os.path.abspath(folder), "--", *names[at:at + 5000]], cwd=place, stdout=subprocess.PIPE, check=False, text=True)
+            for match in lines.matches(done.stdout.splitlines()):
+                # the tag that follows some is not looked at
+                if match.start < 10 or "expression" in match.id:
+                    found[match.file].append(Match(**vars(match)))
+    for name, tag in drawn.items():
+        wrong = fault(tag, found[name])
+        faults += [wrong] if wrong else []
+        tally["wrong" if wrong else "cut" if found[name][0].licence is None else "whole"] += 1
+    return faults, tally
+
+
+def main():
+    parser = argparse.ArgumentParser(description=__doc__, formatter_class=argparse.RawDescriptionHelpFormatter)
+    parser.add_argument("program")
+    parser.add_argument("--templates", default=starter.GRANTS)
+    parser.add_argument("--count", type=int, default=20000)
+    parser.add_argument("--operators", type=int, default=40)
+    parser.add_argument("--seed", type=int, default=1)
+    asked = parser.parse_args()
+    faults, tally = trial(os.path.abspath(asked.program), asked.templates, asked.count, asked.operators, asked.seed)
+    print(*faults, sep="\n", end="\n" if faults else "")
+    print(", ".join(f"{count} {kind}" for kind, count in sorted(tally.items())))
+    return 1 if faults else 0
+
+
+if __name__ == "__main__":
+    sys.exit(main())
