@@ -22,6 +22,9 @@ use lic_phrases::laws::spellings_are_token_texts;
 use memchr::memrchr;
 use std::alloc::{AllocError, Global};
 
+/// Fewer bytes than these are read in less time by their characters than 64 at once.
+const FEW: usize = 24;
+
 /// The bytes that were read, and the tokens of their lines up to the last U+000A. Of the line that has not ended
 /// only the bytes are kept.
 #[derive(Drop)]
@@ -61,7 +64,7 @@ impl<'w> Reader<'w> {
         }
     }
 
-    /// Takes the tokens of the bytes up to `end`, which may be several lines, if they are ASCII. Otherwise takes nothing.
+    /// Takes the tokens of the bytes up to `end`, which may be several lines, if they are ASCII and not few. Otherwise takes nothing.
     fn take_ascii(&mut self, end: usize) -> Result<bool, AllocError>
         requires read { HasRead self.old }
         requires order { self.old.line_start ≤ end }
@@ -75,6 +78,9 @@ impl<'w> Reader<'w> {
         ensures rules { self.new.rules.now ≡ self.old.rules.now }
     {
         if end > MAX_BYTES {
+            return Ok(false);
+        }
+        if end - self.line_start < FEW {
             return Ok(false);
         }
         let at = self.line_start as u32;
@@ -209,6 +215,7 @@ impl<'w> Reader<'w> {
             return Err(TextFault::TooLong);
         }
         self.source.extend_from_slice(bytes)?;
+        self.rewriting.reserve(bytes.len())?;
         self.take_lines(searched)?;
         Ok(())
     }

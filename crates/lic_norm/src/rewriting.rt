@@ -73,6 +73,13 @@ impl<'w> Rewriting<'w> {
         })
     }
 
+    /// Takes memory for the tokens of so many bytes of the input.
+    pub(crate) fn reserve(&mut self, bytes: usize) -> Result<(), AllocError>
+        ensures { self.new ≡ self.old }
+    {
+        self.tokens.reserve(bytes / 4, bytes)
+    }
+
     /// Takes the next token, which need not pass, and lists those that are settled then.
     #[inline(never)]
     fn push(&mut self, token: FirstToken) -> Result<(), AllocError>

@@ -16,7 +16,13 @@ use std::alloc::AllocError;
 fn width(c: char) -> u32
     ensures { result ≡ len_utf8 c }
 {
-    if c.is_ascii() { 1 } else { wide_width(c) }
+    if c.is_ascii() {
+        1
+    } else if c < '\u{800}' {
+        2
+    } else {
+        wide_width(c)
+    }
 }
 
 /// The same, apart from the way of most characters.
