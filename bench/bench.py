@@ -11,6 +11,8 @@ where none is named:
   search     the search beyond reading, `scan` and `scan --all`, each for both sets of templates: 20 MB of sources, 10,000 small files, a megabyte of
              licence texts. The start is taken off, and so is reading: `tokens`, or the scan for nothing where that is quicker (`tokens` writes).
              `--sources` takes files below folders of yours in place of the sources
+  set        the starter set on 200 MB of the files below `--sources`, without its mentions and with them, against `tokens`, in seconds of the
+             processor; the quickest of three runs, which other work on the machine hardly disturbs
   growth     the cases of scripts/hostile/growing.py, or those whose group or name has the word of `--only`: the processor seconds of five sizes, each
              twice the one before (16 times the first ones at the last size is linear), up to a size that takes more than 30; then how many times
              those of one plain template on the same text they are
@@ -20,21 +22,23 @@ of `growth` are of one run.
 import dataclasses, math, os, subprocess, sys, tempfile
 
 import growing, harness, running
-import inputs
+import inputs, starter
 
 HERE = os.path.dirname(os.path.abspath(__file__))
 ENVIRONMENT = dict(os.environ, LC_ALL='C.UTF-8')
 FILES_OF_A_CALL = 4_000
-# bytes of sources that are scanned
+# bytes of sources that are scanned, and of those on which the starter set is tried
 SOURCES = 20_000_000
+MANY_SOURCES = 200_000_000
 MOST_SECONDS = 30
 
 
 @dataclasses.dataclass
 class Figure:
-    """Seconds, and megabytes of memory."""
+    """Seconds, megabytes of memory, and seconds of the processor."""
     seconds: float
     memory: int
+    processor: float = 0
 
     def less(self, seconds):
         return Figure(self.seconds - seconds, self.memory)
@@ -46,8 +50,8 @@ def timed(command, files):
     for at in range(0, max(1, len(files)), FILES_OF_A_CALL):
         arguments = [sys.executable, '-S', f'{HERE}/measured.py', *command, *files[at:at + FILES_OF_A_CALL]]
         done = subprocess.run(arguments, capture_output=True, env=ENVIRONMENT, check=True)
-        seconds, kilobytes, status = done.stdout.split()
-        figure = Figure(figure.seconds + float(seconds), max(figure.memory, int(kilobytes) // 1024))
+        seconds, kilobytes, status, processor = done.stdout.split()
+        figure = Figure(figure.seconds + float(seconds), max(figure.memory, int(kilobytes) // 1024), figure.processor + float(processor))
         if int(status) == 2:
             sys.exit(f'{command}: {done.stderr.decode()}')
     return figure
@@ -181,6 +185,20 @@ def search(bench):
                 bench.line(f'{name}: {" ".join(kind)} beyond reading, {set_name}', beyond, both[0], 'tokens')
 
 
+def set_of_templates(bench):
+    files = files_below(bench.own, MANY_SOURCES) if bench.own else inputs.write_sources(bench.at('sources'), SOURCES)
+    never = bench.template('never', 'zzzyyyxxx wwwvvv')
+    print(f'{len(files):,} files, {sum(map(os.path.getsize, files)):,} bytes')
+    with starter.both() as both:
+        runs = {'tokens': ['tokens'], 'a scan for nothing': ['scan', '--templates', never], 'the starter set': ['scan', '--templates', harness.TEMPLATES],
+                'with the mentions': ['scan', '--templates', both]}
+        for program in bench.programs:
+            taken = [{name: timed([program, *run, '--'], files).processor for name, run in runs.items()} for _ in range(3)]
+            least = {name: min(it[name] for it in taken) for name in runs}
+            for name, seconds in least.items():
+                print(f'{name:64} {seconds:9.2f} s of the processor, {seconds / least["tokens"]:5.2f} times tokens', flush=True)
+
+
 def growth(bench):
     def seconds(program, case):
         ran = running.run(program, dataclasses.replace(case, seconds=MOST_SECONDS))
@@ -210,14 +228,14 @@ def growth(bench):
             row('ratio', [one / other for one, other in zip(*rows)])
 
 
-PARTS = {part.__name__: part for part in (reading, rules, start, search, growth)}
+PARTS = {'reading': reading, 'rules': rules, 'start': start, 'search': search, 'set': set_of_templates, 'growth': growth}
 
 
 def main():
     reader = harness.arguments(__doc__)
     reader.add_argument('--against', metavar='PROGRAM', help='another program, which is timed beside the first')
     reader.add_argument('--only', metavar='WORD', type=str.lower, default='', help='of growth')
-    reader.add_argument('--sources', metavar='FOLDER', action='append', default=[], help='of search: files below this folder (may be given again)')
+    reader.add_argument('--sources', metavar='FOLDER', action='append', default=[], help='of search and set: files below this folder (may be given again)')
     reader.add_argument('parts', metavar='PART', nargs='*', help=', '.join(PARTS))
     asked = reader.parse_intermixed_args()
     if unknown := set(asked.parts) - set(PARTS):
