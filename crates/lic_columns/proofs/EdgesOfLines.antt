@@ -1,10 +1,10 @@
 -- The edges of each line of a text as blanks.
-use Rattle.std.proofs.Common.{◌≡◌, ℕ, zero, suc, ◌+◌, ◌-◌, ◌<◌, ◌≤◌, Bool, true, false, not, ◌&&◌, ◌==◌, if◌then◌else◌, List, [], ◌∷◌, ◌++◌, length, take, drop, map, get_or, refl, sym, ap, ap₂, ◌∙◌, ⊎_elim, arith, subst, append_assoc, length-append}
+use Rattle.std.proofs.Common.{◌≡◌, ℕ, zero, suc, ◌+◌, ◌-◌, ◌<◌, ◌≤◌, Bool, true, false, not, ◌&&◌, ◌==◌, if◌then◌else◌, List, [], ◌∷◌, ◌++◌, length, take, drop, map, get_or, refl, sym, ap, ap₂, ◌∙◌, ⊎_elim, inl, inr, arith, subst, append_assoc, length-append}
 use Rattle.std.specs.Prelude.{IsAscii, slice_range}
 use Rattle.std.specs.Char.{len_utf8, is_whitespace}
 use Rattle.std.specs.List.{flat_map, onto_first, before_first, position_or_len}
 use Rattle.std.proofs.lemmas.Bool.{cases_Bool, cases_lt, cond-true, cond-false}
-use Rattle.std.proofs.lemmas.List.{append-nil, map-append, length-map, length-take, length-take-le, length-drop, drop-drop, drop_all, get_or-drop, get_or-map}
+use Rattle.std.proofs.lemmas.List.{append-nil, map-append, length-map, length-take, length-take-le, length-drop, drop-drop, drop_all, get_or-drop, get_or-map, get_or-take, get_or_past}
 use Rattle.std.proofs.lemmas.Str.{len_utf8_ascii}
 use Rattle.lic_kind.specs.Kinds.{is_dropped}
 use Rattle.lic_kind.specs.LineRules.{LineRules}
@@ -20,12 +20,13 @@ use Rattle.lic_trim.specs.declared.source.SourceChar.{SourceChar}
 use Rattle.lic_trim.proofs.AsciiLemmas.{chars_of-placed, length-placed}
 use Rattle.lic_trim.proofs.TailRows.{greatest_le}
 use Rattle.lic_columns.specs.Bytes.{is_word, is_mark, is_feed}
-use Rattle.lic_columns.specs.Edges.{byte_lines, edges_blanked, lines_blanked}
+use Rattle.lic_columns.specs.Edges.{AreBlank, byte_lines, edges_blanked, lines_blanked}
 use Rattle.lic_columns.specs.Flags.{cleared}
-use Rattle.lic_columns.specs.Known.{Known, IsText, known_of}
+use Rattle.lic_columns.specs.Known.{Known, IsText, known_of, is_dark}
 use Rattle.lic_columns.specs.Masks.{flag_at}
 use Rattle.lic_columns.specs.SpanTokens.{span_tokens}
 use Rattle.lic_columns.specs.Tokens.{text_spans}
+use Rattle.lic_columns.proofs.BlankEdges.{white_is_blank, still_blank}
 use Rattle.lic_columns.proofs.EdgeLemmas.{standing, length-standing, edges_are, found, standing_line, lines_found}
 use Rattle.lic_columns.proofs.FlagLemmas.{length-cleared}
 use Rattle.lic_columns.proofs.Lanes.{every_below}
@@ -264,14 +265,16 @@ pub record AreCleared (rules : LineRules) (text : List ℕ) (at : ℕ) (known : 
   pub feed : known.feed ≡ map is_feed text
   pub word : length known.word ≡ length text
   pub mark : length known.mark ≡ length text
+  pub blank : (k : ℕ) → is_whitespace (get_or text k 0) ≡ true → is_dark known k ≡ false
   pub left : lines_blanked rules at (byte_lines (drop at text)) known ≡ lines_blanked rules 0 (byte_lines text) (known_of text)
 
-pub start_cleared : (rules : LineRules) (text : List ℕ) (known : Known) → known ≡ known_of text → AreCleared rules text 0 known
-start_cleared rules text known is = record {
+pub start_cleared : (rules : LineRules) (text : List ℕ) (known : Known) → IsAscii text → known ≡ known_of text → AreCleared rules text 0 known
+start_cleared rules text known ascii is = record {
   within = omega arith;
   feed = ap (λ (k : Known). k.feed) is;
   word = ap (λ (k : Known). length k.word) is ∙ length-map text is_word;
   mark = ap (λ (k : Known). length k.mark) is ∙ length-map text is_mark;
+  blank = λ k white. ap (λ known. is_dark known k) is ∙ white_is_blank text ascii k white;
   left = ap (lines_blanked rules 0 (byte_lines text)) is;
 }
 
@@ -288,6 +291,7 @@ line_cleared rules text at end known new cut are next is_cut is =
           ∙ length-cleared at first known.word ∙ are.word;
       mark = ap (λ (k : Known). length k.mark) is ∙ length-cleared (end - cut.tail) end (cleared at first known.mark)
           ∙ length-cleared at first known.mark ∙ are.mark;
+      blank = λ k white. ap (λ known. is_dark known k) is ∙ still_blank cut at end known k (are.blank k white);
       left = ap (lines_blanked rules end (byte_lines (drop end text))) (is ∙ ap (λ k. edges_blanked k at end known) is_cut)
           ∙ ap (λ n. lines_blanked rules n (byte_lines (drop end text)) (edges_blanked (cut_of rules whole_line (slice_range text at end)) at n known)) (sym long)
           ∙ ap (λ l. lines_blanked rules at l known) (sym next.line)
@@ -298,3 +302,23 @@ pub all_cleared : (rules : LineRules) (text : List ℕ) (at : ℕ) (known : Know
     → known ≡ lines_blanked rules 0 (byte_lines text) (known_of text)
 all_cleared rules text at known are past =
     ap (λ l. lines_blanked rules at (byte_lines l) known) (sym (drop_all at text past)) ∙ are.left
+
+-- the white space of a line counts as blanks
+pub line_blank : (rules : LineRules) (text : List ℕ) (at end : ℕ) (known : Known) → AreCleared rules text at known → IsNextLine text at end
+    → AreBlank (slice_range text at end) at known
+line_blank rules text at end known are next = record {
+  spaces = λ i white. elim (cases_lt i (end - at)) [
+    | inl inside ↦ are.blank (at + i)
+        (ap is_whitespace (sym (get_or-take (end - at) (drop at text) i 0 inside ∙ get_or-drop at text i 0)) ∙ white)
+    | inr past ↦ absurd (
+        let none : get_or (slice_range text at end) i 0 ≡ 0 = get_or_past (slice_range text at end) i 0 (omega (arith, next.long)) in
+        let e : false ≡ true = sym (ap is_whitespace none) ∙ white in
+        cc)
+  ];
+}
+
+-- the line is within what is known
+pub line_within : (rules : LineRules) (text : List ℕ) (at end : ℕ) (known : Known) → AreCleared rules text at known → IsNextLine text at end
+    → (at + length (slice_range text at end) ≤ length known.word) × (at + length (slice_range text at end) ≤ length known.mark)
+line_within rules text at end known are next =
+    (omega (arith, next.some, next.within, next.long, are.word), omega (arith, next.some, next.within, next.long, are.mark))

@@ -3,7 +3,6 @@ pub mod Lanes
 pub mod ByteLemmas
 pub mod BitLemmas
 pub mod FlagLemmas
-pub mod LowestBit
 pub mod PlaceLemmas
 pub mod Finds
 pub mod KnownLemmas
@@ -16,6 +15,7 @@ pub mod Separators
 pub mod FlagCells
 pub mod LineTokens
 pub mod EdgeLemmas
+pub mod BlankEdges
 pub mod EdgesOfLines
 pub mod SpanTokenLemmas
 pub mod AsciiLetters

@@ -1,18 +1,17 @@
 -- The places of flags that are set, found from the first on.
-use Rattle.std.proofs.Common.{◌≡◌, drop, take, ◌≤◌, ℕ, zero, suc, ◌+◌, ◌-◌, ◌*◌, ◌^◌, ◌<◌, Bool, true, false, List, [], ◌∷◌, ◌++◌, get_or, length, set, refl, ap, sym, ◌∙◌, arith, inl, inr, w64, eq-eqb}
+use Rattle.std.proofs.Common.{◌≡◌, drop, take, ◌≤◌, ℕ, zero, suc, ◌+◌, ◌*◌, ◌^◌, ◌<◌, Bool, true, false, List, [], ◌∷◌, ◌++◌, get_or, length, set, refl, ap, sym, ◌∙◌, arith, inl, inr, w64, eq-eqb}
 use Rattle.std.proofs.lemmas.Bool.{cases_eq, cases_lt}
 use Rattle.std.proofs.lemmas.List.{ext_get_or, get_or_past, get_or-take, get_or-drop, length-take, length-take-le, get_or-set_same, get_or-set_other, length-set, append_assoc}
 use Rattle.std.proofs.Math.Seq.{take-add}
-use Rattle.std.proofs.lemmas.Nat.{and_le_l}
 use Rattle.std.proofs.lemmas.Nat.Bits.{bit_at-trailing_zeros}
 use Rattle.std.specs.Prelude.{◌==◌}
-use Rattle.std.specs.Int.{bit_at, trailing_zeros}
+use Rattle.std.specs.Int.{trailing_zeros}
 use Rattle.lic_columns.specs.Masks.{has_bit, flag_at}
 use Rattle.lic_columns.specs.Flags.{bits_of}
 use Rattle.lic_columns.specs.Places.{places}
 use Rattle.lic_columns.proofs.BitLemmas.{has_bit_zero}
 use Rattle.lic_columns.proofs.FlagLemmas.{length-bits_of, flag_at-bits_of}
-use Rattle.lic_columns.proofs.LowestBit.{without_lowest, lowest_cleared, others_stay}
+use Rattle.lic_trim.proofs.LowestBit.{without_lowest, lowest_cleared, others_stay}
 
 -- the first flag that is set, and those of the others
 pub places_first : (at t : ℕ) (flags : List Bool) → flag_at flags t ≡ true → ((k : ℕ) → k < t → flag_at flags k ≡ false)
@@ -47,21 +46,6 @@ places_of_zero at = no_places at (bits_of 64 0) (λ k. elim (cases_lt k 64) [
 ])
 
 module _ (mask : ℕ) (some : 0 < mask) (fits : mask < 2 ^ 64) where
-  lowest : ℕ
-  lowest = trailing_zeros w64 mask
-
-  pub smaller : without_lowest mask < mask
-  smaller =
-      let t = bit_at-trailing_zeros w64 mask some fits in
-      let less = and_le_l mask (mask - 1) in
-      elim (cases_eq (without_lowest mask) mask) [
-        | inl same ↦ absurd (
-            let none : bit_at (without_lowest mask) (trailing_zeros w64 mask) ≡ 0 = lowest_cleared mask some fits in
-            let e : bit_at mask (trailing_zeros w64 mask) ≡ 0 = ap (λ m. bit_at m (trailing_zeros w64 mask)) (sym same) ∙ none in
-            omega (arith, e, t.1))
-        | inr other ↦ omega (arith, other, less)
-      ]
-
   bits_without : bits_of 64 (without_lowest mask) ≡ set (bits_of 64 mask) (trailing_zeros w64 mask) false
   bits_without =
       let t = bit_at-trailing_zeros w64 mask some fits in

@@ -1,11 +1,12 @@
 -- What the line rules take away: bytes that count as blanks.
-use Rattle.std.specs.Prelude.{ℕ, ◌+◌, ◌-◌, List, [], ◌∷◌, length}
+use Rattle.std.specs.Prelude.{◌≡◌, ℕ, ◌+◌, ◌-◌, true, false, List, [], ◌∷◌, length, slice_index}
+use Rattle.std.specs.Char.{is_whitespace}
 use Rattle.lic_kind.specs.LineRules.{LineRules}
 use Rattle.lic_trim.specs.Lines.{cut_of, whole_line}
 use Rattle.lic_trim.specs.Texts.{cut_after}
 use Rattle.lic_trim.specs.declared.cut.LineCut.{LineCut}
 use Rattle.lic_columns.specs.Bytes.{is_feed}
-use Rattle.lic_columns.specs.Known.{Known, blanked}
+use Rattle.lic_columns.specs.Known.{Known, blanked, is_dark}
 
 -- without lead, item and tail of a line from this place to that
 abbrev pub edges_blanked : LineCut → ℕ → ℕ → Known → Known
@@ -20,3 +21,7 @@ abbrev pub lines_blanked : LineRules → ℕ → List (List ℕ) → Known → K
 lines_blanked rules at [] known = known
 lines_blanked rules at (line ∷ lines) known =
     lines_blanked rules (at + length line) lines (edges_blanked (cut_of rules whole_line line) at (at + length line) known)
+
+-- the white space of a line that begins at this place counts as blanks
+pub record AreBlank (line : List ℕ) (at : ℕ) (known : Known) : Type 0 where
+  pub spaces : (i : ℕ) → is_whitespace (slice_index line i) ≡ true → is_dark known (at + i) ≡ false

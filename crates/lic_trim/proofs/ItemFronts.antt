@@ -13,13 +13,13 @@ use Rattle.lic_trim.specs.Lines.{is_bullet_sign, is_roman_digit, is_letter, is_r
 use Rattle.lic_trim.proofs.ItemLemmas.{item_off, none}
 use Rattle.lic_trim.proofs.NoItems.{no_numbers, or_off, and_off, off_and, no_bullet, number, letter, closed}
 
-not_in : (low high c : ℕ) → high < c → is_in_range low high c ≡ false
+pub not_in : (low high c : ℕ) → high < c → is_in_range low high c ≡ false
 not_in low high c lt = elim (cases_Bool (is_in_range low high c)) [
   | inl is ↦ let le : c ≤ high = leb-true c high (and_parts (nat_le low c) (nat_le c high) is).1 in absurd (omega arith)
   | inr not' ↦ not'
 ]
 
-apart : (c d : ℕ) → c < d → ((c == d) ≡ false) × ((d == c) ≡ false)
+pub apart : (c d : ℕ) → c < d → ((c == d) ≡ false) × ((d == c) ≡ false)
 apart c d lt = (one c d (λ same. let e : c ≡ d = same in absurd (omega arith)), one d c (λ same. let e : d ≡ c = same in absurd (omega arith)))
   where
     one : (a b : ℕ) → (a ≡ b → ⊥) → (a == b) ≡ false

@@ -19,3 +19,7 @@ pub mod NoItems
 pub mod CutLemmas
 pub mod AsciiLemmas
 pub mod ItemFronts
+pub mod WordLetters
+pub mod SpaceCuts
+pub mod LowestBit
+pub mod LeadTexts

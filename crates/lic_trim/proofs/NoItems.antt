@@ -69,7 +69,7 @@ module _ (f : ℕ) (fs : List ℕ) (c : ℕ) where
   pub closed : is_item_in_parentheses word ≡ ((f == 0x28) && ((c == 0x29) && (is_number fs || is_letter fs || is_roman fs)))
   closed = ap (λ b. (f == 0x28) && b) (ends_in-snoc (λ d. d == 0x29) (λ front. is_number front || is_letter front || is_roman front) fs c)
 
-  other_end : ends_item c ≡ false → is_item_form word ≡ false
+  pub other_end : ends_item c ≡ false → is_item_form word ≡ false
   other_end off =
       let two : ((c == 0x2E) || (c == 0x29)) ≡ false = or_left_off _ (c == 0x3A) off in
       let one : (c == 0x29) ≡ false = right_off (c == 0x2E) (c == 0x29) two in

@@ -1,22 +1,20 @@
 -- How long the pieces are that a way begins with.
-use Rattle.std.proofs.Common.{◌≡◌, ◌≢◌, ℕ, zero, suc, ◌+◌, ◌*◌, ◌/◌, ◌%◌, ◌^◌, ◌<◌, ◌≤◌, max, w64, Bool, true, false, ◌&&◌, ◌||◌, ◌==◌, ◌⊎◌, inl, inr, List, [], ◌∷◌, ◌++◌, length, take, drop, get_or, reverse, refl, sym, ap, ap₂, ◌∙◌, append_assoc, length-append, ⊎_elim, arith}
+use Rattle.std.proofs.Common.{◌≡◌, ◌≢◌, ℕ, zero, suc, ◌*◌, ◌/◌, ◌%◌, ◌^◌, ◌<◌, ◌≤◌, max, w64, Bool, true, false, ◌&&◌, ◌||◌, ◌==◌, ◌⊎◌, inl, inr, List, [], ◌∷◌, ◌++◌, length, take, drop, get_or, reverse, refl, sym, ap, ap₂, ◌∙◌, append_assoc, length-append, ⊎_elim, arith}
 use Rattle.std.specs.Prelude.{bytes_eq, bit_or, nat_lt}
 use Rattle.std.specs.List.{list_any}
 use Rattle.std.specs.Char.{is_whitespace}
 use Rattle.std.specs.Int.{bit_at}
 use Rattle.std.proofs.Math.Seq.{take-suc, get_or-append_seam}
 use Rattle.std.proofs.lemmas.Bool.{false≢true, and_parts, and_from, or_cases, or_left, or_right, cases_Bool, cases_lt, eqb-true, eq-eqb, lt-ltb, le-ltb, le-leb, lt-leb}
-use Rattle.std.proofs.lemmas.List.{length-reverse, length-take-le, length-drop, reverse-append, reverse-reverse, take-append-drop, get_or-take, get_or-drop, get_or_past}
+use Rattle.std.proofs.lemmas.List.{length-reverse, length-take-le, reverse-append, reverse-reverse, take-append-drop, get_or_past}
 use Rattle.std.proofs.lemmas.Nat.Bits.{bit_at-lt, bit_at_or, bit_at-zero, bit_at_above, bit_at_lowest, bit_at-suc, bit_at_set_same, bit_at_set_other}
 use Rattle.std.proofs.lemmas.Slice.Eq.{bytes_eq-Decides}
-use Rattle.lic_kind.specs.Kinds.{kind_of, is_mark_kind}
-use Rattle.lic_kind.proofs.KindLemmas.{kind_of-white}
 use Rattle.lic_kind.specs.LineRules.{LineRules}
 use Rattle.lic_trim.specs.Lines.{is_space, is_separator, repeats}
 use Rattle.lic_trim.specs.PieceLengths.{has_bit, begins_with_length, begins_with_separator, begins_with_spaced, goes_on, AreLengths}
 use Rattle.lic_trim.specs.Texts.{ends_in}
 use Rattle.lic_trim.specs.Walks.{Side, Front, End, walked, is_walked_piece, side_texts, side_spaced, side_repeated, begins_with_text, opens_in, may_open}
-use Rattle.lic_trim.proofs.PieceEnds.{ends_in-snoc, separator_parts}
+use Rattle.lic_trim.proofs.PieceEnds.{ends_in-snoc}
 use Rattle.lic_trim.proofs.SideEnds.{walked_piece}
 use Rattle.lic_trim.proofs.TextLemmas.{same_truth}
 

@@ -3,3 +3,5 @@ pub mod Sources
 pub mod Lines
 pub mod Walks
 pub mod PieceLengths
+pub mod Spaces
+pub mod Leads

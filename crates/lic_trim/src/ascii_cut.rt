@@ -3,13 +3,16 @@ ghost use Rattle.std.specs.Prelude.{◌≡◌, ◌≢◌, ◌==◌, ◌||◌, �
 ghost use Rattle.std.specs.List.{position_or_len};
 ghost use Rattle.std.specs.Char.{is_whitespace, is_ascii_digit};
 ghost use Rattle.lic_kind.specs.LineRules.{LineRules, rules_of};
+ghost use Rattle.lic_trim.specs.Leads.{AreLeads};
 ghost use Rattle.lic_trim.specs.Lines.{cut_of, is_item_form, item_length, whole_line};
 ghost use Rattle.lic_trim.specs.Texts.{is_row, longest_front};
+ghost use Rattle.lic_trim.specs.Spaces.{TakesSpaces};
 ghost use Rattle.lic_trim.specs.Walks.{walked, is_walked_piece};
 
 use crate::ascii_rows::row_by_places;
 use crate::cut::LineCut;
-use crate::item::item_length;
+use crate::item::{is_roman_digit, item_length};
+use crate::leads::Leads;
 use crate::rows::longest_row;
 use crate::side::Side;
 use crate::source::{SourceChar, place};
@@ -66,6 +69,8 @@ fn space_row(rules: &Rules, side: Side, line: &[u8]) -> Option<usize>
     ensures row { IfSome result (λ n. n
         ≡ longest_front (is_row (is_walked_piece (rules_of rules.now) side))
         (walked side line.now)) }
+    ensures white { IfSome result (λ n. (i : ℕ) → i < n
+        → is_whitespace (slice_index (walked side line.now) i) ≡ true) }
     ensures within { IfSome result (λ n. n ≤ length line.now) }
 {
     let count = spaces(side, line);
@@ -126,11 +131,30 @@ fn may_be_item(word: &[u8]) -> bool
     begins_item(word[0])
 }
 
+/// Whether the second byte of a line is a letter that no list item has there. Such a letter is a Roman digit, or comes after a
+/// parenthesis.
+#[inline(always)]
+fn has_word_letter(line: &[u8]) -> bool
+    ensures { IsTrue result → (rules : LineRules) → item_length rules line.now ≡ 0 }
+{
+    if line.len() < 2 {
+        return false;
+    }
+    if line[0] == b'(' {
+        return false;
+    }
+    let second = line[1] as char;
+    second.is_ascii_alphabetic() && !is_roman_digit(second)
+}
+
 /// Whether a line, whose lead is taken already, begins with no list item, as far as its first word shows.
 #[inline(always)]
 fn has_no_item(line: &[u8]) -> bool
     ensures { IsTrue result → (rules : LineRules) → item_length rules line.now ≡ 0 }
 {
+    if has_word_letter(line) {
+        return true;
+    }
     let end = first_space(line);
     end >= line.len() || !may_be_item(&line[..end])
 }
@@ -141,10 +165,12 @@ fn has_no_item(line: &[u8]) -> bool
 fn row_of_ascii(
     alloc: Global,
     rules: &Rules,
+    leads: &Leads,
     side: Side,
     line: &[u8],
     characters: &mut Vec<SourceChar>,
 ) -> Result<usize, AllocError>
+    requires known { AreLeads leads.now (rules_of rules.now).lead }
     requires ascii { IsAscii line.now }
     requires fits { length line.now < 2 ^ 32 }
     ensures row { IfOk result (λ n. n
@@ -155,7 +181,7 @@ fn row_of_ascii(
     if let Some(count) = space_row(rules, side, line) {
         return Ok(count);
     }
-    if let Some(count) = row_by_places(rules, side, line) {
+    if let Some(count) = row_by_places(rules, leads, side, line) {
         return Ok(count);
     }
     place(characters, 0, line)?;
@@ -182,6 +208,49 @@ fn item_of_ascii(
     Ok(item_length(rules, characters, None))
 }
 
+/// Whether all that is taken from a whole line of ASCII is white space, as far as a few of its bytes show.
+#[inline(always)]
+pub fn takes_spaces(rules: &Rules, line: &[u8]) -> bool
+    ensures { result ≡ true → TakesSpaces (cut_of (rules_of rules.now) whole_line line.now) line.now }
+{
+    let Some(lead) = space_row(rules, Side::Front, line) else {
+        return false;
+    };
+    let rest = &line[lead..];
+    if !has_no_item(rest) {
+        return false;
+    }
+    let Some(_tail) = space_row(rules, Side::End, rest) else {
+        return false;
+    };
+    true
+}
+
+/// What is taken from a whole line of ASCII, by what is known of its rules' leads. The characters are room for those of the line,
+/// whatever they hold.
+///
+/// The error is that memory ran out.
+pub fn cut_by_leads(
+    alloc: Global,
+    rules: &Rules,
+    leads: &Leads,
+    line: &[u8],
+    characters: &mut Vec<SourceChar>,
+) -> Result<LineCut, AllocError>
+    requires known { AreLeads leads.now (rules_of rules.now).lead }
+    requires ascii { IsAscii line.now }
+    requires fits { length line.now < 2 ^ 32 }
+    ensures cut { IfOk result (λ cut. cut ≡ cut_of (rules_of rules.now) whole_line line.now) }
+    ensures within { IfOk result (λ cut. cut.lead + cut.item + cut.tail ≤ length line.now) }
+{
+    let lead = row_of_ascii(alloc, rules, leads, Side::Front, line, characters)?;
+    let rest = &line[lead..];
+    let item = item_of_ascii(rules, rest, characters)?;
+    let left = &rest[item..];
+    let tail = row_of_ascii(alloc, rules, leads, Side::End, left, characters)?;
+    Ok(LineCut { lead, item, tail })
+}
+
 /// What is taken from a whole line of ASCII. The characters are room for those of the line, whatever they hold.
 ///
 /// The error is that memory ran out.
@@ -196,10 +265,5 @@ pub fn cut_of_ascii(
     ensures cut { IfOk result (λ cut. cut ≡ cut_of (rules_of rules.now) whole_line line.now) }
     ensures within { IfOk result (λ cut. cut.lead + cut.item + cut.tail ≤ length line.now) }
 {
-    let lead = row_of_ascii(alloc, rules, Side::Front, line, characters)?;
-    let rest = &line[lead..];
-    let item = item_of_ascii(rules, rest, characters)?;
-    let left = &rest[item..];
-    let tail = row_of_ascii(alloc, rules, Side::End, left, characters)?;
-    Ok(LineCut { lead, item, tail })
+    cut_by_leads(alloc, rules, &Leads::of(rules), line, characters)
 }

@@ -1,17 +1,19 @@
 //! The longest row of pieces at a side of a line of ASCII, from one place where a row ends to the next.
-ghost use Rattle.std.specs.Prelude.{◌≡◌, ◌≢◌, ◌+◌, ◌<◌, ◌≤◌, ◌&&◌, ◌||◌, ◌==◌, ℕ, suc, true, false, if◌then◌else◌, IfSome};
-ghost use Rattle.std.specs.Prelude.{nat_le, length, take, drop, reverse, slice_index};
+ghost use Rattle.std.specs.Prelude.{◌≡◌, ◌≢◌, ◌+◌, ◌<◌, ◌≤◌, ◌&&◌, ◌||◌, ◌==◌, ℕ, suc, true, false, if◌then◌else◌, [], IfSome};
+ghost use Rattle.std.specs.Prelude.{nat_le, nat_lt, length, take, drop, reverse, slice_index, slice_index_or};
 ghost use Rattle.std.specs.Char.{is_whitespace};
 ghost use Rattle.std.specs.List.{list_any};
 ghost use Rattle.lic_kind.specs.LineRules.{texts_of, rules_of};
+ghost use Rattle.lic_trim.specs.Leads.{AreLeads};
 ghost use Rattle.lic_trim.specs.PieceLengths.{has_bit, begins_with_length, begins_with_separator, begins_with_spaced, goes_on, AreLengths};
 ghost use Rattle.lic_trim.specs.Texts.{is_row, longest_front};
-ghost use Rattle.lic_trim.specs.Walks.{walked, is_walked_piece, side_repeated};
+ghost use Rattle.lic_trim.specs.Walks.{walked, is_walked_piece, side_texts, side_repeated};
 ghost use Rattle.lic_trim.specs.Walks.{End};
 
 use crate::ascii_cut::byte_at;
 use crate::ascii_texts::stands;
-use crate::rows::{is_mark, side_spaced, side_texts};
+use crate::leads::Leads;
+use crate::rows::{is_mark, side_spaced};
 use crate::side::Side;
 use crate::space_rows::quick_table;
 use lic_kind::{RuleKind, Rules, Texts};
@@ -60,6 +62,56 @@ fn text_lengths(side: Side, texts: &Texts, line: &[u8], place: usize) -> Option<
         mask = with_text(mask, side, texts.characters(i), line, place)?;
     }
     Some(mask)
+}
+
+/// Adds bit n where the text of this number, if there is one, has n characters and comes after this place.
+#[inline(always)]
+fn with_number(mask: u64, texts: &Texts, i: usize, line: &[u8], place: usize) -> Option<u64>
+    requires { place ≤ length line.now }
+    ensures { IfSome result (λ new. (n : ℕ) → has_bit new n
+        ≡ (has_bit mask n || (nat_lt i (length (texts_of texts.now))
+        && begins_with_length n (drop place line.now) (slice_index_or (texts_of texts.now) i [])))) }
+{
+    if i >= texts.len() {
+        return Some(mask);
+    }
+    with_text(mask, Side::Front, texts.characters(i), line, place)
+}
+
+/// The lengths of the texts of a lead that come after this place. Only those are looked at that begin as the line does here.
+#[inline(always)]
+fn lead_lengths(leads: &Leads, texts: &Texts, line: &[u8], place: usize) -> Option<u64>
+    requires inside { place < length line.now }
+    requires known { AreLeads leads.now (texts_of texts.now) }
+    ensures { IfSome result (λ mask. (n : ℕ) → has_bit mask n
+        ≡ list_any (λ t. begins_with_length n (drop place line.now) t) (texts_of texts.now)) }
+{
+    if !leads.all {
+        return text_lengths(Side::Front, texts, line, place);
+    }
+    let mut mask = 0u64;
+    let mut left = leads.firsts[line[place] as usize];
+    while left != 0 {
+        let lowest = left.trailing_zeros() as usize;
+        mask = with_number(mask, texts, lowest, line, place)?;
+        left &= left - 1;
+    }
+    Some(mask)
+}
+
+/// The lengths of the texts of this side that come after this place of the way.
+#[inline(always)]
+fn side_lengths(rules: &Rules, leads: &Leads, side: Side, line: &[u8], place: usize) -> Option<u64>
+    requires inside { place < length line.now }
+    requires known { AreLeads leads.now (rules_of rules.now).lead }
+    ensures { IfSome result (λ mask. (n : ℕ) → has_bit mask n
+        ≡ list_any (λ t. begins_with_length n (drop place (walked side line.now)) (walked side t))
+        (side_texts (rules_of rules.now) side)) }
+{
+    match side {
+        Side::Front => lead_lengths(leads, rules.texts(RuleKind::Lead), line, place),
+        Side::End => text_lengths(Side::End, rules.texts(RuleKind::Tail), line, place),
+    }
 }
 
 /// Whether white space is at this place of the way.
@@ -199,8 +251,9 @@ fn separator_lengths(rules: &Rules, side: Side, line: &[u8], place: usize) -> Op
 }
 
 /// The lengths of the pieces that come after this place of the way. Nothing is said where that takes more than a look.
-fn piece_lengths(rules: &Rules, side: Side, line: &[u8], place: usize) -> Option<u64>
-    requires { place < length line.now }
+fn piece_lengths(rules: &Rules, leads: &Leads, side: Side, line: &[u8], place: usize) -> Option<u64>
+    requires inside { place < length line.now }
+    requires known { AreLeads leads.now (rules_of rules.now).lead }
     ensures { IfSome result (λ mask. AreLengths (rules_of rules.now) side (drop place (walked side line.now)) mask) }
 {
     let c = byte_at(line, side, place) as char;
@@ -209,7 +262,7 @@ fn piece_lengths(rules: &Rules, side: Side, line: &[u8], place: usize) -> Option
     if !quick_table(rules, side, c) {
         return Some(space | separators);
     }
-    let texts = text_lengths(side, side_texts(rules, side), line, place)?;
+    let texts = side_lengths(rules, leads, side, line, place)?;
     let spaced = spaced_lengths(side, side_spaced(rules, side), line, place)?;
     let repeated = repeated_lengths(rules, side, line, place)?;
     Some(((space | separators) | texts) | (spaced | repeated))
@@ -225,8 +278,16 @@ fn latest(ends: u64, at: usize, before: usize) -> usize
 
 /// Where rows end from the next place on, bit by bit, given where they end from this place of the way on.
 #[inline(always)]
-fn next_ends(rules: &Rules, side: Side, line: &[u8], at: usize, ends: u64) -> Option<u64>
-    requires { at < length line.now }
+fn next_ends(
+    rules: &Rules,
+    leads: &Leads,
+    side: Side,
+    line: &[u8],
+    at: usize,
+    ends: u64,
+) -> Option<u64>
+    requires inside { at < length line.now }
+    requires known { AreLeads leads.now (rules_of rules.now).lead }
     ensures { IfSome result (λ next. (d : ℕ) → has_bit next d
         ≡ (has_bit ends (suc d) || (has_bit ends 0
         && (nat_le (suc d) (length (drop at (walked side line.now)))
@@ -235,13 +296,14 @@ fn next_ends(rules: &Rules, side: Side, line: &[u8], at: usize, ends: u64) -> Op
     if ends % 2 == 0 {
         return Some(ends / 2);
     }
-    let lengths = piece_lengths(rules, side, line, at)?;
+    let lengths = piece_lengths(rules, leads, side, line, at)?;
     Some((ends | lengths) / 2)
 }
 
 /// How long the longest row of pieces is at this side of a line. Nothing is said where that takes more than looks at the places
 /// where rows end.
-pub(crate) fn row_by_places(rules: &Rules, side: Side, line: &[u8]) -> Option<usize>
+pub(crate) fn row_by_places(rules: &Rules, leads: &Leads, side: Side, line: &[u8]) -> Option<usize>
+    requires { AreLeads leads.now (rules_of rules.now).lead }
     ensures row { IfSome result (λ n. n
         ≡ longest_front (is_row (is_walked_piece (rules_of rules.now) side))
         (walked side line.now)) }
@@ -254,7 +316,7 @@ pub(crate) fn row_by_places(rules: &Rules, side: Side, line: &[u8]) -> Option<us
             return Some(longest);
         }
         longest = latest(ends, at, longest);
-        ends = next_ends(rules, side, line, at, ends)?;
+        ends = next_ends(rules, leads, side, line, at, ends)?;
     }
     Some(latest(ends, line.len(), longest))
 }

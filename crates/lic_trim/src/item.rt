@@ -13,7 +13,7 @@ use crate::side::is_text;
 use crate::source::SourceChar;
 use lic_kind::{Rules, is_bullet, is_dash};
 
-fn is_roman_digit(c: char) -> bool
+pub(crate) fn is_roman_digit(c: char) -> bool
     ensures { result ≡ is_roman_digit c }
 {
     matches!(c, 'i' | 'v' | 'x' | 'I' | 'V' | 'X')

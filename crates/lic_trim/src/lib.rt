@@ -7,13 +7,15 @@ mod ascii_texts;
 pub mod cut;
 mod item;
 pub mod laws;
+pub mod leads;
 pub mod line_part;
 mod rows;
 mod side;
 pub mod source;
 mod space_rows;
 
-pub use ascii_cut::cut_of_ascii;
+pub use ascii_cut::{cut_by_leads, cut_of_ascii, takes_spaces};
 pub use cut::{LineCut, cut_line};
+pub use leads::Leads;
 pub use line_part::LinePart;
 pub use source::{SourceChar, unplaced};

@@ -3,8 +3,8 @@ use Rattle.std.proofs.lemmas.List.{append-nil}
 use Rattle.std.specs.Int.{trailing_zeros}
 use Rattle.lic_columns.specs.Flags.{bits_of}
 use Rattle.lic_columns.specs.Places.{places}
-use Rattle.lic_columns.proofs.LowestBit.{without_lowest}
-use Rattle.lic_columns.proofs.PlaceLemmas.{smaller, first_place, one_more, places_of_zero}
+use Rattle.lic_trim.proofs.LowestBit.{without_lowest, smaller}
+use Rattle.lic_columns.proofs.PlaceLemmas.{first_place, one_more, places_of_zero}
 use Rattle.lic_columns.proofs.mask.push_places.Goals as goal
 
 pub loop-rest-smaller : goal.loop-rest-smaller

@@ -4,7 +4,7 @@ use Rattle.std.specs.List.{list_any}
 use Rattle.std.specs.Prelude.{bit_or}
 use Rattle.std.proofs.lemmas.List.{get_or-drop}
 use Rattle.lic_kind.specs.LineRules.{rules_of}
-use Rattle.lic_trim.specs.PieceLengths.{begins_with_length, begins_with_spaced}
+use Rattle.lic_trim.specs.PieceLengths.{begins_with_spaced}
 use Rattle.lic_trim.specs.Walks.{walked, may_open}
 use Rattle.lic_trim.proofs.PieceLengths.{all_lengths, space_lengths, has_bit_or}
 use Rattle.lic_trim.proofs.Walking.{length-walked}
@@ -50,7 +50,7 @@ returns c =
     ∙ ap₂ (λ a b. a || b)
     (has_bit_or space separators n
     ∙ ap₂ (λ a b. a || b) (c.space_length-space.ensures n ∙ ap (λ b. is_whitespace b && (n == 1)) (sym first)) (c.in_ok-separators.ensures n))
-    (c.in_ok-texts.ensures n ∙ ap (list_any (λ t. begins_with_length n way (walked side t))) c.side_texts.ensures))
+    (c.in_ok-texts.ensures n))
     (has_bit_or spaced repeated n
     ∙ ap₂ (λ a b. a || b) (c.in_ok-spaced.ensures n ∙ ap (list_any (λ t. begins_with_spaced n way (walked side t))) c.side_spaced.ensures)
     (c.in_ok-repeated.ensures.mask n)))

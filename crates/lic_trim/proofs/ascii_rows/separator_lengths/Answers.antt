@@ -1,4 +1,4 @@
-use Rattle.std.proofs.Common.{◌≡◌, ℕ, ◌+◌, ◌-◌, ◌∙◌, ◌<◌, ◌≤◌, true, false, length, drop, get_or, sym, ap, arith, length-drop}
+use Rattle.std.proofs.Common.{◌≡◌, ◌-◌, ◌∙◌, true, false, drop, get_or, sym, ap, arith, length-drop}
 use Rattle.lic_kind.specs.Kinds.{kind_of, is_mark_kind}
 use Rattle.lic_kind.specs.LineRules.{rules_of}
 use Rattle.lic_trim.specs.PieceLengths.{has_bit}

@@ -3,7 +3,7 @@ use Rattle.std.proofs.lemmas.List.{take_rest}
 use Rattle.lic_kind.specs.LineRules.{rules_of}
 use Rattle.lic_trim.specs.Lines.{whole_line, lead_length, item_after_lead, tail_length, item_length}
 use Rattle.lic_trim.proofs.CutLemmas.{lead_on, tail_on}
-use Rattle.lic_trim.proofs.ascii_cut.cut_of_ascii.Goals as goal
+use Rattle.lic_trim.proofs.ascii_cut.cut_by_leads.Goals as goal
 
 pub returns-clause-cut : goal.returns-clause-cut
 returns-clause-cut c =

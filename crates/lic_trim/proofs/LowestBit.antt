@@ -1,9 +1,9 @@
 -- A mask without its lowest bit.
-use Rattle.std.proofs.Common.{◌≡◌, ◌≢◌, ℕ, suc, ◌+◌, ◌-◌, ◌*◌, ◌/◌, ◌%◌, ◌^◌, ◌<◌, ◌≤◌, min, ap, ap₂, sym, ◌∙◌, arith, inl, inr, w64}
+use Rattle.std.proofs.Common.{◌≡◌, ◌≢◌, ℕ, suc, ◌+◌, ◌-◌, ◌*◌, ◌/◌, ◌%◌, ◌^◌, ◌<◌, ◌≤◌, min, ap, sym, ◌∙◌, arith, inl, inr, w64}
 use Rattle.std.proofs.Math.Nat.{pow-suc}
 use Rattle.std.proofs.Math.Pow.{pow_mono}
 use Rattle.std.proofs.lemmas.Bool.{cases_eq, cases_lt}
-use Rattle.std.proofs.lemmas.Nat.{shr-shr}
+use Rattle.std.proofs.lemmas.Nat.{shr-shr, and_le_r}
 use Rattle.std.proofs.lemmas.Nat.Bits.{same_from_bits, bit_at-trailing_zeros, bit_at-pow_same, bit_at-pow_other, bit_at_cat_low, bit_at_cat_high, bit_at_ones_above, bit_at_and}
 use Rattle.std.specs.Prelude.{bit_and}
 use Rattle.std.specs.Int.{bit_at, trailing_zeros}
@@ -73,3 +73,6 @@ module _ (mask : ℕ) (some : 0 < mask) (fits : mask < 2 ^ 64) where
             ∙ bits_above t i (omega (arith, other, high)) in
             ap (λ b. min (bit_at mask i) b) same ∙ (let e : min (bit_at mask i) (bit_at mask i) ≡ bit_at mask i = omega arith in e)
       ]
+
+  pub smaller : without_lowest mask < mask
+  smaller = omega (arith, and_le_r mask (mask - 1), some)
