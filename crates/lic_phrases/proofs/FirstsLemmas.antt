@@ -1,13 +1,14 @@
 -- What the prefilter of first texts says no to has no bound.
-use Rattle.std.proofs.Common.{◌≡◌, ◌∙◌, ◌<◌, ◌*◌, ◌%◌, ◌^◌, ℕ, suc, min, List, [], ◌∷◌, length, get_or, Bool, true, false, ◌||◌, ◌==◌, inl, inr, refl, sym, ap, arith, true≢false}
+use Rattle.std.proofs.Common.{◌≡◌, ◌≢◌, ◌∙◌, ◌-◌, ◌<◌, ◌*◌, ◌%◌, ◌^◌, ℕ, suc, min, List, [], ◌∷◌, length, get_or, Bool, true, false, ◌||◌, ◌==◌, inl, inr, refl, sym, ap, arith, true≢false}
 use Rattle.std.proofs.lemmas.Bool.{cases_Bool, cases_eq, cond-false, eq-eqb, or_left, or_right}
 use Rattle.std.proofs.lemmas.List.{get_or-set_same, get_or-set_other}
+use Rattle.std.proofs.lemmas.Nat.Bits.{bit_at_ones}
 use Rattle.std.specs.Prelude.{slice_set, bit_or}
 use Rattle.lic_trim.specs.PieceLengths.{has_bit}
 use Rattle.lic_trim.proofs.PieceLengths.{has_bit_set}
 use Rattle.std.proofs.lemmas.Slice.Eq.{bytes_eq-Decides}
-use Rattle.std.specs.Prelude.{bytes_eq}
-use Rattle.lic_phrases.specs.FirstTexts.{may_have, HasAll}
+use Rattle.std.specs.Prelude.{bytes_eq, codes}
+use Rattle.lic_phrases.specs.FirstTexts.{may_have, HasAll, HasOthers, IsPlain}
 use Rattle.lic_phrases.specs.PhraseLists.{IsRaised}
 
 -- the table with one more bit
@@ -55,3 +56,55 @@ HasAll-raised old new first count most_from raised all r added grows text none =
   | inl same ↦ absurd (true≢false (sym added ∙ ap (may_have new) ((bytes_eq-Decides first text).0 same) ∙ none))
   | inr other ↦ r.at_text text ∙ cond-false (bytes_eq first text) _ _ other ∙ all text (not_before old new grows text none)
 ]
+
+-- ---- texts that are not plain
+
+all_bits : (mask n : ℕ) → mask ≡ 2 ^ 64 - 1 → n < 64 → has_bit mask n ≡ true
+all_bits mask n all small = ap (λ m. has_bit m n) all ∙ ap (λ b. b == 1) (bit_at_ones 64 n small)
+
+-- the table with all bits of a byte
+abbrev pub with_all : List ℕ → ℕ → List ℕ
+with_all lengths first = slice_set lengths first (2 ^ 64 - 1)
+
+pub may_have-all : (lengths : List ℕ) (first : ℕ) → first < length lengths → (rest : List ℕ) → may_have (with_all lengths first) (first ∷ rest) ≡ true
+may_have-all lengths first within rest =
+    all_bits (get_or (with_all lengths first) first 0) (min (suc (length rest)) 63) (get_or-set_same lengths first (2 ^ 64 - 1) 0 within) (omega arith)
+
+pub may_have-grows_all : (lengths : List ℕ) (first : ℕ) → first < length lengths → (text : List ℕ) → may_have lengths text ≡ true
+    → may_have (with_all lengths first) text ≡ true
+may_have-grows_all lengths first within [] had = refl
+may_have-grows_all lengths first within (b ∷ rest) had = elim (cases_eq b first) [
+  | inl same ↦ ap (λ k. may_have (with_all lengths first) (k ∷ rest)) same ∙ may_have-all lengths first within rest
+  | inr other ↦ ap (λ x. has_bit x (min (suc (length rest)) 63)) (get_or-set_other lengths first b (2 ^ 64 - 1) 0 other) ∙ had
+]
+
+pub HasOthers-grown : (old new : List ℕ) → ((t : List ℕ) → may_have old t ≡ true → may_have new t ≡ true) → HasOthers old → HasOthers new
+HasOthers-grown old new grows others = record {
+  sign = grows (codes "copyright") others.sign;
+  address = grows (codes "https") others.address;
+  parenthesis = grows (codes "(") others.parenthesis;
+  apostrophe = λ rest. grows (0x27 ∷ rest) (others.apostrophe rest);
+  hyphen = λ rest. grows (0x2D ∷ rest) (others.hyphen rest);
+}
+
+other_text : (lengths had text : List ℕ) → may_have lengths had ≡ true → may_have lengths text ≡ false → bytes_eq had text ≡ false
+other_text lengths had text there none = elim (cases_Bool (bytes_eq had text)) [
+  | inl same ↦ absurd (true≢false (sym there ∙ ap (may_have lengths) ((bytes_eq-Decides had text).0 same) ∙ none))
+  | inr other ↦ other
+]
+
+other_first : (lengths : List ℕ) (first : ℕ) (text : List ℕ) → ((rest : List ℕ) → may_have lengths (first ∷ rest) ≡ true)
+    → may_have lengths text ≡ false → get_or text 0 0 ≢ first
+other_first lengths first [] there none = absurd (true≢false none)
+other_first lengths first (b ∷ rest) there none = λ same.
+    true≢false (sym (there rest) ∙ ap (λ x. may_have lengths (x ∷ rest)) (sym same) ∙ none)
+
+-- a text that has no bit is plain
+pub plain : (lengths text : List ℕ) → HasOthers lengths → may_have lengths text ≡ false → IsPlain text
+plain lengths text others none = record {
+  sign = other_text lengths (codes "copyright") text others.sign none;
+  address = other_text lengths (codes "https") text others.address none;
+  parenthesis = other_text lengths (codes "(") text others.parenthesis none;
+  apostrophe = other_first lengths 0x27 text others.apostrophe none;
+  hyphen = other_first lengths 0x2D text others.hyphen none;
+}

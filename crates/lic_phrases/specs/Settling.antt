@@ -1,5 +1,5 @@
 -- Tokens that come one by one: what is settled, and what is kept back.
-use Rattle.std.specs.Prelude.{◌≡◌, ◌+◌, ◌≤◌, List, [], ◌++◌, length, map}
+use Rattle.std.specs.Prelude.{◌≡◌, ◌+◌, ◌≤◌, ℕ, List, [], ◌∷◌, ◌++◌, length, map}
 use Rattle.lic_lines.specs.Tokens.{Token}
 use Rattle.lic_phrases.specs.Rewriting.{Phrase, SpannedText, spanned, sign_rows, https_as_http, phrases_joined, rewritten}
 
@@ -41,3 +41,9 @@ pub record Settles (words : List Phrase) (taken : List Token) (settled : List Sp
   pub goes_on : (rest : List Token) → rewritten words (taken ++ rest) ≡ settled ++ left_of words kept rest
   pub short : IsShort kept
   pub nearly_all : length (rewritten words taken) ≤ length settled + 11
+
+-- Where none is kept back, a token of this text is settled at once and as it is, and none is kept back then.
+abbrev pub IsLeft : List Phrase → List ℕ → Type 0
+IsLeft words text =
+    (settled : List SpannedText) (taken : List Token) (token : Token) → token.text ≡ text → Settles words taken settled nothing_kept
+    → Settles words (taken ++ token ∷ []) (settled ++ spanned token ∷ []) nothing_kept

@@ -60,6 +60,9 @@ fn key_of(alloc: Global, texts: &[String]) -> Result<Vec<u8>, AllocError>
 }
 
 impl Phrases {
+    ghost use Rattle.std.specs.Prelude.{IsTrue};
+    ghost use Rattle.lic_phrases.specs.FirstTexts.{IsPlain};
+
     /// A list without phrases.
     pub fn new(alloc: Global) -> Phrases
         ensures { result ≡ no_phrases }
@@ -132,6 +135,17 @@ impl Phrases {
         ensures some { HaveTokens self.now.phrases }
     {
         self.most_from.most_from(text)
+    }
+
+    /// Whether a look into a table says that this text is plain and begins no phrase. It does so of most texts that are.
+    #[inline(always)]
+    pub(crate) fn is_plain(&self, text: &str) -> bool
+        requires { 0 < length text.now }
+        ensures plain { IsTrue result → IsPlain text.now }
+        ensures none { IsTrue result → longest_from self.now.phrases text.now ≡ 0 }
+        ensures some { HaveTokens self.now.phrases }
+    {
+        self.most_from.is_plain(text)
     }
 
     /// The class of the phrase with this key.

@@ -1,8 +1,9 @@
 //! The three steps of the rewriting in a row, token by token.
-ghost use Rattle.std.specs.Prelude.{◌≡◌, ◌∷◌, ◌++◌, [], List, IsTrue, OnOk, length, map};
+ghost use Rattle.std.specs.Prelude.{◌≡◌, ◌<◌, ◌∷◌, ◌++◌, [], List, IsTrue, OnOk, length, map};
 ghost use Rattle.lic_lines.specs.Tokens.{Token, token_in, tokens_in};
 ghost use Rattle.lic_phrases.specs.Rewriting.{SpannedText, rewritten, spanned};
-ghost use Rattle.lic_phrases.specs.Settling.{Settles, GivesRows, IsShort, nothing_kept};
+ghost use Rattle.lic_phrases.specs.Settling.{Settles, GivesRows, IsLeft, IsShort, nothing_kept};
+ghost use Rattle.lic_phrases.specs.FirstTexts.{IsPlain};
 ghost use Rattle.lic_phrases.specs.Waiting.{spanned_in, AreKnown};
 
 pub(crate) mod address;
@@ -107,16 +108,23 @@ impl Rewriter {
     /// no phrase.
     #[inline(always)]
     pub fn leaves(phrases: &Phrases, text: &str) -> bool
-        ensures { IsTrue result → (settled : List SpannedText) (taken : List Token) (token : Token)
-            → token.text ≡ text.now
-            → Settles phrases.now.phrases taken settled nothing_kept
-            → Settles phrases.now.phrases (taken ++ token ∷ [])
-            (settled ++ spanned token ∷ []) nothing_kept }
+        ensures { IsTrue result → IsLeft phrases.now.phrases text.now }
     {
         if "copyright" == text || "https" == text {
             return false;
         }
         phrases.most_from(text) == 0
+    }
+
+    /// The same by a look into a table alone, which says yes to most texts that are left: plain ones, of which the first letter
+    /// and the length are of no other text.
+    #[inline(always)]
+    pub fn leaves_plain(phrases: &Phrases, text: &str) -> bool
+        requires { 0 < length text.now }
+        ensures plain { IsTrue result → IsPlain text.now }
+        ensures left { IsTrue result → IsLeft phrases.now.phrases text.now }
+    {
+        phrases.is_plain(text)
     }
 
     /// Whether a token of this text that is taken next is settled at once and as it is: none is kept back, and it is left as it

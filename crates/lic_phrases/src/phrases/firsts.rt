@@ -1,7 +1,7 @@
 //! How many tokens a phrase has at most, by the text that it begins with.
-ghost use Rattle.std.specs.Prelude.{◌≡◌, ℕ, List, true, unwrap_or};
+ghost use Rattle.std.specs.Prelude.{◌≡◌, ◌<◌, ◌∷◌, ℕ, List, length, true, unwrap_or};
 ghost use Rattle.indexmap.specs.IndexMap.{get_by_text};
-ghost use Rattle.lic_phrases.specs.FirstTexts.{may_have, HasAll};
+ghost use Rattle.lic_phrases.specs.FirstTexts.{may_have, HasAll, HasOthers};
 
 use indexmap::IndexMap;
 use std::alloc::{AllocError, Global};
@@ -13,20 +13,20 @@ const LONG: usize = 63;
 #[derive(Drop)]
 pub(crate) struct Firsts {
     most: IndexMap<String, usize>,
-    /// A prefilter: for each first byte, how long the texts are that begin with it, a bit for each length.
+    /// A prefilter: for each first byte, how long the texts are that begin with it, a bit for each length. It has those of texts
+    /// that begin a phrase, and those that are not plain.
     lengths: [u64; 256],
     ghost all: { HasAll lengths (λ text. unwrap_or (get_by_text most text) 0) },
+    ghost others: { HasOthers lengths },
 }
 
 /// Whether there is a bit for the first byte of this text and its length.
 #[inline(always)]
 fn may_have(lengths: &[u64; 256], text: &str) -> bool
+    requires { 0 < length text.now }
     ensures { result ≡ may_have lengths.now text.now }
 {
     let bytes = text.as_bytes();
-    if bytes.is_empty() {
-        return true;
-    }
     (lengths[bytes[0] as usize] >> bytes.len().min(LONG)) & 1 == 1
 }
 
@@ -42,9 +42,31 @@ fn add(lengths: &mut [u64; 256], text: &str)
     lengths[bytes[0] as usize] |= 1 << bytes.len().min(LONG);
 }
 
+/// Adds all bits for a first byte.
+fn add_all(lengths: &mut [u64; 256], first: u8)
+    ensures added { (rest : List ℕ) → may_have lengths.new (first ∷ rest) ≡ true }
+    ensures grows { (t : List ℕ) → may_have lengths.old t ≡ true → may_have lengths.new t ≡ true }
+{
+    lengths[first as usize] = u64::MAX;
+}
+
+/// The prefilter where no text begins a phrase.
+fn no_lengths() -> [u64; 256]
+    ensures { HasOthers result }
+{
+    let mut lengths = [0; 256];
+    add_all(&mut lengths, b'\'');
+    add_all(&mut lengths, b'-');
+    add(&mut lengths, "(");
+    add(&mut lengths, "copyright");
+    add(&mut lengths, "https");
+    lengths
+}
+
 impl Firsts {
-    ghost use Rattle.std.specs.Prelude.{◌≤◌, OnOk, OnErr};
+    ghost use Rattle.std.specs.Prelude.{◌≤◌, IsTrue, OnOk, OnErr};
     ghost use Rattle.indexmap.specs.IndexMap.{IsUnchanged};
+    ghost use Rattle.lic_phrases.specs.FirstTexts.{IsPlain};
     ghost use Rattle.lic_phrases.specs.Firsts.{bound_from};
     ghost use Rattle.lic_phrases.specs.PhraseLists.{IsRaised};
 
@@ -54,7 +76,7 @@ impl Firsts {
     {
         Firsts {
             most: IndexMap::new(alloc),
-            lengths: [0; 256],
+            lengths: no_lengths(),
         }
     }
 
@@ -92,9 +114,19 @@ impl Firsts {
         if self.most.is_empty() {
             return 0;
         }
-        if !may_have(&self.lengths, text) {
+        if !text.is_empty() && !may_have(&self.lengths, text) {
             return 0;
         }
         self.listed(text)
+    }
+
+    /// Whether the prefilter alone says that this text is plain and begins no phrase.
+    #[inline(always)]
+    pub(crate) fn is_plain(&self, text: &str) -> bool
+        requires { 0 < length text.now }
+        ensures plain { IsTrue result → IsPlain text.now }
+        ensures none { IsTrue result → bound_from self.now text.now ≡ 0 }
+    {
+        !may_have(&self.lengths, text)
     }
 }

@@ -37,6 +37,16 @@ invariant_of-self-2 c =
     entry
     (raised-needed first count old new raised (phrase_of spellings key.items c.args.class) entry.some first_is (ap length back ∙ as_many)))
 
+pub invariant_of-self-in_err-insert : goal.invariant_of-self-in_err-insert
+invariant_of-self-in_err-insert c =
+    let fields = c.self.inside in
+    let spellings = map string_bytes fields.spellings.items in
+    let old = bound_from fields.most_from in
+    let new = bound_from c.raise.new.self in
+    subst (λ entries. IsStored (λ k. k.items) entries spellings new) (sym c.in_err-insert.ensures.err)
+    (IsStored-raised (λ k. k.items) fields.classes.entries spellings c.as_str.result.now (length c.args.texts.now) old new c.in_ok-raise.ensures.raised
+    c.self.invariant)
+
 pub returns-clause-added : goal.returns-clause-added
 returns-clause-added c =
     let fields = c.self.inside in
