@@ -1,11 +1,12 @@
 -- Tokens that are given by the places where they begin and end.
-use Rattle.std.proofs.Common.{◌≡◌, ℕ, zero, suc, ◌+◌, ◌-◌, ◌<◌, Bool, true, false, not, ◌&&◌, ◌||◌, List, [], ◌∷◌, length, take, drop, get_or, refl, sym, ap, ◌∙◌, subst, arith, add-one, drop-cons, length-drop, true≢false}
+use Rattle.std.proofs.Common.{◌≡◌, ℕ, zero, suc, ◌+◌, ◌-◌, ◌<◌, ◌==◌, Bool, true, false, not, ◌&&◌, ◌||◌, List, [], ◌∷◌, length, take, drop, get_or, refl, sym, ap, ◌∙◌, subst, arith, add-one, drop-cons, length-drop, true≢false}
 use Rattle.std.specs.Char.{encode_utf8}
-use Rattle.std.specs.Prelude.{codes, if◌then◌else◌, nat_lt, slice_range, IsAscii}
-use Rattle.std.proofs.lemmas.Bool.{cond-true, cond-false}
+use Rattle.std.specs.Prelude.{bytes_eq, codes, if◌then◌else◌, nat_lt, slice_range, IsAscii}
+use Rattle.std.proofs.lemmas.Bool.{cond-true, cond-false, ne_eqb}
 use Rattle.lic_columns.specs.Marks.{is_joining}
 use Rattle.lic_columns.specs.SpanTokens.{span_tokens, spans_by, token_text}
 use Rattle.lic_lines.specs.Tokens.{Token, is_text, is_sign_in_parentheses, sign_from, as_sign, single_signs}
+use Rattle.lic_phrases.specs.FirstTexts.{IsPlain}
 use Rattle.lic_trim.proofs.TextLemmas.{bytes_eq-other}
 use Rattle.lic_norm.specs.Stretches.{begins_sign}
 
@@ -83,6 +84,17 @@ text_in_front (x ∷ l) (suc n) = at (is_joining x)
     at true = refl
     at false = ap (λ r. x ∷ r) (sym (take_twice l n))
 
+-- a plain text is what its letters are
+pub plain_letters : (letters : List ℕ) → IsPlain letters → token_text letters ≡ letters
+plain_letters [] plain = refl
+plain_letters (l ∷ letters) plain =
+    cond-false (is_joining l) (l ∷ []) (l ∷ letters)
+    (or-false (l == 0x27) (l == 0x2D) (ne_eqb l 0x27 plain.apostrophe) (ne_eqb l 0x2D plain.hyphen))
+  where
+    or-false : (a b : Bool) → a ≡ false → b ≡ false → (a || b) ≡ false
+    or-false true b is_a is_b = is_a
+    or-false false b is_a is_b = is_b
+
 -- ---- signs
 
 -- a token of ASCII is no sign by itself
@@ -99,6 +111,17 @@ no_parenthesis t [] none = refl
 no_parenthesis t (b ∷ []) none = refl
 no_parenthesis t (b ∷ c ∷ ts) none = ap (λ v. v && is_text (codes "c") b && not b.after_blank && is_text (codes ")") c && not c.after_blank) none
 
+-- the next token
+pub next_token : (tokens : List Token) (i : ℕ) (d : Token) → i < length tokens → drop i tokens ≡ get_or tokens i d ∷ drop (i + 1) tokens
+next_token tokens i d lt = rw (add-one, drop-cons tokens i d) refl
+
+-- tokens of which the first has a plain text begin no sign
+pub no_sign_if_plain : (tokens : List Token) (i : ℕ) (d : Token) (text : List ℕ) → i < length tokens → IsPlain text → text ≡ (get_or tokens i d).text
+    → begins_sign (drop i tokens) ≡ false
+no_sign_if_plain tokens i d text within plain is =
+    ap begins_sign (next_token tokens i d within)
+    ∙ no_parenthesis (get_or tokens i d) (drop (i + 1) tokens) (ap (bytes_eq (codes "(")) (sym is) ∙ plain.parenthesis)
+
 -- a token that begins no sign
 pub token_alone : (t : Token) (ts : List Token) → begins_sign (t ∷ ts) ≡ false → as_sign t ≡ t → single_signs (t ∷ ts) ≡ t ∷ single_signs ts
 token_alone t [] none same = ap (λ u. u ∷ []) same
@@ -113,9 +136,6 @@ pub sign_of_three : (a b c : Token) (ts : List Token) → begins_sign (a ∷ b �
 sign_of_three a b c ts sign = cond-true (is_sign_in_parentheses a b c) (sign_from a c ∷ single_signs ts) (as_sign a ∷ single_signs (b ∷ c ∷ ts)) sign
 
 -- the next three tokens
-pub next_token : (tokens : List Token) (i : ℕ) (d : Token) → i < length tokens → drop i tokens ≡ get_or tokens i d ∷ drop (i + 1) tokens
-next_token tokens i d lt = rw (add-one, drop-cons tokens i d) refl
-
 pub next_three : (tokens : List Token) (i : ℕ) (d : Token) → i + 2 < length tokens
     → drop i tokens ≡ get_or tokens i d ∷ get_or tokens (i + 1) d ∷ get_or tokens (i + 2) d ∷ drop (i + 3) tokens
 next_three tokens i d lt =

@@ -1,11 +1,14 @@
 //! From first tokens to the tokens of the rewriting, as they are kept.
-ghost use Rattle.std.specs.Prelude.{◌≡◌, ◌++◌, ◌∷◌, ◌<◌, ◌≤◌, ◌+◌, [], true, List, length, drop, map, min, IfOk, OnOk};
+ghost use Rattle.std.specs.Prelude.{◌≡◌, ◌++◌, ◌∷◌, ◌<◌, ◌≤◌, ◌+◌, [], true, false, List, length, drop, map, min, slice_index_or};
+ghost use Rattle.std.specs.Prelude.{IfOk, IfSome, IsAscii, OnOk};
 ghost use Rattle.lic_kind.specs.LineRules.{rules_of};
 ghost use Rattle.lic_lines.specs.Tokens.{Token, single_signs, text_tokens_after, token_in, tokens_in};
 ghost use Rattle.lic_phrases.specs.Rewriting.{rewritten};
+ghost use Rattle.lic_phrases.specs.Settling.{IsLeft};
 ghost use Rattle.lic_phrases.specs.TokenTexts.{HaveTokenTexts, IsTokenText};
 ghost use Rattle.lic_norm.specs.Reading.{HasTaken, HasTakenSome, HasTakenUpTo};
 ghost use Rattle.lic_norm.specs.Spans.{HaveTexts};
+ghost use Rattle.lic_norm.specs.Stretches.{begins_sign};
 ghost use Rattle.lic_norm.specs.Tokens.{reported};
 
 pub(crate) mod stretch;
@@ -36,6 +39,27 @@ pub(crate) struct Rewriting<'w> {
     tokens: TokenList,
     /// Room for the tokens that are settled together.
     settled: Vec<FinalToken>,
+}
+
+/// The text of the token number `i` of lines of ASCII, if it is plain: no copyright sign begins there, and where the rewriter keeps
+/// none back, it leaves the token as it is. Mostly the first letter and the length say so.
+#[inline(always)]
+fn plain_text<'a>(phrases: &Phrases, stretch: &Stretch<'a>, i: usize) -> Option<&'a str>
+    requires { i < length stretch.now }
+    ensures text { IfSome result (λ text. (d : _) → text.now ≡ (slice_index_or stretch.now i d).text) }
+    ensures ascii { IfSome result (λ text. IsAscii text.now) }
+    ensures no_sign { IfSome result (λ text. begins_sign (drop i stretch.now) ≡ false) }
+    ensures left { IfSome result (λ text. IsLeft phrases.now.phrases text.now) }
+{
+    let letters = stretch.letters_of(i);
+    if Rewriter::leaves_plain(phrases, letters) {
+        return Some(letters);
+    }
+    let text = stretch.text(i);
+    if stretch.is_sign(i, text) || !Rewriter::leaves(phrases, text) {
+        return None;
+    }
+    Some(text)
 }
 
 impl<'w> Rewriting<'w> {
@@ -98,6 +122,37 @@ impl<'w> Rewriting<'w> {
         Ok(())
     }
 
+    /// Takes the next token, of this text, which need not pass, and lists those that are settled then.
+    fn push_text(
+        &mut self,
+        alloc: Global,
+        text: &str,
+        start: u32,
+        end: u32,
+        after_blank: bool,
+    ) -> Result<(), AllocError>
+        requires emptied { self.old.settled.items ≡ [] }
+        requires before { HasTakenSome self.old }
+        requires text { IsTokenText text.now }
+        ensures taken { OnOk result ((taken : List Token) → HasTaken self.old taken
+            → HasTaken self.new (taken
+            ++ (record {
+              text = text.now;
+              start = start;
+              end = end;
+              after_blank = after_blank;
+            }) ∷ [])) }
+        ensures phrases { self.new.phrases.now ≡ self.old.phrases.now }
+        ensures emptied { OnOk result (self.new.settled.items ≡ []) }
+    {
+        self.push(FirstToken {
+            text: SmallString::from_str(alloc, text)?,
+            start,
+            end,
+            after_blank,
+        })
+    }
+
     /// Takes the next token, of this text, and lists those that are settled then: mostly itself, as it is.
     #[inline(always)]
     fn take_text(
@@ -125,12 +180,7 @@ impl<'w> Rewriting<'w> {
         if self.rewriter.lets_pass(self.phrases, text) {
             return self.tokens.push(text, start, end);
         }
-        self.push(FirstToken {
-            text: SmallString::from_str(alloc, text)?,
-            start,
-            end,
-            after_blank,
-        })
+        self.push_text(alloc, text, start, end, after_blank)
     }
 
     /// Takes these tokens, and lists those that are settled then.
@@ -168,10 +218,9 @@ impl<'w> Rewriting<'w> {
         }
         let mut next = i;
         while next < stretch.len() {
-            let text = stretch.text(next);
-            if stretch.is_sign(next, text) || !Rewriter::leaves(self.phrases, text) {
+            let Some(text) = plain_text(self.phrases, stretch, next) else {
                 return Ok(next);
-            }
+            };
             let letters = stretch.letters_from(next);
             let (start, end) = (stretch.start(next), stretch.end(next));
             self.tokens.push_front(text, letters, start, end)?;
@@ -180,8 +229,8 @@ impl<'w> Rewriting<'w> {
         Ok(next)
     }
 
-    /// Takes the token number `i` of lines of ASCII, if there is one, or the copyright sign that begins there, and lists the tokens
-    /// that are settled then. Gives the number of the next.
+    /// Takes the token number `i` of lines of ASCII, if there is one, or the copyright sign that begins there, through the rewriter, and
+    /// lists the tokens that are settled then. Gives the number of the next.
     #[inline(never)]
     fn take_next(
         &mut self,
@@ -205,10 +254,10 @@ impl<'w> Rewriting<'w> {
         let text = stretch.text(i);
         let (start, blank) = (stretch.start(i), stretch.after_blank(i));
         if stretch.is_sign(i, text) {
-            self.take_text(alloc, "copyright", start, stretch.end(i + 2), blank)?;
+            self.push_text(alloc, "copyright", start, stretch.end(i + 2), blank)?;
             return Ok(i + 3);
         }
-        self.take_text(alloc, text, start, stretch.end(i), blank)?;
+        self.push_text(alloc, text, start, stretch.end(i), blank)?;
         Ok(i + 1)
     }
 

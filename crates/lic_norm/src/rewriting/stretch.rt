@@ -84,6 +84,21 @@ impl<'a> Stretch<'a> {
         self.letters.len()
     }
 
+    /// The letters of the token number `i`.
+    #[inline(always)]
+    pub(crate) fn letters_of(&self, i: usize) -> &'a str
+        requires { i < length self.now }
+        ensures text { (d : _) → token_text result.now ≡ (slice_index_or self.now i d).text }
+        ensures some { 0 < length result.now }
+        ensures ascii { IsAscii result.now }
+    {
+        let start = place(self.starts, i);
+        let end = place(self.ends, i);
+        let from = (start - self.at) as usize;
+        let to = (end - self.at) as usize;
+        &self.letters[from..to]
+    }
+
     /// The text of the token number `i`.
     #[inline(always)]
     pub(crate) fn text(&self, i: usize) -> &'a str
@@ -91,11 +106,7 @@ impl<'a> Stretch<'a> {
         ensures text { (d : _) → result.now ≡ (slice_index_or self.now i d).text }
         ensures ascii { IsAscii result.now }
     {
-        let start = place(self.starts, i);
-        let end = place(self.ends, i);
-        let from = (start - self.at) as usize;
-        let to = (end - self.at) as usize;
-        token_text(&self.letters[from..to])
+        token_text(self.letters_of(i))
     }
 
     /// The letters from the token number `i` on.

@@ -19,11 +19,11 @@ overflow_add-result c = omega (arith, sign_within c.args.stretch.now c.args.i (s
 pub end-requires : goal.end-requires
 end-requires c = sign_within c.args.stretch.now c.args.i (sym c.is_sign.ensures ∙ c.if-is_sign.true)
 
-pub take_text-requires-clause-before : goal.take_text-requires-clause-before
-take_text-requires-clause-before c = c.requires.before
+pub push_text-requires-clause-before : goal.push_text-requires-clause-before
+push_text-requires-clause-before c = c.requires.before
 
-pub take_text-requires-clause-text : goal.take_text-requires-clause-text
-take_text-requires-clause-text c = copyright_text
+pub push_text-requires-clause-text : goal.push_text-requires-clause-text
+push_text-requires-clause-text c = copyright_text
 
 pub returns-then-is_sign-clause-within : goal.returns-then-is_sign-clause-within
 returns-then-is_sign-clause-within c =
@@ -40,12 +40,12 @@ returns-then-is_sign-clause-taken c =
       end = c.end.result;
       after_blank = c.after_blank-blank.result;
     } in
-    one_taken tokens i (i + 3) c.args.self.now c.take_text.new.self token c.in_ok-take_text.ensures.taken
+    one_taken tokens i (i + 3) c.args.self.now c.push_text.new.self token c.in_ok-push_text.ensures.taken
     (sign_taken tokens i token.start token.end token.after_blank (sym c.is_sign.ensures ∙ c.if-is_sign.true) (c.start-start.ensures no_token)
     (c.end.ensures no_token) (c.after_blank-blank.ensures no_token))
 
-pub take_text-requires-2-clause-text : goal.take_text-requires-2-clause-text
-take_text-requires-2-clause-text c =
+pub push_text-requires-2-clause-text : goal.push_text-requires-2-clause-text
+push_text-requires-2-clause-text c =
     subst IsTokenText (sym (c.text-text.ensures.text no_token))
     (All-get_or (λ t. IsTokenText t.text) c.args.stretch.now c.args.i no_token (omega (arith, c.if-i-len.false, c.len.ensures)) c.requires.texts)
 
@@ -59,7 +59,7 @@ returns-clause-taken c =
       end = c.end-2.result;
       after_blank = c.after_blank-blank.result;
     } in
-    one_taken tokens i (i + 1) c.args.self.now c.take_text-2.new.self token c.in_ok-take_text-2.ensures.taken
+    one_taken tokens i (i + 1) c.args.self.now c.push_text-2.new.self token c.in_ok-push_text-2.ensures.taken
     (token_taken tokens i token.text token.start token.end token.after_blank (omega (arith, c.if-i-len.false, c.len.ensures)) (sym c.is_sign.ensures ∙ c.if-is_sign.false)
     c.text-text.ensures.ascii (c.text-text.ensures.text no_token) (c.start-start.ensures no_token) (c.end-2.ensures no_token)
     (c.after_blank-blank.ensures no_token))

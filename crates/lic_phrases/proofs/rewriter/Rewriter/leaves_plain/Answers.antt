@@ -1,5 +1,5 @@
 -- The token is no sign, no `https` and begins no phrase.
-use Rattle.std.proofs.Common.{◌≡◌, ◌≤◌, ◌∙◌, sym, ap, arith}
+use Rattle.std.proofs.Common.{◌≡◌, ◌≤◌, ◌∙◌, ap, arith}
 use Rattle.std.specs.Prelude.{codes, bytes_eq}
 use Rattle.lic_phrases.specs.PhraseLists.{longest_from}
 use Rattle.lic_phrases.proofs.SettlingLemmas.{Settles-alone}

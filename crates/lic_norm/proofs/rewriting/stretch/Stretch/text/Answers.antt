@@ -1,70 +1,8 @@
-use Rattle.std.proofs.Common.{◌<◌, ◌-◌, length, ap, ap₂, ◌∙◌, arith}
-use Rattle.std.specs.Prelude.{slice_range}
-use Rattle.lic_columns.specs.SpanTokens.{token_text}
-use Rattle.lic_lines.specs.Tokens.{Token}
-use Rattle.lic_norm.proofs.StretchTokens.{count, token_is}
+use Rattle.std.proofs.Common.{◌∙◌}
 use Rattle.lic_norm.proofs.rewriting.stretch.Stretch.text.Goals as goal
 
-pub place-start-requires : goal.place-start-requires
-place-start-requires c =
-    let s = c.self.inside in
-    omega (arith, c.requires, count s.at s.letters.now s.starts.now s.ends.now c.args.self.now c.self.invariant.paired c.self.view_is)
-
-pub place-end-requires : goal.place-end-requires
-place-end-requires c =
-    let s = c.self.inside in
-    omega (
-      arith,
-      c.requires,
-      count s.at s.letters.now s.starts.now s.ends.now c.args.self.now c.self.invariant.paired c.self.view_is,
-      c.self.invariant.paired,
-    )
-
-pub overflow_sub-from : goal.overflow_sub-from
-overflow_sub-from c =
-    let s = c.self.inside in
-    let lt : c.args.i < length s.starts.now =
-    omega (arith, c.requires, count s.at s.letters.now s.starts.now s.ends.now c.args.self.now c.self.invariant.paired c.self.view_is) in
-    omega (arith, c.self.invariant.from c.args.i lt, c.place-start.ensures)
-
-pub overflow_sub-to : goal.overflow_sub-to
-overflow_sub-to c =
-    let s = c.self.inside in
-    let lt : c.args.i < length s.starts.now =
-    omega (arith, c.requires, count s.at s.letters.now s.starts.now s.ends.now c.args.self.now c.self.invariant.paired c.self.view_is) in
-    omega (arith, c.self.invariant.from c.args.i lt, c.self.invariant.some c.args.i lt, c.place-end.ensures)
-
-pub range-requires-clause-start_le_end : goal.range-requires-clause-start_le_end
-range-requires-clause-start_le_end c =
-    let s = c.self.inside in
-    let lt : c.args.i < length s.starts.now =
-    omega (arith, c.requires, count s.at s.letters.now s.starts.now s.ends.now c.args.self.now c.self.invariant.paired c.self.view_is) in
-    omega (
-      arith,
-      c.self.invariant.from c.args.i lt,
-      c.self.invariant.some c.args.i lt,
-      c.place-start.ensures,
-      c.place-end.ensures,
-    )
-
 pub token_text-requires-clause-some : goal.token_text-requires-clause-some
-token_text-requires-clause-some c =
-    let s = c.self.inside in
-    let lt : c.args.i < length s.starts.now =
-    omega (arith, c.requires, count s.at s.letters.now s.starts.now s.ends.now c.args.self.now c.self.invariant.paired c.self.view_is) in
-    omega (
-      arith,
-      c.self.invariant.from c.args.i lt,
-      c.self.invariant.some c.args.i lt,
-      c.place-start.ensures,
-      c.place-end.ensures,
-      c.range.ensures.len,
-    )
+token_text-requires-clause-some c = c.letters_of.ensures.some
 
 pub returns-clause-text : goal.returns-clause-text
-returns-clause-text c = λ d.
-    let s = c.self.inside in
-    c.token_text.ensures.text
-    ∙ ap token_text (c.range.ensures.value ∙ ap₂ (λ m n. slice_range s.letters.now (m - s.at) (n - s.at)) c.place-start.ensures c.place-end.ensures)
-    ∙ ap (λ (t : Token). t.text)
-    (token_is s.at s.letters.now s.starts.now s.ends.now c.args.self.now c.self.invariant.paired c.self.view_is c.args.i d c.requires)
+returns-clause-text c = λ d. c.token_text.ensures.text ∙ c.letters_of.ensures.text d
