@@ -80,13 +80,13 @@ def identifiers():
     """Tags of one identifier that go on, and identifiers without a template of their own."""
     known = tags.read_list(os.path.join(HERE, "tags.txt"))
     for identifier in known:
-        yield f"cut-{identifier}", TAG + identifier + more(identifier, known)
+        yield f"cut-{identifier}", TAG + identifier + more(identifier, known, CLOSED)
     for kind, beginning in (("LicenseRef", "LicenseRef-"), ("DocumentRef", f"DocumentRef-{variable('document', 'Other', OWN)}:LicenseRef-")):
         for count in range(1, LONGEST_IDENTIFIER + 1):
             words = WORD + (f"({JOINED}{WORD}){{{count - 1}}}" if count > 1 else "")
             whole = TAG + beginning + variable("name", "-".join(["Own"] * count), words)
             yield f"{kind}-identifier{LETTERS[count - 1]}", whole
-        yield f"cut-{kind}", f"{TAG}{beginning}{variable('name', 'Own', OWN)} {variable('next', 'OR', '[+:]|' + OPERATOR)}"
+        yield f"cut-{kind}", f"{TAG}{beginning}{variable('name', 'Own', OWN)} {variable('next', 'OR', f'[+:]|{OPERATOR}|{CLOSED}')}"
         yield f"cut-{kind}-b", f"{whole} {variable('next', '-', '[-._]')}"
     yield "unknown-identifier", TAG.strip()
 

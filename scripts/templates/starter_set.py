@@ -129,6 +129,8 @@ TAGS = [
     ("Own OR MIT", "expression-OR-MIT", "Own"),
     ("MIT OR LicenseRef-A", "cut-MIT", "OR"),
     ("MIT+", "cut-MIT", "+"),
+    # three marks in a row are a separator
+    ("(((MIT) OR Own) AND Own)", "cut-MIT", ") OR"),
     ("Apache-2.0 OR MIT WITH A", "cut-OR-MIT", "Apache-2.0"),
     ("(ISC OR (MIT)) AND LicenseRef-A", "cut-OR-MIT", "(ISC"),
     ("MIT OR Zlib-A", "cut-OR-Zlib", "MIT"),
