@@ -2,6 +2,6 @@ pub mod EdgeLemmas
 pub mod SameLetters
 pub mod LongestLemmas
 pub mod TextWords
-pub mod RequiredEnds
+pub mod RequiredEndLemmas
 pub mod KeysLemmas
 pub mod CandidateLemmas

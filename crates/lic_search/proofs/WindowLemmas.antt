@@ -14,7 +14,7 @@ use Rattle.lic_spans.specs.declared.span.PlaceSpan.{PlaceSpan}
 use Rattle.lic_view.specs.PlaceSets.{Reaches}
 use Rattle.lic_view.specs.Backward.{IsBackFrom}
 use Rattle.lic_search.specs.Windows.{TakesAtMost}
-use Rattle.lic_keys.proofs.RequiredEnds.{EndsText}
+use Rattle.lic_keys.proofs.RequiredEndLemmas.{EndsText}
 use Rattle.lic_search.proofs.WindowBounds.{IsBound, most_number}
 use Rattle.lic_view.specs.declared.sets.keep.Keep.{Keep}
 

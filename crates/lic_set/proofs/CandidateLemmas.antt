@@ -15,7 +15,7 @@ use Rattle.lic_keys.specs.Required.{HasNoLetters, HoldEnds, IsLongestText}
 use Rattle.lic_keys.specs.declared.candidate.Candidate.{Candidate}
 use Rattle.lic_keys.specs.declared.candidate.RequiredEnds.{RequiredEnds}
 use Rattle.lic_keys.proofs.LongestLemmas.{longest-alike}
-use Rattle.lic_keys.proofs.RequiredEnds.{described-ends}
+use Rattle.lic_keys.proofs.RequiredEndLemmas.{described-ends}
 use Rattle.lic_set.specs.Candidates.{IsCandidateOf, number_of}
 use Rattle.lic_set.specs.Matches.{IsMatch}
 use Rattle.lic_set.specs.Rising.{IsRising}

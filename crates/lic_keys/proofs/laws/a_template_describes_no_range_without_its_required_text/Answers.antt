@@ -1,5 +1,5 @@
 -- The letters of a required text end within what its template describes.
-use Rattle.lic_keys.proofs.RequiredEnds.{described-ends}
+use Rattle.lic_keys.proofs.RequiredEndLemmas.{described-ends}
 use Rattle.lic_keys.proofs.laws.a_template_describes_no_range_without_its_required_text.Goals as goal
 
 pub returns-clause-stands : goal.returns-clause-stands

@@ -9,7 +9,7 @@ use Rattle.lic_search.specs.Windows.{TakesAtMost}
 use Rattle.lic_view.proofs.ViewPlaces.{end-within}
 use Rattle.lic_search.proofs.WindowBounds.{IsBound, most_number}
 use Rattle.lic_search.proofs.WindowEnds.{end-reached, ends-placed, ends-sound}
-use Rattle.lic_keys.proofs.RequiredEnds.{ends-text}
+use Rattle.lic_keys.proofs.RequiredEndLemmas.{ends-text}
 use Rattle.lic_search.proofs.WindowLemmas.{window-reach}
 use Rattle.lic_search.proofs.windows.candidate_ends.Goals as goal
 
