@@ -22,3 +22,4 @@ pub mod LastLetters
 pub mod FreshLemmas
 pub mod SameLemmas
 pub mod JoinedSpans
+pub mod WithinWords

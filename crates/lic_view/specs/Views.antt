@@ -1,5 +1,6 @@
 -- What is looked for among the tokens of a text.
-use Rattle.std.specs.Prelude.{◌≡◌, ℕ, ◌+◌, ◌<◌, ◌≤◌, List, slice_range}
+use Rattle.std.specs.Prelude.{◌≡◌, ℕ, ◌+◌, ◌<◌, ◌≤◌, IsTrue, List, slice_range}
+use Rattle.lic_kind.specs.Kinds.{is_word_kind, kind_of}
 use Rattle.lic_norm.specs.Tokens.{TokenValue}
 use Rattle.lic_norm.specs.Places.{place_end, place_start}
 use Rattle.lic_places.specs.Places.{spelling_of}
@@ -15,3 +16,7 @@ pub record AreSpelledFrom (tokens : List TokenValue) (first count start : ℕ) (
   pub is : spelled ≡ spelling_of (slice_range tokens first (first + count))
   pub ends : (i : ℕ) → i < count → place_end tokens (first + i) ≡ start + place_end (slice_range tokens first (first + count)) i
   pub starts : (i : ℕ) → i < count → place_start tokens (first + i) ≡ start + place_start (slice_range tokens first (first + count)) i
+
+-- a letter of ASCII that is of words
+abbrev pub IsWordByte : ℕ → Type 0
+IsWordByte byte = (byte < 128) × IsTrue (is_word_kind (kind_of byte))

@@ -6,9 +6,10 @@ ghost use Rattle.lic_norm.specs.Places.{IsTokenEnd, place_end, place_start};
 ghost use Rattle.lic_places.specs.Places.{AreTexts, IsAfterBlank, OverBlank, is_blank_at, spelling_of};
 ghost use Rattle.lic_view.specs.LettersBefore.{IsLetterBefore};
 ghost use Rattle.lic_view.specs.PlaceSets.{IsLetterPlace};
-ghost use Rattle.lic_view.specs.Views.{AreSpelledFrom, IsFirstFrom};
+ghost use Rattle.lic_view.specs.Views.{AreSpelledFrom, IsFirstFrom, IsWordByte};
 
 use crate::last_letter::last_letter;
+use lic_kind::is_word;
 use lic_norm::Text;
 use lic_norm::laws::{tokens_are_token_texts, tokens_are_utf8};
 use std::marker::Model;
@@ -175,8 +176,24 @@ impl View<'_> {
         ensures { IsTrue result ↔ IsTokenEnd self.now place }
     {
         tokens_have_texts(self);
+        if self.is_within_word(place) {
+            return false;
+        }
         let token = self.first_ending_from(place);
         token < self.len() && self.end(token) == place
+    }
+
+    // Whether letters of words are right before a place and at it, as far as bytes of ASCII show. No token ends there: a blank would be
+    // between them.
+    fn is_within_word(&self, place: usize) -> bool
+        ensures { IsTrue result → ¬ (IsTokenEnd self.now place) }
+    {
+        tokens_have_texts(self);
+        let bytes = self.spelled.as_bytes();
+        if place == 0 || place >= bytes.len() {
+            return false;
+        }
+        is_word_byte(bytes[place - 1]) && is_word_byte(bytes[place])
     }
 
     /// The place from which a blank leads to this one: that of the blank of the text before it, this place itself, or none.
@@ -203,6 +220,13 @@ impl View<'_> {
             Some(byte) => *byte != b' ' && (*byte < 0x80 || *byte >= 0xC0),
         }
     }
+}
+
+// Whether a byte is a letter of ASCII that is of words.
+fn is_word_byte(byte: u8) -> bool
+    ensures { IsTrue result → IsWordByte byte }
+{
+    byte.is_ascii() && is_word(byte as char)
 }
 
 // Where `count` tokens of a text, from a token on, begin in its canonical spelling, and their own spelling.
