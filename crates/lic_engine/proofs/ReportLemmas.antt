@@ -13,7 +13,6 @@ use Rattle.lic_stream.specs.Stream.{BeginsWith}
 use Rattle.lic_fields.specs.Fields.{escaped}
 use Rattle.lic_report.specs.Report.{match_line, token_line, token_lines, no_token, first_of, AreAllLines, AreLines}
 use Rattle.lic_stream.proofs.Written.{IsPut, put_line, put_whole}
-use Rattle.lic_norm.specs.declared.token.Span.{Span}
 use Rattle.lic_find.specs.declared.ask.Ask.{Ask}
 
 pub some_more : {X : Type 0} (xs : List X) (x : X) → true ≡ nat_lt 0 (length (xs ++ x ∷ []))
@@ -86,20 +85,12 @@ token_long name t =
 pub some_tokens : (name : List ℕ) (tokens : List TokenValue) → nat_lt 0 (length tokens) ≡ nat_lt 0 (length (token_lines name tokens))
 some_tokens name tokens = some_lines (token_line name) tokens (token_long name)
 
-same_line : (name text : List ℕ) (span : Span) (t : TokenValue) → text ≡ t.text → span ≡ t.span
-    → token_line name (record { text = text; span = span }) ≡ token_line name t
-same_line name text span t e f =
-    ap (λ x. token_line name (record { text = x; span = span })) e ∙ ap (λ x. token_line name (record { text = t.text; span = x })) f
-
 -- the line of the next token is gathered
-pub put_token : (name : List ℕ) (tokens : List TokenValue) (i : ℕ) (text : List ℕ) (span : Span) (a b : Option (List ℕ)) (gathered more : List ℕ)
+pub put_token : (name : List ℕ) (tokens : List TokenValue) (i : ℕ) (a b : Option (List ℕ)) (gathered more : List ℕ)
     → IsPut a b gathered (token_lines name (take i tokens)) → i < length tokens
-    → text ≡ (slice_index_or tokens i no_token).text → span ≡ (slice_index_or tokens i no_token).span
-    → more ≡ gathered ++ token_line name (record { text = text; span = span })
+    → more ≡ gathered ++ token_line name (slice_index_or tokens i no_token)
     → IsPut a b more (token_lines name (take (i + 1) tokens))
-put_token name tokens i text span a b gathered more p h e f l =
-    let line : more ≡ gathered ++ token_line name (slice_index_or tokens i no_token) =
-    l ∙ ap (λ x. gathered ++ x) (same_line name text span (slice_index_or tokens i no_token) e f) in
+put_token name tokens i a b gathered more p h line =
     let put : IsPut a b more (flat_map (token_line name) (take i tokens ++ slice_index_or tokens i no_token ∷ [])) =
     put_line (token_line name) (take i tokens) (slice_index_or tokens i no_token) a b gathered more p line in
     subst (λ ts. IsPut a b more (token_lines name ts)) (sym (take_more tokens i no_token h)) put

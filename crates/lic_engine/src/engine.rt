@@ -143,7 +143,7 @@ fn report_tokens<W: Sink>(
     add_file(&mut file, name)?;
     let mut lines = Vec::new(alloc);
     for i in 0..text.len() {
-        add_token(&mut lines, &file, text.token(i))?;
+        add_token(&mut lines, &file, text, i)?;
         put_gathered(out, &mut lines)?;
     }
     put_all(out, lines.as_slice())?;

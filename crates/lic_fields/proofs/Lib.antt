@@ -1,1 +1,2 @@
 mod Characters
+mod PlainBytes

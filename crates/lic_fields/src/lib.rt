@@ -1,16 +1,22 @@
 //! Fields of an output line: texts with some bytes escaped, and decimal numbers.
 #![tactic(auto)]
 
-ghost use Rattle.std.specs.Prelude.{◌≡◌, ◌≤◌, ◌+◌, ◌++◌, [], ◌∷◌, false, OnOk, MatchOption, Some, decimal, drop, encode_utf8, length};
+ghost use Rattle.std.specs.Prelude.{◌≡◌, ◌≤◌, ◌+◌, ◌++◌, [], ◌∷◌, false, OnOk, MatchOption, Some, decimal, drop, encode_utf8, length, take};
 ghost use Rattle.std.specs.Fmt.{WritesOnOk};
-ghost use Rattle.lic_fields.specs.Fields.{escaped_byte, escaped, field};
+ghost use Rattle.lic_fields.specs.Fields.{ArePlain, escaped_byte, escaped, field};
 
 use itoa::{Buffer, write_digits};
 use std::alloc::AllocError;
 use std::fmt;
 
-/// The most bytes of four numbers: 20 digits each, and a mark after it.
+/// The most bytes of two numbers: 20 digits each, and a mark after it.
+const TWO_NUMBERS: usize = 42;
+
+/// The most bytes of four numbers.
 const FOUR_NUMBERS: usize = 84;
+
+/// So many bytes are copied at once.
+const COPIED: usize = 16;
 
 /// How a byte is written that a field must not have: a backslash, a line feed, a carriage return or a tab. None for any
 /// other byte.
@@ -37,8 +43,9 @@ fn may_be_escaped(byte: u8) -> bool
 }
 
 /// Whether one of these bytes has to be looked at. Most texts have none, so all are tested without a branch.
+#[inline(always)]
 fn has_escaped(bytes: &[u8]) -> bool
-    ensures { result ≡ false → escaped bytes.now ≡ bytes.now }
+    ensures { result ≡ false → ArePlain bytes.now }
 {
     let mut found = false;
     for byte in bytes {
@@ -89,6 +96,23 @@ pub fn add_text(line: &mut Vec<u8>, bytes: &[u8], mark: u8) -> Result<(), AllocE
     Ok(())
 }
 
+/// Adds the first `len` of these bytes as a field, and the tab or the line end after it. Mostly they are few and unchanged: a copy of a
+/// fixed length, of which the end is let go of, takes less time than one of their length.
+pub fn add_front(line: &mut Vec<u8>, bytes: &[u8], len: usize, mark: u8) -> Result<(), AllocError>
+    requires { len ≤ length bytes.now }
+    ensures { OnOk result (line.new.items
+        ≡ line.old.items ++ field (escaped (take len bytes.now)) mark) }
+{
+    if len > COPIED || bytes.len() < COPIED || has_escaped(&bytes[..COPIED]) {
+        return add_text(line, &bytes[..len], mark);
+    }
+    let end = line.len() + len;
+    line.extend_from_slice(&bytes[..COPIED])?;
+    line.truncate(end);
+    line.push(mark)?;
+    Ok(())
+}
+
 /// Adds a number as a field in decimal digits, and the tab or the line end after it.
 pub fn add_number(line: &mut Vec<u8>, n: u64, mark: u8) -> Result<(), AllocError>
     ensures { OnOk result (line.new.items ≡ line.old.items ++ field (decimal n) mark) }
@@ -109,6 +133,17 @@ fn write_number(buffer: &mut [u8], end: usize, n: u64, mark: u8) -> usize
 {
     buffer[end - 1] = mark;
     write_digits(n, buffer, end - 1)
+}
+
+/// Adds two numbers as fields, a tab after each. They are written from the last to the first, and added at once.
+pub fn add_two_numbers(line: &mut Vec<u8>, first: u64, second: u64) -> Result<(), AllocError>
+    ensures { OnOk result (line.new.items
+        ≡ line.old.items ++ (field (decimal first) 0x09 ++ field (decimal second) 0x09)) }
+{
+    let mut buffer = [0; TWO_NUMBERS];
+    let at = write_number(&mut buffer, TWO_NUMBERS, second, b'\t');
+    let at = write_number(&mut buffer, at, first, b'\t');
+    line.extend_from_slice(&buffer[at..])
 }
 
 /// Adds four numbers as the last fields of a line, and the line end. They are written from the last to the first, and added at

@@ -4,3 +4,4 @@ mod BundlingLemmas
 mod AllMatchesLemmas
 mod ValueLemmas
 mod ReportLemmas
+mod TokenLemmas

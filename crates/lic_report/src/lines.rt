@@ -6,10 +6,10 @@ ghost use Rattle.lic_fields.specs.Fields.{escaped, field};
 ghost use Rattle.lic_norm.specs.declared.token.Span.{Span};
 ghost use Rattle.lic_vars.specs.Views.{value_of};
 ghost use Rattle.lic_report.specs.Checking.{check_line};
-ghost use Rattle.lic_report.specs.Report.{token_line, place_fields, value_line, no_known};
+ghost use Rattle.lic_report.specs.Report.{token_line, place_fields, value_line, no_known, no_token};
 
-use lic_fields::{add_number, add_text};
-use lic_norm::{Span, Text, Token};
+use lic_fields::{add_front, add_number, add_text, add_two_numbers};
+use lic_norm::{Span, Text};
 use lic_set::Set;
 use lic_vars::Value;
 use std::alloc::AllocError;
@@ -21,17 +21,21 @@ pub fn add_file(lines: &mut Vec<u8>, name: &str) -> Result<(), AllocError>
     add_text(lines, name.as_bytes(), b'\t')
 }
 
-/// Adds the line of a token: the file, as `add_file` has written its name, the first byte of the token and its end, and its
-/// text.
-pub fn add_token(lines: &mut Vec<u8>, file: &[u8], token: Token<'_>) -> Result<(), AllocError>
+/// Adds the line of the token number `i`: the file, as `add_file` has written its name, the first byte of the token and its end,
+/// and its text.
+pub fn add_token(lines: &mut Vec<u8>, file: &[u8], text: &Text, i: usize) -> Result<(), AllocError>
+    requires { i < length text.now.tokens }
     ensures { OnOk result ((name : List ℕ) → file.now ≡ field (escaped name) 0x09
-        → lines.new.items ≡ lines.old.items ++ token_line name
-        (record { text = token.entry.text.now; span = token.entry.span })) }
+        → lines.new.items ≡ lines.old.items
+        ++ token_line name (slice_index_or text.now.tokens i no_token)) }
 {
+    let token = text.token(i);
+    let start = text.place(i).start;
+    let letters = &text.spelled().as_bytes()[start..];
     lines.extend_from_slice(file)?;
-    add_number(lines, token.span.start as u64, b'\t')?;
-    add_number(lines, token.span.end as u64, b'\t')?;
-    add_text(lines, token.text.as_bytes(), b'\n')
+    add_two_numbers(lines, token.span.start as u64, token.span.end as u64)?;
+    add_front(lines, letters, token.text.len(), b'\n')?;
+    Ok(())
 }
 
 /// Adds the start, the end and the bytes of a span of the text, or a dash where there is no span.
@@ -42,8 +46,7 @@ fn add_place(lines: &mut Vec<u8>, text: &Text, span: Option<Span>) -> Result<(),
     let Some(span) = span else {
         return add_text(lines, "-".as_bytes(), b'\n');
     };
-    add_number(lines, span.start as u64, b'\t')?;
-    add_number(lines, span.end as u64, b'\t')?;
+    add_two_numbers(lines, span.start as u64, span.end as u64)?;
     add_text(lines, text.slice(span), b'\n')
 }
 

@@ -3,7 +3,7 @@ use Rattle.std.proofs.lemmas.List.{take-append-drop}
 use Rattle.std.specs.Io.KnownBytes.{Appends}
 use Rattle.lic_stream.specs.Stream.{BeginsWith}
 use Rattle.lic_fields.specs.Fields.{escaped, field}
-use Rattle.lic_report.specs.Report.{token_line, token_lines, no_token}
+use Rattle.lic_report.specs.Report.{token_line, token_lines}
 use Rattle.lic_stream.proofs.Written.{IsPut, put_begins, put_begins_within, put_more}
 use Rattle.lic_engine.proofs.ReportLemmas.{some_tokens, put_token, put_tokens, begins_tokens}
 use Rattle.lic_engine.proofs.engine.report_tokens.Goals as goal
@@ -20,8 +20,8 @@ returns-in_err-put_gathered-clause-part g c =
     c.deref.ensures.value ∙ c.in_ok-add_file.ensures ∙ ap (λ l. l ++ field (escaped c.args.name.now) 0x09) c.new-file.ensures.items in
     let within : c.loop-i.i < length c.args.text.now.tokens = search rules in
     let put : IsPut _ (g.W.Sink.taken c.loop-i.out) c.add_token.new.lines.items (token_lines c.args.name.now (take (c.loop-i.i + 1) c.args.text.now.tokens)) =
-    put_token c.args.name.now c.args.text.now.tokens c.loop-i.i c.token.result.text.now c.token.result.span _ _ _ _
-    c.loop-i.invariant.put within (c.token.ensures.text no_token) (c.token.ensures.span no_token) (c.in_ok-add_token.ensures c.args.name.now file) in
+    put_token c.args.name.now c.args.text.now.tokens c.loop-i.i _ _ _ _
+    c.loop-i.invariant.put within (c.in_ok-add_token.ensures c.args.name.now file) in
     begins_tokens _ c.args.name.now c.args.text.now.tokens _ _
     (put_begins_within (token_line c.args.name.now) c.args.text.now.tokens
     (take (c.loop-i.i + 1) c.args.text.now.tokens) (drop (c.loop-i.i + 1) c.args.text.now.tokens)
@@ -34,8 +34,8 @@ loop-i-preserved g c =
     let within : c.loop-i.i < length c.args.text.now.tokens = search rules in
     record {
       put = put_more _ (g.W.Sink.taken c.loop-i.out) _ _ _ _
-          (put_token c.args.name.now c.args.text.now.tokens c.loop-i.i c.token.result.text.now c.token.result.span _ _ _ _
-          c.loop-i.invariant.put within (c.token.ensures.text no_token) (c.token.ensures.span no_token) (c.in_ok-add_token.ensures c.args.name.now file))
+          (put_token c.args.name.now c.args.text.now.tokens c.loop-i.i _ _ _ _
+          c.loop-i.invariant.put within (c.in_ok-add_token.ensures c.args.name.now file))
           c.in_ok-put_gathered.ensures.ok;
       sound = search rules;
     }

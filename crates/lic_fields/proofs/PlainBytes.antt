@@ -1,0 +1,36 @@
+-- Bytes that a field has as they are.
+use Rattle.std.proofs.Common.{◌≡◌, ℕ, zero, suc, ◌<◌, ◌+◌, ◌≤◌, Bool, true, false, ◌||◌, List, [], ◌∷◌, ◌++◌, All, length, take, refl, sym, append_assoc, ap, ◌∙◌, true≢false, arith}
+use Rattle.std.proofs.lemmas.List.Elements.{All-tail, All-take}
+use Rattle.std.proofs.Math.Seq.{take-append-add}
+use Rattle.std.proofs.lemmas.List.{take-take}
+use Rattle.lic_fields.specs.Fields.{ArePlain, escaped_byte, escaped, field}
+
+pub first-false : (a b : Bool) → (a || b) ≡ false → a ≡ false
+first-false false b none = refl
+first-false true b none = none
+
+pub second-false : (a b : Bool) → (a || b) ≡ false → b ≡ false
+second-false false b none = none
+second-false true b none = absurd (true≢false none)
+
+pub plain-stay : (bytes : List ℕ) → ArePlain bytes → escaped bytes ≡ bytes
+plain-stay [] plain = refl
+plain-stay (b ∷ bytes) plain =
+    ap (λ l. l ++ escaped bytes) (plain zero 0 (omega arith))
+    ∙ ap (λ l. b ∷ l) (plain-stay bytes (All-tail (λ x. escaped_byte x ≡ x ∷ []) b bytes plain))
+
+-- and those at their front
+pub plain-front : (n : ℕ) (bytes : List ℕ) → ArePlain bytes → escaped (take n bytes) ≡ take n bytes
+plain-front n bytes plain = plain-stay (take n bytes) (All-take (λ b. escaped_byte b ≡ b ∷ []) n bytes plain)
+
+-- those at the front of so many as are copied together, of which the others are let go of
+module _ (old bytes : List ℕ) (n wide : ℕ) (short : n ≤ wide) (plain : ArePlain (take wide bytes)) where
+  front-is : escaped (take n bytes) ≡ take n bytes
+  front-is =
+      ap escaped (sym (take-take n wide bytes short))
+      ∙ (plain-front n (take wide bytes) plain ∙ take-take n wide bytes short)
+
+  pub copied-front : (mark : ℕ) → take (length old + n) (old ++ take wide bytes) ++ mark ∷ [] ≡ old ++ field (escaped (take n bytes)) mark
+  copied-front mark =
+      ap (λ l. l ++ mark ∷ []) (take-append-add old (take wide bytes) n ∙ ap (λ l. old ++ l) (take-take n wide bytes short ∙ sym front-is))
+      ∙ append_assoc old (escaped (take n bytes)) (mark ∷ [])
