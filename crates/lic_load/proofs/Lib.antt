@@ -1,1 +1,3 @@
 mod Counts
+mod Files
+mod GoneOver

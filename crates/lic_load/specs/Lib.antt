@@ -1,4 +1,5 @@
 pub mod Causes
 pub mod Listings
+pub mod Loading
 pub mod Reporting
 pub use Rattle.lic_stream.specs.Stream

@@ -1,10 +1,11 @@
 //! The file of the line rules.
 
-ghost use Rattle.std.specs.Prelude.{◌≡◌, ◌⊎◌, IfOk, IfErr, OnOk, length, None};
+ghost use Rattle.std.specs.Prelude.{◌≡◌, ◌⊎◌, IfOk, IfErr, OnOk, length, IsSome, None};
 ghost use Rattle.std.specs.Str.{IsUtf8};
 ghost use Rattle.lic_kind.specs.LineRules.{profile, rules_of};
 ghost use Rattle.lic_kind.specs.RuleFiles.{lines_of, rules_in, AreSound, IsFirstFault, out_of_memory};
 ghost use Rattle.lic_load.specs.Causes.{IsFileFault};
+ghost use Rattle.lic_load.specs.Loading.{AreRulesOfFile, IsFaultOfRules};
 
 use crate::fault::{FileFault, LoadFault};
 use crate::file::read_bytes;
@@ -37,6 +38,8 @@ fn read_rules(alloc: Global, bytes: &[u8]) -> Result<Rules, FileFault<RulesFault
 /// The rules in a file, or those of this project's profile where no file is given. `-` is a file of that name.
 pub fn load_rules<Rt: Files>(rt: &Rt, alloc: Global, path: Option<&str>) -> Result<Rules, LoadFault>
     ensures profile { path.entry ≡ None → IfOk result (λ rules. rules_of rules ≡ profile) }
+    ensures file { IsSome path.entry → IfOk result (λ rules. AreRulesOfFile (rules_of rules)) }
+    ensures refused { IfErr result IsFaultOfRules }
 {
     let Some(path) = path else {
         return Ok(Rules::profile(alloc));

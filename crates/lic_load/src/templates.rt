@@ -1,6 +1,6 @@
 //! The folder of the templates.
 
-ghost use Rattle.std.specs.Prelude.{◌≡◌, ◌≢◌, ◌<◌, ◌↔◌, ◌++◌, ◌∷◌, [], ℕ, All, List, length, map, Err, IfErr, IfNone, IfOk, IfSome, IsTrue, OnOk};
+ghost use Rattle.std.specs.Prelude.{◌≡◌, ◌≢◌, ◌⊎◌, ◌<◌, ◌↔◌, ◌++◌, ◌∷◌, [], ℕ, All, List, length, map, Err, IfErr, IfNone, IfOk, IfSome, IsTrue, OnOk};
 ghost use Rattle.std.specs.List.Sorted.{IsSorted};
 ghost use Rattle.std.specs.IoError.{error_kind};
 ghost use Rattle.std.specs.Str.{IsUtf8};
@@ -13,6 +13,8 @@ ghost use Rattle.lic_markup.specs.Templates.{IsTemplate};
 ghost use Rattle.lic_load.specs.declared.templates.TemplateFault.TheVariants.{Unreadable, Memory};
 ghost use Rattle.lic_load.specs.Causes.{fault_of_read, IsTemplateFault};
 ghost use Rattle.lic_load.specs.Listings.{IsIdentifier, IsReadBy, compare, count_of_names};
+ghost use Rattle.lic_load.specs.Loading.{IsLoaded};
+ghost use Rattle.lic_load.specs.Reporting.{IsRepeated, IsReported, line_of_template, line_of_unnamed};
 
 use crate::fault::{LoadFault, tell, wants_memory};
 use lic_fields::Escaped;
@@ -219,10 +221,31 @@ pub struct Loaded {
 }
 
 /// Reports the names that are not UTF-8.
-fn tell_unnamed<E: Sink>(err: &mut E, count: usize) {
+fn tell_unnamed<E: Sink>(err: &mut E, count: usize)
+    ensures { IsRepeated line_of_unnamed (E.taken err.old) (E.failed err.old) count
+        (E.taken err.new) (E.failed err.new) }
+{
     for _ in 0..count {
         tell(err, "licscan: templates: a file name is not UTF-8\n");
     }
+}
+
+/// Reports a template that is left out, and why.
+fn tell_left_out<E: Sink>(
+    alloc: Global,
+    err: &mut E,
+    id: &str,
+    fault: &TemplateFault,
+) -> Result<(), AllocError>
+    ensures { OnOk result ((why : List ℕ)
+        × IsReported (E.taken err.old) (E.taken err.new) (E.failed err.old) (E.failed err.new)
+        (line_of_template id.now why)) }
+{
+    let id = Escaped(id);
+    let why = fault.to_string(alloc)?;
+    let line = format!(in alloc; "licscan: template {id}: {why}\n")?;
+    tell(err, line.as_str());
+    Ok(())
 }
 
 /// Reads the templates of a folder that is listed, by identifier. One that is refused or cannot be read is reported and left out,
@@ -241,6 +264,11 @@ pub fn load_all<Rt: Files + AllocGlobal, E: Sink>(
     // Each template is what some bytes say by these rules and this list.
     ensures read { IfOk result (λ loaded. All (λ known.
         IsReadBy (rules_of rules.now) words.now known.template) loaded.set) }
+    // The set is of those that were read, under their identifiers; each other one is reported.
+    ensures loaded { IfOk result (λ loaded. IsLoaded (rules_of rules.now) words.now listing
+        (E.taken err.old) (E.taken err.new) (E.failed err.old) (E.failed err.new) loaded.set) }
+    ensures refused { IfErr result (λ fault. (fault ≡ LoadFault.Memory)
+        ⊎ ((of_set : _) × (fault ≡ LoadFault.Set of_set))) }
 {
     tell_unnamed(err, listing.unnamed);
     let mut is_refused = listing.unnamed > 0;
@@ -250,9 +278,7 @@ pub fn load_all<Rt: Files + AllocGlobal, E: Sink>(
             Ok(template) => templates.push((id, template))?,
             Err(TemplateFault::Memory) => return Err(LoadFault::Memory),
             Err(fault) => {
-                let id = Escaped(id.as_str());
-                let line = format!(in alloc; "licscan: template {id}: {fault}\n")?;
-                tell(err, line.as_str());
+                tell_left_out(alloc, err, id.as_str(), &fault)?;
                 is_refused = true;
             }
         }

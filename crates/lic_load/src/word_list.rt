@@ -1,9 +1,10 @@
 //! The file of the list of equivalent words.
 
-ghost use Rattle.std.specs.Prelude.{◌≡◌, ◌⊎◌, [], IfOk, IfErr, OnOk, None, Some};
+ghost use Rattle.std.specs.Prelude.{◌≡◌, ◌⊎◌, [], IfOk, IfErr, IsSome, OnOk, None, Some};
 ghost use Rattle.std.specs.Str.{IsUtf8};
 ghost use Rattle.lic_phrases.specs.WordLists.{AreWords, phrase_lines, first_fault, out_of_memory};
 ghost use Rattle.lic_load.specs.Causes.{IsFileFault};
+ghost use Rattle.lic_load.specs.Loading.{IsFaultOfList, IsListOfFile};
 
 use crate::fault::{FileFault, LoadFault};
 use crate::file::read_bytes;
@@ -35,6 +36,8 @@ fn read_words(alloc: Global, bytes: &[u8]) -> Result<Words, FileFault<WordsFault
 /// The list in a file, or the empty one where no file is given. `-` is a file of that name.
 pub fn load_words<Rt: Files>(rt: &Rt, alloc: Global, path: Option<&str>) -> Result<Words, LoadFault>
     ensures none { path.entry ≡ None → IfOk result (λ words. words ≡ []) }
+    ensures file { IsSome path.entry → IfOk result IsListOfFile }
+    ensures refused { IfErr result IsFaultOfList }
 {
     let Some(path) = path else {
         return Ok(Words::none(alloc));

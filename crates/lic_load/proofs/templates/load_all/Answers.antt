@@ -1,14 +1,20 @@
-use Rattle.std.proofs.Common.{◌≡◌, ◌∙◌, ◌+◌, ◌<◌, ◌++◌, ◌∷◌, [], All, String, length, arith, ap, length-append, sym, subst}
+use Rattle.std.proofs.Common.{◌≡◌, ◌∙◌, ◌+◌, ◌<◌, ◌++◌, ◌∷◌, [], ℕ, All, String, List, length, map, arith, rules, ap, length-append, refl, sym, subst}
 use Rattle.std.specs.Global.{Global}
+use Rattle.std.specs.String.{string_bytes}
 use Rattle.std.proofs.lemmas.List.Elements.{All-map, All-push}
 use Rattle.std.proofs.lemmas.List.Sorted.{All-permutation}
+use Rattle.std.proofs.lemmas.Simd.{map-map}
 use Rattle.std.proofs.lemmas.Iterator.Adapters.{YieldsList-from_vec}
 use Rattle.std.proofs.lemmas.Iterator.Consumers.{YieldsList-end}
 use Rattle.lic_kind.specs.LineRules.{rules_of}
 use Rattle.lic_markup.specs.Parts.{TemplateValue}
 use Rattle.lic_set.specs.Sets.{Known, pair_known, pairs_known}
 use Rattle.lic_load.specs.Listings.{IsReadBy}
+use Rattle.lic_load.specs.Loading.{AreGoneOver}
+use Rattle.lic_load.specs.Loading.AreGoneOver.{nothing}
+use Rattle.lic_load.specs.Reporting.{IsReported, line_of_template}
 use Rattle.lic_load.proofs.Counts.{length_set}
+use Rattle.lic_load.proofs.GoneOver.{read_more, left_out_more}
 use Rattle.lic_load.proofs.templates.load_all.Goals as goal
 
 pub returns-in-Ok-build : goal.returns-in-Ok-build
@@ -17,6 +23,8 @@ returns-in-Ok-build g c =
     let all = YieldsList-end (YieldsList-from_vec {s = c.into_iter-id-iterator.result} c.args.listing.ids.items given.0 (given.1 ∙ c.args.listing.ids.ok.0))
     c.loop-id.yielded c.loop-id.id-iterator c.loop-id.yielded_by c.next.result c.next.new.self c.in-None.is c.next.ensures.steps in
     let same = length_set c.loop-id.templates.items c.in-Ok-build.set c.in-Ok-build.ensures.holds in
+    let ids : map string_bytes c.loop-id.yielded ≡ map string_bytes c.args.listing.ids.items =
+    sym (map-map string_bytes (λ id. id) c.loop-id.yielded) ∙ ap (map string_bytes) all.0 in
     record {
       left_out = (
         λ refused. let fewer : length c.loop-id.templates.items < length c.loop-id.yielded + c.args.listing.unnamed = c.loop-id.invariant.left_out.0 refused in
@@ -27,6 +35,42 @@ returns-in-Ok-build g c =
           let P : Known → Type 0 = λ known. IsReadBy (rules_of c.args.rules.now) c.args.words.now known.template in
           All-permutation P (pairs_known c.loop-id.templates.items) c.in-Ok-build.set c.in-Ok-build.ensures.holds.holds
           (All-map P pair_known c.loop-id.templates.items c.loop-id.invariant.read);
+      loaded = record {
+        mid = g.E.Sink.taken c.tell_unnamed.new.err;
+        failed_mid = g.E.Sink.failed c.tell_unnamed.new.err;
+        read = pairs_known c.loop-id.templates.items;
+        unnamed = c.tell_unnamed.ensures;
+        gone_over =
+            subst (λ ns. AreGoneOver (rules_of c.args.rules.now) c.args.words.now (g.E.Sink.taken c.tell_unnamed.new.err) (g.E.Sink.failed c.tell_unnamed.new.err) ns
+            (pairs_known c.loop-id.templates.items) (g.E.Sink.taken c.loop-id.err) (g.E.Sink.failed c.loop-id.err)) ids c.loop-id.invariant.gone_over;
+        set_of = c.in-Ok-build.ensures.holds;
+      };
+      refused = tt;
+    }
+
+pub loop-id-init : goal.loop-id-init
+loop-id-init g c = record {
+  within = search rules;
+  read = search rules;
+  left_out = search rules;
+  gone_over =
+      subst (λ pairs. AreGoneOver (rules_of c.args.rules.now) c.args.words.now (g.E.Sink.taken c.tell_unnamed.new.err) (g.E.Sink.failed c.tell_unnamed.new.err) []
+      (pairs_known pairs) (g.E.Sink.taken c.tell_unnamed.new.err) (g.E.Sink.failed c.tell_unnamed.new.err))
+      (sym c.new-templates.ensures.items) nothing;
+}
+
+pub loop-id-preserved : goal.loop-id-preserved
+loop-id-preserved g c =
+    let longer : length (c.loop-id.yielded ++ c.in-Some.id ∷ []) ≡ length c.loop-id.yielded + 1 = length-append _ _ in
+    let told = c.in_ok-tell_left_out-in-Err.ensures in
+    record {
+      within = omega (arith, longer, c.loop-id.invariant.within);
+      read = c.loop-id.invariant.read;
+      left_out = (λ refused. omega (arith, longer, c.loop-id.invariant.within), λ fewer. refl);
+      gone_over =
+          left_out_more c.loop-id.yielded (pairs_known c.loop-id.templates.items) c.in-Some.id told.0 c.loop-id.invariant.gone_over
+          (subst (λ id. IsReported (g.E.Sink.taken c.loop-id.err) (g.E.Sink.taken c.tell_left_out.new.err) (g.E.Sink.failed c.loop-id.err)
+          (g.E.Sink.failed c.tell_left_out.new.err) (line_of_template id told.0)) c.as_str-in-Err.ensures.value told.1);
     }
 
 pub loop-id-preserved-in-Continue-1 : goal.loop-id-preserved-in-Continue-1
@@ -43,4 +87,9 @@ loop-id-preserved-in-Continue-1 g c =
             omega (arith, grown, longer, fewer),
         λ fewer. c.loop-id.invariant.left_out.1 (omega (arith, grown, longer, fewer)),
       );
+      gone_over =
+          subst (λ pairs. AreGoneOver (rules_of c.args.rules.now) c.args.words.now (g.E.Sink.taken c.tell_unnamed.new.err) (g.E.Sink.failed c.tell_unnamed.new.err)
+          (map string_bytes (c.loop-id.yielded ++ c.in-Some.id ∷ [])) (pairs_known pairs) (g.E.Sink.taken c.loop-id.err) (g.E.Sink.failed c.loop-id.err))
+          (sym c.in_ok-push-in-Ok.ensures.items)
+          (read_more c.loop-id.yielded c.loop-id.templates.items c.in-Some.id c.in-Ok.template c.loop-id.invariant.gone_over c.in-Ok.ensures);
     }
