@@ -1,5 +1,5 @@
 -- From the clauses of a scan to what was written about a file.
-use Rattle.std.proofs.Common.{◌≡◌, ◌⊎◌, ℕ, ◌+◌, ◌<◌, Bool, List, length, map, take, get_or, Option, Result, Ok, Err, IfOk, OnErr, IsErrOf, nat_lt, inl, inr, refl, sym, ap, subst, ◌∙◌}
+use Rattle.std.proofs.Common.{◌≡◌, ◌⊎◌, ℕ, ◌+◌, ◌<◌, Bool, List, length, map, take, get_or, Option, Result, Ok, Err, IfOk, OnErr, IsErrOf, nat_lt, inl, inr, refl, sym, ap, subst, ◌∙◌, ◌++◌, append-nil}
 use Rattle.std.specs.Borrow.{Bor}
 use Rattle.std.specs.Io.KnownBytes.{Appends}
 use Rattle.std.proofs.lemmas.List.{map_more, take-map}
@@ -10,7 +10,9 @@ use Rattle.lic_engine.specs.declared.fault.RunFault.{RunFault}
 use Rattle.lic_engine.specs.declared.fault.RunFault.TheVariants.{Text, Read, Write, Memory}
 use Rattle.lic_command.specs.Lines.{AreBegun, AreLinesOf, AreWritten, HasWritten}
 use Rattle.lic_command.specs.Lines.AreWritten.{one_more}
-use Rattle.lic_command.specs.Outcomes.{IsWithOneMore}
+use Rattle.lic_command.specs.Outcomes.{IsWithOneMore, refused_by}
+use Rattle.lic_command.specs.Telling.{AreTold, IsAnswerTold}
+use Rattle.lic_command.specs.Telling.AreTold.{one_more as told_one_more}
 use Rattle.lic_command.specs.declared.faults.Stop.{Stop}
 use Rattle.lic_command.specs.declared.files.Work.{Work}
 use Rattle.lic_command.specs.declared.files.Written.{Written}
@@ -45,22 +47,34 @@ module _ (a b u v : Option (List ℕ)) (lines_of : List ℕ → List ℕ) where
   part_lines w = (w.0, w.1, λ lines e. subst (BeginsWith u v) (sym e) w.2)
 
 -- one file more
-pub written_more : {old mid new : Option (List ℕ)} {before after : Written} {answer : Result Bool RunFault} (work : Work)
+pub written_more : {old mid new : Option (List ℕ)} {before after : Written} {refused : List (List ℕ)} (answer : Result Bool RunFault) (work : Work)
     (names : List (Bor (List ℕ))) (k : ℕ) (d : Bor (List ℕ)) → k < length names
-    → AreWritten work old (map (λ name. name.now) (take k names)) mid before
+    → AreWritten work old (map (λ name. name.now) (take k names)) refused mid before
     → HasWritten work (get_or names k d).now mid new answer → IsWithOneMore before answer after
-    → AreWritten work old (map (λ name. name.now) (take (k + 1) names)) new after
-written_more {old} {mid} {new} {before} {after} work names k d within written more one =
-    subst (λ ns. AreWritten work old ns new after) (sym (map_more (λ name. name.now) names k d within))
-    (one_more (get_or names k d).now written more one)
+    → AreWritten work old (map (λ name. name.now) (take (k + 1) names)) (refused ++ refused_by (get_or names k d).now answer) new after
+written_more {old} {mid} {new} {before} {after} {refused} answer work names k d within written more one =
+    subst (λ ns. AreWritten work old ns (refused ++ refused_by (get_or names k d).now answer) new after)
+    (sym (map_more (λ name. name.now) names k d within))
+    (one_more (get_or names k d).now answer written more one)
 
 -- the work stops after so many files
-pub begun : {old new : Option (List ℕ)} {written : Written} (r : Result Written Stop) (work : Work) (names : List (Bor (List ℕ))) (k : ℕ)
-    → AreWritten work old (map (λ name. name.now) (take k names)) new written
+pub begun : {old new : Option (List ℕ)} {written : Written} {refused : List (List ℕ)} (r : Result Written Stop) (work : Work)
+    (names : List (Bor (List ℕ))) (k : ℕ)
+    → AreWritten work old (map (λ name. name.now) (take k names)) refused new written
     → OnErr r (AreBegun work old (map (λ name. name.now) names) new)
 begun (Ok x) work names k are = tt
-begun {old} {new} {written} (Err stop) work names k are =
-    (k, written, subst (λ ns. AreWritten work old ns new written) (sym (take-map (λ name. name.now) k names)) are)
+begun {old} {new} {written} {refused} (Err stop) work names k are =
+    (k, refused, written, subst (λ ns. AreWritten work old ns refused new written) (sym (take-map (λ name. name.now) k names)) are)
+
+-- a line about one file more, if it is refused
+pub told_more : {old mid new : Option (List ℕ)} {failed_old failed_mid failed_new : ℕ} (refused : List (List ℕ)) (name : List ℕ)
+    (answer : Result Bool RunFault) → AreTold old failed_old refused mid failed_mid → IsAnswerTold name answer mid new failed_mid failed_new
+    → AreTold old failed_old (refused ++ refused_by name answer) new failed_new
+told_more {old} {mid} {new} {failed_old} {failed_mid} {failed_new} refused name (Ok some) told same =
+    subst (λ ns. AreTold old failed_old ns new failed_new) (sym (append-nil refused))
+    (subst (λ n. AreTold old failed_old refused new n) (sym same.1)
+    (subst (λ t. AreTold old failed_old refused t failed_mid) (sym same.0) told))
+told_more refused name (Err fault) told line = told_one_more name line.0 told line.1
 
 -- no write failed for one file more
 pub counts_more : {old mid new : ℕ} (answer : Result Bool RunFault) → CountsWrites answer mid new → mid ≡ old

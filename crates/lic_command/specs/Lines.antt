@@ -8,7 +8,7 @@ use Rattle.lic_engine.specs.Report.{IsReport, token_lines}
 use Rattle.lic_engine.specs.Stream.{BeginsWith}
 use Rattle.lic_engine.specs.declared.fault.RunFault.{RunFault}
 use Rattle.lic_engine.specs.declared.fault.RunFault.TheVariants.{Text, Read, Write, Memory}
-use Rattle.lic_command.specs.Outcomes.{IsWithOneMore}
+use Rattle.lic_command.specs.Outcomes.{IsWithOneMore, refused_by}
 use Rattle.lic_command.specs.declared.files.Work.{Work}
 use Rattle.lic_command.specs.declared.files.Work.TheVariants.{Scan, Tokens}
 use Rattle.lic_command.specs.declared.files.Written.{Written}
@@ -35,13 +35,13 @@ HasWritten work name old new (Err Read) = new ≡ old
 HasWritten work name old new (Err Write) = HasBegun work name old new
 HasWritten work name old new (Err Memory) = HasBegun work name old new
 
--- What was written about files with these names, one after another, and what came of them.
-pub data AreWritten (work : Work) (old : Option (List ℕ)) : List (List ℕ) → Option (List ℕ) → Written → Type 0 where
-  no_file : AreWritten work old [] old (record { has_line = false; is_refused = false })
-  one_more : {names : List (List ℕ)} (name : List ℕ) {mid new : Option (List ℕ)} {before after : Written}
-      {answer : Result Bool RunFault} → AreWritten work old names mid before → HasWritten work name mid new answer
-      → IsWithOneMore before answer after → AreWritten work old (names ++ name ∷ []) new after
+-- What was written about files with these names, one after another, which of them are refused, and what came of them.
+pub data AreWritten (work : Work) (old : Option (List ℕ)) : List (List ℕ) → List (List ℕ) → Option (List ℕ) → Written → Type 0 where
+  no_file : AreWritten work old [] [] old (record { has_line = false; is_refused = false })
+  one_more : {names refused : List (List ℕ)} (name : List ℕ) {mid new : Option (List ℕ)} {before after : Written}
+      (answer : Result Bool RunFault) → AreWritten work old names refused mid before → HasWritten work name mid new answer
+      → IsWithOneMore before answer after → AreWritten work old (names ++ name ∷ []) (refused ++ refused_by name answer) new after
 
 -- what was written about so many of the files with these names, from the first, one after another
 abbrev pub AreBegun : Work → Option (List ℕ) → List (List ℕ) → Option (List ℕ) → Type 0
-AreBegun work old names new = (count : ℕ) × (written : Written) × AreWritten work old (take count names) new written
+AreBegun work old names new = (count : ℕ) × (refused : List (List ℕ)) × (written : Written) × AreWritten work old (take count names) refused new written

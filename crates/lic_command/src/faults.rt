@@ -1,7 +1,8 @@
 //! Why the program ends before its work is done, and how it reports that.
 
-ghost use Rattle.std.specs.Prelude.{◌≡◌, ℕ, List};
+ghost use Rattle.std.specs.Prelude.{◌≡◌, ℕ, List, IfOk, string_bytes};
 ghost use Rattle.lic_load.specs.Reporting.{IsReported};
+ghost use Rattle.lic_command.specs.Telling.{line_of_stop};
 ghost use Rattle.lic_command.specs.declared.faults.Stop.TheVariants.{Arguments, Load, Memory};
 
 use lic_arguments::ArgumentFault;
@@ -58,12 +59,21 @@ impl From<AllocError> for Stop {
     }
 }
 
+/// The line about why the program ends.
+fn line_of(alloc: Global, stop: &Stop) -> Result<String, AllocError>
+    ensures { IfOk result (λ line. (why : List ℕ) × (string_bytes line ≡ line_of_stop why)) }
+{
+    let why = stop.to_string(alloc)?;
+    format!(in alloc; "licscan: {why}\n")
+}
+
 /// Reports why the program ends.
 pub fn tell_stop<E: Sink>(alloc: Global, err: &mut E, stop: &Stop)
-    ensures { (text : List ℕ)
-        × IsReported (E.taken err.old) (E.taken err.new) (E.failed err.old) (E.failed err.new) text }
+    ensures { (why : List ℕ)
+        × IsReported (E.taken err.old) (E.taken err.new) (E.failed err.old) (E.failed err.new)
+        (line_of_stop why) }
 {
-    match format!(in alloc; "licscan: {stop}\n") {
+    match line_of(alloc, stop) {
         Ok(line) => tell(err, line.as_str()),
         Err(_) => tell(err, "licscan: out of memory\n"),
     }

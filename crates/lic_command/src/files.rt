@@ -7,6 +7,7 @@ ghost use Rattle.lic_engine.specs.Inputs.{IsAccepted, IsRefused, IsUnrefused};
 ghost use Rattle.lic_engine.specs.Stream.{BeginsWith};
 ghost use Rattle.lic_command.specs.Lines.{AreBegun, AreLinesOf, AreWritten, HasWritten};
 ghost use Rattle.lic_command.specs.Outcomes.{IsStopAfter, IsWithOneMore, StopsForWrites};
+ghost use Rattle.lic_command.specs.Telling.{AreTold, IsAnswerTold};
 
 use crate::faults::Stop;
 use crate::progress::Progress;
@@ -145,6 +146,8 @@ fn report_refusal<E: Sink>(
 ) -> Result<(), Stop>
     ensures ok { OnOk result (¬ (IsErrOf answer RunFault.Write)) }
     ensures stopped { IfErr result (IsStopAfter answer) }
+    ensures told { files.entry.progress ≡ Progress.Hidden → OnOk result
+        (IsAnswerTold name.now answer (E.taken err.old) (E.taken err.new) (E.failed err.old) (E.failed err.new)) }
 {
     match answer {
         Ok(_) => Ok(()),
@@ -152,7 +155,8 @@ fn report_refusal<E: Sink>(
         Err(fault) => {
             files.progress.clear(err, files.names.len());
             let name = Escaped(name);
-            let line = format!(in alloc; "licscan: {name}: {fault}\n")?;
+            let why = fault.to_string(alloc)?;
+            let line = format!(in alloc; "licscan: {name}: {why}\n")?;
             tell(err, line.as_str());
             Ok(())
         }
@@ -169,8 +173,11 @@ fn write_each<Rt: Files, R: Source, W: Sink, E: Sink>(
     err: &mut E,
     work: Work<'_>,
 ) -> Result<Written, Stop>
-    ensures written { IfOk result
-        (AreWritten work.entry (W.taken out.old) (map (λ name. name.now) files.entry.names.now) (W.taken out.new)) }
+    // Each file that is refused is reported.
+    ensures written { IfOk result (λ written. (refused : List (List ℕ))
+        × AreWritten work.entry (W.taken out.old) (map (λ name. name.now) files.entry.names.now) refused (W.taken out.new) written
+        × (files.entry.progress ≡ Progress.Hidden
+        → AreTold (E.taken err.old) (E.failed err.old) refused (E.taken err.new) (E.failed err.new))) }
     // It stops with what was written about some of the files, from the first.
     ensures part { OnErr result
         (AreBegun work.entry (W.taken out.old) (map (λ name. name.now) files.entry.names.now) (W.taken out.new)) }
@@ -202,8 +209,11 @@ pub fn write_files<Rt: Files, R: Source, W: Sink, E: Sink>(
     err: &mut E,
     work: Work<'_>,
 ) -> Result<Written, Stop>
-    ensures written { IfOk result
-        (AreWritten work.entry (W.taken out.old) (map (λ name. name.now) files.entry.names.now) (W.taken out.new)) }
+    // Each file that is refused is reported.
+    ensures written { IfOk result (λ written. (refused : List (List ℕ))
+        × AreWritten work.entry (W.taken out.old) (map (λ name. name.now) files.entry.names.now) refused (W.taken out.new) written
+        × (files.entry.progress ≡ Progress.Hidden
+        → AreTold (E.taken err.old) (E.failed err.old) refused (E.taken err.new) (E.failed err.new))) }
     // It stops with what was written about some of the files, from the first.
     ensures part { OnErr result
         (AreBegun work.entry (W.taken out.old) (map (λ name. name.now) files.entry.names.now) (W.taken out.new)) }

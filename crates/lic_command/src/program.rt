@@ -1,8 +1,11 @@
 //! The whole program.
 
 ghost use Rattle.std.specs.Prelude.{◌≡◌, ◌≢◌, ◌≤◌, ℕ, List, Ok, Err, IfOk};
+ghost use Rattle.clap.specs.Matches.{found_of};
 ghost use Rattle.clap.specs.Values.{kind_of};
 ghost use Rattle.lic_load.specs.Reporting.{IsReported};
+ghost use Rattle.lic_command.specs.Commands.{HasChecked, HasEnded, HasListed, HasScanned};
+ghost use Rattle.lic_command.specs.Outcomes.{CountsStops};
 ghost use Rattle.lic_command.specs.Usage.{IsFault, IsShown};
 
 use crate::faults::Stop;
@@ -28,7 +31,10 @@ fn scan<Rt: Files + AllocGlobal + Clone + Drop, R: Source, W: Sink, E: Sink>(
     err: &mut E,
     progress: Progress,
 ) -> Result<u8, Stop>
-    ensures { IfOk result (λ status. status ≤ 2) }
+    ensures done { IfOk result (HasScanned (found_of found.now) progress (W.taken out.old) (W.taken out.new)
+        (E.taken err.old) (E.taken err.new) (E.failed err.old) (E.failed err.new)) }
+    ensures writes { CountsStops result (W.failed out.old) (W.failed out.new) }
+    ensures few { IfOk result (λ status. status ≤ 2) }
 {
     let arguments = ScanArguments::read(alloc, found)?;
     let rules = load_rules(rt, alloc, arguments.rules)?;
@@ -58,7 +64,10 @@ fn check_templates<Rt: Files + AllocGlobal + Clone + Drop, W: Sink, E: Sink>(
     out: &mut W,
     err: &mut E,
 ) -> Result<u8, Stop>
-    ensures { IfOk result (λ status. status ≤ 2) }
+    ensures done { IfOk result (HasChecked (found_of found.now) (W.taken out.old) (W.taken out.new)
+        (E.taken err.old) (E.taken err.new) (E.failed err.old) (E.failed err.new)) }
+    ensures writes { CountsStops result (W.failed out.old) (W.failed out.new) }
+    ensures few { IfOk result (λ status. status ≤ 2) }
 {
     let arguments = CheckArguments::read(found);
     let rules = load_rules(rt, alloc, arguments.rules)?;
@@ -79,7 +88,10 @@ fn tokens<Rt: Files + AllocGlobal, R: Source, W: Sink, E: Sink>(
     err: &mut E,
     progress: Progress,
 ) -> Result<u8, Stop>
-    ensures { IfOk result (λ status. status ≤ 2) }
+    ensures done { IfOk result (HasListed (found_of found.now) progress (W.taken out.old) (W.taken out.new)
+        (E.taken err.old) (E.taken err.new) (E.failed err.old) (E.failed err.new)) }
+    ensures writes { CountsStops result (W.failed out.old) (W.failed out.new) }
+    ensures few { IfOk result (λ status. status ≤ 2) }
 {
     let arguments = TokensArguments::read(alloc, found)?;
     let rules = load_rules(rt, alloc, arguments.rules)?;
@@ -121,6 +133,9 @@ fn show_usage<W: Sink, E: Sink>(
     ensures fault { IsFault (kind_of error.now) → result ≢ Err Stop.Memory → (text : List ℕ)
         × IsReported (E.taken err.old) (E.taken err.new) (E.failed err.old) (E.failed err.new) text
         × (out.new ≡ out.old) × (result ≡ Ok 2) }
+    ensures done { IfOk result (λ status. (progress : Progress) → HasEnded progress (W.taken out.old) (W.taken out.new)
+        (E.taken err.old) (E.taken err.new) (E.failed err.old) (E.failed err.new) status) }
+    ensures writes { CountsStops result (W.failed out.old) (W.failed out.new) }
     // Where memory ran out nothing is written.
     ensures memory { kind_of error.now ≡ ErrorKind.OutOfMemory → result ≡ Err Stop.Memory }
     ensures nothing { result ≡ Err Stop.Memory → (out.new ≡ out.old) × (err.new ≡ err.old) }
@@ -146,7 +161,10 @@ fn try_command<Rt: Files + AllocGlobal + Clone + Drop, R: Source, W: Sink, E: Si
     err: &mut E,
     progress: Progress,
 ) -> Result<u8, Stop>
-    ensures { IfOk result (λ status. status ≤ 2) }
+    ensures done { IfOk result (HasEnded progress (W.taken out.old) (W.taken out.new)
+        (E.taken err.old) (E.taken err.new) (E.failed err.old) (E.failed err.new)) }
+    ensures writes { CountsStops result (W.failed out.old) (W.failed out.new) }
+    ensures few { IfOk result (λ status. status ≤ 2) }
 {
     let mut words = Vec::new(alloc);
     words.push("licscan")?;
@@ -179,7 +197,11 @@ pub fn command<Rt: Files + AllocGlobal + Clone + Drop, R: Source, W: Sink, E: Si
     out: &mut W,
     err: &mut E,
 ) -> u8
-    ensures { result ≤ 2 }
+    ensures done { HasEnded Progress.Hidden (W.taken out.old) (W.taken out.new)
+        (E.taken err.old) (E.taken err.new) (E.failed err.old) (E.failed err.new) result }
+    // A write to standard output that failed ends it with 2.
+    ensures sound { result ≢ 2 → W.failed out.new ≡ W.failed out.old }
+    ensures few { result ≤ 2 }
 {
     command_with(rt, alloc, args, input, out, err, Progress::Hidden)
 }
@@ -194,7 +216,11 @@ pub fn command_with<Rt: Files + AllocGlobal + Clone + Drop, R: Source, W: Sink, 
     err: &mut E,
     progress: Progress,
 ) -> u8
-    ensures { result ≤ 2 }
+    ensures done { HasEnded progress (W.taken out.old) (W.taken out.new)
+        (E.taken err.old) (E.taken err.new) (E.failed err.old) (E.failed err.new) result }
+    // A write to standard output that failed ends it with 2.
+    ensures sound { result ≢ 2 → W.failed out.new ≡ W.failed out.old }
+    ensures few { result ≤ 2 }
 {
     let outcome = try_command(rt, alloc, args, input, out, err, progress);
     status_at_end(alloc, err, outcome)

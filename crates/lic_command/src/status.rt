@@ -3,6 +3,7 @@
 ghost use Rattle.std.specs.Prelude.{◌≡◌, ◌≤◌, ◌||◌, ℕ, List, Ok, IfOk, IsErr};
 ghost use Rattle.lic_load.specs.Reporting.{IsReported};
 ghost use Rattle.lic_command.specs.Statuses.{IsStatus, IsStatusOfCheck};
+ghost use Rattle.lic_command.specs.Telling.{line_of_stop};
 
 use crate::faults::{Stop, tell_stop};
 use crate::files::Written;
@@ -53,8 +54,9 @@ pub fn status_at_end<E: Sink>(alloc: Global, err: &mut E, outcome: Result<u8, St
     ensures silent { (status : _) → outcome ≡ Ok status → err.new ≡ err.old }
     ensures stopped { IsErr outcome → result ≡ 2 }
     ensures few { IfOk outcome (λ status. status ≤ 2) → result ≤ 2 }
-    ensures reported { IsErr outcome → (text : List ℕ)
-        × IsReported (E.taken err.old) (E.taken err.new) (E.failed err.old) (E.failed err.new) text }
+    ensures reported { IsErr outcome → (why : List ℕ)
+        × IsReported (E.taken err.old) (E.taken err.new) (E.failed err.old) (E.failed err.new)
+        (line_of_stop why) }
 {
     match outcome {
         Ok(status) => status,

@@ -1,28 +1,36 @@
-use Rattle.std.proofs.Common.{rules, ◌<◌, ◌+◌, length, map, take, refl, subst, sym}
+use Rattle.std.proofs.Common.{rules, [], ◌<◌, ◌+◌, length, map, take, refl, subst, sym}
 use Rattle.lic_command.specs.Lines.{AreWritten}
 use Rattle.lic_command.specs.Lines.AreWritten.{no_file}
-use Rattle.lic_command.proofs.LineLemmas.{begun, counts_more, written_more}
+use Rattle.lic_command.specs.Telling.{AreTold}
+use Rattle.lic_command.specs.Telling.AreTold.{nothing}
+use Rattle.lic_command.proofs.LineLemmas.{begun, counts_more, told_more, written_more}
 use Rattle.lic_command.proofs.files.write_each.Goals as goal
 
 pub loop-done-init : goal.loop-done-init
-loop-done-init g c = (no_file, refl)
+loop-done-init g c = ([], no_file, (λ hidden. nothing), refl)
 
 pub loop-done-preserved : goal.loop-done-preserved
 loop-done-preserved g c =
-    let within : c.loop-done.done < length c.args.files.names.now = search rules in (
-      written_more c.args.work c.args.files.names.now c.loop-done.done _ within c.loop-done.invariant.0 c.in_ok-answer.ensures.written c.with_one_more-written.ensures,
-      counts_more _ c.in_ok-answer.ensures.writes c.loop-done.invariant.1 c.in_ok-report_refusal.ensures.ok,
+    let within : c.loop-done.done < length c.args.files.names.now = search rules in
+    let before = c.loop-done.invariant in (
+      _,
+      written_more _ c.args.work c.args.files.names.now c.loop-done.done _ within before.1 c.in_ok-answer.ensures.written c.with_one_more-written.ensures,
+      (λ hidden. told_more before.0 _ _
+          (subst (λ err. AreTold (g.E.Sink.taken c.args.err.now) (g.E.Sink.failed c.args.err.now) before.0 (g.E.Sink.taken err) (g.E.Sink.failed err))
+          (sym (c.show.ensures.hidden hidden)) (before.2 hidden))
+          (c.in_ok-report_refusal.ensures.told hidden)),
+      counts_more _ c.in_ok-answer.ensures.writes before.3 c.in_ok-report_refusal.ensures.ok,
     )
 
 pub returns-in_err-answer-clause-part : goal.returns-in_err-answer-clause-part
 returns-in_err-answer-clause-part g c =
     begun c.from_residual.result c.args.work c.args.files.names.now c.loop-done.done
     (subst (λ out. AreWritten c.args.work (g.W.Sink.taken c.args.out.now)
-    (map (λ name. name.now) (take c.loop-done.done c.args.files.names.now)) (g.W.Sink.taken out) c.loop-done.written)
-    (sym c.in_err-answer.ensures.stopped) c.loop-done.invariant.0)
+    (map (λ name. name.now) (take c.loop-done.done c.args.files.names.now)) c.loop-done.invariant.0 (g.W.Sink.taken out) c.loop-done.written)
+    (sym c.in_err-answer.ensures.stopped) c.loop-done.invariant.1)
 
 pub returns-in_err-report_refusal-clause-part : goal.returns-in_err-report_refusal-clause-part
 returns-in_err-report_refusal-clause-part g c =
     let within : c.loop-done.done < length c.args.files.names.now = search rules in
     begun c.from_residual-in_err-report_refusal.result c.args.work c.args.files.names.now (c.loop-done.done + 1)
-    (written_more c.args.work c.args.files.names.now c.loop-done.done _ within c.loop-done.invariant.0 c.in_ok-answer.ensures.written c.with_one_more-written.ensures)
+    (written_more _ c.args.work c.args.files.names.now c.loop-done.done _ within c.loop-done.invariant.1 c.in_ok-answer.ensures.written c.with_one_more-written.ensures)

@@ -1,0 +1,133 @@
+-- What a command has done where its work is done, and what the program has done.
+use Rattle.std.specs.Prelude.{◌≡◌, ◌↔◌, ◌||◌, ℕ, ◌<◌, Bool, true, codes, List, [], length, Option, None, Some, IsSome, option_map}
+use Rattle.std.specs.Borrow.{Bor}
+use Rattle.std.specs.List.{list_all}
+use Rattle.std.specs.Io.KnownBytes.{Appends}
+use Rattle.clap.specs.Matches.{first_value, subcommand_name_of}
+use Rattle.clap.specs.Simple.{subcommand_rows_of}
+use Rattle.clap.specs.Walk.{rows_of}
+use Rattle.clap.specs.declared.parser.matches.ArgMatches.{ArgMatches}
+use Rattle.clap.specs.declared.parser.matches.Found.{Found}
+use Rattle.lic_kind.specs.LineRules.{LineRules, profile, rules_of}
+use Rattle.lic_kind.specs.declared.rules.Rules.{Rules}
+use Rattle.lic_phrases.specs.Rewriting.{Phrase}
+use Rattle.lic_set.specs.Sets.{Known}
+use Rattle.lic_arguments.specs.After.{IsAsGiven}
+use Rattle.lic_arguments.specs.Arguments.{IsTripleOf}
+use Rattle.lic_arguments.specs.Options.{IsFlag, IsGiven, IsLimit, files_in}
+use Rattle.lic_arguments.specs.declared.after.After.{After}
+use Rattle.lic_arguments.specs.declared.after.Given.{Given}
+use Rattle.lic_engine.specs.Checking.{Checked, IsCheckReport, says_yes}
+use Rattle.lic_load.specs.Listings.{count_of_names}
+use Rattle.lic_load.specs.Loading.{AreRulesOfFile, IsListOfFile, IsLoaded}
+use Rattle.lic_load.specs.Reporting.{IsReported}
+use Rattle.lic_load.specs.declared.templates.Listing.{Listing}
+use Rattle.lic_command.specs.Lines.{AreWritten}
+use Rattle.lic_command.specs.Statuses.{IsStatus}
+use Rattle.lic_command.specs.Telling.{AreTold, IsStopTold}
+use Rattle.lic_command.specs.declared.files.Search.{Search}
+use Rattle.lic_command.specs.declared.files.Work.{Work}
+use Rattle.lic_command.specs.declared.files.Work.TheVariants.{Scan, Tokens}
+use Rattle.lic_command.specs.declared.files.Written.{Written}
+use Rattle.lic_command.specs.declared.progress.Progress.{Progress}
+use Rattle.lic_command.specs.declared.progress.Progress.TheVariants.{Hidden}
+
+-- ---- what is loaded
+
+-- the line rules: those of the profile where no file is given, and what a file says where one is
+pub record AreRulesFor (found : Found) (rules : LineRules) : Type 0 where
+  pub none : first_value found (codes "rules") ≡ None → rules ≡ profile
+  pub file : IsSome (first_value found (codes "rules")) → AreRulesOfFile rules
+
+-- the list of equivalent words: an empty one where no file is given, and what a file says where one is
+pub record IsListFor (found : Found) (words : List Phrase) : Type 0 where
+  pub none : first_value found (codes "words") ≡ None → words ≡ []
+  pub file : IsSome (first_value found (codes "words")) → IsListOfFile words
+
+-- The templates of a folder are read by the rules and the list. Those that are not are reported, one by one.
+pub record AreLoaded (rules : LineRules) (words : List Phrase) (set : List Known) (is_left_out : Bool)
+    (old new : Option (List ℕ)) (failed_old failed_new : ℕ) : Type 0 where
+  pub listing : Listing
+  pub loaded : IsLoaded rules words listing old new failed_old failed_new set
+  pub left_out : (is_left_out ≡ true) ↔ (length set < count_of_names listing)
+
+-- ---- what is done
+
+-- what is asked for is as the arguments have it
+pub record IsAskFor (found : Found) (search : Search) : Type 0 where
+  pub all : IsFlag found (codes "all") search.ask.now.all
+  pub limit : IsLimit found search.ask.now.limit
+  pub given : Given
+  pub after : Option After
+  pub options : IsGiven found (length (files_in found)) given
+  pub named : IsAsGiven given after
+  pub triple : IsTripleOf search.set.now after search.ask.now.after
+
+-- `scan`: the reports of the files are written, each refused one is reported after the templates that are left out, and the status is the
+-- one that follows
+pub record HasScanned (found : Found) (progress : Progress) (out_old out_new err_old err_new : Option (List ℕ)) (failed_old failed_new : ℕ)
+    (status : ℕ) : Type 0 where
+  pub search : Search
+  pub is_left_out : Bool
+  pub refused : List (List ℕ)
+  pub written : Written
+  pub mid : Option (List ℕ)
+  pub failed_mid : ℕ
+  pub rules : AreRulesFor found (rules_of search.rules.now)
+  pub words : IsListFor found search.words.now
+  pub templates : AreLoaded (rules_of search.rules.now) search.words.now search.set.now is_left_out err_old mid failed_old failed_mid
+  pub ask : IsAskFor found search
+  pub lines : AreWritten (Scan search) out_old (files_in found) refused out_new written
+  pub told : progress ≡ Hidden → AreTold mid failed_mid refused err_new failed_new
+  pub ends : IsStatus (written.is_refused || is_left_out) written.has_line status
+
+-- `tokens`: the lines of the tokens are written, each refused file is reported, and the status is the one that follows
+pub record HasListed (found : Found) (progress : Progress) (out_old out_new err_old err_new : Option (List ℕ)) (failed_old failed_new : ℕ)
+    (status : ℕ) : Type 0 where
+  pub rules : Bor Rules
+  pub words : Bor (List Phrase)
+  pub refused : List (List ℕ)
+  pub written : Written
+  pub rules_for : AreRulesFor found (rules_of rules.now)
+  pub words_for : IsListFor found words.now
+  pub lines : AreWritten (Tokens words rules) out_old (files_in found) refused out_new written
+  pub told : progress ≡ Hidden → AreTold err_old failed_old refused err_new failed_new
+  pub ends : IsStatus written.is_refused written.has_line status
+
+-- `check`: a line for each template is written, each that is left out is reported, and the status is the one that follows
+pub record HasChecked (found : Found) (out_old out_new err_old err_new : Option (List ℕ)) (failed_old failed_new : ℕ) (status : ℕ) : Type 0 where
+  pub rules : LineRules
+  pub words : List Phrase
+  pub set : List Known
+  pub is_left_out : Bool
+  pub checked : List Checked
+  pub lines : List ℕ
+  pub rules_for : AreRulesFor found rules
+  pub words_for : IsListFor found words
+  pub templates : AreLoaded rules words set is_left_out err_old err_new failed_old failed_new
+  pub report : IsCheckReport rules set words checked lines
+  pub written : Appends out_old out_new lines
+  pub ends : IsStatus is_left_out (list_all says_yes checked) status
+
+-- the parser found these arguments of the subcommand with this name
+abbrev pub AreOf : ArgMatches → List ℕ → Found → Type 0
+AreOf matches name found = (subcommand_name_of matches ≡ Some name)
+    × (option_map (λ p. p.1) (subcommand_rows_of matches) ≡ Some (rows_of found))
+
+-- What the program has done where it ends with this status: it has done the work of the command that was found; or help was asked for and
+-- shown; or the arguments are refused, which is reported; or it ends before its work is done, and the last line says why.
+pub data HasEnded (progress : Progress) (out_old out_new err_old err_new : Option (List ℕ)) (failed_old failed_new : ℕ) (status : ℕ) : Type 0 where
+  scanned : (matches : ArgMatches) (found : Found) → AreOf matches (codes "scan") found
+      → HasScanned found progress out_old out_new err_old err_new failed_old failed_new status
+      → HasEnded progress out_old out_new err_old err_new failed_old failed_new status
+  checked : (matches : ArgMatches) (found : Found) → AreOf matches (codes "check") found
+      → HasChecked found out_old out_new err_old err_new failed_old failed_new status
+      → HasEnded progress out_old out_new err_old err_new failed_old failed_new status
+  listed : (matches : ArgMatches) (found : Found) → AreOf matches (codes "tokens") found
+      → HasListed found progress out_old out_new err_old err_new failed_old failed_new status
+      → HasEnded progress out_old out_new err_old err_new failed_old failed_new status
+  helped : (text : List ℕ) → Appends out_old out_new text → err_new ≡ err_old → failed_new ≡ failed_old → status ≡ 0
+      → HasEnded progress out_old out_new err_old err_new failed_old failed_new status
+  refused : (text : List ℕ) → IsReported err_old err_new failed_old failed_new text → out_new ≡ out_old → status ≡ 2
+      → HasEnded progress out_old out_new err_old err_new failed_old failed_new status
+  stopped : IsStopTold err_new failed_new → status ≡ 2 → HasEnded progress out_old out_new err_old err_new failed_old failed_new status
