@@ -20,6 +20,9 @@ The starter set, for
 .I share/licscan/mentions
 Names of licences in words, which give none by themselves. For both, put both into one folder.
 .TP
+.I share/licscan/expressions
+Expressions of tags whole, whatever their identifiers are, for files of which the starter set says that a tag is cut.
+.TP
 .I share/licscan/rules
 Line rules, for
 .BR \\-\\-rules .

@@ -22,6 +22,7 @@ FILES = {
     'src/either.c': TAG + b'MIT OR Zlib\nint either;\n',
     'src/exception.c': TAG + b'Apache-2.0 WITH LLVM-exception\n',
     'old/latin.py': b'# \xe9\n# License: BSD, see LICENSE\n',
+    'src/own.c': TAG + b'MIT OR LicenseRef-Own-1.0\nint own;\n',
     'src/nothing.c': b'int nothing;\n',
     'src/two words.py': b'# This is free software; you can redistribute it and/or modify it under\n# the same terms as Perl itself.\n',
     b'odd/b\xe9d.c': TAG + b'ISC\n',

@@ -65,8 +65,7 @@ def main():
     parser.add_argument("list")
     parser.add_argument("--mentions", action="store_true")
     asked = parser.parse_args()
-    sys.stdin.reconfigure(encoding="utf-8", errors="surrogateescape", newline="\n")
-    sys.stdout.reconfigure(encoding="utf-8", errors="surrogateescape")
+    lines.open_streams()
     faults, texts = 0, {}
     try:
         with open(asked.list, encoding="utf-8") as file:

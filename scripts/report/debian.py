@@ -126,8 +126,7 @@ def main():
     parser = argparse.ArgumentParser(description=__doc__, formatter_class=argparse.RawDescriptionHelpFormatter)
     parser.add_argument("--name", default="")
     asked = parser.parse_args()
-    sys.stdin.reconfigure(encoding="utf-8", errors="surrogateescape", newline="\n")
-    sys.stdout.reconfigure(encoding="utf-8", errors="surrogateescape")
+    lines.open_streams()
     found = {}
     for match in lines.matches(sys.stdin):
         name = os.path.normpath(match.file)

@@ -1,5 +1,7 @@
 """Reads the lines that `licscan scan` writes: matches with their variables, and the licences that they name."""
 import re
+import signal
+import sys
 from dataclasses import dataclass, field
 
 # templates that name no licence of the file: words that give none, notices that point elsewhere, permissions beside a licence
@@ -7,6 +9,7 @@ NONE = re.compile(r"no-grant-|same-as-|other-file-|[A-Za-z]+-exception-([\d.]+-)
 # tags of which not all is known
 UNKNOWN = re.compile(r"unknown-identifier|cut-|(OR|AND)-field(-[b-z])?$")
 EXPRESSION = re.compile(r"expression-(OR|AND|WITH)-(.*?)(-b)?$")
+WHOLE = re.compile(r"(own-)?expression(-b|-end-\d+)?$")
 SUFFIX = re.compile(r"(-(identifier|field|notice|mention))?(-[b-z])?$")
 # names of Debian and older ones, of tags and fields
 OLDER = re.compile(r"([AL]?GPL|GFDL)-?v?(\d)(\.\d)?(\+?)$", re.IGNORECASE)
@@ -37,6 +40,8 @@ class Match:
         expression = EXPRESSION.match(self.id)
         if expression:
             return f"{self.values[0]} {expression[1]} {expression[2]}"
+        if WHOLE.match(self.id):
+            return " ".join(self.values[0].split())
         name = SUFFIX.sub("", self.id)
         if re.search("-(identifier|field)(-[b-z])?$", self.id):
             name = identifier(name)
@@ -53,6 +58,13 @@ def identifier(name):
     if older:
         return f"{older[1]}-{older[2]}{older[3] or '.0'}-{'or-later' if older[4] else 'only'}"
     return SAME.get(name, name)
+
+
+def open_streams():
+    """Standard input and output with names of any bytes. A reader that leaves, such as `head`, ends a script without a word."""
+    signal.signal(signal.SIGPIPE, signal.SIG_DFL)
+    sys.stdin.reconfigure(encoding="utf-8", errors="surrogateescape", newline="\n")
+    sys.stdout.reconfigure(encoding="utf-8", errors="surrogateescape")
 
 
 def plain(text):

@@ -4,8 +4,8 @@ import re
 MAX_BYTES = 1_000_000
 # a sign, years, a holder
 NOTICE = re.compile(r"(?:copyright|\(c\)|©)[\s:]*(?:copyright|\(c\)|©|[\s:,])*((?:19|20)\d\d[-–—\d,\s]*)(?:by\s+)?([^\d\s].*)", re.IGNORECASE)
-# what does not belong to a holder: a comment's end, and sentences that follow
-END = re.compile(r"\s*(?:\*+/|-->|\*/|[|*#/]+\s*$|\ball rights reserved\b.*|\blicen[cs]ed under\b.*|\bpermission is hereby\b.*)", re.IGNORECASE)
+# what does not belong to a holder: the end of a comment or of a program's string, and sentences that follow
+END = re.compile(r"\s*(?:\\[nrt].*|\"\s*[,;)].*|\*+/|-->|\*/|[|*#/]+\s*$|\ball rights reserved\b.*|\blicen[cs]ed under\b.*|\bpermission is hereby\b.*)", re.IGNORECASE)
 # a year, or from a year to another one, `1999-2004` or `1999-04`
 SPAN = re.compile(r"(?<!\d)(\d{4})(?:-(\d{4}|\d\d))?(?![\d-])")
 

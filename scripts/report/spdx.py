@@ -101,8 +101,7 @@ def main():
     parser.add_argument("--json", action="store_true")
     parser.add_argument("name")
     asked = parser.parse_args()
-    sys.stdin.reconfigure(encoding="utf-8", errors="surrogateescape", newline="\n")
-    sys.stdout.reconfigure(encoding="utf-8", errors="surrogateescape")
+    lines.open_streams()
     found = {}
     for match in lines.matches(sys.stdin):
         found.setdefault(os.path.normpath(match.file), []).append(match)

@@ -22,8 +22,7 @@ def main():
     parser = argparse.ArgumentParser(description=__doc__, formatter_class=argparse.RawDescriptionHelpFormatter)
     parser.add_argument("--folders", action="store_true")
     asked = parser.parse_args()
-    sys.stdin.reconfigure(encoding="utf-8", errors="surrogateescape", newline="\n")
-    sys.stdout.reconfigure(encoding="utf-8", errors="surrogateescape")
+    lines.open_streams()
     answers = {}
     for file, found in itertools.groupby(lines.matches(sys.stdin), key=lambda it: it.file):
         answers[file] = ", ".join(lines.answer(list(found))) or "no licence named"

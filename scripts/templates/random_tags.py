@@ -2,7 +2,9 @@
 """Tries random expressions of the grammar of SPDX as tags: random_tags.py PROGRAM [--count N] [--operators N] [--seed N]
 
 Each has up to so many operators, identifiers of the set and others, `+`, LicenseRef- and DocumentRef- ones, exceptions, parentheses at any
-depth, and operators in either case. Each is to be reported by one line: whole, or by a template that says that it is cut. Status: 0 if each is.
+depth, and operators in either case. Each is to be reported by one line: whole, or by a template that says that it is cut. With --whole the
+templates are those of examples/expressions, and none may be cut but at the end of a file, where it has more items than they have. Status: 0 if
+each is as it is to be.
 """
 import argparse
 import collections
@@ -16,6 +18,7 @@ import tempfile
 import expressions
 import starter
 import tags
+import whole_expressions
 
 sys.path.insert(0, os.path.join(os.path.dirname(os.path.abspath(__file__)), "..", "report"))
 import lines
@@ -30,9 +33,10 @@ def identifier(draw):
     kind = draw.random()
     own = "-".join(draw.choice(WORDS) for _ in range(draw.choice((1, 1, 2, 2, 3, 4, 6, 9))))
     if kind < 0.5:
-        return draw.choice(expressions.LAST if kind < 0.25 else KNOWN) + ("+" if draw.random() < 0.1 else "")
+        found = draw.choice(expressions.LAST if kind < 0.25 else KNOWN)
+        return found.rstrip("+") + "+" if draw.random() < 0.1 else found
     if kind < 0.65:
-        return f"{draw.choice(KNOWN)}-{own}"
+        return f"{draw.choice(KNOWN).rstrip('+')}-{own}"
     if kind < 0.8:
         return f"LicenseRef-{own}"
     return f"DocumentRef-{own}:LicenseRef-{own}" if kind < 0.85 else own + ("+" if draw.random() < 0.1 else "")
@@ -55,9 +59,14 @@ def plain(text):
     return " ".join(re.sub(r"[()]", " ", text.replace("\\n", " ").lower()).split())
 
 
-def fault(tag, found):
+def may_be_cut(tag, at_end):
+    """Whether examples/expressions have too few items for a tag."""
+    return at_end and len(re.findall(r"[-.+):]|\b(?:or|and|with)\b", tag.lower())) > whole_expressions.MOST_ITEMS
+
+
+def fault(tag, found, is_cut_allowed):
     """What is wrong with the matches of a tag; nothing where it is whole, or said to be cut."""
-    if len(found) == 1 and (found[0].licence is None or plain(found[0].whole) == plain(tag)):
+    if len(found) == 1 and (plain(found[0].whole or "") == plain(tag) or (found[0].licence is None and is_cut_allowed)):
         return None
     return f"{tag}: {[(it.id, it.values) for it in found]}"
 
@@ -69,26 +78,27 @@ class Match(lines.Match):
         return re.sub("-identifier$", "", self.id) if self.id.endswith("-identifier") and not self.values else self.licence
 
 
-def trial(program, folder, count, operators, seed):
-    """The faults of so many tags, and how many are whole and cut."""
+def trial(program, folder, count, operators, seed, whole=False):
+    """The faults of so many tags, and how many are whole and cut; if they are to be whole, those that are cut are faults, too."""
     draw, faults, tally = random.Random(seed), [], collections.Counter()
     with tempfile.TemporaryDirectory() as place:
         drawn = {}
         for number in range(count):
             tag = expression(draw, draw.randrange(draw.choice((1, 2, 3, 6, operators)) + 1))
-            drawn[str(number)] = tag
+            following = draw.choice(FOLLOWING)
+            drawn[str(number)] = tag, not whole or may_be_cut(tag, not following.strip())
             with open(os.path.join(place, str(number)), "w", encoding="utf-8") as file:
-                file.write(f"// SPDX-License-Identifier: {tag}{draw.choice(FOLLOWING)}")
+                file.write(f"// SPDX-License-Identifier: {tag}{following}")
         names = list(drawn)
         found = collections.defaultdict(list)
         for at in range(0, len(names), 5000):
             done = subprocess.run([program, "scan", "--templates", os.path.abspath(folder), "--", *names[at:at + 5000]], cwd=place, stdout=subprocess.PIPE, check=False, text=True)
             for match in lines.matches(done.stdout.splitlines()):
                 # the tag that follows some is not looked at
-                if match.start < 10 or "expression" in match.id:
+                if match.start < 10:
                     found[match.file].append(Match(**vars(match)))
-    for name, tag in drawn.items():
-        wrong = fault(tag, found[name])
+    for name, (tag, is_cut_allowed) in drawn.items():
+        wrong = fault(tag, found[name], is_cut_allowed)
         faults += [wrong] if wrong else []
         tally["wrong" if wrong else "cut" if found[name][0].licence is None else "whole"] += 1
     return faults, tally
@@ -97,12 +107,13 @@ def trial(program, folder, count, operators, seed):
 def main():
     parser = argparse.ArgumentParser(description=__doc__, formatter_class=argparse.RawDescriptionHelpFormatter)
     parser.add_argument("program")
-    parser.add_argument("--templates", default=starter.GRANTS)
+    parser.add_argument("--whole", action="store_true")
     parser.add_argument("--count", type=int, default=20000)
     parser.add_argument("--operators", type=int, default=40)
     parser.add_argument("--seed", type=int, default=1)
     asked = parser.parse_args()
-    faults, tally = trial(os.path.abspath(asked.program), asked.templates, asked.count, asked.operators, asked.seed)
+    folder = starter.EXPRESSIONS if asked.whole else starter.GRANTS
+    faults, tally = trial(os.path.abspath(asked.program), folder, asked.count, asked.operators, asked.seed, asked.whole)
     print(*faults, sep="\n", end="\n" if faults else "")
     print(", ".join(f"{count} {kind}" for kind, count in sorted(tally.items())))
     return 1 if faults else 0

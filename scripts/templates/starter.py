@@ -7,6 +7,7 @@ ENDING = ".template.txt"
 EXAMPLES = os.path.join(os.path.dirname(os.path.abspath(__file__)), "..", "..", "examples")
 GRANTS = os.path.join(EXAMPLES, "templates")
 MENTIONS = os.path.join(EXAMPLES, "mentions")
+EXPRESSIONS = os.path.join(EXAMPLES, "expressions")
 
 
 @contextlib.contextmanager

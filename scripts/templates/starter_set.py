@@ -1,11 +1,12 @@
 #!/usr/bin/env python3
-"""Tries each template of examples/templates and examples/mentions.
+"""Tries each template of examples/templates, examples/mentions and examples/expressions.
 
 - `check` says `yes` of it, with examples/words and without.
 - Its original text is found as a comment in each of the styles below, among all templates.
-- The templates of tags and fields are those that tags.py makes of the lists beside it, and expressions.py, and there are no others.
+- The templates of tags and fields are those that tags.py makes of the lists beside it, and expressions.py, and there are no others; those of
+  examples/expressions are those of whole_expressions.py.
 - Tags that hold an expression are reported by one template each, with the value that is expected; random ones whole, or by a template that says that
-  they are cut.
+  they are cut; by examples/expressions whole.
 - Sentences that give a licence, and those that only name one, are reported by what is expected, without the mentions and with them.
 - No template of examples/templates is looked for by a text of less than seven letters, which costs time at each byte of every file; no variable is
   unbounded, since one after the text by which a file is searched is tried as far as it reaches.
@@ -21,6 +22,7 @@ import harness
 import listing
 import random_tags
 import starter
+import whole_expressions
 
 HERE = os.path.dirname(os.path.abspath(__file__))
 WORDS = os.path.join(HERE, "..", "..", "examples", "words")
@@ -43,6 +45,7 @@ STYLES = {
 }
 
 RANDOM_TAGS = 2000
+RANDOM_WHOLE_TAGS = 200
 # a set of letters, and a repetition without a bound where each set is one letter
 LETTER_SET = re.compile(r"\[\^?\]?[^]]*\]")
 UNBOUNDED = re.compile(r"(?<!\\)[a-z.)][*+]|,\}")
@@ -149,6 +152,14 @@ TAGS = [
 ]
 
 
+# the same by examples/expressions
+WHOLE_TAGS = [
+    ("MIT", "expression", "MIT"), ("(MIT OR Own-1.0) AND LicenseRef-A.B", "expression", "(MIT OR Own-1.0) AND LicenseRef-A.B"),
+    ("MIT-Foo AND GPL-2.0+", "expression", "MIT-Foo AND GPL-2.0+"), ("DocumentRef-A.1:LicenseRef-B WITH Own-exception", "expression", "DocumentRef-A.1:LicenseRef-B WITH Own-exception"),
+    ("GPL-2.0\n.text", "expression-b", "GPL-2.0"), ("Own: a text", "expression-b", "Own"), ("MIT OR <other>", "expression", "MIT"), ("Own/*", "expression", "Own"),
+]
+
+
 def original_of(template):
     """The text of a template with all optional parts, and with each variable's original."""
     text = re.sub(r"<<(begin|end)Optional.*?>>", "", template, flags=re.S)
@@ -201,16 +212,22 @@ def not_made():
     return [f"{id}: not as tags.py makes it" for id in sorted(made.keys() | kept.keys()) if made.get(id) != kept.get(id)]
 
 
+def not_whole_made():
+    """How the templates of whole expressions differ from those that whole_expressions.py makes."""
+    made, kept = {name: text + "\n" for name, text in whole_expressions.templates()}, read_templates(starter.EXPRESSIONS)
+    return [f"{id}: not as whole_expressions.py makes it" for id in sorted(made.keys() | kept.keys()) if made.get(id) != kept.get(id)]
+
+
 def reported(program, folder, text):
     """The fields of the lines that are written of a text."""
     done = subprocess.run([program, "scan", "--templates", folder], input=text, stdout=subprocess.PIPE, check=False, text=True)
     return [line.split("\t") for line in done.stdout.splitlines()]
 
 
-def wrongly_reported(program, folder):
+def wrongly_reported(program, folder, expected):
     """The tags of which something else is reported than what is expected, followed by code."""
     faults = []
-    for tag, id, value in TAGS:
+    for tag, id, value in expected:
         fields = reported(program, folder, f"// SPDX-License-Identifier: {tag}\nint main(void) {{ return 0 + 2.0; }}\n")
         if [it[1] for it in fields if it[0]] != [id] or (value and fields[1][4] != value):
             faults.append(f"{tag}: reported as {fields}")
@@ -245,9 +262,12 @@ def main():
         tally.add("tags and fields", not_made())
         tally.add("texts of their own", costly())
         tally.add("the page of all templates", listing.faults())
-        tally.add("expressions of grants", wrongly_reported(program, starter.GRANTS))
-        tally.add("expressions", wrongly_reported(program, both))
+        tally.add("expressions of grants", wrongly_reported(program, starter.GRANTS, TAGS))
+        tally.add("expressions", wrongly_reported(program, both, TAGS))
         tally.add("random expressions", random_tags.trial(program, starter.GRANTS, RANDOM_TAGS, 40, 1)[0])
+        tally.add("whole expressions", not_whole_made() + not_described(program, starter.EXPRESSIONS, []))
+        tally.add("expressions, whole", wrongly_reported(program, starter.EXPRESSIONS, WHOLE_TAGS))
+        tally.add("random expressions, whole", random_tags.trial(program, starter.EXPRESSIONS, RANDOM_WHOLE_TAGS, 40, 1, whole=True)[0])
         tally.add("called by another", wrongly_called(program, both))
         for style in STYLES:
             tally.add(f"comments, {style}", not_found(program, both, style))
