@@ -8,7 +8,7 @@ from dataclasses import dataclass, field
 NONE = re.compile(r"no-grant-|same-as-|other-file-|[A-Za-z]+-exception-([\d.]+-)?notice")
 # tags of which not all is known
 UNKNOWN = re.compile(r"unknown-identifier|cut-|(OR|AND)-field(-[b-z])?$")
-EXPRESSION = re.compile(r"expression-(OR|AND|WITH)-(.*?)(-b)?$")
+EXPRESSION = re.compile(r"expression-(OR|AND|WITH)-(.*?)(-[bc])?$")
 WHOLE = re.compile(r"(own-)?expression(-b|-end-\d+)?$")
 SUFFIX = re.compile(r"(-(identifier|field|notice|mention))?(-[b-z])?$")
 # names of Debian and older ones, of tags and fields

@@ -7,8 +7,10 @@ that is longer where the tag goes on, so nothing is silently cut. By its end a f
 rare: a text of less than seven letters is looked for at each byte of every file.
 
 - expression-OR-MIT, expression-AND-MIT, expression-WITH-LLVM-exception ..: an expression with this end; its beginning is a variable.
+- expression-OR-GPL-2.0-c, cut-OR-GPL-2.0-c ..: the same with the last identifier in parentheses.
 - cut-OR-MIT ..: the same, and a mark or an operator after it.
-- cut-MIT ..: a tag of one identifier, and a mark or an operator after it.
+- cut-MIT ..: a tag of one identifier, and a mark or an operator after it; cut-MIT-c ..: parentheses and an operator. (Three parentheses before
+  the identifier are a separator, which is no token.)
 - LicenseRef-identifier, -b, -c ..: one, two, three .. words after `LicenseRef-`; DocumentRef-identifier ..: the same of another document.
 - cut-LicenseRef, cut-DocumentRef: more words than those have, or a mark or an operator after them.
 - unknown-identifier: a tag alone, where it has none of these.
@@ -25,11 +27,13 @@ TAG = "SPDX-License-Identifier: "
 LONG_IDENTIFIER = 7
 # the tag is optional, so that the end is the longest text, by which a file is searched; without it the colon has no place
 OPTIONAL_TAG = "SPDX<<beginOptional>>-License-Identifier: <<endOptional>>"
-OPEN = "<<beginOptional>>(<<endOptional>>" * 2
+OPEN = "<<beginOptional>>(<<endOptional>>"
 OPERAND = "[-+.:()a-z0-9]{1,60}"
 OPERATOR = "(or|and|with)"
 # an operator after parentheses that end
 CLOSED = r"\){1,12} " + OPERATOR
+# the same after the first parenthesis
+PAST_PARENTHESES = r"(\){1,11} )?" + OPERATOR
 MOST_OPERATORS = 8
 WORD = "[a-z0-9]{1,40}"
 JOINED = "[-._]{1,9}"
@@ -56,22 +60,25 @@ def more(identifier, identifiers, *others):
     return " " + variable("next", "OR", "|".join([marks, OPERATOR, *others]))
 
 
-def searched_by_end(operator, last):
-    """The beginning of a text for the end of an expression, and that end, where it is long enough to search a file by it."""
-    if len(last) >= LONG_IDENTIFIER:
-        return OPTIONAL_TAG, f" {operator} {OPEN}{last}"
-    if len(f"{operator} {last}") >= LONG_IDENTIFIER:
-        return OPTIONAL_TAG, f" {operator} {last}"
-    return TAG, f" {operator} {OPEN}{last}"
+def ends(operator, last):
+    """Of each template for this end of an expression: the end of its name, the beginning of its text, and the end. A file is searched by the end
+    where that is long enough. An identifier in parentheses has a template of its own, so that the operator and the identifier are one text,
+    which is rarer than the identifier."""
+    if len(f"{operator} {last}") < LONG_IDENTIFIER:
+        yield "", TAG, f" {operator} {OPEN}{OPEN}{last}"
+        return
+    yield "", OPTIONAL_TAG, f" {operator} {last}"
+    if len(last) >= LONG_IDENTIFIER and operator != "WITH":
+        yield "-c", OPTIONAL_TAG, f" {operator} {OPEN}({last}"
 
 
 def expressions():
     first = variable("beginning", "ISC", f"{OPERAND}( {OPERATOR} {OPERAND}){{0,{MOST_OPERATORS - 1}}}")
-    ends = [(operator, last) for operator in ("OR", "AND") for last in LAST] + [("WITH", last) for last in EXCEPTIONS]
-    for operator, last in ends:
-        tag, end = searched_by_end(operator, last)
-        yield f"expression-{operator}-{last}", tag + first + end
-        yield f"cut-{operator}-{last}", tag + first + end + more(last, LAST, CLOSED)
+    known = [(operator, last) for operator in ("OR", "AND") for last in LAST] + [("WITH", last) for last in EXCEPTIONS]
+    for operator, last in known:
+        for letter, tag, end in ends(operator, last):
+            yield f"expression-{operator}-{last}{letter}", tag + first + end
+            yield f"cut-{operator}-{last}{letter}", tag + first + end + more(last, LAST, CLOSED)
     for tag, last in ((OPTIONAL_TAG, "Apache-2.0"), (TAG, "MIT")):
         yield f"expression-OR-{last}-b", f"{tag}{first}/{last}"
 
@@ -80,7 +87,8 @@ def identifiers():
     """Tags of one identifier that go on, and identifiers without a template of their own."""
     known = tags.read_list(os.path.join(HERE, "tags.txt"))
     for identifier in known:
-        yield f"cut-{identifier}", TAG + identifier + more(identifier, known, CLOSED)
+        yield f"cut-{identifier}", TAG + identifier + more(identifier, known)
+        yield f"cut-{identifier}-c", f"{TAG}{identifier}) {variable('next', 'OR', PAST_PARENTHESES)}"
     for kind, beginning in (("LicenseRef", "LicenseRef-"), ("DocumentRef", f"DocumentRef-{variable('document', 'Other', OWN)}:LicenseRef-")):
         for count in range(1, LONGEST_IDENTIFIER + 1):
             words = WORD + (f"({JOINED}{WORD}){{{count - 1}}}" if count > 1 else "")

@@ -95,10 +95,12 @@ def page():
     lines += ["## Fields\n", wrapped("`NAME-field`, `-b` ..: a field of a manifest or header, such as `\"license\": \"MIT\"`, `License: GPL-2+`, "
                                      "`license = \"ISC\"`, `__license__ = \"BSD\"`. `OR-field`: one with two identifiers. NAME is") + "\n",
               names("field", found, KIND) + "\n"]
+    implied = {f"cut-{KIND.sub('', it)}" for it in found["identifier"]} - CUT | {it for it in found["expression"] if it.endswith("-c")}
     lines += ["## Expressions\n", wrapped("`expression-OR-MIT`: `SPDX-License-Identifier: ISC OR MIT`; `cut-OR-MIT`: the same where the tag goes on, as "
                                           "in `ISC OR MIT-Own`; `cut-MIT`: a tag that goes on after its first identifier, as `MIT OR Own`. There is such a "
-                                          "one of each tag above. The other names are") + "\n",
-              names("expression", {"expression": found["expression"].keys() - {f"cut-{KIND.sub('', it)}" for it in found["identifier"]} | CUT}, "(?!)") + "\n"]
+                                          "one of each tag above. With `-c` at the end: the last identifier is in parentheses, as in `ISC OR (GPL-2.0)`. The "
+                                          "other names are") + "\n",
+              names("expression", {"expression": found["expression"].keys() - implied}, "(?!)") + "\n"]
     return "\n".join(lines)
 
 

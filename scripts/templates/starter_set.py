@@ -121,7 +121,7 @@ TAGS = [
     ("MIT OR Apache-2.0 AND ISC", "expression-AND-ISC", "MIT OR Apache-2.0"),
     ("MIT AND (ISC OR Zlib)", "expression-OR-Zlib", "MIT AND (ISC"),
     ("MIT OR (ISC AND Zlib)", "expression-AND-Zlib", "MIT OR (ISC"),
-    ("MIT AND (GPL-2.0+)", "expression-AND-GPL-2.0+", "MIT"),
+    ("MIT AND (GPL-2.0+)", "expression-AND-GPL-2.0+-c", "MIT"),
     ("MIT/Apache-2.0", "expression-OR-Apache-2.0-b", "MIT"),
     ("Apache-2.0 WITH LLVM-exception", "expression-WITH-LLVM-exception", "Apache-2.0"),
     ("((GPL-2.0+ WITH Linux-syscall-note) OR MIT)", "expression-OR-MIT", "((GPL-2.0+ WITH Linux-syscall-note)"),
@@ -133,7 +133,7 @@ TAGS = [
     ("MIT OR LicenseRef-A", "cut-MIT", "OR"),
     ("MIT+", "cut-MIT", "+"),
     # three marks in a row are a separator
-    ("(((MIT) OR Own) AND Own)", "cut-MIT", ") OR"),
+    ("(((MIT) OR Own) AND Own)", "cut-MIT-c", "OR"),
     ("Apache-2.0 OR MIT WITH A", "cut-OR-MIT", "Apache-2.0"),
     ("(ISC OR (MIT)) AND LicenseRef-A", "cut-OR-MIT", "(ISC"),
     ("MIT OR Zlib-A", "cut-OR-Zlib", "MIT"),
