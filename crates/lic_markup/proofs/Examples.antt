@@ -5,7 +5,7 @@ use Rattle.std.specs.Char.{encode_utf8}
 use Rattle.caseless.proofs.Computing.{caseless}
 use Rattle.lic_kind.specs.LineRules.{profile}
 use Rattle.lic_kind.specs.Kinds.{kind_of, spell}
-use Rattle.lic_norm.specs.Pieces.{piece_cells, piece_tokens, piece_of}
+use Rattle.lic_pieces.specs.Pieces.{piece_cells, piece_tokens, piece_of}
 use Rattle.lic_ere.specs.Trees.{any, repeat}
 use Rattle.lic_ere.specs.Bounds.{number_at, upper_bound, bounds_at}
 use Rattle.lic_ere.specs.Brackets.{member_at, members_at, bracket_at}

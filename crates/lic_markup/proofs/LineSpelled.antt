@@ -2,7 +2,7 @@
 use Rattle.std.proofs.Common.{◌≡◌, ℕ, Bool, true, false, cond, ◌==◌, ◌&&◌, ◌||◌, List, [], ◌∷◌, ◌++◌, map, reverse, refl, sym, ap, ◌∙◌, append_assoc, append-nil}
 use Rattle.std.proofs.lemmas.List.{reverse-append}
 use Rattle.lic_ere.specs.Located.{Located}
-use Rattle.lic_norm.specs.declared.pieces.Next.TheVariants as next
+use Rattle.lic_pieces.specs.declared.pieces.Next.TheVariants as next
 use Rattle.lic_markup.specs.Signs.{new_line}
 use Rattle.lic_markup.specs.Rules as rules
 use Rattle.lic_markup.specs.Elements.{Element, text, rule, refused}

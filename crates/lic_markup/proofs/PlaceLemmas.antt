@@ -12,10 +12,10 @@ use Rattle.lic_lines.specs.Runs.{runs_joined}
 use Rattle.lic_lines.specs.Tokens.{first_tokens, single_signs, text_tokens}
 use Rattle.lic_phrases.specs.Rewriting.{Phrase, SpannedText, rewritten}
 use Rattle.lic_norm.proofs.AnyBytes.{source_of-utf8}
-use Rattle.lic_norm.proofs.BareTokens.{bare, bare_cell, flat-map, bare-placed, bare-kept, bare-lines, bare-line, bare-runs, bare-first, bare-signs, bare-texts, texts_after}
-use Rattle.lic_norm.specs.Pieces.{cells_of_lines, ends_in_feed, part_of, piece_cells, piece_tokens}
+use Rattle.lic_pieces.proofs.BareTokens.{bare, bare_cell, flat-map, bare-placed, bare-kept, bare-lines, bare-line, bare-runs, bare-first, bare-signs, bare-texts, texts_after}
+use Rattle.lic_pieces.specs.Pieces.{cells_of_lines, ends_in_feed, part_of, piece_cells, piece_tokens}
 use Rattle.lic_norm.specs.Tokens.{first_tokens_of, reported, tokens_of}
-use Rattle.lic_norm.specs.declared.pieces.Next.TheVariants.{LineEnd}
+use Rattle.lic_pieces.specs.declared.pieces.Next.TheVariants.{LineEnd}
 use Rattle.lic_markup.specs.Meaning.{piece_texts}
 
 part-whole : (line : List SourceChar) → part_of true LineEnd line ≡ whole_line

@@ -6,8 +6,8 @@ use Rattle.std.specs.Str.{chars, IsUtf8}
 use Rattle.lic_ere.specs.Located.{Located, located, located_from}
 use Rattle.lic_phrases.specs.Rewriting.{Phrase}
 use Rattle.lic_kind.specs.LineRules.{LineRules}
-use Rattle.lic_norm.specs.Pieces.{piece_of}
-use Rattle.lic_norm.specs.declared.pieces.Next.TheVariants.{LineEnd}
+use Rattle.lic_pieces.specs.Pieces.{piece_of}
+use Rattle.lic_pieces.specs.declared.pieces.Next.TheVariants.{LineEnd}
 use Rattle.lic_markup.specs.declared.fault.MarkupFault.{MarkupFault}
 use Rattle.lic_markup.specs.declared.fault.MarkupCause.TheVariants.{TooLong, NoLetter, TooHeavy}
 use Rattle.lic_markup.specs.Signs.{less}

@@ -12,8 +12,8 @@ use Rattle.lic_ere.proofs.Complete.{IsPattern-read}
 use Rattle.lic_ere.proofs.Sound.{reading-IsPattern}
 use Rattle.lic_kind.specs.LineRules.{LineRules}
 use Rattle.lic_phrases.specs.Rewriting.{Phrase}
-use Rattle.lic_norm.specs.Pieces.{piece_of}
-use Rattle.lic_norm.specs.declared.pieces.Next.{Next}
+use Rattle.lic_pieces.specs.Pieces.{piece_of}
+use Rattle.lic_pieces.specs.declared.pieces.Next.{Next}
 use Rattle.lic_markup.specs.declared.fault.MarkupFault.{MarkupFault}
 use Rattle.lic_markup.specs.declared.fault.MarkupCause.TheVariants.{NotEnded, NoLetter, TooHeavy, TooLong, TooDeep, EndWithoutBegin}
 use Rattle.lic_markup.specs.Texts.{text_of}

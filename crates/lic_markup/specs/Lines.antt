@@ -2,8 +2,8 @@
 use Rattle.std.specs.Prelude.{ℕ, ◌==◌, ◌&&◌, ◌||◌, Bool, true, false, List, [], ◌∷◌, if◌then◌else◌}
 use Rattle.std.specs.Char.{is_whitespace}
 use Rattle.lic_kind.specs.Kinds.{is_dropped}
-use Rattle.lic_norm.specs.declared.pieces.Next.{Next}
-use Rattle.lic_norm.specs.declared.pieces.Next.TheVariants as next
+use Rattle.lic_pieces.specs.declared.pieces.Next.{Next}
+use Rattle.lic_pieces.specs.declared.pieces.Next.TheVariants as next
 use Rattle.lic_ere.specs.Located.{Located}
 use Rattle.lic_markup.specs.Signs.{new_line}
 use Rattle.lic_markup.specs.Rules.{variable, begin, finish}

@@ -2,8 +2,8 @@
 use Rattle.std.specs.Prelude.{ℕ, Bool, true, List, map, chars}
 use Rattle.lic_kind.specs.LineRules.{LineRules}
 use Rattle.lic_phrases.specs.Rewriting.{Phrase, rewritten}
-use Rattle.lic_norm.specs.Pieces.{piece_tokens}
-use Rattle.lic_norm.specs.declared.pieces.Next.{Next}
+use Rattle.lic_pieces.specs.Pieces.{piece_tokens}
+use Rattle.lic_pieces.specs.declared.pieces.Next.{Next}
 use Rattle.lic_words.specs.Expressions as words
 use Rattle.lic_words.specs.Expressions.{Expression}
 use Rattle.lic_ere.specs.Sets.{is_in}

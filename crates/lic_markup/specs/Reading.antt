@@ -8,8 +8,8 @@ use Rattle.lic_ere.specs.Located.{Located, located}
 use Rattle.lic_ere.specs.Reading as ere
 use Rattle.lic_kind.specs.LineRules.{LineRules}
 use Rattle.lic_phrases.specs.Rewriting.{Phrase}
-use Rattle.lic_norm.specs.Pieces.{piece_of}
-use Rattle.lic_norm.specs.declared.pieces.Next.{Next}
+use Rattle.lic_pieces.specs.Pieces.{piece_of}
+use Rattle.lic_pieces.specs.declared.pieces.Next.{Next}
 use Rattle.lic_markup.specs.declared.fault.MarkupFault.{MarkupFault}
 use Rattle.lic_markup.specs.declared.fault.MarkupCause.TheVariants.{EndWithoutBegin, NotEnded, Pattern, TooDeep, TooHeavy, NoLetter, TooLong}
 use Rattle.lic_markup.specs.Texts.{text_of}

@@ -6,9 +6,9 @@ use Rattle.lic_ere.specs.Located.{Located, located}
 use Rattle.lic_ere.specs.Trees.{Tree}
 use Rattle.lic_kind.specs.LineRules.{LineRules}
 use Rattle.lic_phrases.specs.Rewriting.{Phrase}
-use Rattle.lic_norm.specs.Pieces.{piece_of}
-use Rattle.lic_norm.specs.declared.pieces.Next.{Next}
-use Rattle.lic_norm.specs.declared.pieces.Next.TheVariants as next
+use Rattle.lic_pieces.specs.Pieces.{piece_of}
+use Rattle.lic_pieces.specs.declared.pieces.Next.{Next}
+use Rattle.lic_pieces.specs.declared.pieces.Next.TheVariants as next
 use Rattle.lic_markup.specs.Signs.{new_line}
 use Rattle.lic_markup.specs.Texts.{text_of}
 use Rattle.lic_markup.specs.Rules as rules

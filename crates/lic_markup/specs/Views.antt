@@ -2,7 +2,7 @@
 use Rattle.std.specs.Prelude.{List, map, reverse}
 use Rattle.std.specs.Option.{option_map}
 use Rattle.std.specs.String.{string_bytes}
-use Rattle.lic_norm.specs.declared.pieces.Next.{Next}
+use Rattle.lic_pieces.specs.declared.pieces.Next.{Next}
 use Rattle.lic_markup.specs.declared.rule.fields.Values as coded_values
 use Rattle.lic_markup.specs.declared.rule.Rule.{Rule}
 use Rattle.lic_markup.specs.declared.rule.Rule.TheVariants as coded_rules

@@ -20,7 +20,8 @@ use crate::rule::Rule;
 use crate::weights::{have_token, parts_weight};
 use lic_ere::{EreCause, EreFault, read};
 use lic_kind::Rules;
-use lic_norm::{Next, PieceBuffers, Words, piece};
+use lic_norm::Words;
+use lic_pieces::{Next, PieceBuffers, piece};
 use std::alloc::{AllocError, Global};
 use std::mem;
 

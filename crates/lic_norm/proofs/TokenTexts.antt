@@ -31,9 +31,7 @@ use Rattle.lic_phrases.specs.Settling.{Kept, Settles, left_of}
 use Rattle.lic_phrases.specs.TokenTexts.{IsTokenText, HaveTokenTexts}
 use Rattle.lic_norm.specs.Sources.{source_of}
 use Rattle.lic_norm.specs.Tokens.{TokenValue, reported, first_tokens_of, tokens_of}
-use Rattle.lic_norm.specs.Pieces.{cells_of_lines, part_of, piece_cells, piece_tokens}
 use Rattle.lic_norm.specs.Spans.{AreTokenTexts, HaveTexts}
-use Rattle.lic_norm.specs.declared.pieces.Next.{Next}
 use Rattle.lic_norm.proofs.CellSpans.{parts_of_groups}
 use Rattle.lic_norm.proofs.SpellingPlaces.{texts_of-reported}
 
@@ -73,13 +71,13 @@ letters_text letters some none =
 -- ---- cells
 
 -- a mark is of kind Mark, and a word character of kind Word
-abbrev KindsFit : List Cell → Type 0
+abbrev pub KindsFit : List Cell → Type 0
 KindsFit [] = Unit {0}
 KindsFit (Blank ∷ cells) = KindsFit cells
 KindsFit (Mark s ∷ cells) = (kind_of s.char ≡ MarkKind) × KindsFit cells
 KindsFit (Word s ∷ cells) = (kind_of s.char ≡ WordKind) × KindsFit cells
 
-fit-append : (xs ys : List Cell) → KindsFit xs → KindsFit ys → KindsFit (xs ++ ys)
+pub fit-append : (xs ys : List Cell) → KindsFit xs → KindsFit ys → KindsFit (xs ++ ys)
 fit-append [] ys h g = g
 fit-append (Blank ∷ xs) ys h g = fit-append xs ys h g
 fit-append (Mark s ∷ xs) ys h g = (h.0, fit-append xs ys h.1 g)
@@ -358,19 +356,6 @@ first-texts : (rules : LineRules) (input : List ℕ) → HaveTexts (first_tokens
 unfolding first_tokens_of
 first-texts rules input =
     cells-texts rules true (cells_of rules (source_of 0 input)) (fit-lines rules (lines_of (without_dropped (source_of 0 input))))
-
-fit-parts : (rules : LineRules) (has_front : Bool) (before : Next) (lines : List (List SourceChar)) → KindsFit (cells_of_lines rules has_front before lines)
-fit-parts rules has_front before [] = tt
-fit-parts rules has_front before (line ∷ lines) =
-    fit-append (line_cells rules (part_of has_front before line) line) (cells_of_lines rules true before lines)
-    (fit-line rules (part_of has_front before line) line) (fit-parts rules true before lines)
-
--- of a piece
-pub piece-texts : (rules : LineRules) (at_line_start : Bool) (before : Next) (text : List ℕ) → HaveTexts (piece_tokens rules at_line_start before text)
-unfolding piece_tokens piece_cells
-piece-texts rules at_line_start before text =
-    let lines = lines_of (without_dropped (unplaced (chars text))) in
-    cells-texts rules true (cells_of_lines rules at_line_start before lines) (fit-parts rules at_line_start before lines)
 
 -- after the rewriting
 pub rewritten-texts : (words : List Phrase) (ts : List Token) → HaveTokenTexts words → HaveTexts ts → AreTokenTexts (map reported (rewritten words ts))

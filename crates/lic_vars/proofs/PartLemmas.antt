@@ -13,7 +13,7 @@ use Rattle.lic_markup.specs.Parts.{Node, Nodes, one_more, row, part_of, part_nod
 use Rattle.lic_markup.specs.Parts as parts
 use Rattle.lic_markup.specs.Meaning.{tree_words}
 use Rattle.lic_markup.specs.PartTexts.{HasPieceTexts, HavePieceTexts}
-use Rattle.lic_norm.specs.PieceTexts.{IsPieceText}
+use Rattle.lic_pieces.specs.PieceTexts.{IsPieceText}
 use Rattle.lic_vars.specs.Moves.{Move, text, variable, optional, moves}
 use Rattle.lic_vars.specs.Cuts.{move_of, moves_of, IsPiece}
 use Rattle.lic_vars.specs.declared.steps.Step.{Step}
