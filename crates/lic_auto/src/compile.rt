@@ -35,7 +35,7 @@ pub(crate) fn compile(
     for part in parts {
         children.push(compile_part(alloc, part, direction)?)?;
     }
-    ordered_row(alloc, children, direction)
+    ordered_sequence(alloc, children, direction)
 }
 
 #[cycle(compile)]
@@ -79,7 +79,7 @@ fn compile_tree(alloc: Global, ere: &Ere, direction: Direction) -> Result<Node, 
         Ere::Char(letter) => Ok(build::one(Test::Letter(*letter))),
         Ere::Any => Ok(build::one(Test::Any)),
         Ere::Set(class) => Ok(build::one(Test::Class(class.copy(alloc)?))),
-        Ere::Cat(subs) => ordered_row(alloc, compile_trees(alloc, subs, direction)?, direction),
+        Ere::Cat(subs) => ordered_sequence(alloc, compile_trees(alloc, subs, direction)?, direction),
         Ere::Alt(subs) => compile_choice(alloc, subs, direction),
         Ere::Repeat { body, min, max } => match *max {
             Some(max) if max < *min => Ok(no_word(alloc)),
@@ -150,7 +150,7 @@ fn has_empty_word(node: Node) -> bool
 }
 
 /// One child after another as they are read in a direction.
-fn ordered_row(
+fn ordered_sequence(
     alloc: Global,
     mut children: Vec<Node>,
     direction: Direction,
@@ -160,11 +160,11 @@ fn ordered_row(
         (WordsOf (cat_all (ordered direction (map core_of children.items))))) }
 {
     direction.order(&mut children);
-    row(alloc, children)
+    sequence(alloc, children)
 }
 
 /// One child after another. The children that weigh 0 are left out, and letters in a row are one text.
-fn row(alloc: Global, children: Vec<Node>) -> Result<Node, AllocError>
+fn sequence(alloc: Global, children: Vec<Node>) -> Result<Node, AllocError>
     requires { IsTrue (list_all is_measured children.items) }
     ensures { IfOk result (HasWords (WordsOf (cat_all (map core_of children.items)))) }
 {
@@ -319,7 +319,7 @@ fn bounded(alloc: Global, body: Node, min: usize, max: usize) -> Result<Node, Al
             let mut children = Vec::new(alloc);
             children.push(build::copies(test.copy(alloc)?, min))?;
             children.push(build::up_to(test, max - min))?;
-            row(alloc, children)
+            sequence(alloc, children)
         }
         body => {
             let times = Times::Bounded {
@@ -348,7 +348,7 @@ fn unbounded(alloc: Global, body: Node, min: usize) -> Result<Node, AllocError>
             let mut children = Vec::new(alloc);
             children.push(build::copies(test.copy(alloc)?, before))?;
             children.push(build::plus(Box::new(alloc, build::one(test))?))?;
-            row(alloc, children)
+            sequence(alloc, children)
         }
         body => {
             let times = Times::Unbounded { before };

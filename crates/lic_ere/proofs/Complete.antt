@@ -10,7 +10,7 @@ use Rattle.lic_ere.specs.Faults.{◌>>=◌}
 use Rattle.lic_ere.specs.Lexemes.{Lexeme, unit, sign, opening, closing, bar, anchor, Lexemes}
 use Rattle.lic_ere.specs.Reading as reading
 use Rattle.lic_ere.specs.Reading.{LastUnit, Level, new_level, units, with_unit, with_alternative, level_tree, State, max_depth, meet, finish, read_on, start, reading}
-use Rattle.lic_ere.specs.Grammar.{IsUnit, plain, group, closes_nothing, IsRow, no_unit, once, repeated, IsChoice, only, or, without_anchors, IsPattern}
+use Rattle.lic_ere.specs.Grammar.{IsUnit, plain, group, closes_nothing, IsSequence, no_unit, once, repeated, IsChoice, only, or, without_anchors, IsPattern}
 use Rattle.lic_ere.proofs.LexemeSpelling.{are_read}
 
 -- lexemes read from a level on
@@ -23,8 +23,8 @@ after_meet : (r : Result State EreFault) (ls ms : List (ℕ × Lexeme))
 after_meet (Ok s) ls ms same = same s
 after_meet (Err e) ls ms same = refl
 
--- the units of a row were read
-pub record RanRow (level : Level) (outer : List Level) (ls rest : List (ℕ × Lexeme)) (ts : List Tree) : Type 0 where
+-- the units of a sequence were read
+pub record RanSequence (level : Level) (outer : List Level) (ls rest : List (ℕ × Lexeme)) (ts : List Tree) : Type 0 where
   pub then : Level
   pub runs : run level outer ls ≡ run then outer rest
   pub alternatives : then.alternatives ≡ level.alternatives
@@ -80,7 +80,7 @@ group_runs depth place end ls rest ts lt inner level outer e =
     ∙ ap (λ t. run (with_unit t level) outer rest) ran.tree
 
 only_runs : (level : Level) (outer : List Level) (ls rest : List (ℕ × Lexeme)) (ts : List Tree) → units level ≡ []
-    → RanRow level outer ls rest ts → RanChoice level outer ls rest (units_tree ts ∷ [])
+    → RanSequence level outer ls rest ts → RanChoice level outer ls rest (units_tree ts ∷ [])
 only_runs level outer ls rest ts fresh ran =
     record {
       then = ran.then;
@@ -89,14 +89,14 @@ only_runs level outer ls rest ts fresh ran =
     }
 
 or_runs : (level : Level) (outer : List Level) (ls more rest : List (ℕ × Lexeme)) (place : ℕ) (ts us : List Tree)
-    → units level ≡ [] → (row : RanRow level outer ls ((place, bar) ∷ more) ts)
-    → RanChoice (with_alternative row.then) outer more rest us → RanChoice level outer ls rest (units_tree ts ∷ us)
-or_runs level outer ls more rest place ts us fresh row others =
+    → units level ≡ [] → (sequence : RanSequence level outer ls ((place, bar) ∷ more) ts)
+    → RanChoice (with_alternative sequence.then) outer more rest us → RanChoice level outer ls rest (units_tree ts ∷ us)
+or_runs level outer ls more rest place ts us fresh sequence others =
     record {
       then = others.then;
-      runs = row.runs ∙ bar_runs place more row.then outer ∙ others.runs;
+      runs = sequence.runs ∙ bar_runs place more sequence.then outer ∙ others.runs;
       tree = others.tree
-          ∙ (λ i. choice_tree ((row.alternatives i ++ units_tree ((row.units ∙ ap (λ us. us ++ ts) fresh) i) ∷ []) ++ us))
+          ∙ (λ i. choice_tree ((sequence.alternatives i ++ units_tree ((sequence.units ∙ ap (λ us. us ++ ts) fresh) i) ∷ []) ++ us))
           ∙ ap choice_tree (append_assoc level.alternatives (units_tree ts ∷ []) us);
     }
 
@@ -107,11 +107,11 @@ mutual
       group_runs d p q ls rest ts lt (choice_runs inner) level outer e
   unit_runs (closes_nothing {place = p} {rest = r}) level outer e = closing_runs p r level outer e
 
-  row_runs : {depth : ℕ} {ls rest : List (ℕ × Lexeme)} {ts : List Tree} → IsRow depth ls rest ts
-      → (level : Level) (outer : List Level) → length outer ≡ depth → RanRow level outer ls rest ts
-  row_runs no_unit level outer e = record { then = level; runs = refl; alternatives = refl; units = sym (append-nil (units level)) }
-  row_runs (once {t = t} {ts = ts} first others) level outer e =
-      let ran = row_runs others (with_unit t level) outer e in
+  sequence_runs : {depth : ℕ} {ls rest : List (ℕ × Lexeme)} {ts : List Tree} → IsSequence depth ls rest ts
+      → (level : Level) (outer : List Level) → length outer ≡ depth → RanSequence level outer ls rest ts
+  sequence_runs no_unit level outer e = record { then = level; runs = refl; alternatives = refl; units = sym (append-nil (units level)) }
+  sequence_runs (once {t = t} {ts = ts} first others) level outer e =
+      let ran = sequence_runs others (with_unit t level) outer e in
       record {
         then = ran.then;
         runs = unit_runs first level outer e ∙ ran.runs;
@@ -119,8 +119,8 @@ mutual
             ran.alternatives;
         units = ran.units ∙ append_assoc (units level) (t ∷ []) ts;
       }
-  row_runs (repeated {place = p} {more = more} {t = t} {b = b} {ts = ts} first others) level outer e =
-      let ran = row_runs others (record (with_unit t level) { last = reading.repeated (repeat t b.min b.max) }) outer e in
+  sequence_runs (repeated {place = p} {more = more} {t = t} {b = b} {ts = ts} first others) level outer e =
+      let ran = sequence_runs others (record (with_unit t level) { last = reading.repeated (repeat t b.min b.max) }) outer e in
       record {
         then = ran.then;
         runs =
@@ -133,9 +133,9 @@ mutual
   choice_runs : {depth : ℕ} {ls rest : List (ℕ × Lexeme)} {ts : List Tree} → IsChoice depth ls rest ts
       → (level : Level) (outer : List Level) → length outer ≡ depth → units level ≡ []
       → RanChoice level outer ls rest ts
-  choice_runs (only {ls = ls} {rest = rest} {ts = ts} row) level outer e fresh = only_runs level outer ls rest ts fresh (row_runs row level outer e)
-  choice_runs (or {place = p} {ls = ls} {more = more} {rest = rest} {ts = ts} {us = us} row others) level outer e fresh =
-      let ran = row_runs row level outer e in
+  choice_runs (only {ls = ls} {rest = rest} {ts = ts} sequence) level outer e fresh = only_runs level outer ls rest ts fresh (sequence_runs sequence level outer e)
+  choice_runs (or {place = p} {ls = ls} {more = more} {rest = rest} {ts = ts} {us = us} sequence others) level outer e fresh =
+      let ran = sequence_runs sequence level outer e in
       or_runs level outer ls more rest p ts us fresh ran (choice_runs others (with_alternative ran.then) outer e refl)
 
 without_anchors_runs : (ls : List (ℕ × Lexeme)) (s : State) → read_on s (without_anchors ls) None ≡ read_on s ls None

@@ -11,24 +11,24 @@ use Rattle.lic_ere.specs.Located.{located}
 use Rattle.lic_ere.specs.Lexemes.{Lexeme, unit, sign, opening, closing, bar, anchor, lexemes}
 use Rattle.lic_ere.specs.Reading as reading
 use Rattle.lic_ere.specs.Reading.{LastUnit, last_units, Level, new_level, units, with_unit, with_alternative, level_tree, repeat_last, State, max_depth, meet, finish, read_on, start, reading}
-use Rattle.lic_ere.specs.Grammar.{IsUnit, plain, group, closes_nothing, IsRow, no_unit, once, repeated, IsChoice, only, or, without_anchors, IsPattern}
+use Rattle.lic_ere.specs.Grammar.{IsUnit, plain, group, closes_nothing, IsSequence, no_unit, once, repeated, IsChoice, only, or, without_anchors, IsPattern}
 use Rattle.lic_ere.proofs.LexemeSpelling.{are_spelled}
 use Rattle.lic_ere.proofs.Complete.{run}
 
--- the rest of a row, whose last unit so far may still get its sign
-data EndsRow (depth : ℕ) : LastUnit → List (ℕ × Lexeme) → List (ℕ × Lexeme) → List Tree → Type 0 where
-  fresh : {ls rest : List (ℕ × Lexeme)} {ts : List Tree} → IsRow depth ls rest ts → EndsRow depth reading.no_unit ls rest ts
-  kept : {t : Tree} {ls rest : List (ℕ × Lexeme)} {ts : List Tree} → IsRow depth ls rest ts → EndsRow depth (reading.single t) ls rest (t ∷ ts)
+-- the rest of a sequence, whose last unit so far may still get its sign
+data EndsSequence (depth : ℕ) : LastUnit → List (ℕ × Lexeme) → List (ℕ × Lexeme) → List Tree → Type 0 where
+  fresh : {ls rest : List (ℕ × Lexeme)} {ts : List Tree} → IsSequence depth ls rest ts → EndsSequence depth reading.no_unit ls rest ts
+  kept : {t : Tree} {ls rest : List (ℕ × Lexeme)} {ts : List Tree} → IsSequence depth ls rest ts → EndsSequence depth (reading.single t) ls rest (t ∷ ts)
   signed : {place : ℕ} {b : Bounds} {t : Tree} {more rest : List (ℕ × Lexeme)} {ts : List Tree}
-      → IsRow depth more rest ts → EndsRow depth (reading.single t) ((place, sign (Some b)) ∷ more) rest
+      → IsSequence depth more rest ts → EndsSequence depth (reading.single t) ((place, sign (Some b)) ∷ more) rest
       (repeat t b.min b.max ∷ ts)
-  settled : {t : Tree} {ls rest : List (ℕ × Lexeme)} {ts : List Tree} → IsRow depth ls rest ts → EndsRow depth (reading.repeated t) ls rest (t ∷ ts)
+  settled : {t : Tree} {ls rest : List (ℕ × Lexeme)} {ts : List Tree} → IsSequence depth ls rest ts → EndsSequence depth (reading.repeated t) ls rest (t ∷ ts)
 
 -- the rest of a level, and all of its alternatives
 data EndsLevel (depth : ℕ) (level : Level) (ls rest : List (ℕ × Lexeme)) : List Tree → Type 0 where
-  last_row : {ts : List Tree} → EndsRow depth level.last ls rest ts → EndsLevel depth level ls rest (level.alternatives ++ units_tree (level.before ++ ts) ∷ [])
-  more_rows : {place : ℕ} {more : List (ℕ × Lexeme)} {ts us : List Tree}
-      → EndsRow depth level.last ls ((place, bar) ∷ more) ts → IsChoice depth more rest us
+  last_sequence : {ts : List Tree} → EndsSequence depth level.last ls rest ts → EndsLevel depth level ls rest (level.alternatives ++ units_tree (level.before ++ ts) ∷ [])
+  more_sequences : {place : ℕ} {more : List (ℕ × Lexeme)} {ts us : List Tree}
+      → EndsSequence depth level.last ls ((place, bar) ∷ more) ts → IsChoice depth more rest us
       → EndsLevel depth level ls rest (level.alternatives ++ units_tree (level.before ++ ts) ∷ us)
 
 -- the rest of the pattern: of the innermost level, and after its `)` of those round it
@@ -46,61 +46,61 @@ Completes-map : (l m : Level) (outer : List Level) (ls ms : List (ℕ × Lexeme)
 Completes-map l m [] ls ms t change h = (h.0, change [] h.0 h.1, h.2)
 Completes-map l m (o ∷ outer) ls ms t change h = (h.0, h.1, h.2, change ((h.0, closing) ∷ h.1) h.2 h.3, h.4)
 
-nothing_more : (depth : ℕ) (last : LastUnit) (rest : List (ℕ × Lexeme)) → EndsRow depth last rest rest (last_units last)
+nothing_more : (depth : ℕ) (last : LastUnit) (rest : List (ℕ × Lexeme)) → EndsSequence depth last rest rest (last_units last)
 nothing_more depth reading.no_unit rest = fresh no_unit
 nothing_more depth (reading.single t) rest = kept no_unit
 nothing_more depth (reading.repeated t) rest = settled no_unit
 
--- a row after the last unit
-attach : (depth : ℕ) (last : LastUnit) (ls rest : List (ℕ × Lexeme)) (ts : List Tree) → IsRow depth ls rest ts
-    → EndsRow depth last ls rest (last_units last ++ ts)
+-- a sequence after the last unit
+attach : (depth : ℕ) (last : LastUnit) (ls rest : List (ℕ × Lexeme)) (ts : List Tree) → IsSequence depth ls rest ts
+    → EndsSequence depth last ls rest (last_units last ++ ts)
 attach depth reading.no_unit ls rest ts r = fresh r
 attach depth (reading.single t) ls rest ts r = kept r
 attach depth (reading.repeated t) ls rest ts r = settled r
 
--- one unit, and the row after it
-unit_row : (depth : ℕ) (last : LastUnit) (from ls rest : List (ℕ × Lexeme)) (u : Tree) (ts : List Tree)
-    → IsUnit depth from ls u → EndsRow depth (reading.single u) ls rest ts
-    → EndsRow depth last from rest (last_units last ++ ts)
-unit_row depth last from ls rest u ts is (kept {ts = us} r) = attach depth last from rest (u ∷ us) (once is r)
-unit_row depth last from ls rest u ts is (signed {b = b} {ts = us} r) = attach depth last from rest (repeat u b.min b.max ∷ us) (repeated is r)
+-- one unit, and the sequence after it
+unit_sequence : (depth : ℕ) (last : LastUnit) (from ls rest : List (ℕ × Lexeme)) (u : Tree) (ts : List Tree)
+    → IsUnit depth from ls u → EndsSequence depth (reading.single u) ls rest ts
+    → EndsSequence depth last from rest (last_units last ++ ts)
+unit_sequence depth last from ls rest u ts is (kept {ts = us} r) = attach depth last from rest (u ∷ us) (once is r)
+unit_sequence depth last from ls rest u ts is (signed {b = b} {ts = us} r) = attach depth last from rest (repeat u b.min b.max ∷ us) (repeated is r)
 
 -- one unit, and the rest of its level
 unit_level : (depth : ℕ) (level : Level) (from ls : List (ℕ × Lexeme)) (u : Tree) → IsUnit depth from ls u
     → (rest : List (ℕ × Lexeme)) (us : List Tree) → EndsLevel depth (with_unit u level) ls rest us
     → EndsLevel depth level from rest us
-unit_level depth level from ls u is rest us (last_row {ts = ts} r) =
-    subst (λ row. EndsLevel depth level from rest (level.alternatives ++ units_tree row ∷ []))
+unit_level depth level from ls u is rest us (last_sequence {ts = ts} r) =
+    subst (λ sequence. EndsLevel depth level from rest (level.alternatives ++ units_tree sequence ∷ []))
     (sym (append_assoc level.before (last_units level.last) ts))
-    (last_row (unit_row depth level.last from ls rest u ts is r))
-unit_level depth level from ls u is rest us (more_rows {place = p} {more = more} {ts = ts} {us = vs} r others) =
-    subst (λ row. EndsLevel depth level from rest (level.alternatives ++ units_tree row ∷ vs))
+    (last_sequence (unit_sequence depth level.last from ls rest u ts is r))
+unit_level depth level from ls u is rest us (more_sequences {place = p} {more = more} {ts = ts} {us = vs} r others) =
+    subst (λ sequence. EndsLevel depth level from rest (level.alternatives ++ units_tree sequence ∷ vs))
     (sym (append_assoc level.before (last_units level.last) ts))
-    (more_rows (unit_row depth level.last from ls ((p, bar) ∷ more) u ts is r) others)
+    (more_sequences (unit_sequence depth level.last from ls ((p, bar) ∷ more) u ts is r) others)
 
 -- a bar, and the rest of the level
 bar_level : (depth place : ℕ) (level : Level) (ls rest : List (ℕ × Lexeme)) (us : List Tree)
     → EndsLevel depth (with_alternative level) ls rest us → EndsLevel depth level ((place, bar) ∷ ls) rest us
-bar_level depth place level ls rest us (last_row {ts = ts} (fresh r)) =
+bar_level depth place level ls rest us (last_sequence {ts = ts} (fresh r)) =
     subst (EndsLevel depth level ((place, bar) ∷ ls) rest)
     (sym (append_assoc level.alternatives (units_tree (units level) ∷ []) (units_tree ts ∷ [])))
-    (more_rows (nothing_more depth level.last ((place, bar) ∷ ls)) (only r))
-bar_level depth place level ls rest us (more_rows {ts = ts} {us = vs} (fresh r) others) =
+    (more_sequences (nothing_more depth level.last ((place, bar) ∷ ls)) (only r))
+bar_level depth place level ls rest us (more_sequences {ts = ts} {us = vs} (fresh r) others) =
     subst (EndsLevel depth level ((place, bar) ∷ ls) rest)
     (sym (append_assoc level.alternatives (units_tree (units level) ∷ []) (units_tree ts ∷ vs)))
-    (more_rows (nothing_more depth level.last ((place, bar) ∷ ls)) (or r others))
+    (more_sequences (nothing_more depth level.last ((place, bar) ∷ ls)) (or r others))
 
 -- a new level is a choice
 new_choice : (depth place : ℕ) (ls rest : List (ℕ × Lexeme)) (us : List Tree) → EndsLevel depth (new_level place) ls rest us → IsChoice depth ls rest us
-new_choice depth place ls rest us (last_row (fresh r)) = only r
-new_choice depth place ls rest us (more_rows (fresh r) others) = or r others
+new_choice depth place ls rest us (last_sequence (fresh r)) = only r
+new_choice depth place ls rest us (more_sequences (fresh r) others) = or r others
 
 -- a sign after the last unit, and the rest of the level
 sign_level : (depth place from : ℕ) (b : Bounds) (u : Tree) (before alternatives : List Tree) (ls rest : List (ℕ × Lexeme)) (us : List Tree)
     → EndsLevel depth (record { place = from; alternatives = alternatives; before = before; last = reading.repeated (repeat u b.min b.max) }) ls rest us
     → EndsLevel depth (record { place = from; alternatives = alternatives; before = before; last = reading.single u }) ((place, sign (Some b)) ∷ ls) rest us
-sign_level depth place from b u before alternatives ls rest us (last_row (settled r)) = last_row (signed r)
-sign_level depth place from b u before alternatives ls rest us (more_rows (settled r) others) = more_rows (signed r) others
+sign_level depth place from b u before alternatives ls rest us (last_sequence (settled r)) = last_sequence (signed r)
+sign_level depth place from b u before alternatives ls rest us (more_sequences (settled r) others) = more_sequences (signed r) others
 
 -- what is read from here on completes the pattern
 abbrev Sound : List (ℕ × Lexeme) → Type 0
@@ -114,7 +114,7 @@ ok_is t u e = cc
 
 nil_sound : Sound []
 unfolding read_on
-nil_sound level [] t e = (level.alternatives ++ units_tree (units level) ∷ [], last_row (nothing_more 0 level.last []), sym (ok_is _ _ e))
+nil_sound level [] t e = (level.alternatives ++ units_tree (units level) ∷ [], last_sequence (nothing_more 0 level.last []), sym (ok_is _ _ e))
 nil_sound level (o ∷ outer) t e = absurd cc
 
 unit_sound : (place : ℕ) (u : Tree) (ls : List (ℕ × Lexeme)) → Sound ls → Sound ((place, unit u) ∷ ls)
@@ -163,7 +163,7 @@ closing_sound place ls others level (o ∷ outer) t e = (
   place,
   without_anchors ls,
   level.alternatives ++ units_tree (units level) ∷ [],
-  last_row (nothing_more (suc (length outer)) level.last ((place, closing) ∷ without_anchors ls)),
+  last_sequence (nothing_more (suc (length outer)) level.last ((place, closing) ∷ without_anchors ls)),
   others (with_unit (level_tree level) o) outer t e,
 )
 

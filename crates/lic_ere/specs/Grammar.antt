@@ -23,20 +23,20 @@ mutual
         → IsUnit 0 ((place, closing) ∷ rest) rest (letters_tree close_paren)
 
   -- units in a row, each with one repetition sign or with none
-  pub data IsRow : ℕ → List (ℕ × Lexeme) → List (ℕ × Lexeme) → List Tree → Type 0 where
-    no_unit : {depth : ℕ} {rest : List (ℕ × Lexeme)} → IsRow depth rest rest []
+  pub data IsSequence : ℕ → List (ℕ × Lexeme) → List (ℕ × Lexeme) → List Tree → Type 0 where
+    no_unit : {depth : ℕ} {rest : List (ℕ × Lexeme)} → IsSequence depth rest rest []
     once : {depth : ℕ} {ls more rest : List (ℕ × Lexeme)} {t : Tree} {ts : List Tree} → IsUnit depth ls more t
-        → IsRow depth more rest ts → IsRow depth ls rest (t ∷ ts)
+        → IsSequence depth more rest ts → IsSequence depth ls rest (t ∷ ts)
     repeated : {depth place : ℕ} {ls more rest : List (ℕ × Lexeme)} {t : Tree} {b : Bounds} {ts : List Tree}
-        → IsUnit depth ls ((place, sign (Some b)) ∷ more) t → IsRow depth more rest ts
-        → IsRow depth ls rest (repeat t b.min b.max ∷ ts)
+        → IsUnit depth ls ((place, sign (Some b)) ∷ more) t → IsSequence depth more rest ts
+        → IsSequence depth ls rest (repeat t b.min b.max ∷ ts)
 
-  -- one row, or several with `|` between them
+  -- one sequence, or several with `|` between them
   pub data IsChoice : ℕ → List (ℕ × Lexeme) → List (ℕ × Lexeme) → List Tree → Type 0 where
-    only : {depth : ℕ} {ls rest : List (ℕ × Lexeme)} {ts : List Tree} → IsRow depth ls rest ts
+    only : {depth : ℕ} {ls rest : List (ℕ × Lexeme)} {ts : List Tree} → IsSequence depth ls rest ts
         → IsChoice depth ls rest (units_tree ts ∷ [])
     or : {depth place : ℕ} {ls more rest : List (ℕ × Lexeme)} {ts us : List Tree}
-        → IsRow depth ls ((place, bar) ∷ more) ts → IsChoice depth more rest us
+        → IsSequence depth ls ((place, bar) ∷ more) ts → IsChoice depth more rest us
         → IsChoice depth ls rest (units_tree ts ∷ us)
 
 -- the first `^` and the last `$` mean nothing

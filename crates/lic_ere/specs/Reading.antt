@@ -9,7 +9,7 @@ use Rattle.lic_ere.specs.Faults.{fault_at, ◌>>=◌}
 use Rattle.lic_ere.specs.Located.{Located, located}
 use Rattle.lic_ere.specs.Lexemes.{Lexeme, unit, sign, opening, closing, bar, anchor, lexemes}
 
--- the last unit of a row: none yet, one that may be repeated, or one with its repetition sign
+-- the last unit of a sequence: none yet, one that may be repeated, or one with its repetition sign
 pub data LastUnit : Type 0 where
   no_unit : LastUnit
   single : Tree → LastUnit

@@ -7,7 +7,7 @@ use crate::lexeme::bounds::Bounds;
 use std::alloc::{AllocError, Global};
 use std::mem;
 
-/// The last unit of a row.
+/// The last unit of a sequence.
 #[derive(Drop)]
 pub enum LastUnit {
     None,
@@ -84,7 +84,7 @@ impl Level {
     }
 
     /// A `|`.
-    pub fn end_row(&mut self, alloc: Global) -> Result<(), AllocError>
+    pub fn end_sequence(&mut self, alloc: Global) -> Result<(), AllocError>
         ensures { OnOk result (level_of self.new ≡ with_alternative (level_of self.old)) }
     {
         let mut units = mem::replace(&mut self.before, Vec::new(alloc));
@@ -92,7 +92,7 @@ impl Level {
             LastUnit::None => {}
             LastUnit::Single(last) | LastUnit::Repeated(last) => units.push(last)?,
         }
-        self.alternatives.push(Ere::row(alloc, units)?)?;
+        self.alternatives.push(Ere::sequence(alloc, units)?)?;
         Ok(())
     }
 
@@ -101,7 +101,7 @@ impl Level {
         ensures { IfOk result (λ tree. tree_of tree ≡ level_tree (level_of self)) }
     {
         let mut level = self;
-        level.end_row(alloc)?;
+        level.end_sequence(alloc)?;
         Ere::choice(alloc, level.alternatives)
     }
 }

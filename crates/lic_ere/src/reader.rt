@@ -74,7 +74,7 @@ impl Reader {
             Lexeme::Sign(bounds) => self.level.repeat(alloc, place, bounds)?,
             Lexeme::Opening => self.open(alloc, place)?,
             Lexeme::Closing => self.close(alloc)?,
-            Lexeme::Bar => self.level.end_row(alloc)?,
+            Lexeme::Bar => self.level.end_sequence(alloc)?,
             Lexeme::Anchor => {}
         }
         Ok(())

@@ -7,7 +7,7 @@ use Rattle.std.proofs.lemmas.Bool.{cases_Bool, cases_lt, cond-true, cond-false, 
 use Rattle.std.proofs.lemmas.List.{append-nil, map-append, length-map, length-take, drop_at, drop-append-le, drop_all}
 use Rattle.std.proofs.lemmas.List.Concat.{flat_map-append}
 use Rattle.lic_kind.specs.Kinds.{is_dropped}
-use Rattle.lic_trim.specs.Texts.{is_row, longest_end, cut_after, groups}
+use Rattle.lic_trim.specs.Texts.{is_sequence, longest_end, cut_after, groups}
 use Rattle.lic_trim.specs.declared.source.SourceChar.{SourceChar}
 use Rattle.lic_trim.specs.Sources.{chars_of, lines_of, without_dropped}
 use Rattle.lic_kind.specs.LineRules.{LineRules}
@@ -18,7 +18,7 @@ use Rattle.lic_lines.specs.Runs.{runs_joined}
 use Rattle.lic_lines.specs.Tokens.{Token, both_words, tokens_from, first_tokens, is_text, is_sign_in_parentheses, sign_from, as_sign, single_signs, tokens_of_cells, line_tokens, text_tokens}
 use Rattle.lic_lines.proofs.Gaps.{no_runs, runs_joined-gap, first_tokens-gap}
 use Rattle.lic_trim.proofs.ItemLemmas.{char_of, item_none, few_behind}
-use Rattle.lic_trim.proofs.TailRows.{greatest_ge}
+use Rattle.lic_trim.proofs.TailSequences.{greatest_ge}
 
 -- ---- the lines
 module _ {A : Type 0} (ends : A → Bool) where
@@ -119,14 +119,14 @@ item_within rules xs c ys white =
     (cases_Bool test)
 
 -- what is left of a text that ends in white space has that as a tail
-tail_some : (rules : LineRules) (text : List ℕ) (c : ℕ) → is_whitespace c ≡ true → 0 < longest_end (is_row (is_tail_piece rules)) (text ++ c ∷ [])
+tail_some : (rules : LineRules) (text : List ℕ) (c : ℕ) → is_whitespace c ≡ true → 0 < longest_end (is_sequence (is_tail_piece rules)) (text ++ c ∷ [])
 tail_some rules text c white =
     let whole = text ++ c ∷ [] in
     let long : length whole ≡ length text + 1 = length-append text (c ∷ []) in
     let place : length whole - 1 ≡ length text = omega arith in
     let last : drop (length whole - 1) whole ≡ c ∷ [] = ap (λ n. drop n whole) place ∙ drop_at text (c ∷ []) (length text) refl in
-    greatest_ge (λ n. is_row (is_tail_piece rules) (drop (length whole - n) whole)) (length whole) 1 (omega arith)
-    (subst (λ l. is_row (is_tail_piece rules) l ≡ true) (sym last) (rw white refl))
+    greatest_ge (λ n. is_sequence (is_tail_piece rules) (drop (length whole - n) whole)) (length whole) 1 (omega arith)
+    (subst (λ l. is_sequence (is_tail_piece rules) l ≡ true) (sym last) (rw white refl))
 
 blank_some : (n : ℕ) → 0 < n → blank_for n ≡ Blank ∷ []
 blank_some zero h = absurd (omega arith)
@@ -192,8 +192,8 @@ module _ (rules : LineRules) (part : LinePart) where
       ap (drop item) rest ∙ drop-append-le item (drop lead before) (nl.char ∷ []) room in
       let end : 0 < tail = subst (λ n. 0 < n)
       (sym (cond-true part.has_end
-      (longest_end (is_row (is_tail_piece rules)) (drop item (drop lead text))) 0 has_end))
-      (subst (λ l. 0 < longest_end (is_row (is_tail_piece rules)) l) (sym left)
+      (longest_end (is_sequence (is_tail_piece rules)) (drop item (drop lead text))) 0 has_end))
+      (subst (λ l. 0 < longest_end (is_sequence (is_tail_piece rules)) l) (sym left)
       (tail_some rules (drop item (drop lead before)) nl.char white)) in (
         _,
         ap (λ b. blank_for lead ++ blank_for item

@@ -7,7 +7,7 @@ use std::alloc::Global;
 /// Buffers for the work on a line, reused from line to line. What they hold has no effect.
 #[derive(Drop)]
 pub struct Buffers {
-    /// The cells of a row of marks.
+    /// The cells of a sequence of marks.
     pub(crate) cells: Vec<Cell>,
     pub(crate) runs: Runs,
     /// The letters of a token.

@@ -5,7 +5,7 @@
 mod buffers;
 mod cell;
 mod line;
-mod mark_rows;
+mod mark_sequences;
 mod runs;
 mod signs;
 mod small_string;

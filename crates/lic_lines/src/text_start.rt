@@ -4,7 +4,7 @@ ghost use Rattle.lic_kind.specs.Kinds.{kind_of};
 ghost use Rattle.lic_lines.specs.Runs.{may_join};
 ghost use Rattle.lic_lines.specs.TextStarts.{IsTextStart};
 
-use crate::mark_rows::goes_on;
+use crate::mark_sequences::goes_on;
 use crate::tokens::spell_word;
 use lic_kind::{Kind, kind_of, mark_letter};
 use lic_trim::SourceChar;

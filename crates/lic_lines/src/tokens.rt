@@ -121,7 +121,7 @@ pub(crate) fn spell_word(
     Ok(count)
 }
 
-/// The token of a row of word characters with these letters.
+/// The token of a sequence of word characters with these letters.
 pub(crate) fn word_token(
     alloc: Global,
     after_blank: bool,

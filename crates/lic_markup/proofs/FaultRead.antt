@@ -14,7 +14,7 @@ use Rattle.lic_markup.specs.Faults.{fault_at, Gives, IsLasting}
 use Rattle.lic_markup.specs.Rules as rules
 use Rattle.lic_markup.specs.Elements.{Element, text, rule, refused, elements}
 use Rattle.lic_markup.specs.Lines.{with_next, next_of}
-use Rattle.lic_markup.specs.Parts.{Reading, TemplateValue, row, row_weight, template_of}
+use Rattle.lic_markup.specs.Parts.{Reading, TemplateValue, sequence, sequence_weight, template_of}
 use Rattle.lic_markup.specs.Reading as reading
 use Rattle.lic_markup.specs.Reading.{Level, State, meet, meet_text, meet_variable, meet_end, finish, read_on, read_elements, start, max_depth, max_length, max_weight}
 use Rattle.lic_markup.specs.Templates.{original_of}
@@ -183,14 +183,14 @@ module _ (line_rules : LineRules) (words : List Phrase) where
   first_read {es = es} (no_token {items = items} {ns = ns} are nested absent) =
       items_read line_rules words es items ns are nested
       ∙ ap (λ b. cond (not b) (Err (fault_at 0 NoLetter))
-      (cond (nat_lt max_weight (row_weight (row ns))) (Err (fault_at 0 TooHeavy))
-      (Ok (record { parts = ns; weight = row_weight (row ns); original = original_of es })))) absent
+      (cond (nat_lt max_weight (sequence_weight (sequence ns))) (Err (fault_at 0 TooHeavy))
+      (Ok (record { parts = ns; weight = sequence_weight (sequence ns); original = original_of es })))) absent
   first_read {es = es} (too_heavy {items = items} {ns = ns} are nested some heavy) =
-      let over_it : nat_lt max_weight (row_weight (row ns)) ≡ true = grind (arith, nat_tests, heavy) in
-      let says : Reading = record { parts = ns; weight = row_weight (row ns); original = original_of es } in
+      let over_it : nat_lt max_weight (sequence_weight (sequence ns)) ≡ true = grind (arith, nat_tests, heavy) in
+      let says : Reading = record { parts = ns; weight = sequence_weight (sequence ns); original = original_of es } in
       items_read line_rules words es items ns are nested
       ∙ ap (λ b. cond (not b) (Err (fault_at 0 NoLetter))
-      (cond (nat_lt max_weight (row_weight (row ns))) (Err (fault_at 0 TooHeavy)) (Ok says))) some
+      (cond (nat_lt max_weight (sequence_weight (sequence ns))) (Err (fault_at 0 TooHeavy)) (Ok says))) some
       ∙ ap (λ b. cond b (Err (fault_at 0 TooHeavy)) (Ok says)) over_it
 
   -- a template at fault is refused so

@@ -16,7 +16,7 @@ use Rattle.lic_markup.specs.Faults.{fault_at}
 use Rattle.lic_markup.specs.Rules as rules
 use Rattle.lic_markup.specs.Elements.{Element, text, rule, refused, elements}
 use Rattle.lic_markup.specs.Lines.{with_next, next_of}
-use Rattle.lic_markup.specs.Parts.{Node, Reading, row, row_weight, row_has_token}
+use Rattle.lic_markup.specs.Parts.{Node, Reading, sequence, sequence_weight, sequence_has_token}
 use Rattle.lic_markup.specs.Reading as reading
 use Rattle.lic_markup.specs.Reading.{Level, State, meet, meet_text, meet_variable, meet_end, finish, read_on, read_elements, start, whole, reported, max_depth, max_length, max_weight}
 use Rattle.lic_markup.specs.Templates as templates
@@ -214,24 +214,24 @@ module _ (line_rules : LineRules) (words : List Phrase) where
 
   whole_by : (es : List Element) (items : List Item) (ps : List Node) (original : List ℕ) (e : MarkupFault)
       → AreItems line_rules words [] es items → run [] [] items ≡ Some ps → (token heavy : Bool)
-      → row_has_token (row ps) ≡ token → nat_lt max_weight (row_weight (row ps)) ≡ heavy
+      → sequence_has_token (sequence ps) ≡ token → nat_lt max_weight (sequence_weight (sequence ps)) ≡ heavy
       → cond (not token) (Err (fault_at 0 NoLetter))
       (cond heavy (Err (fault_at 0 TooHeavy))
-      (Ok (record { parts = ps; weight = row_weight (row ps); original = original }))) ≡ failed e
+      (Ok (record { parts = ps; weight = sequence_weight (sequence ps); original = original }))) ≡ failed e
       → IsFirstFault line_rules words es e
   whole_by es items ps original e are runs false heavy one two is =
       subst (IsFirstFault line_rules words es) (same_fault (fault_at 0 NoLetter) e is)
       (no_token are (run_spelled items ps runs) one)
   whole_by es items ps original e are runs true true one two is =
-      let over_it : max_weight < row_weight (row ps) = grind (arith, nat_tests) in
+      let over_it : max_weight < sequence_weight (sequence ps) = grind (arith, nat_tests) in
       subst (IsFirstFault line_rules words es) (same_fault (fault_at 0 TooHeavy) e is) (too_heavy are (run_spelled items ps runs) one over_it)
-  whole_by es items ps original e are runs true false one two is = not_failed (record { parts = ps; weight = row_weight (row ps); original = original }) e is
+  whole_by es items ps original e are runs true false one two is = not_failed (record { parts = ps; weight = sequence_weight (sequence ps); original = original }) e is
 
   first_by : (es : List Element) (e : MarkupFault) → Fault [] es start e → IsFirstFault line_rules words es e
   first_by es e (early after is sound at) = at_rule after is sound at
   first_by es e (left_open front is sound leads same) = subst (IsFirstFault line_rules words es) same (not_ended front is sound leads)
   first_by es e (late {items = items} {ps = ps} original are runs is) =
-      whole_by es items ps original e are runs (row_has_token (row ps)) (nat_lt max_weight (row_weight (row ps))) refl refl is
+      whole_by es items ps original e are runs (sequence_has_token (sequence ps)) (nat_lt max_weight (sequence_weight (sequence ps))) refl refl is
 
   long_by : (template : List ℕ) (e : MarkupFault) (long : Bool) → nat_lt max_length (length template) ≡ long
       → cond long (Err (fault_at 0 TooLong)) (read_elements line_rules words (elements [] 0 (located template)))

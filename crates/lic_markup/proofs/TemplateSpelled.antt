@@ -22,7 +22,7 @@ use Rattle.lic_markup.specs.Rules as rules
 use Rattle.lic_markup.specs.Elements.{Element, text, rule, refused, elements}
 use Rattle.lic_markup.specs.Lines.{with_next, next_of, next_after}
 use Rattle.lic_markup.specs.Parts as parts
-use Rattle.lic_markup.specs.Parts.{Node, Reading, TemplateValue, row, row_weight, row_has_token, template_of}
+use Rattle.lic_markup.specs.Parts.{Node, Reading, TemplateValue, sequence, sequence_weight, sequence_has_token, template_of}
 use Rattle.lic_markup.specs.Reading as reading
 use Rattle.lic_markup.specs.Reading.{Level, State, new_level, with_part, meet, meet_text, meet_variable, meet_begin, meet_end, finish, read_on, read_elements, start, whole, reported, max_depth, max_length, max_weight}
 use Rattle.lic_markup.specs.Templates as templates
@@ -50,40 +50,40 @@ parts_in levels = map (λ l. l.parts) levels
 
 -- what holds of each accepted template
 record IsWhole (r : Reading) : Type 0 where
-  pub some_token : row_has_token (row r.parts) ≡ true
-  pub weight : r.weight ≡ row_weight (row r.parts)
+  pub some_token : sequence_has_token (sequence r.parts) ≡ true
+  pub weight : r.weight ≡ sequence_weight (sequence r.parts)
   pub light : r.weight ≤ max_weight
 
-whole_by : (ps : List Node) (original : List ℕ) (r : Reading) (token heavy : Bool) → row_has_token (row ps) ≡ token
-    → nat_lt max_weight (row_weight (row ps)) ≡ heavy
+whole_by : (ps : List Node) (original : List ℕ) (r : Reading) (token heavy : Bool) → sequence_has_token (sequence ps) ≡ token
+    → nat_lt max_weight (sequence_weight (sequence ps)) ≡ heavy
     → cond (not token) (Err (fault_at 0 NoLetter))
     (cond heavy (Err (fault_at 0 TooHeavy))
-    (Ok (record { parts = ps; weight = row_weight (row ps); original = original }))) ≡ done r
-    → IsWhole r × (record { parts = ps; weight = row_weight (row ps); original = original } ≡ r)
+    (Ok (record { parts = ps; weight = sequence_weight (sequence ps); original = original }))) ≡ done r
+    → IsWhole r × (record { parts = ps; weight = sequence_weight (sequence ps); original = original } ≡ r)
 whole_by ps original r false heavy one two e = not_done (fault_at 0 NoLetter) r e
 whole_by ps original r true true one two e = not_done (fault_at 0 TooHeavy) r e
 whole_by ps original r true false one two e =
-    let made : Reading = record { parts = ps; weight = row_weight (row ps); original = original } in
+    let made : Reading = record { parts = ps; weight = sequence_weight (sequence ps); original = original } in
     let is : made ≡ r = same_done made r e in
-    let small : row_weight (row ps) ≤ max_weight = grind (arith, nat_tests) in
+    let small : sequence_weight (sequence ps) ≤ max_weight = grind (arith, nat_tests) in
     (subst IsWhole is (record { some_token = one; weight = refl; light = small }), is)
 
 whole_was : (ps : List Node) (original : List ℕ) (r : Reading) → whole ps original ≡ Ok r
-    → IsWhole r × (record { parts = ps; weight = row_weight (row ps); original = original } ≡ r)
-whole_was ps original r e = whole_by ps original r (row_has_token (row ps)) (nat_lt max_weight (row_weight (row ps))) refl refl e
+    → IsWhole r × (record { parts = ps; weight = sequence_weight (sequence ps); original = original } ≡ r)
+whole_was ps original r e = whole_by ps original r (sequence_has_token (sequence ps)) (nat_lt max_weight (sequence_weight (sequence ps))) refl refl e
 
 whole_read : (r : Reading) → IsWhole r → whole r.parts r.original ≡ Ok r
 whole_read r is =
-    let light : nat_lt max_weight (row_weight (row r.parts)) ≡ false = grind (arith, nat_tests, is.weight, is.light) in
+    let light : nat_lt max_weight (sequence_weight (sequence r.parts)) ≡ false = grind (arith, nat_tests, is.weight, is.light) in
     ap (λ b. cond (not b) (Err (fault_at 0 NoLetter))
-    (cond (nat_lt max_weight (row_weight (row r.parts))) (Err (fault_at 0 TooHeavy))
+    (cond (nat_lt max_weight (sequence_weight (sequence r.parts))) (Err (fault_at 0 TooHeavy))
     (done (record {
       parts = r.parts;
-      weight = row_weight (row r.parts);
+      weight = sequence_weight (sequence r.parts);
       original =
           r.original;
     })))) is.some_token
-    ∙ ap (λ b. cond b (Err (fault_at 0 TooHeavy)) (done (record { parts = r.parts; weight = row_weight (row r.parts); original = r.original }))) light
+    ∙ ap (λ b. cond b (Err (fault_at 0 TooHeavy)) (done (record { parts = r.parts; weight = sequence_weight (sequence r.parts); original = r.original }))) light
     ∙ ap (λ (w : ℕ). done (record { parts = r.parts; weight = w; original = r.original })) (sym is.weight)
 
 module _ (line_rules : LineRules) (words : List Phrase) where
@@ -203,11 +203,11 @@ module _ (line_rules : LineRules) (words : List Phrase) where
       }
 
   abbrev pub after_finish : State → Level → List Level → State
-  after_finish s o outer = record s { level = with_part (parts.optional (row s.level.parts)) o; outer = outer }
+  after_finish s o outer = record s { level = with_part (parts.optional (sequence s.level.parts)) o; outer = outer }
 
   pub run_finish : (s : State) (o : Level) (outer : List Level) (is : List Item) → s.outer ≡ o ∷ outer
       → run s.level.parts (parts_in s.outer) (templates.finish ∷ is)
-      ≡ run (o.parts ++ parts.optional (row s.level.parts) ∷ []) (parts_in outer) is
+      ≡ run (o.parts ++ parts.optional (sequence s.level.parts) ∷ []) (parts_in outer) is
   unfolding run
   run_finish s o outer is e = ap (λ (os : List Level). run s.level.parts (parts_in os) (templates.finish ∷ is)) e
 

@@ -14,7 +14,7 @@ use Rattle.lic_markup.specs.Faults.{fault_at}
 use Rattle.lic_markup.specs.Rules as rules
 use Rattle.lic_markup.specs.Elements.{Element, text, rule, refused}
 use Rattle.lic_markup.specs.Markup.{IsRule}
-use Rattle.lic_markup.specs.Parts.{Node, row, row_weight, row_has_token}
+use Rattle.lic_markup.specs.Parts.{Node, sequence, sequence_weight, sequence_has_token}
 use Rattle.lic_markup.specs.Reading.{max_depth, max_length, max_weight, reported}
 use Rattle.lic_markup.specs.RuleFaults.{IsRuleFault}
 use Rattle.lic_markup.specs.Templates.{Item, HasNoRule, AreItems, AreParts}
@@ -71,10 +71,10 @@ pub data IsFirstFault (line_rules : LineRules) (words : List Phrase) (es : List 
       → es ≡ before ++ rule (rules.begin place) ∷ following → AreSound 0 es (suc depth) → Lead 0 following 0
       → IsFirstFault line_rules words es (fault_at place NotEnded)
   no_token : {items : List Item} {ns : List Node} → AreItems line_rules words [] es items → AreParts 0 items ns
-      → row_has_token (row ns) ≡ false
+      → sequence_has_token (sequence ns) ≡ false
       → IsFirstFault line_rules words es (fault_at 0 NoLetter)
   too_heavy : {items : List Item} {ns : List Node} → AreItems line_rules words [] es items → AreParts 0 items ns
-      → row_has_token (row ns) ≡ true → max_weight < row_weight (row ns)
+      → sequence_has_token (sequence ns) ≡ true → max_weight < sequence_weight (sequence ns)
       → IsFirstFault line_rules words es (fault_at 0 TooHeavy)
 
 -- the fault that decides of a template, given as its bytes

@@ -17,7 +17,7 @@ use Rattle.lic_markup.specs.Faults.{fault_at, out_of_memory, ◌>>=◌}
 use Rattle.lic_markup.specs.Rules as rules
 use Rattle.lic_markup.specs.Elements.{Element, text, rule, refused, elements}
 use Rattle.lic_markup.specs.Lines.{at_line_start, next_after, with_next}
-use Rattle.lic_markup.specs.Parts.{Node, letters, variable, optional, row, row_weight, row_has_token, Reading}
+use Rattle.lic_markup.specs.Parts.{Node, letters, variable, optional, sequence, sequence_weight, sequence_has_token, Reading}
 
 -- The template, or an open optional part: where it begins, and its parts so far.
 pub record Level : Type 0 where
@@ -87,7 +87,7 @@ meet_begin place s =
 -- the innermost optional part becomes a part of the level round it
 abbrev pub meet_end : ℕ → Level → List Level → State → Result State MarkupFault
 meet_end place level [] s = Err (fault_at place EndWithoutBegin)
-meet_end place level (o ∷ outer) s = Ok (record s { level = with_part (optional (row level.parts)) o; outer = outer })
+meet_end place level (o ∷ outer) s = Ok (record s { level = with_part (optional (sequence level.parts)) o; outer = outer })
 
 -- one more piece or rule
 unfoldable pub meet : LineRules → List Phrase → Element → Next → State → Result State MarkupFault
@@ -105,9 +105,9 @@ max_weight = 131072
 -- a template is refused without a token in it, and above a weight
 abbrev pub whole : List Node → List ℕ → Result Reading MarkupFault
 whole parts original =
-    if not (row_has_token (row parts)) then Err (fault_at 0 NoLetter)
-    else (if nat_lt max_weight (row_weight (row parts)) then Err (fault_at 0 TooHeavy)
-    else Ok (record { parts = parts; weight = row_weight (row parts); original = original }))
+    if not (sequence_has_token (sequence parts)) then Err (fault_at 0 NoLetter)
+    else (if nat_lt max_weight (sequence_weight (sequence parts)) then Err (fault_at 0 TooHeavy)
+    else Ok (record { parts = parts; weight = sequence_weight (sequence parts); original = original }))
 
 -- after the last element: an optional part that is open is refused, the innermost one
 abbrev pub finish : Level → List Level → List ℕ → Result Reading MarkupFault

@@ -15,7 +15,7 @@ use Rattle.lic_markup.specs.Rules as rules
 use Rattle.lic_markup.specs.Elements.{Element, text, rule, refused}
 use Rattle.lic_markup.specs.Lines.{is_space, ends_line}
 use Rattle.lic_markup.specs.Parts as parts
-use Rattle.lic_markup.specs.Parts.{Node, Reading, row, row_weight, row_has_token}
+use Rattle.lic_markup.specs.Parts.{Node, Reading, sequence, sequence_weight, sequence_has_token}
 use Rattle.lic_markup.specs.Reading.{max_depth, max_length, max_weight}
 use Rattle.lic_markup.specs.Markup.{BeginsRule, IsRule}
 
@@ -132,7 +132,7 @@ pub data AreParts : ℕ → List Item → List Node → Type 0 where
       → AreParts depth (variable name original tree ∷ is) (parts.variable name original tree ∷ ns)
   optional : {depth : ℕ} {is js : List Item} {ns ms : List Node} → depth < max_depth → AreParts (suc depth) is ns
       → AreParts depth js ms
-      → AreParts depth (begin ∷ (is ++ finish ∷ js)) (parts.optional (row ns) ∷ ms)
+      → AreParts depth (begin ∷ (is ++ finish ∷ js)) (parts.optional (sequence ns) ∷ ms)
 
 -- ---- templates
 
@@ -144,7 +144,7 @@ pub record IsTemplate (line_rules : LineRules) (words : List Phrase) (template :
   pub items : List Item
   pub read : AreItems line_rules words [] elements items
   pub nested : AreParts 0 items says.parts
-  pub some_token : IsTrue (row_has_token (row says.parts))
-  pub weight : says.weight ≡ row_weight (row says.parts)
+  pub some_token : IsTrue (sequence_has_token (sequence says.parts))
+  pub weight : says.weight ≡ sequence_weight (sequence says.parts)
   pub light : says.weight ≤ max_weight
   pub original : says.original ≡ original_of elements

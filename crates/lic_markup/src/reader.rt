@@ -4,7 +4,7 @@ ghost use Rattle.std.specs.String.{string_bytes};
 ghost use Rattle.lic_ere.specs.Reading as patterns;
 ghost use Rattle.lic_kind.specs.LineRules.{rules_of};
 ghost use Rattle.lic_markup.specs.Faults.{Gives, reported};
-ghost use Rattle.lic_markup.specs.Parts.{GiveToken, part_of, row, template_of, weight_of};
+ghost use Rattle.lic_markup.specs.Parts.{GiveToken, part_of, sequence, template_of, weight_of};
 ghost use Rattle.lic_markup.specs.PartTexts.{HavePieceTexts};
 ghost use Rattle.lic_markup.specs.Pieces.{characters};
 ghost use Rattle.lic_markup.specs.ReadTexts.{HasReadTexts};
@@ -261,7 +261,7 @@ impl Reader {
 
 /// The template of these levels, unless an optional part is open.
 fn ended(level: Level, outer: Vec<Level>, original: String) -> Result<Template, MarkupFault>
-    requires { HavePieceTexts (row (map part_of level.parts.items)) }
+    requires { HavePieceTexts (sequence (map part_of level.parts.items)) }
     ensures exact { Gives template_of result
         (reading.finish (level_of level) (levels_of outer.items) (string_bytes original)) }
     ensures weighed { IfOk result (λ t. t.weight ≡ weight_of t.parts) }
@@ -279,7 +279,7 @@ fn ended(level: Level, outer: Vec<Level>, original: String) -> Result<Template, 
 
 /// The template of these parts, unless it has no token or is too heavy.
 fn whole(parts: Vec<Part>, original: String) -> Result<Template, MarkupFault>
-    requires { HavePieceTexts (row (map part_of parts.items)) }
+    requires { HavePieceTexts (sequence (map part_of parts.items)) }
     ensures exact { Gives template_of result
         (reading.whole (map part_of parts.items) (string_bytes original)) }
     ensures weighed { IfOk result (λ t. t.weight ≡ weight_of t.parts) }

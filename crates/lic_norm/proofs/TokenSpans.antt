@@ -12,7 +12,7 @@ use Rattle.lic_lines.specs.Tokens.{Token, both_words, tokens_from, first_tokens,
 use Rattle.lic_trim.specs.declared.source.SourceChar.{SourceChar}
 use Rattle.lic_lines.specs.declared.cell.Cell.{Cell}
 use Rattle.lic_lines.specs.declared.cell.Cell.TheVariants.{Blank, Mark, Word}
-use Rattle.lic_phrases.specs.Rewriting.{Phrase, end_of_last, both_signs, sign_of_row, sign_rows, begins_authority, https_as_http, longest_phrase, count_after, first_as, phrases_after, phrases_joined, spanned}
+use Rattle.lic_phrases.specs.Rewriting.{Phrase, end_of_last, both_signs, sign_of_sequence, sign_sequences, begins_authority, https_as_http, longest_phrase, count_after, first_as, phrases_after, phrases_joined, spanned}
 use Rattle.lic_norm.specs.Tokens.{TokenValue, reported, first_tokens_of, tokens_of}
 use Rattle.lic_norm.specs.Sources.{source_of}
 use Rattle.lic_norm.specs.Spans.{AreRising, EndsAt, IsOnBoundaries, AreSpans}
@@ -103,14 +103,14 @@ module _ (source : List ℕ) where
   last-lies t [] to here l = (omega arith, l, here)
   last-lies t (u ∷ ts) to here l = let rest = last-lies u ts to l.3 l.4 in (omega (arith, l.0, l.1, rest.0), rest.1, rest.2)
 
-  rows-Lie : (from : ℕ) (rows : List (List Token)) (to : ℕ) → TokensLie source from (flat_map (λ row. row) rows) to
-      → TokensLie source from (flat_map sign_of_row rows) to
-  rows-Lie from [] to l = l
-  rows-Lie from ([] ∷ rows) to l = rows-Lie from rows to l
-  rows-Lie from ((t ∷ ts) ∷ rows) to l =
-      let two = Lie-split source (λ (r : Token). r.start) (λ r. r.end) t.end ts (flat_map (λ row. row) rows) to l.4 in
+  sequences-Lie : (from : ℕ) (sequences : List (List Token)) (to : ℕ) → TokensLie source from (flat_map (λ sequence. sequence) sequences) to
+      → TokensLie source from (flat_map sign_of_sequence sequences) to
+  sequences-Lie from [] to l = l
+  sequences-Lie from ([] ∷ sequences) to l = sequences-Lie from sequences to l
+  sequences-Lie from ((t ∷ ts) ∷ sequences) to l =
+      let two = Lie-split source (λ (r : Token). r.start) (λ r. r.end) t.end ts (flat_map (λ sequence. sequence) sequences) to l.4 in
       let last = last-lies t ts two.0 l.3 two.1 in
-      (l.0, omega (arith, l.1, last.0), l.2, last.2, wider (end_of_last t ts) two.0 (flat_map sign_of_row rows) to last.1 (rows-Lie two.0 rows to two.2))
+      (l.0, omega (arith, l.1, last.0), l.2, last.2, wider (end_of_last t ts) two.0 (flat_map sign_of_sequence sequences) to last.1 (sequences-Lie two.0 sequences to two.2))
 
   -- ---- web addresses
 
@@ -150,12 +150,12 @@ module _ (source : List ℕ) where
           (l.0, omega (arith, l.1, last.0), l.2, last.2, more n (end_of_last t (take n ts)) (behind-Lie n t ts to l.4))
 
   rewritten-Lie : (words : List Phrase) (from : ℕ) (ts : List Token) (to : ℕ) → TokensLie source from ts to
-      → TokensLie source from (phrases_joined words (https_as_http (sign_rows ts))) to
+      → TokensLie source from (phrases_joined words (https_as_http (sign_sequences ts))) to
   rewritten-Lie words from ts to l =
-      let rows : TokensLie source from (sign_rows ts) to =
-      rows-Lie from (groups both_signs ts) to
+      let sequences : TokensLie source from (sign_sequences ts) to =
+      sequences-Lie from (groups both_signs ts) to
       (subst (λ us. TokensLie source from us to) (sym (parts_of_groups both_signs ts)) l) in
-      phrases-Lie words 0 from (https_as_http (sign_rows ts)) to (https-Lie from (sign_rows ts) to rows)
+      phrases-Lie words 0 from (https_as_http (sign_sequences ts)) to (https-Lie from (sign_sequences ts) to sequences)
 
   -- ---- as they are reported
 
@@ -191,7 +191,7 @@ unfolding first_tokens_of
 tokens_of-AreSpans rules words input =
     let to = length input in
     let lies = rewritten-Lie input words 0 (text_tokens rules (source_of 0 input)) to (text_tokens-Lie input rules) in
-    let joined = phrases_joined words (https_as_http (sign_rows (text_tokens rules (source_of 0 input)))) in
+    let joined = phrases_joined words (https_as_http (sign_sequences (text_tokens rules (source_of 0 input)))) in
     record {
       rising = reported-rising input 0 joined to lies;
       within =

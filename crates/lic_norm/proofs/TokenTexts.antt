@@ -26,7 +26,7 @@ use Rattle.lic_trim.specs.Lines.{whole_line, cut_of}
 use Rattle.lic_lines.specs.Cells.{blank_for, cell_of, cells_of, line_cells}
 use Rattle.lic_lines.specs.Runs.{same_mark, same_family, without_separator, without_separators, joined, runs_joined}
 use Rattle.lic_lines.specs.Tokens.{Token, both_words, letters_of, tokens_from, first_tokens, is_text, is_sign_in_parentheses, sign_from, as_sign, single_signs, text_tokens_after}
-use Rattle.lic_phrases.specs.Rewriting.{Phrase, both_signs, sign_of_row, sign_rows, begins_authority, https_as_http, begin_with_texts, longer, longest_phrase, count_after, first_as, phrases_after, phrases_joined, spanned, rewritten, SpannedText}
+use Rattle.lic_phrases.specs.Rewriting.{Phrase, both_signs, sign_of_sequence, sign_sequences, begins_authority, https_as_http, begin_with_texts, longer, longest_phrase, count_after, first_as, phrases_after, phrases_joined, spanned, rewritten, SpannedText}
 use Rattle.lic_phrases.specs.Settling.{Kept, Settles, left_of}
 use Rattle.lic_phrases.specs.TokenTexts.{IsTokenText, HaveTokenTexts}
 use Rattle.lic_norm.specs.Sources.{source_of}
@@ -260,12 +260,12 @@ single_signs-texts (a ∷ b ∷ c ∷ ts) h =
           (more_have (as_sign a) (single_signs (b ∷ c ∷ ts)) (as_sign-text a (first_has a (b ∷ c ∷ ts) h)) (single_signs-texts (b ∷ c ∷ ts) more))
     ]
 
-rows-texts : (rows : List (List Token)) → HaveTexts (flat_map (λ row. row) rows) → HaveTexts (flat_map sign_of_row rows)
-rows-texts [] h = h
-rows-texts ([] ∷ rows) h = rows-texts rows h
-rows-texts ((t ∷ ts) ∷ rows) h =
-    let rest = flat_map (λ (row : List Token). row) rows in
-    more_have _ (flat_map sign_of_row rows) (first_has t (ts ++ rest) h) (rows-texts rows (behind ts rest (rest_have t (ts ++ rest) h)))
+sequences-texts : (sequences : List (List Token)) → HaveTexts (flat_map (λ sequence. sequence) sequences) → HaveTexts (flat_map sign_of_sequence sequences)
+sequences-texts [] h = h
+sequences-texts ([] ∷ sequences) h = sequences-texts sequences h
+sequences-texts ((t ∷ ts) ∷ sequences) h =
+    let rest = flat_map (λ (sequence : List Token). sequence) sequences in
+    more_have _ (flat_map sign_of_sequence sequences) (first_has t (ts ++ rest) h) (sequences-texts sequences (behind ts rest (rest_have t (ts ++ rest) h)))
   where
     behind : (xs ys : List Token) → HaveTexts (xs ++ ys) → HaveTexts ys
     behind [] ys g = g
@@ -360,10 +360,10 @@ first-texts rules input =
 -- after the rewriting
 pub rewritten-texts : (words : List Phrase) (ts : List Token) → HaveTokenTexts words → HaveTexts ts → AreTokenTexts (map reported (rewritten words ts))
 rewritten-texts words ts known texts =
-    let rows : HaveTexts (sign_rows ts) =
-    rows-texts (groups both_signs ts) (subst HaveTexts (sym (parts_of_groups both_signs ts)) texts) in
-    let joined = https_as_http (sign_rows ts) in
-    reported-texts (phrases_joined words joined) (phrases-texts words 0 joined known (https-texts (sign_rows ts) rows))
+    let sequences : HaveTexts (sign_sequences ts) =
+    sequences-texts (groups both_signs ts) (subst HaveTexts (sym (parts_of_groups both_signs ts)) texts) in
+    let joined = https_as_http (sign_sequences ts) in
+    reported-texts (phrases_joined words joined) (phrases-texts words 0 joined known (https-texts (sign_sequences ts) sequences))
 
 -- the texts alone
 pub rewritten-all : (words : List Phrase) (ts : List Token) → HaveTokenTexts words → HaveTexts ts

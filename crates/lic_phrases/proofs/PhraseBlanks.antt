@@ -17,7 +17,7 @@ use Rattle.lic_lines.specs.Cells.{cell_of}
 use Rattle.lic_lines.specs.Runs.{without_separator, without_separators, joined, with_joined, same_mark, same_family}
 use Rattle.lic_lines.specs.Tokens.{Token, both_words, letters_of, tokens_from, first_tokens, is_text, is_sign_in_parentheses, as_sign, sign_from, single_signs}
 use Rattle.lic_phrases.specs.Keys.{HasNoBlank, HaveNoBlank}
-use Rattle.lic_phrases.specs.Rewriting.{both_signs, sign_of_row, sign_rows, begins_authority, https_as_http}
+use Rattle.lic_phrases.specs.Rewriting.{both_signs, sign_of_sequence, sign_sequences, begins_authority, https_as_http}
 use Rattle.lic_phrases.specs.WordLists.{texts_of, phrase_texts}
 
 -- each element has the property
@@ -184,9 +184,9 @@ single_signs-plain (a ∷ b ∷ c ∷ ts) known =
     each-cond (Each IsPlain) (is_sign_in_parentheses a b c) (sign_from a c ∷ single_signs ts) (as_sign a ∷ single_signs (b ∷ c ∷ ts))
     (copyright_plain, single_signs-plain ts known.1.1.1) (as_sign-plain a known.0, single_signs-plain (b ∷ c ∷ ts) known.1)
 
-sign_of_row-plain : (ts : List Token) → Each IsPlain ts → Each IsPlain (sign_of_row ts)
-sign_of_row-plain [] known = tt
-sign_of_row-plain (t ∷ ts) known = (known.0, tt)
+sign_of_sequence-plain : (ts : List Token) → Each IsPlain ts → Each IsPlain (sign_of_sequence ts)
+sign_of_sequence-plain [] known = tt
+sign_of_sequence-plain (t ∷ ts) known = (known.0, tt)
 
 https_as_http-plain : (ts : List Token) → Each IsPlain ts → Each IsPlain (https_as_http ts)
 https_as_http-plain [] known = tt
@@ -209,8 +209,8 @@ phrase_is_solid cs =
     (each-groups IsSound same_family parted parted_sound) in
     let signs = single_signs (first_tokens joint) in
     let plain = single_signs-plain (first_tokens joint) (tokens_from-plain true (groups both_words joint) (each-groups IsSound both_words joint joint_sound)) in
-    let rows = each-flat_map (Each IsPlain) IsPlain sign_of_row sign_of_row-plain (groups both_signs signs) (each-groups IsPlain both_signs signs plain) in
-    texts_of-plain (https_as_http (sign_rows signs)) (https_as_http-plain (sign_rows signs) rows)
+    let sequences = each-flat_map (Each IsPlain) IsPlain sign_of_sequence sign_of_sequence-plain (groups both_signs signs) (each-groups IsPlain both_signs signs plain) in
+    texts_of-plain (https_as_http (sign_sequences signs)) (https_as_http-plain (sign_sequences signs) sequences)
 
 solid_no_blank : (texts : List (List ℕ)) → AreSolid texts → HaveNoBlank texts
 solid_no_blank [] known = tt

@@ -17,7 +17,7 @@ use Rattle.lic_trim.specs.Lines.{cut_of}
 use Rattle.lic_lines.specs.Cells.{blank_for, cell_of, cells_of_cut, left_of, line_cells}
 use Rattle.lic_lines.specs.Runs.{end_after, joined, runs_joined, same_family, same_mark, with_joined, without_separator, without_separators}
 use Rattle.lic_lines.specs.Tokens.{Token, as_sign, both_words, first_tokens, is_sign_in_parentheses, is_text, letters_of, sign_from, single_signs, token_of, tokens_from}
-use Rattle.lic_phrases.specs.Rewriting.{Phrase, begins_authority, both_signs, count_after, end_of_last, first_as, https_as_http, longer, longest_phrase, phrases_after, phrases_joined, rewritten, sign_of_row, sign_rows, spanned, begin_with_texts, without_secure}
+use Rattle.lic_phrases.specs.Rewriting.{Phrase, begins_authority, both_signs, count_after, end_of_last, first_as, https_as_http, longer, longest_phrase, phrases_after, phrases_joined, rewritten, sign_of_sequence, sign_sequences, spanned, begin_with_texts, without_secure}
 use Rattle.lic_pieces.specs.Pieces.{bare_token}
 
 -- ---- lists
@@ -221,14 +221,14 @@ bare-last : (t : Token) (ts : List Token) → end_of_last (bare_token t) (map ba
 bare-last t [] = refl
 bare-last t (u ∷ us) = bare-last u us
 
-bare-row : (row : List Token) → sign_of_row (map bare_token row) ≡ map bare_token (sign_of_row row)
-bare-row [] = refl
-bare-row (t ∷ ts) = ap (λ n. let u : Token = record { text = t.text; start = 0; end = n; after_blank = t.after_blank } in u ∷ []) (bare-last t ts)
+bare-sequence : (sequence : List Token) → sign_of_sequence (map bare_token sequence) ≡ map bare_token (sign_of_sequence sequence)
+bare-sequence [] = refl
+bare-sequence (t ∷ ts) = ap (λ n. let u : Token = record { text = t.text; start = 0; end = n; after_blank = t.after_blank } in u ∷ []) (bare-last t ts)
 
-bare-rows : (ts : List Token) → sign_rows (map bare_token ts) ≡ map bare_token (sign_rows ts)
-bare-rows ts =
-    ap (flat_map sign_of_row) (groups-map bare_token both_signs (λ t u. refl) ts)
-    ∙ flat-map bare_token bare_token sign_of_row bare-row (groups both_signs ts)
+bare-sequences : (ts : List Token) → sign_sequences (map bare_token ts) ≡ map bare_token (sign_sequences ts)
+bare-sequences ts =
+    ap (flat_map sign_of_sequence) (groups-map bare_token both_signs (λ t u. refl) ts)
+    ∙ flat-map bare_token bare_token sign_of_sequence bare-sequence (groups both_signs ts)
 
 bare-authority : (ts : List Token) → begins_authority (map bare_token ts) ≡ begins_authority ts
 bare-authority [] = refl
@@ -279,7 +279,7 @@ bare-spanned (t ∷ ts) = ap (λ l. t.text ∷ l) (bare-spanned ts)
 
 pub bare-texts : (words : List Phrase) (ts : List Token) → texts_after words (map bare_token ts) ≡ texts_after words ts
 bare-texts words ts =
-    ap (λ us. map (λ t. t.text) (map spanned (phrases_joined words (https_as_http us)))) (bare-rows ts)
-    ∙ ap (λ us. map (λ t. t.text) (map spanned (phrases_joined words us))) (bare-https (sign_rows ts))
-    ∙ ap (λ us. map (λ t. t.text) (map spanned us)) (bare-phrases words 0 (https_as_http (sign_rows ts)))
-    ∙ bare-spanned (phrases_joined words (https_as_http (sign_rows ts)))
+    ap (λ us. map (λ t. t.text) (map spanned (phrases_joined words (https_as_http us)))) (bare-sequences ts)
+    ∙ ap (λ us. map (λ t. t.text) (map spanned (phrases_joined words us))) (bare-https (sign_sequences ts))
+    ∙ ap (λ us. map (λ t. t.text) (map spanned us)) (bare-phrases words 0 (https_as_http (sign_sequences ts)))
+    ∙ bare-spanned (phrases_joined words (https_as_http (sign_sequences ts)))

@@ -1,4 +1,4 @@
-//! Going back over letters that pass a test, and rows of them.
+//! Going back over letters that pass a test, and sequences of them.
 
 pub(crate) mod counts;
 pub(crate) mod passing;

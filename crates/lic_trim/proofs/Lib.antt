@@ -1,4 +1,4 @@
-pub mod RowLemmas
+pub mod SequenceLemmas
 pub mod PieceEnds
 pub mod KindEnds
 pub mod RunFronts
@@ -7,13 +7,13 @@ pub mod FlagSteps
 pub mod TextLemmas
 pub mod Walking
 pub mod SideEnds
-pub mod TailRows
+pub mod TailSequences
 pub mod Stops
-pub mod SpaceRows
+pub mod SpaceSequences
 pub mod BeginningTexts
 pub mod PieceLengths
 pub mod SeparatorLengths
-pub mod RowPlaces
+pub mod SequencePlaces
 pub mod ItemLemmas
 pub mod NoItems
 pub mod CutLemmas
