@@ -10,7 +10,7 @@ use Rattle.lic_kind.specs.Kinds.{is_dropped}
 use Rattle.lic_kind.specs.LineRules.{LineRules}
 use Rattle.lic_trim.specs.Lines.{whole_line, is_lead_piece, is_tail_piece, is_item_form, lets_item, item_length, lead_length, item_after_lead, tail_length, cut_of}
 use Rattle.lic_lines.specs.Cells.{cell_of, line_cells, cells_of}
-use Rattle.lic_lines.specs.Runs.{runs_joined}
+use Rattle.lic_lines.specs.Streaks.{streaks_joined}
 use Rattle.lic_trim.specs.Sources.{placed, lines_of, without_dropped}
 use Rattle.lic_trim.specs.Texts.{is_sequence, cut_after}
 use Rattle.lic_lines.specs.Tokens.{first_tokens}
@@ -166,7 +166,7 @@ module _ (rules : LineRules) (at : ℕ) (text : List ℕ) where
 
 pub lines_tokens_are : (rules : LineRules) (at : ℕ) (text : List ℕ) → IsAscii text
     → span_tokens true at at (known_of text).letters (text_spans rules.separators at text (lines_blanked rules 0 (byte_lines text) (known_of text)))
-    ≡ first_tokens (runs_joined rules (cells_of rules (placed at text)))
+    ≡ first_tokens (streaks_joined rules (cells_of rules (placed at text)))
 lines_tokens_are rules at text ascii =
     let lines = byte_lines text in
     let known : Known = lines_blanked rules 0 lines (known_of text) in

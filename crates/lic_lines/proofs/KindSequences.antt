@@ -1,4 +1,4 @@
--- A sequence of characters of one kind at the start of a text gives its tokens by itself, since no run and no token has two kinds.
+-- A sequence of characters of one kind at the start of a text gives its tokens by itself, since no streak and no token has two kinds.
 use Rattle.std.proofs.Common.{◌≡◌, ◌≢◌, ℕ, zero, suc, ◌+◌, ◌-◌, ◌<◌, ◌≤◌, Bool, true, false, not, cond, List, [], ◌∷◌, ◌++◌, All, length, take, drop, map, get_or, refl, sym, ap, ap₂, ◌∙◌, subst, ⊎_elim, append_assoc, arith}
 use Rattle.std.specs.Prelude.{nat_le, ◌&&◌, ◌||◌, ◌==◌}
 use Rattle.std.specs.List.{list_all, flat_map}
@@ -11,12 +11,12 @@ use Rattle.lic_trim.specs.Texts.{groups, join_group}
 use Rattle.lic_trim.specs.declared.source.SourceChar.{SourceChar}
 use Rattle.lic_kind.specs.LineRules.{LineRules}
 use Rattle.lic_lines.specs.Cells.{Cell, Blank, Mark, Word, cell_of}
-use Rattle.lic_lines.specs.Runs.{may_join, same_mark, same_family, without_separator, without_separators, joined, with_joined, runs_joined}
+use Rattle.lic_lines.specs.Streaks.{may_join, same_mark, same_family, without_separator, without_separators, joined, with_joined, streaks_joined}
 use Rattle.lic_lines.specs.Tokens.{both_words, token_of, tokens_from, blank_after, tokens_after}
 use Rattle.lic_lines.proofs.GroupLemmas.{join_alone, groups_head}
-use Rattle.lic_lines.proofs.Gaps.{is_word, is_mark, no_family_before, no_mark_before, no_runs, without_separators-at, with_joined-at, runs_joined-at}
+use Rattle.lic_lines.proofs.Gaps.{is_word, is_mark, no_family_before, no_mark_before, no_streaks, without_separators-at, with_joined-at, streaks_joined-at}
 use Rattle.lic_trim.proofs.ItemLemmas.{none}
-use Rattle.lic_lines.proofs.Seams.{runs_joined-seam}
+use Rattle.lic_lines.proofs.Seams.{streaks_joined-seam}
 
 -- the first of these, where there is one, fails
 abbrev NoneFirst : (Cell → Bool) → List Cell → Type 0
@@ -78,7 +78,7 @@ pub some_front : (k : Kind) (text : List SourceChar) (n : ℕ) → 0 < length te
 some_front k text zero some is stop = absurd (stop none some is)
 some_front k text (suc n) some is stop = omega arith
 
--- ---- runs
+-- ---- streaks
 
 no_parts : (a b : Bool) → (a || b) ≡ false → (a ≡ false) × (b ≡ false)
 no_parts false false h = (refl, refl)
@@ -107,8 +107,8 @@ marks_parted : (rules : LineRules) (text : List SourceChar) (n : ℕ) → 0 < n 
     → ((i : ℕ) (d : SourceChar) → i < n → kind_of (get_or text i d).char ≡ kind.Mark)
     → ((d : SourceChar) → n < length text → kind_of (get_or text n d).char ≡ kind.Mark
     → may_join (get_or text (n - 1) d).char (get_or text n d).char ≡ false)
-    → runs_joined rules (map cell_of (take n text) ++ map cell_of (drop n text))
-    ≡ runs_joined rules (map cell_of (take n text)) ++ runs_joined rules (map cell_of (drop n text))
+    → streaks_joined rules (map cell_of (take n text) ++ map cell_of (drop n text))
+    ≡ streaks_joined rules (map cell_of (take n text)) ++ streaks_joined rules (map cell_of (drop n text))
 marks_parted rules text n some within all stop =
     ⊎_elim
     (λ inside.
@@ -122,30 +122,30 @@ marks_parted rules text n some within all stop =
     ap (λ k. map cell_of (take k text)) (sym one) ∙ ap (map cell_of) (take_more text (n - 1) none (omega arith))
     ∙ map-append cell_of (take (n - 1) text) (s ∷ []) in
     let rest : map cell_of (drop n text) ≡ cell_of t ∷ behind = ap (map cell_of) (drop_more text n none inside) in
-    ap (runs_joined rules) (ap₂ (λ a b. a ++ b) front rest ∙ append_assoc before (cell_of s ∷ []) (cell_of t ∷ behind))
-    ∙ runs_joined-seam rules before (cell_of s) (cell_of t) behind parts.0 parts.1
-    ∙ ap₂ (λ a b. runs_joined rules a ++ runs_joined rules b) (sym front) (sym rest))
+    ap (streaks_joined rules) (ap₂ (λ a b. a ++ b) front rest ∙ append_assoc before (cell_of s ∷ []) (cell_of t ∷ behind))
+    ∙ streaks_joined-seam rules before (cell_of s) (cell_of t) behind parts.0 parts.1
+    ∙ ap₂ (λ a b. streaks_joined rules a ++ streaks_joined rules b) (sym front) (sym rest))
     (λ end.
     let empty : map cell_of (drop n text) ≡ [] = ap (map cell_of) (drop_all n text end) in
     let marks = map cell_of (take n text) in
-    ap (λ l. runs_joined rules (marks ++ l)) empty ∙ ap (runs_joined rules) (append-nil marks)
-    ∙ sym (ap (λ l. runs_joined rules marks ++ runs_joined rules l) empty
-    ∙ ap (λ l. runs_joined rules marks ++ l) (no_runs rules) ∙ append-nil (runs_joined rules marks)))
+    ap (λ l. streaks_joined rules (marks ++ l)) empty ∙ ap (streaks_joined rules) (append-nil marks)
+    ∙ sym (ap (λ l. streaks_joined rules marks ++ streaks_joined rules l) empty
+    ∙ ap (λ l. streaks_joined rules marks ++ l) (no_streaks rules) ∙ append-nil (streaks_joined rules marks)))
     (cases_lt n (length text))
 
-runs_joined-words : (rules : LineRules) (ws : List SourceChar) (ys : List Cell) → runs_joined rules (map Word ws ++ ys) ≡ map Word ws ++ runs_joined rules ys
-runs_joined-words rules [] ys = refl
-runs_joined-words rules (w ∷ ws) ys =
-    runs_joined-at rules [] (Word w) (map Word ws ++ ys) refl
-    ∙ ap₂ (λ a b. a ++ Word w ∷ b) (no_runs rules) (runs_joined-words rules ws ys)
+streaks_joined-words : (rules : LineRules) (ws : List SourceChar) (ys : List Cell) → streaks_joined rules (map Word ws ++ ys) ≡ map Word ws ++ streaks_joined rules ys
+streaks_joined-words rules [] ys = refl
+streaks_joined-words rules (w ∷ ws) ys =
+    streaks_joined-at rules [] (Word w) (map Word ws ++ ys) refl
+    ∙ ap₂ (λ a b. a ++ Word w ∷ b) (no_streaks rules) (streaks_joined-words rules ws ys)
 
 no_word_first-separators : (ys : List Cell) → NoneFirst is_word ys → NoneFirst is_word (without_separators ys)
 no_word_first-separators [] h = tt
 no_word_first-separators (Blank ∷ ys) h = subst (NoneFirst is_word) (sym (without_separators-at [] Blank ys refl)) refl
 no_word_first-separators (Word s ∷ ys) h = cc
 no_word_first-separators (Mark s ∷ ys) h =
-    let run = groups_head same_mark (Mark s) ys in
-    subst (λ gs. NoneFirst is_word (flat_map without_separator gs)) (sym run.2) (at (nat_le 2 (length run.0)) run.0 (flat_map without_separator run.1))
+    let streak = groups_head same_mark (Mark s) ys in
+    subst (λ gs. NoneFirst is_word (flat_map without_separator gs)) (sym streak.2) (at (nat_le 2 (length streak.0)) streak.0 (flat_map without_separator streak.1))
   where
     at : (b : Bool) (g rest : List Cell) → NoneFirst is_word (cond b (Blank ∷ []) (Mark s ∷ g) ++ rest)
     at true g rest = refl
@@ -156,17 +156,17 @@ no_word_first-joined [] h = tt
 no_word_first-joined (Blank ∷ ys) h = subst (NoneFirst is_word) (sym (with_joined-at [] Blank ys refl)) refl
 no_word_first-joined (Word s ∷ ys) h = cc
 no_word_first-joined (Mark s ∷ ys) h =
-    let run = groups_head same_family (Mark s) ys in
-    subst (λ gs. NoneFirst is_word (flat_map joined gs)) (sym run.2) refl
+    let streak = groups_head same_family (Mark s) ys in
+    subst (λ gs. NoneFirst is_word (flat_map joined gs)) (sym streak.2) refl
 
-no_word_first : (rules : LineRules) (ys : List Cell) → NoneFirst is_word ys → NoneFirst is_word (runs_joined rules ys)
+no_word_first : (rules : LineRules) (ys : List Cell) → NoneFirst is_word ys → NoneFirst is_word (streaks_joined rules ys)
 no_word_first rules ys h = at rules.separators
   where
     at : (b : Bool) → NoneFirst is_word (with_joined (cond b (without_separators ys) ys))
     at true = no_word_first-joined (without_separators ys) (no_word_first-separators ys h)
     at false = no_word_first-joined ys h
 
--- ---- runs of marks have no words
+-- ---- streaks of marks have no words
 
 no_words-append : (xs ys : List Cell) → no_words xs ≡ true → no_words ys ≡ true → no_words (xs ++ ys) ≡ true
 no_words-append [] ys hx hy = hy
@@ -220,8 +220,8 @@ no_words-joined (Blank ∷ g) h = h
 no_words-joined (Word s ∷ g) h = cc
 no_words-joined (Mark s ∷ g) h = refl
 
-no_words-runs : (rules : LineRules) (xs : List Cell) → no_words xs ≡ true → no_words (runs_joined rules xs) ≡ true
-no_words-runs rules xs h = at rules.separators
+no_words-streaks : (rules : LineRules) (xs : List Cell) → no_words xs ≡ true → no_words (streaks_joined rules xs) ≡ true
+no_words-streaks rules xs h = at rules.separators
   where
     joins : (ys : List Cell) → no_words ys ≡ true → no_words (with_joined ys) ≡ true
     joins ys hy = no_words-flat joined (groups same_family ys) no_words-joined (no_words-groups same_family ys hy)
@@ -267,12 +267,12 @@ tokens_from-append after_blank ((Mark s ∷ cells) ∷ gs) hs = ap (λ l. token_
 tokens_from-append after_blank ((Word s ∷ cells) ∷ gs) hs = ap (λ l. token_of after_blank s (Word s ∷ cells) ∷ l) (tokens_from-append false gs hs)
 
 words_front : (rules : LineRules) (after_blank : Bool) (ws : List SourceChar) (ys : List Cell) → 0 < length ws → NoneFirst is_word ys
-    → tokens_from after_blank (groups both_words (runs_joined rules (map Word ws ++ ys)))
-    ≡ tokens_from after_blank (map Word ws ∷ []) ++ tokens_from false (groups both_words (runs_joined rules ys))
+    → tokens_from after_blank (groups both_words (streaks_joined rules (map Word ws ++ ys)))
+    ≡ tokens_from after_blank (map Word ws ∷ []) ++ tokens_from false (groups both_words (streaks_joined rules ys))
 words_front rules after_blank [] ys some h = absurd (omega arith)
 words_front rules after_blank (w ∷ ws) ys some h =
-    ap (λ l. tokens_from after_blank (groups both_words l)) (runs_joined-words rules (w ∷ ws) ys)
-    ∙ ap (tokens_from after_blank) (groups_words w ws (runs_joined rules ys) (no_word_first rules ys h))
+    ap (λ l. tokens_from after_blank (groups both_words l)) (streaks_joined-words rules (w ∷ ws) ys)
+    ∙ ap (tokens_from after_blank) (groups_words w ws (streaks_joined rules ys) (no_word_first rules ys h))
 
 module _ (rules : LineRules) (after_blank : Bool) (text : List SourceChar) (n : ℕ) (within : n ≤ length text) where
   split : map cell_of text ≡ map cell_of (take n text) ++ map cell_of (drop n text)
@@ -288,7 +288,7 @@ module _ (rules : LineRules) (after_blank : Bool) (text : List SourceChar) (n : 
       → ((d : SourceChar) → n < length text → kind_of (get_or text n d).char ≢ kind.Word)
       → tokens_from after_blank (map Word (take n text) ∷ []) ++ tokens_after rules false (drop n text) ≡ tokens_after rules after_blank text
   words_sequence some all stop =
-      sym (ap (λ l. tokens_from after_blank (groups both_words (runs_joined rules l)))
+      sym (ap (λ l. tokens_from after_blank (groups both_words (streaks_joined rules l)))
       (split ∙ ap (λ l. l ++ map cell_of (drop n text))
       (cells_of_words (take n text) (all_taken kind.Word all)))
       ∙ words_front rules after_blank (take n text) (map cell_of (drop n text)) (omega (arith, long))
@@ -297,19 +297,19 @@ module _ (rules : LineRules) (after_blank : Bool) (text : List SourceChar) (n : 
   pub marks_sequence : 0 < n → ((i : ℕ) (d : SourceChar) → i < n → kind_of (get_or text i d).char ≡ kind.Mark)
       → ((d : SourceChar) → n < length text → kind_of (get_or text n d).char ≡ kind.Mark
       → may_join (get_or text (n - 1) d).char (get_or text n d).char ≡ false)
-      → tokens_from after_blank (groups both_words (runs_joined rules (map cell_of (take n text))))
+      → tokens_from after_blank (groups both_words (streaks_joined rules (map cell_of (take n text))))
       ++ tokens_after rules (blank_after after_blank
-      (groups both_words (runs_joined rules (map cell_of (take n text))))) (drop n text)
+      (groups both_words (streaks_joined rules (map cell_of (take n text))))) (drop n text)
       ≡ tokens_after rules after_blank text
   marks_sequence some all stop =
-      let marks = runs_joined rules (map cell_of (take n text)) in
-      let rest = runs_joined rules (map cell_of (drop n text)) in
+      let marks = streaks_joined rules (map cell_of (take n text)) in
+      let rest = streaks_joined rules (map cell_of (drop n text)) in
       sym (ap (λ l. tokens_from after_blank (groups both_words l))
-      (ap (runs_joined rules) split
+      (ap (streaks_joined rules) split
       ∙ marks_parted rules text n some within all stop)
       ∙ ap (tokens_from after_blank)
       (groups_no_words marks rest
-      (no_words-runs rules (map cell_of (take n text))
+      (no_words-streaks rules (map cell_of (take n text))
       (cells_of_marks (take n text) (all_taken kind.Mark all))))
       ∙ tokens_from-append after_blank (groups both_words marks) (groups both_words rest))
 
@@ -328,7 +328,7 @@ pub blank_front : (rules : LineRules) (after_blank : Bool) (s : SourceChar) (tex
     → tokens_after rules true text ≡ tokens_after rules after_blank (s ∷ text)
 blank_front rules after_blank s text no_word no_mark =
     let rest = map cell_of text in
-    sym (ap (λ c. tokens_from after_blank (groups both_words (runs_joined rules (c ∷ rest)))) (cell_of-Blank s no_word no_mark)
+    sym (ap (λ c. tokens_from after_blank (groups both_words (streaks_joined rules (c ∷ rest)))) (cell_of-Blank s no_word no_mark)
     ∙ ap (λ l. tokens_from after_blank (groups both_words l))
-    (runs_joined-at rules [] Blank rest refl ∙ ap (λ l. l ++ Blank ∷ runs_joined rules rest) (no_runs rules))
-    ∙ ap (tokens_from after_blank) (join_alone both_words Blank (groups both_words (runs_joined rules rest)) (λ y. refl)))
+    (streaks_joined-at rules [] Blank rest refl ∙ ap (λ l. l ++ Blank ∷ streaks_joined rules rest) (no_streaks rules))
+    ∙ ap (tokens_from after_blank) (join_alone both_words Blank (groups both_words (streaks_joined rules rest)) (λ y. refl)))

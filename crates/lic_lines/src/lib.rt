@@ -1,4 +1,4 @@
-//! From the source characters of one line to its first tokens: runs of marks in what the line rules
+//! From the source characters of one line to its first tokens: streaks of marks in what the line rules
 //! leave, tokens with their letters, and single copyright signs.
 #![tactic(auto)]
 
@@ -6,7 +6,7 @@ mod buffers;
 mod cell;
 mod line;
 mod mark_sequences;
-mod runs;
+mod streaks;
 mod signs;
 mod small_string;
 mod text;

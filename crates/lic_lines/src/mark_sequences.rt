@@ -1,7 +1,7 @@
 //! Sequences of marks at the start of a text, of which each may be joined to the next.
 ghost use Rattle.std.specs.Prelude.{◌≡◌, ◌<◌, ◌≤◌, ◌-◌, ℕ, false, length, slice_index_or, IsTrue};
 ghost use Rattle.lic_kind.specs.Kinds.{kind_of};
-ghost use Rattle.lic_lines.specs.Runs.{may_join};
+ghost use Rattle.lic_lines.specs.Streaks.{may_join};
 
 use lic_kind::{Kind, is_dash, is_quote, kind_of};
 use lic_trim::SourceChar;

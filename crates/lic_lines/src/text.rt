@@ -4,7 +4,7 @@ ghost use Rattle.lic_kind.specs.Kinds.{kind_of};
 ghost use Rattle.lic_trim.specs.Texts.{groups};
 ghost use Rattle.lic_kind.specs.LineRules.{rules_of};
 ghost use Rattle.lic_lines.specs.Cells.{cell_of};
-ghost use Rattle.lic_lines.specs.Runs.{runs_joined};
+ghost use Rattle.lic_lines.specs.Streaks.{streaks_joined};
 ghost use Rattle.lic_lines.specs.Tokens.{both_words, tokens_from, blank_after, single_signs, text_tokens_after, tokens_after, stretch_tokens, tokens_in};
 
 use crate::buffers::Buffers;
@@ -41,10 +41,10 @@ fn push_marks(
         (tokens_in out.new.items
         ≡ tokens_in out.old.items
         ++ tokens_from after_blank
-        (groups both_words (runs_joined (rules_of rules.now) (map cell_of marks.now)))) }
+        (groups both_words (streaks_joined (rules_of rules.now) (map cell_of marks.now)))) }
     ensures blank { IfOk result (λ blank. blank
         ≡ blank_after after_blank
-        (groups both_words (runs_joined (rules_of rules.now) (map cell_of marks.now)))) }
+        (groups both_words (streaks_joined (rules_of rules.now) (map cell_of marks.now)))) }
 {
     if let [mark] = marks {
         out.push(mark_token(alloc, after_blank, *mark, &mut room.letters)?)?;
@@ -52,7 +52,7 @@ fn push_marks(
     }
     room.cells.clear();
     push_cells(&mut room.cells, marks)?;
-    let joined = room.runs.join(rules, &room.cells)?;
+    let joined = room.streaks.join(rules, &room.cells)?;
     push_first_tokens(alloc, after_blank, out, joined, &mut room.letters)
 }
 

@@ -24,7 +24,7 @@ use Rattle.lic_trim.specs.declared.line_part.LinePart.{LinePart}
 use Rattle.lic_kind.specs.LineRules.{LineRules}
 use Rattle.lic_trim.specs.Lines.{whole_line, cut_of}
 use Rattle.lic_lines.specs.Cells.{blank_for, cell_of, cells_of, line_cells}
-use Rattle.lic_lines.specs.Runs.{same_mark, same_family, without_separator, without_separators, joined, runs_joined}
+use Rattle.lic_lines.specs.Streaks.{same_mark, same_family, without_separator, without_separators, joined, streaks_joined}
 use Rattle.lic_lines.specs.Tokens.{Token, both_words, letters_of, tokens_from, first_tokens, is_text, is_sign_in_parentheses, sign_from, as_sign, single_signs, text_tokens_after}
 use Rattle.lic_phrases.specs.Rewriting.{Phrase, both_signs, sign_of_sequence, sign_sequences, begins_authority, https_as_http, begin_with_texts, longer, longest_phrase, count_after, first_as, phrases_after, phrases_joined, spanned, rewritten, SpannedText}
 use Rattle.lic_phrases.specs.Settling.{Kept, Settles, left_of}
@@ -133,40 +133,40 @@ fit-lines rules (line ∷ lines) =
     fit-append (line_cells rules whole_line line) (flat_map (line_cells rules whole_line) lines)
     (fit-line rules whole_line line) (fit-lines rules lines)
 
-fit-runs : (f : List Cell → List Cell) → ((run : List Cell) → KindsFit run → KindsFit (f run))
-    → (runs : List (List Cell)) → KindsFit (flat_map (λ run. run) runs) → KindsFit (flat_map f runs)
-fit-runs f each [] h = tt
-fit-runs f each (run ∷ runs) h =
-    let two = fit-split run (flat_map (λ run. run) runs) h in
-    fit-append (f run) (flat_map f runs) (each run two.0) (fit-runs f each runs two.1)
+fit-streaks : (f : List Cell → List Cell) → ((streak : List Cell) → KindsFit streak → KindsFit (f streak))
+    → (streaks : List (List Cell)) → KindsFit (flat_map (λ streak. streak) streaks) → KindsFit (flat_map f streaks)
+fit-streaks f each [] h = tt
+fit-streaks f each (streak ∷ streaks) h =
+    let two = fit-split streak (flat_map (λ streak. streak) streaks) h in
+    fit-append (f streak) (flat_map f streaks) (each streak two.0) (fit-streaks f each streaks two.1)
 
-fit-separator : (run : List Cell) → KindsFit run → KindsFit (without_separator run)
+fit-separator : (streak : List Cell) → KindsFit streak → KindsFit (without_separator streak)
 fit-separator [] h = h
-fit-separator (Blank ∷ run) h = h
-fit-separator (Word s ∷ run) h = h
-fit-separator (Mark s ∷ run) h =
-    elim (cases_Bool (nat_le 2 (length run))) [
-      | inl many ↦ subst KindsFit (sym (cond-true (nat_le 2 (length run)) (Blank ∷ []) (Mark s ∷ run) many)) tt
-      | inr few ↦ subst KindsFit (sym (cond-false (nat_le 2 (length run)) (Blank ∷ []) (Mark s ∷ run) few)) h
+fit-separator (Blank ∷ streak) h = h
+fit-separator (Word s ∷ streak) h = h
+fit-separator (Mark s ∷ streak) h =
+    elim (cases_Bool (nat_le 2 (length streak))) [
+      | inl many ↦ subst KindsFit (sym (cond-true (nat_le 2 (length streak)) (Blank ∷ []) (Mark s ∷ streak) many)) tt
+      | inr few ↦ subst KindsFit (sym (cond-false (nat_le 2 (length streak)) (Blank ∷ []) (Mark s ∷ streak) few)) h
     ]
 
-fit-joined : (run : List Cell) → KindsFit run → KindsFit (joined run)
+fit-joined : (streak : List Cell) → KindsFit streak → KindsFit (joined streak)
 fit-joined [] h = h
-fit-joined (Blank ∷ run) h = h
-fit-joined (Word s ∷ run) h = h
-fit-joined (Mark s ∷ run) h = (h.0, tt)
+fit-joined (Blank ∷ streak) h = h
+fit-joined (Word s ∷ streak) h = h
+fit-joined (Mark s ∷ streak) h = (h.0, tt)
 
-fit-runs_joined : (rules : LineRules) (cells : List Cell) → KindsFit cells → KindsFit (runs_joined rules cells)
-fit-runs_joined rules cells h =
+fit-streaks_joined : (rules : LineRules) (cells : List Cell) → KindsFit cells → KindsFit (streaks_joined rules cells)
+fit-streaks_joined rules cells h =
     let parted : KindsFit (without_separators cells) =
-    fit-runs without_separator fit-separator (groups same_mark cells)
+    fit-streaks without_separator fit-separator (groups same_mark cells)
     (subst KindsFit (sym (parts_of_groups same_mark cells)) h) in
     let first : KindsFit (if rules.separators then without_separators cells else cells) =
     elim (cases_Bool rules.separators) [
       | inl on ↦ subst KindsFit (sym (cond-true rules.separators (without_separators cells) cells on)) parted
       | inr off ↦ subst KindsFit (sym (cond-false rules.separators (without_separators cells) cells off)) h
     ] in
-    fit-runs joined fit-joined (groups same_family (if rules.separators then without_separators cells else cells))
+    fit-streaks joined fit-joined (groups same_family (if rules.separators then without_separators cells else cells))
     (subst KindsFit (sym (parts_of_groups same_family
     (if rules.separators then without_separators cells else cells))) first)
 
@@ -212,24 +212,24 @@ first_has t ts h = All-head (λ u. IsTokenText u.text) t ts h
 rest_have : (t : Token) (ts : List Token) → HaveTexts (t ∷ ts) → HaveTexts ts
 rest_have t ts h = All-tail (λ u. IsTokenText u.text) t ts h
 
-tokens_from-texts : (after_blank : Bool) (runs : List (List Cell)) → KindsFit (flat_map (λ run. run) runs) → HaveTexts (tokens_from after_blank runs)
+tokens_from-texts : (after_blank : Bool) (streaks : List (List Cell)) → KindsFit (flat_map (λ streak. streak) streaks) → HaveTexts (tokens_from after_blank streaks)
 tokens_from-texts after_blank [] h = none_have
-tokens_from-texts after_blank ([] ∷ runs) h = tokens_from-texts after_blank runs h
-tokens_from-texts after_blank ((Blank ∷ cells) ∷ runs) h = tokens_from-texts true runs (fit-split cells (flat_map (λ run. run) runs) h).1
-tokens_from-texts after_blank ((Mark s ∷ cells) ∷ runs) h =
-    let two = fit-split (Mark s ∷ cells) (flat_map (λ run. run) runs) h in
+tokens_from-texts after_blank ([] ∷ streaks) h = tokens_from-texts after_blank streaks h
+tokens_from-texts after_blank ((Blank ∷ cells) ∷ streaks) h = tokens_from-texts true streaks (fit-split cells (flat_map (λ streak. streak) streaks) h).1
+tokens_from-texts after_blank ((Mark s ∷ cells) ∷ streaks) h =
+    let two = fit-split (Mark s ∷ cells) (flat_map (λ streak. streak) streaks) h in
     more_have _ _
     (letters_text (letters_of (Mark s ∷ cells))
     (omega (arith, length-append (spell s.char) (letters_of cells), ap length (spell-Mark s.char h.0)))
     (no_space_letters (Mark s ∷ cells) two.0))
-    (tokens_from-texts false runs two.1)
-tokens_from-texts after_blank ((Word s ∷ cells) ∷ runs) h =
-    let two = fit-split (Word s ∷ cells) (flat_map (λ run. run) runs) h in
+    (tokens_from-texts false streaks two.1)
+tokens_from-texts after_blank ((Word s ∷ cells) ∷ streaks) h =
+    let two = fit-split (Word s ∷ cells) (flat_map (λ streak. streak) streaks) h in
     more_have _ _
     (letters_text (letters_of (Word s ∷ cells))
     (omega (arith, length-append (spell s.char) (letters_of cells), word_has_letters s.char h.0))
     (no_space_letters (Word s ∷ cells) two.0))
-    (tokens_from-texts false runs two.1)
+    (tokens_from-texts false streaks two.1)
 
 -- ---- the rewriting
 
@@ -331,20 +331,20 @@ reported-texts (t ∷ ts) h = All-cons (λ u. IsTokenText u.text) (reported (spa
 
 -- the texts of the tokens that cells give, where a blank comes before them or does not
 joined-texts : (rules : LineRules) (after_blank : Bool) (cells : List Cell) → KindsFit cells
-    → HaveTexts (tokens_from after_blank (groups both_words (runs_joined rules cells)))
+    → HaveTexts (tokens_from after_blank (groups both_words (streaks_joined rules cells)))
 joined-texts rules after_blank cells fit =
-    let joined = runs_joined rules cells in
+    let joined = streaks_joined rules cells in
     tokens_from-texts after_blank (groups both_words joined)
-    (subst KindsFit (sym (parts_of_groups both_words joined)) (fit-runs_joined rules cells fit))
+    (subst KindsFit (sym (parts_of_groups both_words joined)) (fit-streaks_joined rules cells fit))
 
 -- and with each copyright sign as one
 pub cells-texts : (rules : LineRules) (after_blank : Bool) (cells : List Cell) → KindsFit cells
-    → HaveTexts (single_signs (tokens_from after_blank (groups both_words (runs_joined rules cells))))
+    → HaveTexts (single_signs (tokens_from after_blank (groups both_words (streaks_joined rules cells))))
 cells-texts rules after_blank cells fit =
-    single_signs-texts (tokens_from after_blank (groups both_words (runs_joined rules cells))) (joined-texts rules after_blank cells fit)
+    single_signs-texts (tokens_from after_blank (groups both_words (streaks_joined rules cells))) (joined-texts rules after_blank cells fit)
 
 -- of lines
-pub lines-texts : (rules : LineRules) (text : List SourceChar) → HaveTexts (first_tokens (runs_joined rules (cells_of rules text)))
+pub lines-texts : (rules : LineRules) (text : List SourceChar) → HaveTexts (first_tokens (streaks_joined rules (cells_of rules text)))
 lines-texts rules text = joined-texts rules true (cells_of rules text) (fit-lines rules (lines_of (without_dropped text)))
 
 -- of characters of which nothing is taken

@@ -14,7 +14,7 @@ use Rattle.lic_trim.specs.declared.source.SourceChar.{SourceChar}
 use Rattle.lic_trim.specs.Sources.{unplaced, without_dropped}
 use Rattle.lic_trim.specs.Texts.{groups, join_group}
 use Rattle.lic_lines.specs.Cells.{cell_of}
-use Rattle.lic_lines.specs.Runs.{without_separator, without_separators, joined, with_joined, same_mark, same_family}
+use Rattle.lic_lines.specs.Streaks.{without_separator, without_separators, joined, with_joined, same_mark, same_family}
 use Rattle.lic_lines.specs.Tokens.{Token, both_words, letters_of, tokens_from, first_tokens, is_text, is_sign_in_parentheses, as_sign, sign_from, single_signs}
 use Rattle.lic_phrases.specs.Keys.{HasNoBlank, HaveNoBlank}
 use Rattle.lic_phrases.specs.Rewriting.{both_signs, sign_of_sequence, sign_sequences, begins_authority, https_as_http}
@@ -70,17 +70,17 @@ cells-sound : (cs : List SourceChar) → Each IsSound (map cell_of cs)
 cells-sound [] = tt
 cells-sound (s ∷ cs) = (cell_of-sound s, cells-sound cs)
 
-without_separator-sound : (run : List Cell) → Each IsSound run → Each IsSound (without_separator run)
+without_separator-sound : (streak : List Cell) → Each IsSound streak → Each IsSound (without_separator streak)
 without_separator-sound [] known = tt
-without_separator-sound (Blank ∷ run) known = known
-without_separator-sound (Mark s ∷ run) known = each-cond (Each IsSound) (nat_le 2 (length run)) (Blank ∷ []) (Mark s ∷ run) (tt, tt) known
-without_separator-sound (Word s ∷ run) known = known
+without_separator-sound (Blank ∷ streak) known = known
+without_separator-sound (Mark s ∷ streak) known = each-cond (Each IsSound) (nat_le 2 (length streak)) (Blank ∷ []) (Mark s ∷ streak) (tt, tt) known
+without_separator-sound (Word s ∷ streak) known = known
 
-joined-sound : (run : List Cell) → Each IsSound run → Each IsSound (joined run)
+joined-sound : (streak : List Cell) → Each IsSound streak → Each IsSound (joined streak)
 joined-sound [] known = tt
-joined-sound (Blank ∷ run) known = known
-joined-sound (Mark s ∷ run) known = (known.0, tt)
-joined-sound (Word s ∷ run) known = known
+joined-sound (Blank ∷ streak) known = known
+joined-sound (Mark s ∷ streak) known = (known.0, tt)
+joined-sound (Word s ∷ streak) known = known
 
 -- ---- letters
 

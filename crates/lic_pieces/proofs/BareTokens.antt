@@ -15,7 +15,7 @@ use Rattle.lic_trim.specs.declared.line_part.LinePart.{LinePart}
 use Rattle.lic_kind.specs.LineRules.{LineRules}
 use Rattle.lic_trim.specs.Lines.{cut_of}
 use Rattle.lic_lines.specs.Cells.{blank_for, cell_of, cells_of_cut, left_of, line_cells}
-use Rattle.lic_lines.specs.Runs.{end_after, joined, runs_joined, same_family, same_mark, with_joined, without_separator, without_separators}
+use Rattle.lic_lines.specs.Streaks.{end_after, joined, streaks_joined, same_family, same_mark, with_joined, without_separator, without_separators}
 use Rattle.lic_lines.specs.Tokens.{Token, as_sign, both_words, first_tokens, is_sign_in_parentheses, is_text, letters_of, sign_from, single_signs, token_of, tokens_from}
 use Rattle.lic_phrases.specs.Rewriting.{Phrase, begins_authority, both_signs, count_after, end_of_last, first_as, https_as_http, longer, longest_phrase, phrases_after, phrases_joined, rewritten, sign_of_sequence, sign_sequences, spanned, begin_with_texts, without_secure}
 use Rattle.lic_pieces.specs.Pieces.{bare_token}
@@ -39,10 +39,10 @@ module _ {A : Type 0} (f : A → A) (together : A → A → Bool) (same : (x y :
   groups-map (x ∷ xs) = ap (join_group together (f x)) (groups-map xs) ∙ group-map x (groups together xs)
 
 pub flat-map : {A B : Type 0} (f : A → A) (g : B → B) (k : List A → List B)
-    → ((run : List A) → k (map f run) ≡ map g (k run)) → (runs : List (List A))
-    → flat_map k (map (map f) runs) ≡ map g (flat_map k runs)
+    → ((streak : List A) → k (map f streak) ≡ map g (k streak)) → (streaks : List (List A))
+    → flat_map k (map (map f) streaks) ≡ map g (flat_map k streaks)
 flat-map f g k each [] = refl
-flat-map f g k each (run ∷ runs) = ap₂ (λ xs ys. xs ++ ys) (each run) (flat-map f g k each runs) ∙ sym (map-append g (k run) (flat_map k runs))
+flat-map f g k each (streak ∷ streaks) = ap₂ (λ xs ys. xs ++ ys) (each streak) (flat-map f g k each streaks) ∙ sym (map-append g (k streak) (flat_map k streaks))
 
 -- ---- characters
 
@@ -122,7 +122,7 @@ bare-cut cut line =
 pub bare-line : (rules : LineRules) (part : LinePart) (line : List SourceChar) → line_cells rules part (map bare line) ≡ map bare_cell (line_cells rules part line)
 bare-line rules part line = ap (λ cs. cells_of_cut (cut_of rules part cs) (map bare line)) (bare-chars line) ∙ bare-cut (cut_of rules part (chars_of line)) line
 
--- ---- runs
+-- ---- streaks
 
 bare-same_mark : (x y : Cell) → same_mark (bare_cell x) (bare_cell y) ≡ same_mark x y
 bare-same_mark Blank y = refl
@@ -138,25 +138,25 @@ bare-same_family (Mark s) Blank = refl
 bare-same_family (Mark s) (Word t) = refl
 bare-same_family (Mark s) (Mark t) = refl
 
-bare-separator : (run : List Cell) → without_separator (map bare_cell run) ≡ map bare_cell (without_separator run)
+bare-separator : (streak : List Cell) → without_separator (map bare_cell streak) ≡ map bare_cell (without_separator streak)
 bare-separator [] = refl
-bare-separator (Blank ∷ run) = refl
-bare-separator (Word s ∷ run) = refl
-bare-separator (Mark s ∷ run) =
-    ap (λ n. if nat_le 2 n then Blank ∷ [] else Mark (bare s) ∷ map bare_cell run) (length-map run bare_cell)
-    ∙ cond_of (map bare_cell) (nat_le 2 (length run)) (Blank ∷ []) (Mark s ∷ run)
+bare-separator (Blank ∷ streak) = refl
+bare-separator (Word s ∷ streak) = refl
+bare-separator (Mark s ∷ streak) =
+    ap (λ n. if nat_le 2 n then Blank ∷ [] else Mark (bare s) ∷ map bare_cell streak) (length-map streak bare_cell)
+    ∙ cond_of (map bare_cell) (nat_le 2 (length streak)) (Blank ∷ []) (Mark s ∷ streak)
 
-bare-end : (run : List Cell) → end_after 0 (map bare_cell run) ≡ 0
+bare-end : (streak : List Cell) → end_after 0 (map bare_cell streak) ≡ 0
 bare-end [] = refl
-bare-end (Blank ∷ run) = bare-end run
-bare-end (Mark s ∷ run) = bare-end run
-bare-end (Word s ∷ run) = bare-end run
+bare-end (Blank ∷ streak) = bare-end streak
+bare-end (Mark s ∷ streak) = bare-end streak
+bare-end (Word s ∷ streak) = bare-end streak
 
-bare-joined : (run : List Cell) → joined (map bare_cell run) ≡ map bare_cell (joined run)
+bare-joined : (streak : List Cell) → joined (map bare_cell streak) ≡ map bare_cell (joined streak)
 bare-joined [] = refl
-bare-joined (Blank ∷ run) = refl
-bare-joined (Word s ∷ run) = refl
-bare-joined (Mark s ∷ run) = ap (λ n. Mark (record { char = s.char; start = 0; end = n }) ∷ []) (bare-end run)
+bare-joined (Blank ∷ streak) = refl
+bare-joined (Word s ∷ streak) = refl
+bare-joined (Mark s ∷ streak) = ap (λ n. Mark (record { char = s.char; start = 0; end = n }) ∷ []) (bare-end streak)
 
 bare-separators : (separators : Bool) (cells : List Cell)
     → (if separators then without_separators (map bare_cell cells) else map bare_cell cells)
@@ -166,8 +166,8 @@ bare-separators true cells =
     ∙ flat-map bare_cell bare_cell without_separator bare-separator (groups same_mark cells)
 bare-separators false cells = refl
 
-pub bare-runs : (rules : LineRules) (cells : List Cell) → runs_joined rules (map bare_cell cells) ≡ map bare_cell (runs_joined rules cells)
-bare-runs rules cells =
+pub bare-streaks : (rules : LineRules) (cells : List Cell) → streaks_joined rules (map bare_cell cells) ≡ map bare_cell (streaks_joined rules cells)
+bare-streaks rules cells =
     let parted = if rules.separators then without_separators cells else cells in
     ap with_joined (bare-separators rules.separators cells)
     ∙ ap (flat_map joined) (groups-map bare_cell same_family bare-same_family parted)

@@ -13,8 +13,8 @@ use Rattle.lic_lines.specs.declared.cell.Cell.TheVariants.{Blank}
 use Rattle.lic_trim.specs.declared.line_part.LinePart.{LinePart}
 use Rattle.lic_kind.specs.LineRules.{LineRules}
 use Rattle.lic_lines.specs.Cells.{line_cells}
-use Rattle.lic_lines.specs.Runs.{runs_joined}
-use Rattle.lic_lines.proofs.Gaps.{no_runs, runs_joined-gap}
+use Rattle.lic_lines.specs.Streaks.{streaks_joined}
+use Rattle.lic_lines.proofs.Gaps.{no_streaks, streaks_joined-gap}
 use Rattle.lic_trim.proofs.ItemLemmas.{char_of}
 use Rattle.lic_lines.proofs.LineByLine.{line_ends}
 use Rattle.lic_trim.proofs.PieceEnds.{ends_in-snoc}
@@ -50,13 +50,13 @@ feed_line line is = elim (last_of line) [
 
 -- a line that ends in one leaves a blank last
 pub ends_blank : (rules : LineRules) (part : LinePart) (line : List SourceChar) → ends_in_feed line ≡ true → part.has_end ≡ true
-    → (cells : List Cell) × (runs_joined rules (line_cells rules part line) ≡ cells ++ Blank ∷ [])
+    → (cells : List Cell) × (streaks_joined rules (line_cells rules part line) ≡ cells ++ Blank ∷ [])
 ends_blank rules part line feed has_end =
     let cut = feed_line line feed in
     let blank = line_ends rules part cut.0 cut.1 (ap is_whitespace cut.3) has_end in (
-      runs_joined rules blank.0,
-      ap (λ l. runs_joined rules (line_cells rules part l)) cut.2 ∙ ap (runs_joined rules) blank.1
-          ∙ runs_joined-gap rules blank.0 [] ∙ ap (λ l. runs_joined rules blank.0 ++ Blank ∷ l) (no_runs rules),
+      streaks_joined rules blank.0,
+      ap (λ l. streaks_joined rules (line_cells rules part l)) cut.2 ∙ ap (streaks_joined rules) blank.1
+          ∙ streaks_joined-gap rules blank.0 [] ∙ ap (λ l. streaks_joined rules blank.0 ++ Blank ∷ l) (no_streaks rules),
     )
 
 is_false : (b : Bool) → not b ≡ true → b ≡ false

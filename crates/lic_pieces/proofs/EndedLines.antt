@@ -17,15 +17,15 @@ use Rattle.lic_trim.specs.declared.line_part.LinePart.{LinePart}
 use Rattle.lic_kind.specs.LineRules.{LineRules}
 use Rattle.lic_trim.specs.Lines.{whole_line}
 use Rattle.lic_lines.specs.Cells.{line_cells, cells_of}
-use Rattle.lic_lines.specs.Runs.{runs_joined}
+use Rattle.lic_lines.specs.Streaks.{streaks_joined}
 use Rattle.lic_lines.specs.Tokens.{Token, both_words, tokens_from, first_tokens, single_signs, line_tokens, tokens_of_cells}
 use Rattle.lic_lines.proofs.LineByLine.{cut_after-end, cut_last, cells_of-line, tokens_of_cells-blank}
 use Rattle.lic_pieces.specs.declared.pieces.Next.{Next}
 use Rattle.lic_pieces.specs.Pieces.{bare_token, cells_of_lines, counts_as, ends_in_feed, is_blank, is_line_end, part_of, piece_cells, piece_tokens}
 use Rattle.lic_norm.specs.Tokens.{first_tokens_of}
 use Rattle.lic_norm.proofs.AsciiLines.{first_tokens_of-ascii}
-use Rattle.lic_pieces.proofs.BareTokens.{bare, bare_cell, flat-map, bare-placed, bare-kept, bare-lines, bare-line, bare-runs, bare-first, bare-signs}
-use Rattle.lic_pieces.proofs.PieceLines.{feed_last, runs-blank}
+use Rattle.lic_pieces.proofs.BareTokens.{bare, bare_cell, flat-map, bare-placed, bare-kept, bare-lines, bare-line, bare-streaks, bare-first, bare-signs}
+use Rattle.lic_pieces.proofs.PieceLines.{feed_last, streaks-blank}
 
 abbrev ends : SourceChar → Bool
 ends s = s.char == 0x0A
@@ -116,10 +116,10 @@ module _ (rules : LineRules) {A : Type 0} (made : List Cell → List A)
 -- The list of a piece is that of such lines and that of what follows them.
 pub piece_cells-ended : (rules : LineRules) (before : Next) (text lines front behind : List ℕ) → text ≡ lines ++ behind → IsUtf8 lines
     → chars lines ≡ front ++ 0x0A ∷ []
-    → piece_cells rules true before text ≡ runs_joined rules (cells_of rules (unplaced (chars lines))) ++ piece_cells rules true before behind
+    → piece_cells rules true before text ≡ streaks_joined rules (cells_of rules (unplaced (chars lines))) ++ piece_cells rules true before behind
 unfolding piece_cells
 piece_cells-ended rules before text lines front behind cut utf8 is =
-    ended_bytes_made rules (runs_joined rules) (runs-blank rules) before text lines front behind cut utf8 is
+    ended_bytes_made rules (streaks_joined rules) (streaks-blank rules) before text lines front behind cut utf8 is
 
 -- So are its tokens.
 pub piece_tokens-ended : (rules : LineRules) (before : Next) (text lines front behind : List ℕ) → text ≡ lines ++ behind → IsUtf8 lines
@@ -141,14 +141,14 @@ cells_of-unplaced rules cs =
     ∙ ap (flat_map f) (bare-lines (without_dropped text))
     ∙ flat-map bare bare_cell f (bare-line rules whole_line) (lines_of (without_dropped text))
 
-pub runs_joined-unplaced : (rules : LineRules) (cs : List ℕ) → runs_joined rules (cells_of rules (unplaced cs)) ≡ map bare_cell (runs_joined rules (cells_of rules (placed 0 cs)))
-runs_joined-unplaced rules cs = ap (runs_joined rules) (cells_of-unplaced rules cs) ∙ bare-runs rules (cells_of rules (placed 0 cs))
+pub streaks_joined-unplaced : (rules : LineRules) (cs : List ℕ) → streaks_joined rules (cells_of rules (unplaced cs)) ≡ map bare_cell (streaks_joined rules (cells_of rules (placed 0 cs)))
+streaks_joined-unplaced rules cs = ap (streaks_joined rules) (cells_of-unplaced rules cs) ∙ bare-streaks rules (cells_of rules (placed 0 cs))
 
 pub tokens_of_cells-unplaced : (rules : LineRules) (cs : List ℕ)
     → tokens_of_cells rules (cells_of rules (unplaced cs)) ≡ map bare_token (tokens_of_cells rules (cells_of rules (placed 0 cs)))
 tokens_of_cells-unplaced rules cs =
-    let cells = runs_joined rules (cells_of rules (placed 0 cs)) in
-    ap (λ l. single_signs (first_tokens l)) (runs_joined-unplaced rules cs)
+    let cells = streaks_joined rules (cells_of rules (placed 0 cs)) in
+    ap (λ l. single_signs (first_tokens l)) (streaks_joined-unplaced rules cs)
     ∙ ap single_signs (bare-first cells)
     ∙ bare-signs (first_tokens cells)
 
@@ -159,10 +159,10 @@ line_tokens-bare rules part cs =
     let line = without_dropped (unplaced cs) in
     let same : map bare line ≡ line = sym (bare-kept (unplaced cs)) ∙ ap without_dropped (itself cs) in
     let cells = line_cells rules part line in
-    sym (ap (λ l. single_signs (first_tokens (runs_joined rules l))) (bare-line rules part line)
-    ∙ ap (λ l. single_signs (first_tokens l)) (bare-runs rules cells)
-    ∙ ap single_signs (bare-first (runs_joined rules cells))
-    ∙ bare-signs (first_tokens (runs_joined rules cells)))
+    sym (ap (λ l. single_signs (first_tokens (streaks_joined rules l))) (bare-line rules part line)
+    ∙ ap (λ l. single_signs (first_tokens l)) (bare-streaks rules cells)
+    ∙ ap single_signs (bare-first (streaks_joined rules cells))
+    ∙ bare-signs (first_tokens (streaks_joined rules cells)))
     ∙ ap (line_tokens rules part) same
   where
     itself : (cs : List ℕ) → map bare (unplaced cs) ≡ unplaced cs
@@ -231,7 +231,7 @@ ended_tokens rules before text lines front behind cut utf8 ascii is =
 -- and their list
 pub ended_cells : (rules : LineRules) (before : Next) (text lines front behind : List ℕ) → text ≡ lines ++ behind → IsUtf8 lines → IsAscii lines
     → lines ≡ front ++ 0x0A ∷ []
-    → runs_joined rules (cells_of rules (unplaced (chars lines))) ++ piece_cells rules true before behind ≡ piece_cells rules true before text
+    → streaks_joined rules (cells_of rules (unplaced (chars lines))) ++ piece_cells rules true before behind ≡ piece_cells rules true before text
 ended_cells rules before text lines front behind cut utf8 ascii is =
     sym (piece_cells-ended rules before text lines front behind cut utf8 (chars-IsAscii lines ascii ∙ is))
 
@@ -249,7 +249,7 @@ start_tokens rules has_front before text lines front at_front start utf8 ascii i
 
 pub start_cells : (rules : LineRules) (has_front : Bool) (before : Next) (text lines front : List ℕ) → has_front ≡ true → lines ≡ take (length lines) text
     → IsUtf8 lines → IsAscii lines → lines ≡ front ++ 0x0A ∷ []
-    → runs_joined rules (cells_of rules (unplaced (chars lines))) ++ piece_cells rules true before (drop (length lines) text) ≡ piece_cells rules has_front before text
+    → streaks_joined rules (cells_of rules (unplaced (chars lines))) ++ piece_cells rules true before (drop (length lines) text) ≡ piece_cells rules has_front before text
 start_cells rules has_front before text lines front at_front start utf8 ascii is =
     ended_cells rules before text lines front (drop (length lines) text) (cut_start text lines start) utf8 ascii is
     ∙ ap (λ f. piece_cells rules f before text) (sym at_front)

@@ -14,14 +14,14 @@ use Rattle.lic_trim.specs.declared.cut.LineCut.{LineCut}
 use Rattle.lic_kind.specs.LineRules.{LineRules}
 use Rattle.lic_trim.specs.Lines.{whole_line, cut_of}
 use Rattle.lic_lines.specs.Cells.{blank_for, cell_of, cells_of, cells_of_cut, line_cells}
-use Rattle.lic_lines.specs.Runs.{runs_joined}
-use Rattle.lic_lines.proofs.Gaps.{is_mark, no_runs, runs_joined-at, runs_joined-gap}
+use Rattle.lic_lines.specs.Streaks.{streaks_joined}
+use Rattle.lic_lines.proofs.Gaps.{is_mark, no_streaks, streaks_joined-at, streaks_joined-gap}
 use Rattle.lic_lines.proofs.LineByLine.{cells_of-line}
 use Rattle.lic_norm.specs.LineEnds.{IsFirstLine}
 use Rattle.lic_pieces.specs.Edges.{BeginAs, HasEdges}
 use Rattle.lic_pieces.specs.Pieces.{begins_in_blank, ends_in_blank, is_blank}
 use Rattle.lic_pieces.specs.declared.cell_edges.Edges.{Edges}
-use Rattle.lic_pieces.proofs.EndedLines.{bare-blank_cells, runs_joined-unplaced}
+use Rattle.lic_pieces.proofs.EndedLines.{bare-blank_cells, streaks_joined-unplaced}
 use Rattle.lic_norm.proofs.FirstLines.{as_line, lines_of-first, no_cells_whole}
 use Rattle.lic_pieces.proofs.PieceLines.{chars_of-unplaced}
 
@@ -118,27 +118,27 @@ kept-ascii (b ∷ text) ascii =
     cond-true (not (is_dropped b)) _ _ (every_below (λ d. not (is_dropped d)) 128 refl b (ascii 0))
     ∙ ap (λ l. record { char = b; start = 0; end = 0 } ∷ l) (kept-ascii text (λ i. ascii (suc i)))
 
-runs-front : (rules : LineRules) (x : Cell) (cells : List Cell) → is_mark x ≡ false → begins_in_blank (runs_joined rules (x ∷ cells)) ≡ is_blank x
-runs-front rules x cells no_mark =
-    ap begins_in_blank (runs_joined-at rules [] x cells no_mark) ∙ ap (λ l. begins_in_blank (l ++ x ∷ runs_joined rules cells)) (no_runs rules)
+streaks-front : (rules : LineRules) (x : Cell) (cells : List Cell) → is_mark x ≡ false → begins_in_blank (streaks_joined rules (x ∷ cells)) ≡ is_blank x
+streaks-front rules x cells no_mark =
+    ap begins_in_blank (streaks_joined-at rules [] x cells no_mark) ∙ ap (λ l. begins_in_blank (l ++ x ∷ streaks_joined rules cells)) (no_streaks rules)
 
-front-by : (rules : LineRules) (blank : Bool) (cells more : List Cell) → BeginAs blank cells → begins_in_blank (runs_joined rules (cells ++ more)) ≡ blank
-front-by rules true cells more (others, is) = ap (λ l. begins_in_blank (runs_joined rules (l ++ more))) is ∙ runs-front rules Blank (others ++ more) refl
-front-by rules false cells more (s, others, is) = ap (λ l. begins_in_blank (runs_joined rules (l ++ more))) is ∙ runs-front rules (Word s) (others ++ more) refl
+front-by : (rules : LineRules) (blank : Bool) (cells more : List Cell) → BeginAs blank cells → begins_in_blank (streaks_joined rules (cells ++ more)) ≡ blank
+front-by rules true cells more (others, is) = ap (λ l. begins_in_blank (streaks_joined rules (l ++ more))) is ∙ streaks-front rules Blank (others ++ more) refl
+front-by rules false cells more (s, others, is) = ap (λ l. begins_in_blank (streaks_joined rules (l ++ more))) is ∙ streaks-front rules (Word s) (others ++ more) refl
 
 no_begin : (rules : LineRules) (blank : Bool) → BeginAs blank (line_cells rules whole_line []) → ⊥
 no_begin rules true (others, is) = absurd (let e : [] ≡ Blank ∷ others = sym (no_cells_whole rules) ∙ is in cc)
 no_begin rules false (s, others, is) = absurd (let e : [] ≡ Word s ∷ others = sym (no_cells_whole rules) ∙ is in cc)
 
 lines-front : (rules : LineRules) (blank : Bool) (here : List SourceChar) (others : List (List SourceChar)) → BeginAs blank (line_cells rules whole_line here)
-    → begins_in_blank (runs_joined rules (flat_map (line_cells rules whole_line) (as_line here ++ others))) ≡ blank
+    → begins_in_blank (streaks_joined rules (flat_map (line_cells rules whole_line) (as_line here ++ others))) ≡ blank
 lines-front rules blank [] others begin = absurd (no_begin rules blank begin)
 lines-front rules blank (s ∷ here) others begin = front-by rules blank (line_cells rules whole_line (s ∷ here)) (flat_map (line_cells rules whole_line) others) begin
 
 pub text-front : (rules : LineRules) (blank : Bool) (text first behind : List ℕ) → IsAscii first → text ≡ first ++ behind → IsFirstLine first behind
-    → BeginAs blank (line_cells rules whole_line (unplaced first)) → begins_in_blank (runs_joined rules (cells_of rules (unplaced text))) ≡ blank
+    → BeginAs blank (line_cells rules whole_line (unplaced first)) → begins_in_blank (streaks_joined rules (cells_of rules (unplaced text))) ≡ blank
 text-front rules blank text first behind ascii parts line begin =
-    ap (λ l. begins_in_blank (runs_joined rules (flat_map (line_cells rules whole_line) l)))
+    ap (λ l. begins_in_blank (streaks_joined rules (flat_map (line_cells rules whole_line) l)))
     (ap (λ t. lines_of (without_dropped t)) (ap unplaced parts ∙ map-append _ first behind)
     ∙ lines_of-first (unplaced first) (unplaced behind) first behind line (chars_of-unplaced first) (λ e. ap unplaced e))
     ∙ lines-front rules blank (without_dropped (unplaced first)) (lines_of (without_dropped (unplaced behind)))
@@ -146,21 +146,21 @@ text-front rules blank text first behind ascii parts line begin =
 
 -- ---- the edges of lines that end in U+000A
 
-ends-feed : (rules : LineRules) (text front : List ℕ) → text ≡ front ++ 0x0A ∷ [] → ends_in_blank (runs_joined rules (cells_of rules (unplaced text))) ≡ true
+ends-feed : (rules : LineRules) (text front : List ℕ) → text ≡ front ++ 0x0A ∷ [] → ends_in_blank (streaks_joined rules (cells_of rules (unplaced text))) ≡ true
 ends-feed rules text front is =
     let feed : SourceChar = record { char = 0x0A; start = 0; end = 0 } in
     let blank = cells_of-line rules (unplaced front) feed [] refl in
-    ap (λ l. ends_in_blank (runs_joined rules (cells_of rules l))) (ap unplaced is ∙ map-append _ front (0x0A ∷ []))
-    ∙ ap (λ l. ends_in_blank (runs_joined rules l)) blank.1
-    ∙ ap ends_in_blank (runs_joined-gap rules blank.0 [] ∙ ap (λ l. runs_joined rules blank.0 ++ Blank ∷ l) (no_runs rules))
-    ∙ ap begins_in_blank (reverse-append (runs_joined rules blank.0) (Blank ∷ []))
+    ap (λ l. ends_in_blank (streaks_joined rules (cells_of rules l))) (ap unplaced is ∙ map-append _ front (0x0A ∷ []))
+    ∙ ap (λ l. ends_in_blank (streaks_joined rules l)) blank.1
+    ∙ ap ends_in_blank (streaks_joined-gap rules blank.0 [] ∙ ap (λ l. streaks_joined rules blank.0 ++ Blank ∷ l) (no_streaks rules))
+    ∙ ap begins_in_blank (reverse-append (streaks_joined rules blank.0) (Blank ∷ []))
 
 pub edges-ended : (rules : LineRules) (edges : Edges) (text front : List ℕ) → text ≡ front ++ 0x0A ∷ []
-    → edges.begins_in_blank ≡ begins_in_blank (runs_joined rules (cells_of rules (unplaced text))) → edges.ends_in_blank ≡ true
-    → edges.has_text ≡ not (list_all is_blank (runs_joined rules (cells_of rules (placed 0 text))))
-    → HasEdges edges (runs_joined rules (cells_of rules (unplaced text)))
+    → edges.begins_in_blank ≡ begins_in_blank (streaks_joined rules (cells_of rules (unplaced text))) → edges.ends_in_blank ≡ true
+    → edges.has_text ≡ not (list_all is_blank (streaks_joined rules (cells_of rules (placed 0 text))))
+    → HasEdges edges (streaks_joined rules (cells_of rules (unplaced text)))
 edges-ended rules edges text front ends begin end some = record {
   begins = begin;
   ends = end ∙ sym (ends-feed rules text front ends);
-  text = some ∙ ap not (sym (ap (list_all is_blank) (runs_joined-unplaced rules text) ∙ bare-blank_cells (runs_joined rules (cells_of rules (placed 0 text)))));
+  text = some ∙ ap not (sym (ap (list_all is_blank) (streaks_joined-unplaced rules text) ∙ bare-blank_cells (streaks_joined rules (cells_of rules (placed 0 text)))));
 }

@@ -15,9 +15,9 @@ use Rattle.lic_lines.specs.declared.cell.Cell.TheVariants.{Blank}
 use Rattle.lic_kind.specs.LineRules.{LineRules}
 use Rattle.lic_trim.specs.Lines.{cut_of}
 use Rattle.lic_lines.specs.Cells.{cells_of_cut, line_cells}
-use Rattle.lic_lines.specs.Runs.{runs_joined}
+use Rattle.lic_lines.specs.Streaks.{streaks_joined}
 use Rattle.lic_lines.specs.Tokens.{Token, line_tokens, tokens_of_cells}
-use Rattle.lic_lines.proofs.Gaps.{no_runs, runs_joined-gap}
+use Rattle.lic_lines.proofs.Gaps.{no_streaks, streaks_joined-gap}
 use Rattle.lic_trim.proofs.ItemLemmas.{char_of, item_none, few_behind}
 use Rattle.lic_lines.proofs.LineByLine.{line_ends, tokens_of_cells-blank}
 use Rattle.lic_trim.proofs.PieceEnds.{ends_in-snoc}
@@ -108,22 +108,22 @@ module _ (rules : LineRules) {A : Type 0} (made : List Cell → List A) (none : 
       ∙ first_line_made has_front (unplaced (chars line)) (unplaced (chars rest)) (chars line) rest first
       (chars_of-unplaced (chars line)) (λ e. ap (λ r. unplaced (chars r)) e ∙ ap unplaced chars-nil)
 
-pub runs-blank : (rules : LineRules) (xs ys : List Cell) → runs_joined rules (xs ++ Blank ∷ ys) ≡ runs_joined rules (xs ++ Blank ∷ []) ++ runs_joined rules ys
-runs-blank rules xs ys =
-    let back = runs_joined rules ys in
-    runs_joined-gap rules xs ys
-    ∙ sym (append_assoc (runs_joined rules xs) (Blank ∷ []) back)
-    ∙ ap (λ l. l ++ back) (sym (runs_joined-gap rules xs [] ∙ ap (λ l. runs_joined rules xs ++ Blank ∷ l) (no_runs rules)))
+pub streaks-blank : (rules : LineRules) (xs ys : List Cell) → streaks_joined rules (xs ++ Blank ∷ ys) ≡ streaks_joined rules (xs ++ Blank ∷ []) ++ streaks_joined rules ys
+streaks-blank rules xs ys =
+    let back = streaks_joined rules ys in
+    streaks_joined-gap rules xs ys
+    ∙ sym (append_assoc (streaks_joined rules xs) (Blank ∷ []) back)
+    ∙ ap (λ l. l ++ back) (sym (streaks_joined-gap rules xs [] ∙ ap (λ l. streaks_joined rules xs ++ Blank ∷ l) (no_streaks rules)))
 
 -- The list of a piece is that of its first line and that of the rest.
 pub piece_cells-first : (rules : LineRules) (has_front : Bool) (before : Next) (text line rest : List ℕ)
     (here : List SourceChar) → text ≡ line ++ rest → IsUtf8 line → IsFirstLine (chars line) rest
     → here ≡ without_dropped (unplaced (chars line))
-    → piece_cells rules has_front before text ≡ runs_joined rules (line_cells rules (part_of has_front before here) here) ++ piece_cells rules true before rest
+    → piece_cells rules has_front before text ≡ streaks_joined rules (line_cells rules (part_of has_front before here) here) ++ piece_cells rules true before rest
 unfolding piece_cells
 piece_cells-first rules has_front before text line rest here cut utf8 first is =
-    first_bytes_made rules (runs_joined rules) (no_runs rules) (runs-blank rules) before has_front text line rest cut utf8 first
-    ∙ ap (λ h. runs_joined rules (line_cells rules (part_of has_front before h) h) ++ piece_cells rules true before rest) (sym is)
+    first_bytes_made rules (streaks_joined rules) (no_streaks rules) (streaks-blank rules) before has_front text line rest cut utf8 first
+    ∙ ap (λ h. streaks_joined rules (line_cells rules (part_of has_front before h) h) ++ piece_cells rules true before rest) (sym is)
 
 -- So are its tokens.
 pub piece_tokens-first : (rules : LineRules) (has_front : Bool) (before : Next) (text line rest : List ℕ)
@@ -138,8 +138,8 @@ piece_tokens-first rules has_front before text line rest here cut utf8 first is 
 pub piece_cells-none : (rules : LineRules) (has_front : Bool) (before : Next) → piece_cells rules has_front before [] ≡ []
 unfolding piece_cells
 piece_cells-none rules has_front before =
-    ap (λ cs. runs_joined rules (cells_of_lines rules has_front before
-    (lines_of (without_dropped (unplaced cs))))) chars-nil ∙ no_runs rules
+    ap (λ cs. streaks_joined rules (cells_of_lines rules has_front before
+    (lines_of (without_dropped (unplaced cs))))) chars-nil ∙ no_streaks rules
 
 pub piece_tokens-none : (rules : LineRules) (has_front : Bool) (before : Next) → piece_tokens rules has_front before [] ≡ []
 unfolding piece_cells piece_tokens
@@ -169,8 +169,8 @@ line_and_rest text at n utf8 here there first =
 
 module _ (rules : LineRules) (part : LinePart) (has_front : Bool) (before : Next) (here line line' : List SourceChar)
     (same : line ≡ here) (same' : line' ≡ here) (parted : part ≡ part_of has_front before line) where
-  pub line_cells-is : runs_joined rules (line_cells rules part line') ≡ runs_joined rules (line_cells rules (part_of has_front before here) here)
-  line_cells-is = let p = parted ∙ ap (part_of has_front before) same in ap₂ (λ part line. runs_joined rules (line_cells rules part line)) p same'
+  pub line_cells-is : streaks_joined rules (line_cells rules part line') ≡ streaks_joined rules (line_cells rules (part_of has_front before here) here)
+  line_cells-is = let p = parted ∙ ap (part_of has_front before) same in ap₂ (λ part line. streaks_joined rules (line_cells rules part line)) p same'
 
   pub line_tokens-is : line_tokens rules part line' ≡ line_tokens rules (part_of has_front before here) here
   line_tokens-is = let p = parted ∙ ap (part_of has_front before) same in ap₂ (line_tokens rules) p same'

@@ -10,7 +10,7 @@ use Rattle.lic_lines.specs.declared.cell.Cell.{Cell}
 use Rattle.lic_lines.specs.declared.cell.Cell.TheVariants.{Blank, Mark, Word}
 use Rattle.lic_kind.specs.LineRules.{LineRules}
 use Rattle.lic_lines.specs.Cells.{line_cells}
-use Rattle.lic_lines.specs.Runs.{runs_joined}
+use Rattle.lic_lines.specs.Streaks.{streaks_joined}
 use Rattle.lic_lines.specs.Tokens.{Token, first_tokens, single_signs}
 use Rattle.lic_phrases.specs.Rewriting.{Phrase, rewritten}
 use Rattle.lic_phrases.specs.Spelling.{blank_if, spelled}
@@ -46,7 +46,7 @@ cells_of_lines rules has_front before (line ∷ lines) =
 -- the list of blanks, marks and word characters of a piece
 unfoldable pub piece_cells : LineRules → Bool → Next → List ℕ → List Cell
 piece_cells rules at_line_start before text =
-    runs_joined rules (cells_of_lines rules at_line_start before (lines_of (without_dropped (unplaced (chars text)))))
+    streaks_joined rules (cells_of_lines rules at_line_start before (lines_of (without_dropped (unplaced (chars text)))))
 
 -- its tokens before the rewriting
 unfoldable pub piece_tokens : LineRules → Bool → Next → List ℕ → List Token

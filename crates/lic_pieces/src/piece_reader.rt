@@ -6,7 +6,7 @@ ghost use Rattle.lic_trim.specs.Lines.{whole_line};
 ghost use Rattle.lic_trim.specs.Sources.{unplaced};
 ghost use Rattle.lic_lines.specs.declared.cell.Cell.{Cell};
 ghost use Rattle.lic_lines.specs.Cells.{cells_of, line_cells};
-ghost use Rattle.lic_lines.specs.Runs.{runs_joined};
+ghost use Rattle.lic_lines.specs.Streaks.{streaks_joined};
 ghost use Rattle.lic_lines.specs.Tokens.{Token, line_tokens};
 ghost use Rattle.lic_pieces.specs.Edges.{BeginAs, HasEdges};
 ghost use Rattle.lic_pieces.specs.Pieces.{bare_token, begins_in_blank, ends_in_feed, part_of, piece_cells, piece_tokens};
@@ -121,7 +121,7 @@ fn line_begins_in_blank(
     }
 }
 
-/// Whether the list that whole lines of ASCII leave after their runs begins in a blank. None if the first line begins in a mark.
+/// Whether the list that whole lines of ASCII leave after their streaks begins in a blank. None if the first line begins in a mark.
 fn begins_in_blank(
     alloc: Global,
     rules: &Rules,
@@ -132,7 +132,7 @@ fn begins_in_blank(
     requires fits { length lines.now < 2 ^ 32 }
     requires some { 0 < length lines.now }
     ensures { IfOk result (λ begins. IfSome begins (λ blank. begins_in_blank
-        (runs_joined (rules_of rules.now) (cells_of (rules_of rules.now) (unplaced lines.now))) ≡ blank)) }
+        (streaks_joined (rules_of rules.now) (cells_of (rules_of rules.now) (unplaced lines.now))) ≡ blank)) }
 {
     let bytes = lines.as_bytes();
     line_begins_in_blank(alloc, rules, &bytes[..line_end(bytes)], characters)
@@ -148,7 +148,7 @@ fn add_line(
 ) -> Result<(), AllocError>
     requires { ends_in_feed line.now ≡ true → part.has_end ≡ true }
     ensures { OnOk result ((before : List Cell) → HasEdges edges.old before
-        → HasEdges edges.new (before ++ runs_joined (rules_of rules.now)
+        → HasEdges edges.new (before ++ streaks_joined (rules_of rules.now)
         (line_cells (rules_of rules.now) part line.now))) }
 {
     // A line mostly has text before it, and ends in U+000A, which is a blank.
@@ -161,7 +161,7 @@ fn add_line(
     Ok(())
 }
 
-/// A piece as far as it is read: the edges of the list that its lines leave after their runs, and their tokens, which are taken.
+/// A piece as far as it is read: the edges of the list that its lines leave after their streaks, and their tokens, which are taken.
 #[derive(Drop)]
 pub(crate) struct PieceReader<'w> {
     pub(crate) edges: Edges,
@@ -181,11 +181,11 @@ impl<'w> PieceReader<'w> {
         requires ascii { IsAscii text.now }
         requires fits { length text.now + 65 ≤ 2 ^ 32 }
         requires ended { (front : List ℕ) × (text.now ≡ front ++ 0x0A ∷ []) }
-        requires begins { begins_in_blank (runs_joined (rules_of rules.now)
+        requires begins { begins_in_blank (streaks_joined (rules_of rules.now)
             (cells_of (rules_of rules.now) (unplaced text.now))) ≡ blank }
         requires before { HasTakenSome self.old.rewriting }
         ensures edges { OnOk result ((before : List Cell) → HasEdges self.old.edges before
-            → HasEdges self.new.edges (before ++ runs_joined (rules_of rules.now)
+            → HasEdges self.new.edges (before ++ streaks_joined (rules_of rules.now)
             (cells_of (rules_of rules.now) (unplaced (chars text.now))))) }
         ensures taken { OnOk result ((taken : List Token) → HasTaken self.old.rewriting taken
             → HasTaken self.new.rewriting (taken ++ first_tokens_of (rules_of rules.now) 0 text.now)) }
@@ -212,7 +212,7 @@ impl<'w> PieceReader<'w> {
     ) -> Result<(), AllocError>
         requires { HasTakenSome self.old.rewriting }
         ensures edges { OnOk result ((cells : List Cell) → HasEdges self.old.edges cells
-            → HasEdges self.new.edges (cells ++ runs_joined (rules_of rules.now)
+            → HasEdges self.new.edges (cells ++ streaks_joined (rules_of rules.now)
             (line_cells (rules_of rules.now) (part_of has_front before line.now) line.now))) }
         ensures taken { OnOk result ((taken : List Token) → HasTaken self.old.rewriting taken
             → HasTaken self.new.rewriting (taken

@@ -47,7 +47,7 @@ fn with_edges(alloc: Global, edges: Edges, letters: &str) -> Result<String, Allo
 
 /// The letters of a piece of a template's text: the texts of its tokens, with one blank between two
 /// whose meeting letters are both of kind Word, and one at each edge where the text has a blank after
-/// the line rules and runs (SPDX 2.3 Annex B; this project's profile).
+/// the line rules and streaks (SPDX 2.3 Annex B; this project's profile).
 ///
 /// `at_line_start` says whether the piece begins at a line's start, where a lead and an item are
 /// taken away, and `before` what follows it in its line. What the buffers hold has no effect. The error

@@ -2,5 +2,5 @@
 
 pub(crate) mod counts;
 pub(crate) mod passing;
-pub(crate) mod run;
-pub(crate) mod runs;
+pub(crate) mod streak;
+pub(crate) mod streaks;

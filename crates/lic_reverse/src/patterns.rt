@@ -11,7 +11,7 @@ ghost use Rattle.lic_reverse.specs.Tidily.{AreWays, IsMore, IsRepeated, IsTidyBa
 
 use crate::empty::has_empty_word_alone;
 use crate::letters::passing::{is_one, over_one};
-use crate::letters::runs::{are_few, over_many};
+use crate::letters::streaks::{are_few, over_many};
 use crate::ways::Ways;
 use crate::ways::endings::{GroupedWays, part_for};
 use crate::ways::reached::Reached;

@@ -4,7 +4,7 @@ use Rattle.std.specs.Prelude.{slice_index_or}
 use Rattle.std.proofs.lemmas.Bool.{cases_lt}
 use Rattle.std.proofs.lemmas.List.{get_or_append_left, get_or_push, length_push}
 use Rattle.lic_trim.specs.Texts.{is_sequence, greatest}
-use Rattle.lic_trim.specs.Walks.{ends_piece, AreSequences, IsRunFront}
+use Rattle.lic_trim.specs.Walks.{ends_piece, AreSequences, IsStreakFront}
 use Rattle.lic_trim.proofs.SequenceLemmas.{sequence_ends, sequence_goes_on}
 use Rattle.lic_trim.proofs.TextLemmas.{same_truth}
 use Rattle.lic_trim.proofs.PieceEnds.{ends-true, ends-from}
@@ -36,7 +36,7 @@ sequences_push p flags line n b sequences some flagged within value = record {
 }
 
 pub front_push : (flags : List Bool) (line : List ℕ) (n first : ℕ) (b : Bool) → n ≤ length flags
-    → IsRunFront flags line n first → IsRunFront (flags ++ b ∷ []) line n first
+    → IsStreakFront flags line n first → IsStreakFront (flags ++ b ∷ []) line n first
 front_push flags line n first b within front = record {
   within = front.within;
   same = front.same;
@@ -54,7 +54,7 @@ sequences_start p line = record {
       subst (λ n. slice_index_or (true ∷ []) n false ≡ is_sequence p (take n line)) first refl;
 }
 
-pub front_start : (flags : List Bool) (line : List ℕ) → IsRunFront flags line 0 0
+pub front_start : (flags : List Bool) (line : List ℕ) → IsStreakFront flags line 0 0
 front_start flags line = record {
   within = omega arith;
   same = λ i low high. absurd (omega arith);

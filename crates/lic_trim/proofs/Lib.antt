@@ -1,7 +1,7 @@
 pub mod SequenceLemmas
 pub mod PieceEnds
 pub mod KindEnds
-pub mod RunFronts
+pub mod StreakFronts
 pub mod SourceLemmas
 pub mod FlagSteps
 pub mod TextLemmas

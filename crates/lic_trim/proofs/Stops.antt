@@ -9,7 +9,7 @@ use Rattle.std.proofs.lemmas.Slice.Eq.{bytes_eq-Decides}
 use Rattle.lic_trim.specs.Texts.{is_sequence, ends_in}
 use Rattle.lic_kind.specs.LineRules.{LineRules}
 use Rattle.lic_trim.specs.Lines.{is_space, is_separator, repeats}
-use Rattle.lic_trim.specs.Walks.{Side, walked, is_walked_piece, side_texts, side_spaced, side_repeated, AreSequences, IsRunFront}
+use Rattle.lic_trim.specs.Walks.{Side, walked, is_walked_piece, side_texts, side_spaced, side_repeated, AreSequences, IsStreakFront}
 use Rattle.lic_trim.proofs.PieceEnds.{length_part, slice_at, separator_parts}
 use Rattle.lic_trim.proofs.KindEnds.{space_parts}
 use Rattle.lic_trim.proofs.SideEnds.{walked_piece, repeats_more}
@@ -50,7 +50,7 @@ pub record AreShort (rules : LineRules) (side : Side) (reach : ℕ) : Type 0 whe
 
 module _ (rules : LineRules) (side : Side) (flags : List Bool) (line : List ℕ) (end longest reach : ℕ)
     (sequences : AreSequences (is_walked_piece rules side) flags line) (count : length flags ≡ end)
-    (front : IsRunFront flags line end end) (short : AreShort rules side reach)
+    (front : IsStreakFront flags line end end) (short : AreShort rules side reach)
     (above : (m : ℕ) → longest < m → m < end → is_sequence (is_walked_piece rules side) (take m line) ≡ false) (far : reach + longest + 1 < end) where
   abbrev pub p : List ℕ → Bool
   p = is_walked_piece rules side

@@ -46,7 +46,7 @@ join_group together x ([] ∷ groups) = (x ∷ []) ∷ [] ∷ groups
 join_group together x ((y ∷ group) ∷ groups) =
     if together x y then (x ∷ y ∷ group) ∷ groups else (x ∷ []) ∷ (y ∷ group) ∷ groups
 
--- the longest runs of neighbours that belong together
+-- the longest streaks of neighbours that belong together
 abbrev pub groups : {A : Type 0} → (A → A → Bool) → List A → List (List A)
 groups together [] = []
 groups together (x ∷ xs) = join_group together x (groups together xs)

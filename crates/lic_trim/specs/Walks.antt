@@ -72,7 +72,7 @@ pub record AreSequences (is_piece : List ℕ → Bool) (flags : List Bool) (line
   pub each : (k : ℕ) → k < length flags → slice_index_or flags k false ≡ is_sequence is_piece (take k line)
 
 -- from first on all characters before end are one; no flagged place before it has that, and it is flagged itself
-pub record IsRunFront (flags : List Bool) (line : List ℕ) (end first : ℕ) : Type 0 where
+pub record IsStreakFront (flags : List Bool) (line : List ℕ) (end first : ℕ) : Type 0 where
   pub within : first ≤ end
   pub same : (i : ℕ) → first ≤ i → i < end → slice_index line i ≡ slice_index line (end - 1)
   pub flagged : first < end → slice_index_or flags first false ≡ true

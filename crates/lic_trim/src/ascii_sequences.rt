@@ -211,7 +211,7 @@ fn repeated_lengths(rules: &Rules, side: Side, line: &[u8], place: usize) -> Opt
 
 /// How many of one same byte are at this place of the way and right after it.
 #[inline(always)]
-fn run_length(side: Side, line: &[u8], place: usize) -> usize
+fn streak_length(side: Side, line: &[u8], place: usize) -> usize
     requires { place < length line.now }
     ensures within { place + result ≤ length line.now }
     ensures same { (i : ℕ) → i < result
@@ -240,14 +240,14 @@ fn separator_lengths(rules: &Rules, side: Side, line: &[u8], place: usize) -> Op
     if !is_mark(byte_at(line, side, place) as char) {
         return Some(0);
     }
-    let run = run_length(side, line, place);
-    if run < SHORTEST_SEPARATOR {
+    let streak = streak_length(side, line, place);
+    if streak < SHORTEST_SEPARATOR {
         return Some(0);
     }
-    if run > LONGEST_SEPARATOR {
+    if streak > LONGEST_SEPARATOR {
         return None;
     }
-    Some((1 << (run + 1)) - (1 << SHORTEST_SEPARATOR))
+    Some((1 << (streak + 1)) - (1 << SHORTEST_SEPARATOR))
 }
 
 /// The lengths of the pieces that come after this place of the way. Nothing is said where that takes more than a look.

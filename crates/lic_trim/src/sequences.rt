@@ -6,7 +6,7 @@ ghost use Rattle.lic_trim.specs.Sources.{chars_of};
 ghost use Rattle.lic_kind.specs.LineRules.{texts_of, rules_of};
 ghost use Rattle.lic_trim.specs.Texts.{is_sequence, longest_front};
 ghost use Rattle.lic_trim.specs.Lines.{is_space, is_separator};
-ghost use Rattle.lic_trim.specs.Walks.{walked, is_walked_piece, side_texts, side_spaced, side_repeated, ends_piece, IsRunFront, spaced_text_ends, repeat_ends};
+ghost use Rattle.lic_trim.specs.Walks.{walked, is_walked_piece, side_texts, side_spaced, side_repeated, ends_piece, IsStreakFront, spaced_text_ends, repeat_ends};
 
 use crate::side::{Side, char_at, is_text, part};
 use crate::source::SourceChar;
@@ -115,18 +115,18 @@ fn separator_ends(flags: &[bool], line: &[SourceChar], side: Side, end: usize, f
     requires flagged { end ≤ length flags.now }
     requires within { end ≤ length line.now }
     requires some { 0 < end }
-    requires front { IsRunFront flags.now (walked side (chars_of line.now)) end first }
+    requires front { IsStreakFront flags.now (walked side (chars_of line.now)) end first }
     ensures { result ≡ ends_piece is_separator flags.now (walked side (chars_of line.now)) end }
 {
     end - first >= 3 && is_mark(char_at(line, side, end - 1))
 }
 
-/// Where the longest run that reaches the place after k, of the character there, begins at a sequence.
-fn run_front(flags: &[bool], line: &[SourceChar], side: Side, k: usize, first: usize) -> usize
+/// Where the longest streak that reaches the place after k, of the character there, begins at a sequence.
+fn streak_front(flags: &[bool], line: &[SourceChar], side: Side, k: usize, first: usize) -> usize
     requires flagged { k + 1 ≤ length flags.now }
     requires within { k < length line.now }
-    requires front { IsRunFront flags.now (walked side (chars_of line.now)) k first }
-    ensures { IsRunFront flags.now (walked side (chars_of line.now)) (k + 1) result }
+    requires front { IsStreakFront flags.now (walked side (chars_of line.now)) k first }
+    ensures { IsStreakFront flags.now (walked side (chars_of line.now)) (k + 1) result }
 {
     let goes_on = k > first && char_at(line, side, k) == char_at(line, side, k - 1);
     if goes_on {
@@ -269,7 +269,7 @@ fn piece_ends(
     requires flagged { end ≤ length flags.now }
     requires within { end ≤ length line.now }
     requires some { 0 < end }
-    requires front { IsRunFront flags.now (walked side (chars_of line.now)) end first }
+    requires front { IsStreakFront flags.now (walked side (chars_of line.now)) end first }
     requires told { repeated
         ≡ list_any (repeat_ends flags.now (walked side (chars_of line.now)) end)
         (side_repeated (rules_of rules.now) side) }
@@ -305,7 +305,7 @@ pub fn longest_sequence(
     let mut longest = 0;
     let mut first = 0;
     for k in 0..line.len() {
-        first = run_front(&flags, line, side, k, first);
+        first = streak_front(&flags, line, side, k, first);
         if first > k && k - longest > reach {
             return Ok(longest);
         }

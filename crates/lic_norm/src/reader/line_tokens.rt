@@ -4,7 +4,7 @@ ghost use Rattle.std.specs.Prelude.{◌≡◌, ◌+◌, ◌++◌, ◌<◌, ◌�
 ghost use Rattle.lic_kind.specs.LineRules.{rules_of};
 ghost use Rattle.lic_trim.specs.Sources.{placed};
 ghost use Rattle.lic_lines.specs.Cells.{cells_of};
-ghost use Rattle.lic_lines.specs.Runs.{runs_joined};
+ghost use Rattle.lic_lines.specs.Streaks.{streaks_joined};
 ghost use Rattle.lic_lines.specs.Tokens.{Token, first_tokens, line_tokens};
 ghost use Rattle.lic_norm.specs.Reading.{HasTaken, HasTakenSome, phrases_of};
 ghost use Rattle.lic_norm.specs.Tokens.{first_tokens_of, line_tokens_of};
@@ -138,7 +138,7 @@ pub fn take_ascii(
     requires before { HasTakenSome rewriting.old }
     ensures taken { OnOk result ((taken : List Token) → HasTaken rewriting.old taken
         → HasTaken rewriting.new (taken ++ first_tokens_of (rules_of rules.now) at text.now)) }
-    ensures count { IfOk result (λ count. count ≡ length (first_tokens (runs_joined (rules_of rules.now)
+    ensures count { IfOk result (λ count. count ≡ length (first_tokens (streaks_joined (rules_of rules.now)
         (cells_of (rules_of rules.now) (placed at text.now))))) }
     ensures phrases { phrases_of rewriting.new ≡ phrases_of rewriting.old }
 {

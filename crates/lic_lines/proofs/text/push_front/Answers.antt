@@ -2,7 +2,7 @@ use Rattle.std.proofs.Common.{◌∙◌, ◌++◌, ◌∷◌, [], false, sym, ap
 use Rattle.std.proofs.lemmas.List.{map-append}
 use Rattle.lic_kind.specs.LineRules.{rules_of}
 use Rattle.lic_lines.specs.Cells.{cell_of}
-use Rattle.lic_lines.specs.Runs.{runs_joined}
+use Rattle.lic_lines.specs.Streaks.{streaks_joined}
 use Rattle.lic_trim.specs.Texts.{groups}
 use Rattle.lic_lines.specs.Tokens.{both_words, tokens_from, tokens_after, tokens_in, token_in}
 use Rattle.lic_lines.proofs.KindSequences.{some_front, words_sequence, marks_sequence}
@@ -33,7 +33,7 @@ returns-in_ok-blank_after-in-Mark-clause-tokens c =
     let n = c.mark_count-length.result in
     let sequence = c.mark_count-length.ensures in
     let told = c.in_ok-blank_after-in-Mark.ensures in
-    let gs = groups both_words (runs_joined rules (map cell_of (take n text))) in
+    let gs = groups both_words (streaks_joined rules (map cell_of (take n text))) in
     ap₂ (λ l b. l ++ tokens_after rules b (drop n text)) told.tokens told.blank
     ∙ append_assoc old (tokens_from c.args.after_blank gs) _
     ∙ ap (λ l. old ++ l) (marks_sequence rules c.args.after_blank text n sequence.within sequence.some sequence.all sequence.stop)

@@ -4,7 +4,7 @@ use Rattle.std.proofs.lemmas.List.{length-append, length-map}
 use Rattle.lic_trim.specs.Sources.{chars_of}
 use Rattle.lic_trim.specs.Texts.{is_sequence, greatest}
 use Rattle.lic_kind.specs.LineRules.{rules_of}
-use Rattle.lic_trim.specs.Walks.{walked, is_walked_piece, side_repeated, repeat_ends, ends_piece, AreSequences, IsRunFront}
+use Rattle.lic_trim.specs.Walks.{walked, is_walked_piece, side_repeated, repeat_ends, ends_piece, AreSequences, IsStreakFront}
 use Rattle.lic_trim.proofs.FlagSteps.{sequence_value, sequences_start, front_start, sequences_push, front_push, greatest_more}
 use Rattle.lic_trim.proofs.SideEnds.{list_any-map, repeats_start, repeats_push, put_back}
 use Rattle.lic_trim.proofs.Stops.{nothing_beyond}
@@ -37,10 +37,10 @@ returns-then-k-longest-clause-sequence c =
     let known = c.loop-k.invariant in
     let test = λ (n : ℕ). is_sequence p (take n line) in
     let many = length-walked_chars c.args.side c.args.line.now in
-    let moved = subst (λ l. IsRunFront l line (k + 1) c.run_front-first.result) c.deref.ensures.value c.run_front-first.ensures in
-    let within : c.run_front-first.result ≤ k + 1 = moved.within in
-    let here : c.run_front-first.result ≡ k + 1 = omega arith in
-    let front : IsRunFront flags line (k + 1) (k + 1) = subst (λ n. IsRunFront flags line (k + 1) n) here moved in
+    let moved = subst (λ l. IsStreakFront l line (k + 1) c.streak_front-first.result) c.deref.ensures.value c.streak_front-first.ensures in
+    let within : c.streak_front-first.result ≤ k + 1 = moved.within in
+    let here : c.streak_front-first.result ≡ k + 1 = omega arith in
+    let front : IsStreakFront flags line (k + 1) (k + 1) = subst (λ n. IsStreakFront flags line (k + 1) n) here moved in
     let beyond = nothing_beyond rules c.args.side flags line (k + 1) c.loop-k.longest c.reach-reach.result known.sequences known.count front
     (record { texts = c.reach-reach.ensures.texts; spaced = c.reach-reach.ensures.spaced; repeated = c.reach-reach.ensures.repeated })
     (λ m more below. greatest_above test k m (subst (λ n. n < m) known.best more) (omega arith)) (omega arith) in
@@ -69,7 +69,7 @@ loop-k-preserved c =
     let flags = c.loop-k.flags.items in
     let line = walked c.args.side (chars_of c.args.line.now) in
     let k = c.loop-k.k in
-    let first = c.run_front-first.result in
+    let first = c.streak_front-first.result in
     let b = c.piece_ends-is_sequence.result in
     let known = c.loop-k.invariant in
     let ts = side_repeated rules c.args.side in
@@ -81,13 +81,13 @@ loop-k-preserved c =
     let value : b ≡ ends_piece p flags line (k + 1) = c.piece_ends-is_sequence.ensures ∙ ap (λ l. ends_piece p l line (k + 1)) c.deref-in-loop-k-3.ensures.value in
     let sequence : b ≡ test (k + 1) = value ∙ sequence_value p flags line (k + 1) known.sequences (omega arith) (omega arith) within in
     let front = front_push flags line (k + 1) first b (omega arith)
-    (subst (λ l. IsRunFront l line (k + 1) first) c.deref.ensures.value c.run_front-first.ensures) in
+    (subst (λ l. IsStreakFront l line (k + 1) first) c.deref.ensures.value c.streak_front-first.ensures) in
     let stepped : c.step_repeats.new.repeating ≡ map (repeat_ends flags line (k + 1)) ts =
     c.step_repeats.ensures ∙ ap (λ l. map (repeat_ends l line (k + 1)) ts) c.deref-in-loop-k.ensures.value in
     record {
       count = omega (arith, ap length pushed, length-append flags (b ∷ []));
       sequences = subst (λ l. AreSequences p l line) (sym pushed) (sequences_push p flags line (k + 1) b known.sequences (omega arith) count within value);
-      front = subst (λ l. IsRunFront l line (k + 1) first) (sym pushed) front;
+      front = subst (λ l. IsStreakFront l line (k + 1) first) (sym pushed) front;
       best = elim c.if-is_sequence.branch [
         | then-is_sequence w ↦ w.longest-is ∙ sym (greatest_more test k ∙ ap (λ t. cond t (k + 1) (greatest test k)) (sym sequence ∙ w.if-is_sequence.true))
         | else-is_sequence w ↦ w.longest-is ∙ known.best ∙ sym (greatest_more test k ∙ ap (λ t. cond t (k + 1) (greatest test k)) (sym sequence ∙ w.if-is_sequence.false))

@@ -4,7 +4,7 @@ use Rattle.std.specs.Str.{chars}
 use Rattle.std.proofs.lemmas.Str.{IsUtf8-take}
 use Rattle.lic_kind.specs.LineRules.{rules_of}
 use Rattle.lic_lines.specs.Cells.{line_cells}
-use Rattle.lic_lines.specs.Runs.{runs_joined}
+use Rattle.lic_lines.specs.Streaks.{streaks_joined}
 use Rattle.lic_trim.specs.Sources.{unplaced, without_dropped}
 use Rattle.lic_lines.specs.Tokens.{line_tokens}
 use Rattle.lic_pieces.specs.Pieces.{bare_token, part_of, piece_tokens}
@@ -23,7 +23,7 @@ returns-clause-edges c = λ cells has.
     let is : here ≡ without_dropped (unplaced (chars line)) =
     c.deref.ensures.value ∙ c.in_ok-line.ensures
     ∙ ap (λ l. without_dropped (unplaced (chars l))) (c.range.ensures.value ∙ ap (λ m. take m text) size) in (
-      runs_joined rules (line_cells rules (part_of c.args.has_front c.args.before here) here),
+      streaks_joined rules (line_cells rules (part_of c.args.has_front c.args.before here) here),
       c.in_ok-take_left.ensures.edges cells has,
       sym (piece_cells-first rules c.args.has_front c.args.before text line (drop n text) here (sym (take-append-drop n text))
           (IsUtf8-take text n c.utf8.text c.text_line_end-end.ensures.boundary) c.text_line_end-end.ensures.line is),
