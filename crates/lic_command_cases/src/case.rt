@@ -14,8 +14,8 @@ pub const RULES: &str = "rules.txt";
 
 /// Arguments, files and an input, and what comes of them.
 #[derive(Debug, Drop)]
-pub struct Row<'a> {
-    /// What the row is about.
+pub struct Case<'a> {
+    /// What the case is about.
     pub subject: &'a str,
     pub arguments: Vec<&'a str>,
     /// The members of the folder of templates, by their identifiers; without them there is no folder.
@@ -40,7 +40,7 @@ fn words_of<'a>(alloc: Global, value: Option<&'a Value>) -> anyhow::Result<Vec<&
     Ok(words)
 }
 
-/// What comes of a row.
+/// What comes of a case.
 fn outcome_of(alloc: Global, value: &Value) -> anyhow::Result<Outcome> {
     let status = value.get("status").and_then(Value::as_u64);
     Ok(Outcome {
@@ -50,13 +50,13 @@ fn outcome_of(alloc: Global, value: &Value) -> anyhow::Result<Outcome> {
     })
 }
 
-impl<'a> Row<'a> {
-    /// Reads a row.
-    pub fn read(alloc: Global, value: &'a Value) -> anyhow::Result<Row<'a>> {
+impl<'a> Case<'a> {
+    /// Reads a case.
+    pub fn read(alloc: Global, value: &'a Value) -> anyhow::Result<Case<'a>> {
         let subject = value.get("subject").and_then(Value::as_str);
         let numbered = value.get("numbered").and_then(Value::as_u64);
         let by_file = value.get("by_file").and_then(Value::as_bool);
-        Ok(Row {
+        Ok(Case {
             subject: subject.context("no subject")?,
             arguments: words_of(alloc, value.get("arguments"))?,
             templates: value.get("templates"),
@@ -68,7 +68,7 @@ impl<'a> Row<'a> {
         })
     }
 
-    /// Runs the row in the folder where its files lie.
+    /// Runs the case in the folder where its files lie.
     pub fn run<Rt: Files + AllocGlobal + Clone + Drop>(
         &self,
         rt: &Rt,

@@ -1,7 +1,7 @@
-//! The files of a row, where the program runs.
+//! The files of a case, where the program runs.
 
 use crate::bytes::bytes_of;
-use crate::row::{RULES, Row};
+use crate::case::{RULES, Case};
 use serde_json::Value;
 use std::alloc::Global;
 use std::fs;
@@ -44,19 +44,19 @@ fn lay_files<Rt: Files>(rt: &Rt, alloc: Global, files: &Value) -> anyhow::Result
     Ok(())
 }
 
-/// Lays the files of a row, and line rules if there are some.
+/// Lays the files of a case, and line rules if there are some.
 pub fn lay<Rt: Files>(
     rt: &Rt,
     alloc: Global,
-    row: &Row<'_>,
+    case: &Case<'_>,
     rules: Option<&str>,
 ) -> anyhow::Result<()> {
-    if let Some(templates) = row.templates {
+    if let Some(templates) = case.templates {
         fs::create_dir(rt, FOLDER)?;
         lay_templates(rt, alloc, templates)?;
-        lay_numbered(rt, alloc, row.numbered)?;
+        lay_numbered(rt, alloc, case.numbered)?;
     }
-    if let Some(files) = row.files {
+    if let Some(files) = case.files {
         lay_files(rt, alloc, files)?;
     }
     if let Some(rules) = rules {
@@ -76,16 +76,16 @@ fn clear_files<Rt: Files>(rt: &Rt, files: &Value) -> anyhow::Result<()> {
     Ok(())
 }
 
-/// Takes away the files of a row, and line rules if there are some.
+/// Takes away the files of a case, and line rules if there are some.
 pub fn clear<Rt: Files + AllocGlobal>(
     rt: &Rt,
-    row: &Row<'_>,
+    case: &Case<'_>,
     has_rules: bool,
 ) -> anyhow::Result<()> {
-    if row.templates.is_some() {
+    if case.templates.is_some() {
         fs::remove_dir_all(rt, FOLDER)?;
     }
-    if let Some(files) = row.files {
+    if let Some(files) = case.files {
         clear_files(rt, files)?;
     }
     if has_rules {

@@ -4,9 +4,9 @@
 mod bytes;
 mod outcome;
 mod place;
-mod row;
+mod case;
 
-use crate::row::Row;
+use crate::case::Case;
 use anyhow::Context;
 use serde_json::Value;
 use std::alloc::Global;
@@ -14,8 +14,8 @@ use std::fs;
 use std::process::ExitCode;
 use std::rt::Files;
 
-/// The file of the rows.
-const ROWS: &str = "rows.json";
+/// The file of the cases.
+const CASES: &str = "cases.json";
 
 /// How many runs were made, and how many ended otherwise than they should.
 #[derive(Clone, Copy, Debug, PartialEq, Eq)]
@@ -24,38 +24,38 @@ struct Count {
     bad: u64,
 }
 
-/// Runs a row, and shows what came of it where that is not what should.
-fn try_row<Rt: Files + Print + AllocGlobal + Clone + Drop>(
+/// Runs a case, and shows what came of it where that is not what should.
+fn try_case<Rt: Files + Print + AllocGlobal + Clone + Drop>(
     rt: &Rt,
     alloc: Global,
-    row: &Row<'_>,
+    case: &Case<'_>,
     rules: Option<&str>,
 ) -> anyhow::Result<bool> {
-    place::lay(rt, alloc, row, rules)?;
-    let outcome = row.run(rt, alloc, rules.is_some());
-    place::clear(rt, row, rules.is_some())?;
+    place::lay(rt, alloc, case, rules)?;
+    let outcome = case.run(rt, alloc, rules.is_some());
+    place::clear(rt, case, rules.is_some())?;
     let outcome = outcome?;
-    let is_right = outcome == row.outcome;
+    let is_right = outcome == case.outcome;
     if !is_right {
-        println!(rt; "{}: {:?}: {outcome}", row.subject, row.arguments)?;
+        println!(rt; "{}: {:?}: {outcome}", case.subject, case.arguments)?;
     }
     Ok(is_right)
 }
 
-/// Runs each row, and those that hold by a file of line rules by that file too.
-fn try_rows<Rt: Files + Print + AllocGlobal + Clone + Drop>(
+/// Runs each case, and those that hold by a file of line rules by that file too.
+fn try_cases<Rt: Files + Print + AllocGlobal + Clone + Drop>(
     rt: &Rt,
     alloc: Global,
-    rows: &[Value],
+    cases: &[Value],
     rules: &str,
 ) -> anyhow::Result<Count> {
     let mut count = Count { runs: 0, bad: 0 };
-    for value in rows {
-        let row = Row::read(alloc, value)?;
-        let mut bad = u64::from(!try_row(rt, alloc, &row, None)?);
+    for value in cases {
+        let case = Case::read(alloc, value)?;
+        let mut bad = u64::from(!try_case(rt, alloc, &case, None)?);
         let mut runs = 1;
-        if row.by_file {
-            bad += u64::from(!try_row(rt, alloc, &row, Some(rules))?);
+        if case.by_file {
+            bad += u64::from(!try_case(rt, alloc, &case, Some(rules))?);
             runs = 2;
         }
         count.runs = count.runs.saturating_add(runs);
@@ -65,13 +65,13 @@ fn try_rows<Rt: Files + Print + AllocGlobal + Clone + Drop>(
 }
 
 fn main(rt: HostRuntime) -> anyhow::Result<ExitCode> {
-    let text = fs::read_to_string(&rt, ROWS)?;
+    let text = fs::read_to_string(&rt, CASES)?;
     let held = Value::from_str(rt.alloc(), text.as_str())?;
     let rules = held.get("profile").and_then(Value::as_str);
     let rules = rules.context("no rules of the profile")?;
-    let rows = held.get("rows").and_then(Value::as_array);
-    let rows = rows.context("no rows")?;
-    let count = try_rows(&rt, rt.alloc(), rows.as_slice(), rules)?;
+    let cases = held.get("cases").and_then(Value::as_array);
+    let cases = cases.context("no cases")?;
+    let count = try_cases(&rt, rt.alloc(), cases.as_slice(), rules)?;
     println!(&rt; "{} runs, {} bad", count.runs, count.bad)?;
     Ok(ExitCode::from(u8::from(count.bad > 0)))
 }

@@ -1,4 +1,4 @@
-"""Rows in short form, and the lines of output that they stand for."""
+"""Cases in short form, and the lines of output that they stand for."""
 import re
 
 from harness import Case, templates

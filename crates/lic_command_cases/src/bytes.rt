@@ -1,4 +1,4 @@
-//! The bytes that a row gives: a text, or a list of texts, of bytes by their numbers, and of texts with how often they occur.
+//! The bytes that a case gives: a text, or a list of texts, of bytes by their numbers, and of texts with how often they occur.
 
 use anyhow::Context;
 use serde_json::Value;
