@@ -8,7 +8,7 @@ use Rattle.lic_kind.specs.LineRules.{LineRules}
 use Rattle.lic_trim.specs.declared.line_part.LinePart.{LinePart}
 use Rattle.lic_lines.specs.Cells.{Cell, Blank, Mark, Word, cell_of, line_cells, cells_of}
 use Rattle.lic_lines.specs.Streaks.{end_after, streaks_joined}
-use Rattle.lic_lines.specs.SmallStrings.{bytes_at}
+use Rattle.lic_lines.specs.SmallStrings.{bytes_in}
 use Rattle.lic_lines.specs.declared.small_string.SmallString.{SmallString}
 use Rattle.lic_lines.specs.declared.tokens.FirstToken.{FirstToken}
 
@@ -117,7 +117,7 @@ text_tokens_after rules after_blank text = single_signs (tokens_after rules afte
 
 -- the bytes of a string
 abbrev pub small_bytes : SmallString → List ℕ
-small_bytes s = bytes_at s.place
+small_bytes s = bytes_in s.storage
 
 -- the token that a value of the code holds
 abbrev pub token_in : FirstToken → Token
