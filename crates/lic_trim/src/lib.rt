@@ -4,14 +4,14 @@
 mod ascii_cut;
 mod ascii_sequences;
 mod ascii_texts;
-pub mod cut;
+mod cut;
 mod item;
 pub mod laws;
-pub mod leads;
-pub mod line_part;
+mod leads;
+mod line_part;
 mod sequences;
 mod side;
-pub mod source;
+mod source;
 mod space_sequences;
 
 pub use ascii_cut::{cut_by_leads, cut_of_ascii, takes_spaces};
