@@ -79,7 +79,11 @@ fn compile_tree(alloc: Global, ere: &Ere, direction: Direction) -> Result<Node, 
         Ere::Char(letter) => Ok(lic_marks::one(Test::Letter(*letter))),
         Ere::Any => Ok(lic_marks::one(Test::Any)),
         Ere::Set(class) => Ok(lic_marks::one(Test::Class(class.copy(alloc)?))),
-        Ere::Cat(subs) => ordered_sequence(alloc, compile_trees(alloc, subs, direction)?, direction),
+        Ere::Cat(subs) => ordered_sequence(
+            alloc,
+            compile_trees(alloc, subs, direction)?,
+            direction,
+        ),
         Ere::Alt(subs) => compile_choice(alloc, subs, direction),
         Ere::Repeat { body, min, max } => match *max {
             Some(max) if max < *min => Ok(no_word(alloc)),

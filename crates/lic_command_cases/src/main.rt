@@ -2,9 +2,9 @@
 #![tactic(auto)]
 
 mod bytes;
-mod outcome;
-mod place;
 mod case;
+mod folder;
+mod outcome;
 
 use crate::case::Case;
 use anyhow::Context;
@@ -31,9 +31,9 @@ fn try_case<Rt: Files + Print + AllocGlobal + Clone + Drop>(
     case: &Case<'_>,
     rules: Option<&str>,
 ) -> anyhow::Result<bool> {
-    place::lay(rt, alloc, case, rules)?;
+    folder::lay(rt, alloc, case, rules)?;
     let outcome = case.run(rt, alloc, rules.is_some());
-    place::clear(rt, case, rules.is_some())?;
+    folder::clear(rt, case, rules.is_some())?;
     let outcome = outcome?;
     let is_right = outcome == case.outcome;
     if !is_right {

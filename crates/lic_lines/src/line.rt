@@ -7,8 +7,8 @@ ghost use Rattle.lic_lines.specs.Tokens.{line_tokens, text_tokens_after, tokens_
 
 use crate::buffers::Buffers;
 use crate::cell::Cell;
-use crate::streaks::Streaks;
 use crate::signs::join_single_signs;
+use crate::streaks::Streaks;
 use crate::text::push_text;
 use crate::tokens::FirstToken;
 use lic_kind::{Kind, Rules, kind_of};

@@ -6,8 +6,8 @@ ghost use Rattle.lic_lines.specs.Cells.{Mark, Word};
 ghost use Rattle.lic_lines.specs.Tokens.{both_words, cell_letters, letters_of, token_of, tokens_from, blank_after, token_in, tokens_in};
 
 use crate::cell::Cell;
-use crate::streaks::{Grouping, end_after, group_end};
 use crate::small_string::SmallString;
+use crate::streaks::{Grouping, end_after, group_end};
 use lic_kind::{Kind, kind_of, spell, word_letter};
 use lic_trim::SourceChar;
 use std::alloc::{AllocError, Global};

@@ -15,10 +15,10 @@ use Rattle.lic_markup.specs.Elements.{Element, text, rule, rule_after, and_then,
 use Rattle.lic_markup.proofs.LocatedLemmas.{same_front}
 
 -- a fault that is not lack of memory is what reading meets
-pub Fails-lasting : {A : Type 0} (cause : MarkupCause) (place : ℕ) (r : Result A MarkupFault)
-    → (cause ≡ OutOfMemory → ⊥) → Fails cause place r → r ≡ Err (fault_at place cause)
-Fails-lasting OutOfMemory place r lasting h = absurd (lasting refl)
-Fails-lasting cause place r lasting h = h
+pub Fails-lasting : {A : Type 0} (cause : MarkupCause) (offset : ℕ) (r : Result A MarkupFault)
+    → (cause ≡ OutOfMemory → ⊥) → Fails cause offset r → r ≡ Err (fault_at offset cause)
+Fails-lasting OutOfMemory offset r lasting h = absurd (lasting refl)
+Fails-lasting cause offset r lasting h = h
 
 pub elements-skipped : (piece : List Located) (n : ℕ) (xs : List Located) → elements piece n xs ≡ elements piece 0 (drop n xs)
 unfolding elements

@@ -45,18 +45,18 @@ ok_same : {E : Type 0} (s t u : State) (r : Result State E) → r ≡ Ok u → r
 ok_same s t u r is also = ap (λ (o : Result State _). elim o [ Ok x ↦ x | Err e ↦ s ]) (sym is ∙ also)
 
 module _ (s t : State) (so_far : HasReadTexts s) where
-  variable_texts : (name original : List ℕ) (place : ℕ) (read : Result Tree EreFault)
-      → meet_variable name original place read s ≡ Ok t → HasReadTexts t
-  variable_texts name original place (Ok tree) is =
-      subst HasReadTexts (ok_same s t _ (meet_variable name original place (Ok tree) s) refl is)
+  variable_texts : (name original : List ℕ) (offset : ℕ) (read : Result Tree EreFault)
+      → meet_variable name original offset read s ≡ Ok t → HasReadTexts t
+  variable_texts name original offset (Ok tree) is =
+      subst HasReadTexts (ok_same s t _ (meet_variable name original offset (Ok tree) s) refl is)
       (pushed s.level.parts (variable name original tree) so_far.0 tt, so_far.1)
-  variable_texts name original place (Err e) is = absurd cc
+  variable_texts name original offset (Err e) is = absurd cc
 
-  end_texts : (place : ℕ) (level : Level) (outer : List Level) → HavePieceTexts (sequence level.parts) → HoldPieceTexts outer
-      → meet_end place level outer s ≡ Ok t → HasReadTexts t
-  end_texts place level [] inner others is = absurd cc
-  end_texts place level (o ∷ outer) inner others is =
-      subst HasReadTexts (ok_same s t _ (meet_end place level (o ∷ outer) s) refl is)
+  end_texts : (offset : ℕ) (level : Level) (outer : List Level) → HavePieceTexts (sequence level.parts) → HoldPieceTexts outer
+      → meet_end offset level outer s ≡ Ok t → HasReadTexts t
+  end_texts offset level [] inner others is = absurd cc
+  end_texts offset level (o ∷ outer) inner others is =
+      subst HasReadTexts (ok_same s t _ (meet_end offset level (o ∷ outer) s) refl is)
       (pushed o.parts (optional (sequence level.parts)) others.0 inner, others.1)
 
   -- what a rule gives, or nothing
@@ -65,12 +65,12 @@ module _ (s t : State) (so_far : HasReadTexts s) where
   gives_texts (Ok x) read gives texts = texts gives
   gives_texts (Err e) read gives texts = tt
 
-  pub meet_variable-texts : {X : Type 0} (r : Result X MarkupFault) (name original : List ℕ) (place : ℕ) (read : Result Tree EreFault)
-      → Gives (λ _. t) r (meet_variable name original place read s) → OnOk r (HasReadTexts t)
-  meet_variable-texts r name original place read gives =
-      gives_texts r (meet_variable name original place read s) gives (variable_texts name original place read)
+  pub meet_variable-texts : {X : Type 0} (r : Result X MarkupFault) (name original : List ℕ) (offset : ℕ) (read : Result Tree EreFault)
+      → Gives (λ _. t) r (meet_variable name original offset read s) → OnOk r (HasReadTexts t)
+  meet_variable-texts r name original offset read gives =
+      gives_texts r (meet_variable name original offset read s) gives (variable_texts name original offset read)
 
-  pub meet_end-texts : {X : Type 0} (r : Result X MarkupFault) (place : ℕ)
-      → Gives (λ _. t) r (meet_end place s.level s.outer s) → OnOk r (HasReadTexts t)
-  meet_end-texts r place gives =
-      gives_texts r (meet_end place s.level s.outer s) gives (end_texts place s.level s.outer so_far.0 so_far.1)
+  pub meet_end-texts : {X : Type 0} (r : Result X MarkupFault) (offset : ℕ)
+      → Gives (λ _. t) r (meet_end offset s.level s.outer s) → OnOk r (HasReadTexts t)
+  meet_end-texts r offset gives =
+      gives_texts r (meet_end offset s.level s.outer s) gives (end_texts offset s.level s.outer so_far.0 so_far.1)

@@ -73,7 +73,7 @@ pub fn read_template(
 {
     if text.len() > MAX_LENGTH {
         return Err(MarkupFault {
-            place: 0,
+            offset: 0,
             cause: MarkupCause::TooLong,
         });
     }

@@ -302,7 +302,12 @@ fn next_ends(
 
 /// How long the longest sequence of pieces is at this side of a line. Nothing is said where that takes more than looks at the places
 /// where sequences end.
-pub(crate) fn sequence_by_places(rules: &Rules, leads: &Leads, side: Side, line: &[u8]) -> Option<usize>
+pub(crate) fn sequence_by_places(
+    rules: &Rules,
+    leads: &Leads,
+    side: Side,
+    line: &[u8],
+) -> Option<usize>
     requires { AreLeads leads.now (rules_of rules.now).lead }
     ensures sequence { IfSome result (λ n. n
         ≡ longest_front (is_sequence (is_walked_piece (rules_of rules.now) side))

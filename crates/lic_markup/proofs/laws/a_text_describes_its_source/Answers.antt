@@ -10,7 +10,7 @@ use Rattle.lic_norm.proofs.TokenTexts.{tokens_of-AreTokenTexts}
 use Rattle.lic_markup.specs.declared.part.Part.TheVariants.{Text}
 use Rattle.lic_markup.specs.Meaning.{part_words}
 use Rattle.lic_markup.proofs.PieceLemmas.{piece_described}
-use Rattle.lic_markup.proofs.PlaceLemmas.{piece_texts-whole}
+use Rattle.lic_markup.proofs.OffsetLemmas.{piece_texts-whole}
 use Rattle.lic_markup.proofs.laws.a_text_describes_its_source.Goals as goal
 
 abbrev texts : List TokenValue → List (List ℕ)

@@ -3,10 +3,10 @@ use Rattle.std.proofs.Common.{◌≡◌, ◌<◌, length, map, Some, sym, ◌∙
 use Rattle.std.proofs.lemmas.List.{length-map}
 use Rattle.std.proofs.lemmas.Option.{slice_get_within}
 use Rattle.lic_literals.specs.Hits.{slot_of}
-use Rattle.lic_literals.proofs.hits.Hits.places.Goals as goal
+use Rattle.lic_literals.proofs.hits.Hits.offsets.Goals as goal
 
-pub places_in-requires : goal.places_in-requires
-places_in-requires c =
+pub offsets_in-requires : goal.offsets_in-requires
+offsets_in-requires c =
     let old = c.args.self.now in
     let slot = c.in-Some.slot in
     let at : slot_of old c.args.window ≡ Some slot = sym c.get.ensures.value ∙ sym c.copied.ensures ∙ c.in-Some.is in

@@ -1,7 +1,7 @@
 //! The files of a case, where the program runs.
 
 use crate::bytes::bytes_of;
-use crate::case::{RULES, Case};
+use crate::case::{Case, RULES};
 use serde_json::Value;
 use std::alloc::Global;
 use std::fs;
