@@ -4,7 +4,6 @@ use Rattle.std.specs.Prelude.{Option, Some, None, codes, encode_utf8_all, nat_le
 use Rattle.std.specs.List.{flat_map, list_all}
 use Rattle.std.specs.Char.{is_whitespace}
 use Rattle.std.specs.Str.{NoCharPasses, NonePass}
-use Rattle.std.specs.Str.{chars}
 use Rattle.std.proofs.Math.Seq.{drop-append_seam, get_or-append_seam, take-append_seam}
 use Rattle.std.proofs.lemmas.Bool.{cases_Bool, cond-true, cond-false, and_parts, true≢false, false_from_ne_true}
 use Rattle.std.proofs.lemmas.List.Elements.{All-nil, All-cons, All-drop, All-head, All-map, All-tail, All-take, All-weaker}
@@ -16,7 +15,7 @@ use Rattle.lic_kind.specs.declared.Kind.TheVariants.{Blank as BlankKind, Dropped
 use Rattle.lic_kind.proofs.KindLemmas.{is_word_kind-true, kind_of-white}
 use Rattle.lic_kind.proofs.LetterLemmas.{spell-Mark, mark_letters, word_letters_are_not_white, word_has_letters}
 use Rattle.lic_trim.specs.Texts.{groups}
-use Rattle.lic_trim.specs.Sources.{chars_of, without_dropped, lines_of, unplaced}
+use Rattle.lic_trim.specs.Sources.{chars_of, without_dropped, lines_of}
 use Rattle.lic_trim.specs.declared.source.SourceChar.{SourceChar}
 use Rattle.lic_lines.specs.declared.cell.Cell.{Cell}
 use Rattle.lic_lines.specs.declared.cell.Cell.TheVariants.{Blank, Mark, Word}

@@ -1,4 +1,4 @@
-use Rattle.std.proofs.Common.{◌<◌, Bool, true, refl, sym, subst}
+use Rattle.std.proofs.Common.{true, refl, sym, subst}
 use Rattle.std.specs.Prelude.{nat_lt}
 use Rattle.std.proofs.lemmas.Str.{chars-IsAscii}
 use Rattle.lic_kind.specs.LineRules.{rules_of}
